@@ -13,7 +13,7 @@ use Rattle.tp_model.specs.WholeCut.{WholeCut}
 use Rattle.tp_model.specs.WriteOrder.{Resting, Tail, Opened as AtOpened}
 use Rattle.tp_model.specs.Runs.{World, CopiesTail, Trims, HasCut, copy_of}
 use Rattle.tp_model.specs.Walks.{Walks}
-use Rattle.tp_law_network.specs.Standing.{Rests}
+use Rattle.tp_law_network.specs.Standing.{RestsBetweenGroups}
 use Rattle.tp_law_network.proofs.Planned.{clear_walks, pieces_walk, tail_walks, switch_walks}
 use Rattle.tp_law_network.proofs.Walks.{one_step, still_walks, walks_then}
 use Rattle.tp_area.specs.Checkpointed.{checkpointed}
@@ -50,7 +50,7 @@ checkpoint_walks w o cut nodes t p pieces rested cleared put filled switched at 
     let w5 : World NodeState = record w { disk = switched.now; at = AtOpened copy upto; backlog = []; stored = upto } in
     let w6 : World NodeState = checkpointed w cut nodes switched in
     let r1 : RestsAs h cleared = C.rests h rests in
-    let r2 : RestsAs h put = subst (λ (m : Moment). Rests device_areas h m) (sym P.now) (pieces_rest t414 device_areas keep h pieces cleared.now r1 inside) in
+    let r2 : RestsAs h put = subst (λ (m : Moment). RestsBetweenGroups device_areas h m) (sym P.now) (pieces_rest t414 device_areas keep h pieces cleared.now r1 inside) in
     let first : Piece w w1 rested cleared = (clear_walks t414 device_areas w rested cleared (if_open gate rested.now.bytes) at was found).done C.called in
     let second : Piece w1 w2 cleared put = (pieces_walk t414 device_areas keep w1 cleared put h pieces at refl r1.reads inside).done P in
     let third : Piece w2 w3 put put = still_walks t414 device_areas w2 w3 put (one_step t414 device_areas w2 w3 (CopiesTail cut nodes) refl (at, has, refl)) refl in

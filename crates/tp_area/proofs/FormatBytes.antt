@@ -18,7 +18,7 @@ use Rattle.tp_model.specs.Topology.{Topology, line_count}
 use Rattle.tp_model.specs.Journal.{image_length, cut_length, is_roomy, room, reserve, entry_room}
 use Rattle.tp_model.specs.Disk.{Moment, SameOutside, Write, Sync, written}
 use Rattle.tp_model.specs.DiskHistory.{State, IsSynced, LeavesOnly}
-use Rattle.tp_model.specs.Device.{areas_end, fits}
+use Rattle.tp_model.specs.Device.{areas_end, fits_device}
 use Rattle.tp_model.specs.Head.{head_bytes, head_length, version_for}
 use Rattle.tp_model.specs.Image.{page_count, image, node_of, has_idle_links}
 use Rattle.tp_model.specs.CutImage.{base_number, line_bytes, port_bytes, cut_bytes, only_if}
@@ -31,7 +31,7 @@ use Rattle.tp_disk.proofs.Agree.{same_apart}
 use Rattle.tp_disk.proofs.Calls.{all_done-append, started, weaker, synced_stands}
 use Rattle.tp_model.specs.StoreCalls.{put_calls}
 use Rattle.tp_area.specs.declared.fault.FormatFault.{FormatFault}
-use Rattle.tp_area.specs.Formatting.{Checks, Answers, area_front, first_area, with_areas, Wrote, Formatted, IsOldOrNew}
+use Rattle.tp_area.specs.Formatting.{Checks, FormatAnswer, area_front, fresh_area, with_areas, Wrote, Formatted, IsOldOrNew}
 use Rattle.tp_area.specs.Puts.{ButFor}
 use Rattle.tp_area.proofs.PutLaws.{but_for_may}
 use Rattle.tp_area.proofs.FormatCalls.{length-area_front}
@@ -126,7 +126,7 @@ start_with t nodes = network_of t nodes (replicate (line_count t) []) (replicate
 
 area_is : (t : Topology) (images : List (List ℕ)) (nodes : List NodeState) (cut rest : ℕ) → fresh_nodes t.pages images ≡ Some nodes → cut ≡ cut_length t
     → rest ≡ LINE_BYTES * line_count t + PORT_BYTES * t.ports + 1
-    → (area_front cut ++ concat images) ++ zeros rest ≡ first_area t (start_with t nodes)
+    → (area_front cut ++ concat images) ++ zeros rest ≡ fresh_area t (start_with t nodes)
 unfolding area_front front_bytes cut_bytes
 area_is t images nodes cut rest fresh is_cut is_rest =
     let lines = flat_map line_bytes (replicate (line_count t) []) in
@@ -140,7 +140,7 @@ area_is t images nodes cut rest fresh is_cut is_rest =
     ∙ ap (λ xs. GATE_OPEN ∷ (u64_bytes 1 ++ (u32_bytes (cut_length t) ++ (u64_bytes (base_number Turns 0) ++ xs)))) tail
 
 length-area : (t : Topology) (images : List (List ℕ)) (nodes : List NodeState) (cut rest : ℕ) → fresh_nodes t.pages images ≡ Some nodes → cut ≡ cut_length t
-    → rest ≡ LINE_BYTES * line_count t + PORT_BYTES * t.ports + 1 → length (first_area t (start_with t nodes)) ≡ AREA_HEAD_BYTES + cut_length t + 1
+    → rest ≡ LINE_BYTES * line_count t + PORT_BYTES * t.ports + 1 → length (fresh_area t (start_with t nodes)) ≡ AREA_HEAD_BYTES + cut_length t + 1
 length-area t images nodes cut rest fresh is_cut is_rest =
     let front = length-area_front cut in
     let all = length-append (area_front cut ++ concat images) (zeros rest) in
@@ -155,17 +155,17 @@ pub record IsRoomy (size : ℕ) (t : Topology) (areas : TwoAreas) : Type 0 where
   pub both : areas_end areas ≤ size
   pub cut : AREA_HEAD_BYTES + cut_length t + 1 < areas.length
 
-pub roomy : (size : ℕ) (t : Topology) (areas : TwoAreas) → fits size t areas ≡ true → IsRoomy size t areas
+pub roomy : (size : ℕ) (t : Topology) (areas : TwoAreas) → fits_device size t areas ≡ true → IsRoomy size t areas
 roomy size t areas h =
     let parts = and_parts (nat_le (areas_end areas) size) (is_roomy t areas.length) h in
     let most = leb-true (reserve (line_count t) + entry_room) (room t areas.length) parts.1 in
     record { both = leb-true (areas_end areas) size parts.0; cut = omega arith }
 
 formatted_is : (t : Topology) (areas : TwoAreas) (s : Network NodeState) (old new : List ℕ) → areas.first ≡ head_length (version_for t) → length (head_bytes (version_for t) t areas) ≡ areas.first → areas_end areas ≤ length old
-    → length (first_area t s) ≤ areas.length → new ≡ written (with_areas (first_area t s) areas old) 0 (head_bytes (version_for t) t areas) → IsFormatted t areas Turns s new
+    → length (fresh_area t s) ≤ areas.length → new ≡ written (with_areas (fresh_area t s) areas old) 0 (head_bytes (version_for t) t areas) → IsFormatted t areas Turns s new
 formatted_is t areas s old new begins size room most is =
     let front = front_bytes t 1 Turns 0 s in
-    let whole = first_area t s in
+    let whole = fresh_area t s in
     let head = head_bytes (version_for t) t areas in
     let start = areas.first in
     let behind_first = areas.first + areas.length in
@@ -210,17 +210,17 @@ synced_after first head areas old new wrote =
 
 -- images that were accepted, areas that are large enough, and what was written
 pub formatted_by : {X : Type 0} (f : X → List ℕ) (t : Topology) (xs : List X) (pages head : List ℕ) (areas : TwoAreas) (size cut rest : ℕ) (old new : State)
-    → pages ≡ t.pages → Checks (fresh_nodes pages (map f xs)) (Ok tt) → fits size t areas ≡ true → areas.first ≡ head_length (version_for t) → length old.now.bytes ≡ size
+    → pages ≡ t.pages → Checks (fresh_nodes pages (map f xs)) (Ok tt) → fits_device size t areas ≡ true → areas.first ≡ head_length (version_for t) → length old.now.bytes ≡ size
     → head ≡ head_bytes (version_for t) t areas → length head ≡ areas.first → cut ≡ cut_length t → rest ≡ LINE_BYTES * line_count t + PORT_BYTES * t.ports + 1
     → Wrote ((area_front cut ++ flat_map f xs) ++ zeros rest) head areas old new → Formatted t (map f xs) areas old new
 formatted_by f t xs pages head areas size cut rest old new is_pages checked large begins whole is_head long is_cut is_rest wrote =
     let images = map f xs in
     let nodes = checked_some (fresh_nodes t.pages images) (subst (λ ps. Checks (fresh_nodes ps images) (Ok tt)) is_pages checked) in
     let start = start_with t nodes.0 in
-    let same : (area_front cut ++ flat_map f xs) ++ zeros rest ≡ first_area t start =
+    let same : (area_front cut ++ flat_map f xs) ++ zeros rest ≡ fresh_area t start =
     ap (λ ys. (area_front cut ++ ys) ++ zeros rest) (sym (concat-map f xs)) ∙ area_is t images nodes.0 cut rest nodes.1 is_cut is_rest in
-    let first : Wrote (first_area t start) head areas old new = subst (λ ys. Wrote ys head areas old new) same wrote in
-    let both : Wrote (first_area t start) (head_bytes (version_for t) t areas) areas old new = subst (λ ys. Wrote (first_area t start) ys areas old new) is_head first in
+    let first : Wrote (fresh_area t start) head areas old new = subst (λ ys. Wrote ys head areas old new) same wrote in
+    let both : Wrote (fresh_area t start) (head_bytes (version_for t) t areas) areas old new = subst (λ ys. Wrote (fresh_area t start) ys areas old new) is_head first in
     let fit = roomy size t areas large in
     let both_fit = fit.both in
     let room = fit.cut in
@@ -229,8 +229,8 @@ formatted_by f t xs pages head areas size cut rest old new is_pages checked larg
       start = start;
       is = ap (option_map (λ ns. start_with t ns)) nodes.1;
       wrote = both;
-      synced = synced_after (first_area t start) (head_bytes (version_for t) t areas) areas old new both;
-      formatted = λ left may. subst (IsFormatted t areas Turns start) (sym (synced_stands new left (synced_after (first_area t start) (head_bytes (version_for t) t areas) areas old new both) may))
+      synced = synced_after (fresh_area t start) (head_bytes (version_for t) t areas) areas old new both;
+      formatted = λ left may. subst (IsFormatted t areas Turns start) (sym (synced_stands new left (synced_after (fresh_area t start) (head_bytes (version_for t) t areas) areas old new both) may))
           (formatted_is t areas start old.now.bytes new.now.bytes begins (ap length (sym is_head) ∙ long) (omega arith) (omega arith) both.bytes);
     }
 
@@ -243,7 +243,7 @@ format_leaves f t xs pages areas cut rest old new is_pages checked is_cut is_res
     let images = map f xs in
     let nodes = checked_some (fresh_nodes t.pages images) (subst (λ ps. Checks (fresh_nodes ps images) (Ok tt)) is_pages checked) in
     let start = start_with t nodes.0 in
-    let same : (area_front cut ++ flat_map f xs) ++ zeros rest ≡ first_area t start =
+    let same : (area_front cut ++ flat_map f xs) ++ zeros rest ≡ fresh_area t start =
     ap (λ ys. (area_front cut ++ ys) ++ zeros rest) (sym (concat-map f xs)) ∙ area_is t images nodes.0 cut rest nodes.1 is_cut is_rest in
     weaker old new (λ left. ButFor areas.first (2 * areas.length) old.now left ⊎ SameOutside 0 areas.first (with_areas ((area_front cut ++ flat_map f xs) ++ zeros rest) areas old.now.bytes) left)
     (IsOldOrNew t images areas old)
@@ -261,22 +261,22 @@ pub early_leaves : (t : Topology) (images : List (List ℕ)) (areas : TwoAreas) 
 early_leaves t images areas s = started s (IsOldOrNew t images areas s) (λ left may. inl (but_for_may areas.first (2 * areas.length) s.now left may))
 
 -- the answers
-pub answers_done : {A B : Type 0} (o : Option A) (f : A → B) (large : Bool) → Checks o (Ok tt) → large ≡ true → Answers (option_map f o) large (Ok tt)
+pub answers_done : {A B : Type 0} (o : Option A) (f : A → B) (large : Bool) → Checks o (Ok tt) → large ≡ true → FormatAnswer (option_map f o) large (Ok tt)
 answers_done (Some x) f true h is = tt
 answers_done (Some x) f false h is = cc
 answers_done None f large h is = elim h [ ]
 
-pub answers_failed : {A B : Type 0} (o : Option A) (f : A → B) (large : Bool) → Checks o (Ok tt) → large ≡ true → Answers (option_map f o) large (Err FormatFault.DeviceFailed)
+pub answers_failed : {A B : Type 0} (o : Option A) (f : A → B) (large : Bool) → Checks o (Ok tt) → large ≡ true → FormatAnswer (option_map f o) large (Err FormatFault.DeviceFailed)
 answers_failed (Some x) f true h is = tt
 answers_failed (Some x) f false h is = cc
 answers_failed None f large h is = elim h [ ]
 
-pub answers_full : {A B : Type 0} (o : Option A) (f : A → B) (large : Bool) → Checks o (Ok tt) → large ≡ false → Answers (option_map f o) large (Err FormatFault.AreaFull)
+pub answers_full : {A B : Type 0} (o : Option A) (f : A → B) (large : Bool) → Checks o (Ok tt) → large ≡ false → FormatAnswer (option_map f o) large (Err FormatFault.AreaFull)
 answers_full (Some x) f true h is = cc
 answers_full (Some x) f false h is = tt
 answers_full None f large h is = elim h [ ]
 
-pub answers_checked : {A B : Type 0} (o : Option A) (f : A → B) (large : Bool) (fault : FormatFault) → Checks o (Err fault) → Answers (option_map f o) large (Err fault)
+pub answers_checked : {A B : Type 0} (o : Option A) (f : A → B) (large : Bool) (fault : FormatFault) → Checks o (Err fault) → FormatAnswer (option_map f o) large (Err fault)
 answers_checked (Some x) f large FormatFault.Memory h = tt
 answers_checked None f large FormatFault.Memory h = tt
 answers_checked (Some x) f large FormatFault.BadImage h = elim h [ ]

@@ -5,7 +5,7 @@ use Rattle.tp_model.specs.declared.areas.TwoAreas.{TwoAreas}
 use Rattle.tp_model.specs.declared.limits.TheConstants.{AREA_HEAD_BYTES, BASE_BYTES, GATE_CLOSED}
 use Rattle.tp_model.specs.Device.{area_start}
 use Rattle.tp_model.specs.Disk.{Moment, MayBe, IsWithin, SameOutside, Write, Sync, written, done, within}
-use Rattle.tp_model.specs.DiskHistory.{State, Goes, Fails, LeavesOnly}
+use Rattle.tp_model.specs.DiskHistory.{State, MomentPassed, Fails, LeavesOnly}
 use Rattle.tp_model.specs.StoreCalls.{Called, put_calls}
 use Rattle.tp_disk.proofs.Calls.{called_one, called_then, written_through, and_then, weaker, call_leaves, same_outside_write}
 use Rattle.tp_area.specs.Puts.{ButFor, Puts}
@@ -32,7 +32,7 @@ both_on from (piece ∷ first) second one two = (one.0, both_on from first secon
 
 -- both areas, a sync, the head, and a sync
 pub wrote_all : (first head : List ℕ) (areas : TwoAreas) (s t u v w : State) → Puts areas.first first s t → Puts (area_start areas true) (GATE_CLOSED ∷ []) t u
-    → v.now ≡ done Sync u.now → Goes u v → Called (Write 0 head ∷ Sync ∷ []) v w → Wrote first head areas s w
+    → v.now ≡ done Sync u.now → MomentPassed u v → Called (Write 0 head ∷ Sync ∷ []) v w → Wrote first head areas s w
 wrote_all first head areas s t u v w one two synced goes last =
     let pieces = one.pieces ++ two.pieces in
     let put : Called (put_calls pieces) s u =
@@ -61,7 +61,7 @@ pub second_leaves : (areas : TwoAreas) (s t u : State) → 1 ≤ areas.length �
 second_leaves areas s t u some one two = then_leaves (areas.first, 2 * areas.length) (area_start areas true, 1) s t u (omega arith, omega arith) one two
 
 -- a sync
-pub sync_leaves : {E : Type 0} (r : Result Unit E) (s t u : State) (P : List ℕ → Type 0) → LeavesOnly s t P → Goes t u → OnOk r (u.now ≡ done Sync t.now) → OnErr r (Fails Sync t u)
+pub sync_leaves : {E : Type 0} (r : Result Unit E) (s t u : State) (P : List ℕ → Type 0) → LeavesOnly s t P → MomentPassed t u → OnOk r (u.now ≡ done Sync t.now) → OnErr r (Fails Sync t u)
     → LeavesOnly s u P
 sync_leaves r s t u P one goes was failed =
     and_then s t u P one (weaker t u (MayBe t.now) P (λ left may. one.each left (inr may)) (call_leaves r Sync t u tt goes was failed))

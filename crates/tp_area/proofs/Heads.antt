@@ -13,13 +13,13 @@ use Rattle.tp_model.specs.declared.opening.OpenFault.TheVariants.{NotFormatted, 
 use Rattle.tp_model.specs.declared.limits.TheConstants.{NARROW_HEAD_BYTES, MAX_PORTS}
 use Rattle.tp_model.specs.Bytes.{u8_at, u64_at}
 use Rattle.tp_model.specs.CutImage.{or_damaged}
-use Rattle.tp_model.specs.Device.{areas_end, fits}
+use Rattle.tp_model.specs.Device.{areas_end, fits_device}
 use Rattle.tp_model.specs.Journal.{is_roomy}
 use Rattle.tp_model.specs.Head.{Head, all_wires, areas_of_length, end_of_number, ends_place, head_at, head_bytes, head_length, head_nodes, head_of, head_with, is_head, keeps_limits, magic, numbers_at, port_wire, u16s_at, version_of}
 use Rattle.tp_model.specs.Topology.{Topology, is_topology}
 use Rattle.tp_net.specs.Parts.{if_topology, parts}
 use Rattle.tp_area.specs.declared.head_places.TheConstants.{VERSION_PLACE, NODES_PLACE, PORTS_PLACE, AREA_PLACE, PAGES_PLACE}
-use Rattle.tp_area.specs.Ends.{is_number}
+use Rattle.tp_area.specs.Ends.{is_end_number}
 use Rattle.tp_area.specs.Heads.{can_be_said, is_whole, fields_in, head_in, topology_at, version_given, version_in}
 use Rattle.tp_law_device.proofs.Fronts.{whole_front}
 use Rattle.tp_law_device.proofs.Heads.{head_at_same, head_long, keeps_nodes, length-u16s_at}
@@ -50,7 +50,7 @@ module _ (version : HeadVersion) (bytes : List ℕ) where
   unfolding head_at
   few_ports rules = let shape = has_shape t rules in shape.few_ports
 
-  numbers_are : is_topology t ≡ true → list_all (is_number version) (numbers_at version (4 * u8_at bytes NODES_PLACE) (drop (ends_place version) bytes)) ≡ true
+  numbers_are : is_topology t ≡ true → list_all (is_end_number version) (numbers_at version (4 * u8_at bytes NODES_PLACE) (drop (ends_place version) bytes)) ≡ true
   unfolding head_at
   numbers_are rules =
       let shape = has_shape t rules in
@@ -72,13 +72,13 @@ module _ (version : HeadVersion) (bytes : List ℕ) where
   ]
 
   pub not_numbers : (line place : ℕ) (numbers : List ℕ) → line ≡ 4 * u8_at bytes NODES_PLACE → place ≡ ends_place version
-      → numbers ≡ numbers_at version line (take (length bytes - place) (drop place bytes)) → list_all (is_number version) numbers ≡ false → can_be_said version t ≡ false
+      → numbers ≡ numbers_at version line (take (length bytes - place) (drop place bytes)) → list_all (is_end_number version) numbers ≡ false → can_be_said version t ≡ false
   not_numbers line place numbers all at read none = elim (cases_Bool (can_be_said version t)) [
     | inl is ↦
         let both = and_parts (is_topology t) (keeps_limits version t) is in
         let same : numbers ≡ numbers_at version (4 * u8_at bytes NODES_PLACE) (drop (ends_place version) bytes) =
         read ∙ ap (λ xs. numbers_at version line xs) (take_rest bytes place) ∙ (λ i. numbers_at version (all i) (drop (at i) bytes)) in
-        let here : list_all (is_number version) numbers ≡ true = ap (list_all (is_number version)) same ∙ numbers_are both.0 in
+        let here : list_all (is_end_number version) numbers ≡ true = ap (list_all (is_end_number version)) same ∙ numbers_are both.0 in
         absurd (cc)
     | inr not_so ↦ not_so
   ]
@@ -142,14 +142,14 @@ fields_in-none version len bytes none = elim (cases_Bool (can_be_said version (h
 ]
 
 pub fields_in-said : (version : HeadVersion) (len : ℕ) (bytes : List ℕ) (t : Topology) (areas : TwoAreas) (whole : Bool) → topology_at version bytes ≡ Some t → areas ≡ areas_of_length version (u64_at bytes AREA_PLACE)
-    → whole ≡ (bytes_eq bytes (head_bytes version t areas) && fits len t areas) → fields_in version len bytes ≡ cond whole (Some (record { version = version; topology = t; areas = areas })) None
+    → whole ≡ (bytes_eq bytes (head_bytes version t areas) && fits_device len t areas) → fields_in version len bytes ≡ cond whole (Some (record { version = version; topology = t; areas = areas })) None
 unfolding head_at
 fields_in-said version len bytes t areas whole told is test =
     let found = cond_some (can_be_said version (head_at version bytes).topology) (head_at version bytes).topology t told in
     let head : Head = record { version = version; topology = t; areas = areas } in
     let same : head_at version bytes ≡ head = λ i. record { version = version; topology = found.1 i; areas = sym is i } in
     let good : can_be_said version t ≡ true = ap (can_be_said version) (sym found.1) ∙ found.0 in
-    fields_in-whole version len bytes head whole same (test ∙ ap (λ b. b && (bytes_eq bytes (head_bytes version t areas) && fits len t areas)) (sym good))
+    fields_in-whole version len bytes head whole same (test ∙ ap (λ b. b && (bytes_eq bytes (head_bytes version t areas) && fits_device len t areas)) (sym good))
 
 -- ## Of a device
 
@@ -189,7 +189,7 @@ pub head_with-cut_off : (version : HeadVersion) (xs : List ℕ) → length xs < 
 unfolding head_at
 head_with-cut_off version xs short =
     let head = head_at version xs in
-    let no_room : fits (length xs) head.topology head.areas ≡ false =
+    let no_room : fits_device (length xs) head.topology head.areas ≡ false =
     ap (λ b. b && is_roomy head.topology head.areas.length) (lt-leb (areas_end head.areas) (length xs) (omega arith)) in
     let same = bytes_eq (take head.areas.first xs) (head_bytes version head.topology head.areas) in
     let none : is_head head xs ≡ false =

@@ -12,12 +12,12 @@ use Rattle.tp_model.specs.NodeState.{NodeState}
 use Rattle.tp_model.specs.Node.{t414, t414_ends}
 use Rattle.tp_model.specs.Device.{area_start, areas_end, gate_of, content_of, is_open, generation_of}
 use Rattle.tp_model.specs.Disk.{Moment, MayBe, Write, Sync, Read, SameOutside, IsWithin, written, done, within}
-use Rattle.tp_model.specs.DiskHistory.{State, Goes, Fails, IsSynced, LeavesOnly}
+use Rattle.tp_model.specs.DiskHistory.{State, MomentPassed, Fails, IsSynced, LeavesOnly}
 use Rattle.tp_model.specs.StoreCalls.{all_done, Called, Broke, clear_calls, switch_calls}
 use Rattle.tp_model.specs.Areas.{Held, gate_closed}
 use Rattle.tp_model.specs.Opening.{Opened, held_of, area_in, chosen_area, choice, opening, verdict, base_of, form_of}
 use Rattle.tp_model.specs.DeviceAreas.{device_areas, open_other_of, spare_of, other_of, if_newer, other_is_open, other_start, other_content}
-use Rattle.tp_law_network.specs.Standing.{Rests}
+use Rattle.tp_law_network.specs.Standing.{RestsBetweenGroups}
 use Rattle.tp_law_network.proofs.Device.{put_may, put_done}
 use Rattle.tp_disk.proofs.Moments.{written_same_outside}
 use Rattle.tp_disk.proofs.Agree.{same_apart}
@@ -25,7 +25,7 @@ use Rattle.tp_disk.proofs.Calls.{called_one, called_then, broke_one, broke_first
 use Rattle.tp_area.specs.declared.place.Place.{Place}
 use Rattle.tp_area.specs.Places.{cut_field, listed, place_in, place_at}
 use Rattle.tp_area.specs.Other.{other_gate, if_open, OtherIsClosed, Cleared, PutBehind, Switched}
-use Rattle.tp_area.specs.Crashes.{OpensTo, OpensToEither, RestsAs}
+use Rattle.tp_area.specs.Crashes.{StandsOpened, OpensToEither, RestsAs}
 use Rattle.tp_area.proofs.SameFront.{areas_same, front_of_range}
 use Rattle.tp_area.proofs.Behind.{head_ends}
 use Rattle.tp_area.proofs.Frames.{drop_written}
@@ -128,7 +128,7 @@ piece_inside place size at count room small = let fit = areas_fit place.areas si
 
 -- what a look at the gate gave
 pub looked_closed : (gate : ℕ) (found : List ℕ) (s t : State) → gate < length s.now.bytes → found ≡ take 1 (drop gate s.now.bytes) → (get_or found 0 0 ≡ 165 → ⊥)
-    → t.now ≡ done Read s.now → Goes s t → Called (clear_calls (if_open gate s.now.bytes)) s t
+    → t.now ≡ done Read s.now → MomentPassed s t → Called (clear_calls (if_open gate s.now.bytes)) s t
 looked_closed gate found s t inside was other now goes =
     let byte : get_or found 0 0 ≡ u8_at s.now.bytes gate = ap (λ xs. get_or xs 0 0) (was ∙ ap (take 1) (drop_more s.now.bytes gate 0 inside)) in
     let shut : is_open (u8_at s.now.bytes gate) ≡ false = ap is_open (sym byte) ∙ ne_eqb (get_or found 0 0) 165 other in
@@ -140,12 +140,12 @@ opened_gate gate found bytes inside was same =
     ap is_open (sym byte) ∙ eq-eqb (get_or found 0 0) 165 same
 
 pub looked_open : (gate : ℕ) (found : List ℕ) (s t u : State) → gate < length s.now.bytes → found ≡ take 1 (drop gate s.now.bytes) → get_or found 0 0 ≡ 165
-    → t.now ≡ done Read s.now → Goes s t → Called (Write gate gate_closed ∷ Sync ∷ []) t u → Called (clear_calls (if_open gate s.now.bytes)) s u
+    → t.now ≡ done Read s.now → MomentPassed s t → Called (Write gate gate_closed ∷ Sync ∷ []) t u → Called (clear_calls (if_open gate s.now.bytes)) s u
 looked_open gate found s t u inside was same now goes called =
     subst (λ b. Called (clear_calls (if b then Some gate else None)) s u) (sym (opened_gate gate found s.now.bytes inside was same))
     (called_then (Read ∷ []) (Write gate gate_closed ∷ Sync ∷ []) s t u (called_one Read s t now goes) called)
 
-pub look_broke : (gate : ℕ) (s t : State) → Goes s t → Fails Read s t → Broke (clear_calls (if_open gate s.now.bytes)) s t
+pub look_broke : (gate : ℕ) (s t : State) → MomentPassed s t → Fails Read s t → Broke (clear_calls (if_open gate s.now.bytes)) s t
 look_broke gate s t goes failed = go (is_open (u8_at s.now.bytes gate))
   where
     go : (b : Bool) → Broke (clear_calls (if b then Some gate else None)) s t
@@ -153,7 +153,7 @@ look_broke gate s t goes failed = go (is_open (u8_at s.now.bytes gate))
     go false = broke_one Read s t goes failed
 
 pub close_broke : (gate : ℕ) (found : List ℕ) (s t u : State) → gate < length s.now.bytes → found ≡ take 1 (drop gate s.now.bytes) → get_or found 0 0 ≡ 165
-    → t.now ≡ done Read s.now → Goes s t → Broke (Write gate gate_closed ∷ Sync ∷ []) t u → Broke (clear_calls (if_open gate s.now.bytes)) s u
+    → t.now ≡ done Read s.now → MomentPassed s t → Broke (Write gate gate_closed ∷ Sync ∷ []) t u → Broke (clear_calls (if_open gate s.now.bytes)) s u
 close_broke gate found s t u inside was same now goes broke =
     subst (λ b. Broke (clear_calls (if b then Some gate else None)) s u) (sym (opened_gate gate found s.now.bytes inside was same))
     (broke_later (Read ∷ []) (Write gate gate_closed ∷ Sync ∷ []) s t u (called_one Read s t now goes) broke)
@@ -192,18 +192,18 @@ cleared_by place old new said inside called = record {
   closed = (gate_then (other_gate place) (is_open (u8_at old.now.bytes (other_gate place))) old new refl inside called).0;
   rests = λ h rests.
       let o = held_ok (opening t414 t414_ends old.now.bytes) h rests.reads in
-      subst (Rests device_areas h) (sym called.now)
+      subst (RestsBetweenGroups device_areas h) (sym called.now)
       (rests_cleared t414 device_areas keep h old.now rests (if_open (other_gate place) old.now.bytes) (open_other_is place old.now.bytes said o.0 o.1));
 }
 
 -- Whatever came of the calls, a crash since they began leaves what opens to what was held.
 pub clear_leaves : {E : Type 0} (r : Result Unit E) (place : Place) (old new : State) → place_in old.now.bytes ≡ Some place
     → OnOk r (Called (clear_calls (if_open (other_gate place) old.now.bytes)) old new) → OnErr r (Broke (clear_calls (if_open (other_gate place) old.now.bytes)) old new)
-    → (h : Held NodeState) → RestsAs h old → LeavesOnly old new (OpensTo h)
+    → (h : Held NodeState) → RestsAs h old → LeavesOnly old new (StandsOpened h)
 clear_leaves r place old new said called broke h rests =
     let o = held_ok (opening t414 t414_ends old.now.bytes) h rests.reads in
     let found = if_open (other_gate place) old.now.bytes in
-    calls_leave r (clear_calls found) old new (OpensTo h) called broke
+    calls_leave r (clear_calls found) old new (StandsOpened h) called broke
     (within_clear t414 device_areas keep h old.now rests found (open_other_is place old.now.bytes said o.0 o.1))
 
 pub cleared_place : (place : Place) (old new : State) → 1 ≤ place.areas.length → place_in old.now.bytes ≡ Some place → other_gate place < length old.now.bytes
@@ -247,7 +247,7 @@ spare_at place old said shut o is =
     ap (λ r. spare_of r old.now.bytes) is ∙ subst P here own shut
 
 pub put_by : (place : Place) (at : ℕ) (bytes : List ℕ) (old new : State) → place_in old.now.bytes ≡ Some place → other_gate place + 1 + at + length bytes ≤ length old.now.bytes
-    → at + length bytes < place.areas.length → OtherIsClosed place old → new.now ≡ done (Write (other_gate place + 1 + at) bytes) old.now → Goes old new → PutBehind place at bytes old new
+    → at + length bytes < place.areas.length → OtherIsClosed place old → new.now ≡ done (Write (other_gate place + 1 + at) bytes) old.now → MomentPassed old new → PutBehind place at bytes old new
 unfolding verdict
 put_by place at bytes old new said room inside shut was goes = record {
   called = called_one (Write (other_gate place + 1 + at) bytes) old new was goes;
@@ -255,19 +255,19 @@ put_by place at bytes old new said room inside shut was goes = record {
   closed = stays_closed place at bytes old new room was shut;
   rests = λ h rests.
       let o = held_ok (opening t414 t414_ends old.now.bytes) h rests.reads in
-      subst (Rests device_areas h) (sym was)
+      subst (RestsBetweenGroups device_areas h) (sym was)
       (put_done t414 device_areas keep h old.now rests (other_gate place + 1 + at) bytes (lies_spare place at bytes old said inside shut o.0 o.1));
 }
 
 -- Whatever came of the write, a crash since it began leaves what opens to what was held.
 pub put_leaves : {E : Type 0} (r : Result Unit E) (place : Place) (at : ℕ) (bytes : List ℕ) (old new : State) → place_in old.now.bytes ≡ Some place
-    → other_gate place + 1 + at + length bytes ≤ length old.now.bytes → at + length bytes < place.areas.length → OtherIsClosed place old → Goes old new
+    → other_gate place + 1 + at + length bytes ≤ length old.now.bytes → at + length bytes < place.areas.length → OtherIsClosed place old → MomentPassed old new
     → OnOk r (new.now ≡ done (Write (other_gate place + 1 + at) bytes) old.now) → OnErr r (Fails (Write (other_gate place + 1 + at) bytes) old new)
-    → (h : Held NodeState) → RestsAs h old → LeavesOnly old new (OpensTo h)
+    → (h : Held NodeState) → RestsAs h old → LeavesOnly old new (StandsOpened h)
 put_leaves r place at bytes old new said room inside shut goes was failed h rests =
     let o = held_ok (opening t414 t414_ends old.now.bytes) h rests.reads in
     let there = other_gate place + 1 + at in
-    weaker old new (MayBe (within (Write there bytes) old.now)) (OpensTo h)
+    weaker old new (MayBe (within (Write there bytes) old.now)) (StandsOpened h)
     (λ left may. (put_may t414 device_areas keep h old.now rests there bytes (lies_spare place at bytes old said inside shut o.0 o.1) left may).0)
     (call_leaves r (Write there bytes) old new room goes was failed)
 
@@ -296,7 +296,7 @@ other_gate_is o bytes gate k is = go (other_is_open o bytes) is
     go false here = if_newer_gate o (area_in t414 t414_ends o.head (not o.second) (other_content o bytes)) gate k here
 
 -- the gate that the areas of the device name is this one
-other_is : (place : Place) (bytes : List ℕ) → place_in bytes ≡ Some place → (h k : Held NodeState) (gate : ℕ) → OpensTo h bytes → device_areas.other bytes ≡ Some (gate, k)
+other_is : (place : Place) (bytes : List ℕ) → place_in bytes ≡ Some place → (h k : Held NodeState) (gate : ℕ) → StandsOpened h bytes → device_areas.other bytes ≡ Some (gate, k)
     → device_areas.other bytes ≡ Some (other_gate place, k)
 other_is place bytes said h k gate stands other =
     let o = held_ok (opening t414 t414_ends bytes) h stands in
@@ -310,11 +310,11 @@ switched_by place old new said called = record {
   called = called;
   synced = ap (λ (m : Moment). m.unsynced) called.now;
   rests = λ h k gate stands other.
-      let rests : Rests device_areas k (all_done (switch_calls (other_gate place)) old.now) = record {
+      let rests : RestsBetweenGroups device_areas k (all_done (switch_calls (other_gate place)) old.now) = record {
         reads = keep.switched old.now.bytes h k (other_gate place) stands (other_is place old.now.bytes said h k gate stands other);
         loose = tt;
       } in
-      subst (Rests device_areas k) (sym called.now) rests;
+      subst (RestsBetweenGroups device_areas k) (sym called.now) rests;
 }
 
 -- Whatever came of the calls, a crash since they began leaves what opens to what was held, or to what the other area holds.

@@ -7,7 +7,7 @@ use Rattle.std.proofs.lemmas.Grind.{flat_map-append}
 use Rattle.std.proofs.lemmas.List.Folds.{length-flat_map-take}
 use Rattle.std.proofs.lemmas.List.{take_more, replicate-append-replicate, length-replicate, take_at, take-append-drop, drop-drop, length-take-le, get_or-take, get_or-drop}
 use Rattle.tp_model.specs.Disk.{Moment, MayBe, Write, IsWithin, SameOutside, written, done, within}
-use Rattle.tp_model.specs.DiskHistory.{State, Goes, Fails, LeavesOnly}
+use Rattle.tp_model.specs.DiskHistory.{State, MomentPassed, Fails, LeavesOnly}
 use Rattle.tp_model.specs.StoreCalls.{Called, put_calls}
 use Rattle.tp_disk.proofs.Moments.{written_same_outside, outside_last}
 use Rattle.tp_disk.proofs.Agree.{same_refl, same_sym, same_trans, same_wider, inside_written}
@@ -62,7 +62,7 @@ puts_none at s = record {
 }
 
 -- one piece
-pub puts_one : (at : ℕ) (bytes : List ℕ) (s t : State) → t.now ≡ done (Write at bytes) s.now → Goes s t → Puts at bytes s t
+pub puts_one : (at : ℕ) (bytes : List ℕ) (s t : State) → t.now ≡ done (Write at bytes) s.now → MomentPassed s t → Puts at bytes s t
 puts_one at bytes s t was goes = record {
   pieces = (at, bytes) ∷ [];
   within = ((omega arith, omega arith), tt);
@@ -156,7 +156,7 @@ but_for_write m at bytes left room may =
       same = same_sym at (length bytes) left (written left at part) (subst (λ (n : ℕ). SameOutside at n left (written left at part)) size same);
     }
 
-pub write_leaves : {E : Type 0} (r : Result Unit E) (at : ℕ) (bytes : List ℕ) (s t : State) → at + length bytes ≤ length s.now.bytes → Goes s t
+pub write_leaves : {E : Type 0} (r : Result Unit E) (at : ℕ) (bytes : List ℕ) (s t : State) → at + length bytes ≤ length s.now.bytes → MomentPassed s t
     → OnOk r (t.now ≡ done (Write at bytes) s.now) → OnErr r (Fails (Write at bytes) s t) → LeavesOnly s t (ButFor at (length bytes) s.now)
 write_leaves r at bytes s t room goes was failed =
     weaker s t (MayBe (within (Write at bytes) s.now)) (ButFor at (length bytes) s.now) (λ left may. but_for_write s.now at bytes left room may) (call_leaves r (Write at bytes) s t room goes was failed)

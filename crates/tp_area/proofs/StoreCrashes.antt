@@ -13,11 +13,11 @@ use Rattle.tp_model.specs.StoreCalls.{all_done, group_calls, clear_calls, switch
 use Rattle.tp_model.specs.Areas.{Areas, AreasHold, Held, ArePossible, with_more, gate_open, gate_closed}
 use Rattle.tp_model.specs.Opening.{Opened, held_of}
 use Rattle.tp_model.specs.DeviceAreas.{device_areas}
-use Rattle.tp_law_network.specs.Standing.{Rests}
+use Rattle.tp_law_network.specs.Standing.{RestsBetweenGroups}
 use Rattle.tp_law_network.proofs.Device.{rests_may, clear_within, clear_written, clear_may, clear_synced, body_within, body_written, body_may, body_synced, gate_within, gate_written, gate_may, gate_synced, switch_within, switch_written, switch_may, switch_synced}
 use Rattle.tp_law_device.proofs.Holds.{areas_keep}
 use Rattle.tp_disk.proofs.Calls.{AllWithin, started}
-use Rattle.tp_area.specs.Crashes.{OpensTo, OpensToEither, RestsAs}
+use Rattle.tp_area.specs.Crashes.{StandsOpened, OpensToEither, RestsAs}
 
 -- the areas of the device keep what crashes need
 pub keep : AreasHold t414 device_areas
@@ -30,7 +30,7 @@ held_ok (Err fault) h is = cc
 
 module _ (M : Machine NodeState) (A : Areas NodeState) (law : AreasHold M A) (h : Held NodeState) where
   -- a group is appended
-  pub within_group : (disk : Moment) → Rests A h disk → (gate : ℕ) (body : List ℕ) (es : List Entry) → A.group disk.bytes es ≡ Some (gate, body) → ArePossible M h es
+  pub within_group : (disk : Moment) → RestsBetweenGroups A h disk → (gate : ℕ) (body : List ℕ) (es : List Entry) → A.group disk.bytes es ≡ Some (gate, body) → ArePossible M h es
       → AllWithin (group_calls gate body) disk (λ left. (A.verdict left ≡ Some h) ⊎ (A.verdict left ≡ Some (with_more h es)))
   within_group disk rests gate body es asked possible =
       let bodied = body_written M A law h disk rests gate es body asked in
@@ -53,7 +53,7 @@ module _ (M : Machine NodeState) (A : Areas NodeState) (law : AreasHold M A) (h 
       )
 
   -- the other area's gate is closed where it is open
-  pub within_clear : (disk : Moment) → Rests A h disk → (found : Option ℕ) → A.open_other disk.bytes ≡ found
+  pub within_clear : (disk : Moment) → RestsBetweenGroups A h disk → (found : Option ℕ) → A.open_other disk.bytes ≡ found
       → AllWithin (clear_calls found) disk (λ left. A.verdict left ≡ Some h)
   within_clear disk rests None is = (λ left may. rests_may M A law h disk rests left may, λ left may. rests_may M A law h disk rests left may)
   within_clear disk rests (Some gate) is =
@@ -69,12 +69,12 @@ module _ (M : Machine NodeState) (A : Areas NodeState) (law : AreasHold M A) (h 
         ),
       )
 
-  pub rests_cleared : (disk : Moment) → Rests A h disk → (found : Option ℕ) → A.open_other disk.bytes ≡ found → Rests A h (all_done (clear_calls found) disk)
+  pub rests_cleared : (disk : Moment) → RestsBetweenGroups A h disk → (found : Option ℕ) → A.open_other disk.bytes ≡ found → RestsBetweenGroups A h (all_done (clear_calls found) disk)
   rests_cleared disk rests None is = rests
   rests_cleared disk rests (Some gate) is = clear_synced M A law h (done (Write gate gate_closed) disk) (clear_written M A law h disk rests gate is)
 
   -- the other area's gate is opened
-  pub within_switch : (disk : Moment) (k : Held NodeState) → Rests A h disk → (gate : ℕ) → disk.unsynced ≡ [] → A.other disk.bytes ≡ Some (gate, k)
+  pub within_switch : (disk : Moment) (k : Held NodeState) → RestsBetweenGroups A h disk → (gate : ℕ) → disk.unsynced ≡ [] → A.other disk.bytes ≡ Some (gate, k)
       → AllWithin (switch_calls gate) disk (λ left. (A.verdict left ≡ Some h) ⊎ (A.verdict left ≡ Some k))
   within_switch disk k rests gate synced other =
       let switching = switch_written M A law h disk k rests gate synced other in
@@ -87,8 +87,8 @@ module _ (M : Machine NodeState) (A : Areas NodeState) (law : AreasHold M A) (h 
       )
 
 -- no call yet
-pub rests_leaves : (h : Held NodeState) (s : State) → RestsAs h s → LeavesOnly s s (OpensTo h)
-rests_leaves h s rests = started s (OpensTo h) (λ left may. rests_may t414 device_areas keep h s.now rests left may)
+pub rests_leaves : (h : Held NodeState) (s : State) → RestsAs h s → LeavesOnly s s (StandsOpened h)
+rests_leaves h s rests = started s (StandsOpened h) (λ left may. rests_may t414 device_areas keep h s.now rests left may)
 
 pub rests_leaves_either : (h k : Held NodeState) (s : State) → RestsAs h s → LeavesOnly s s (OpensToEither h k)
 rests_leaves_either h k s rests = started s (OpensToEither h k) (λ left may. inl (rests_may t414 device_areas keep h s.now rests left may))

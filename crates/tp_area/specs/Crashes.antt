@@ -4,17 +4,17 @@ use Rattle.tp_model.specs.NodeState.{NodeState}
 use Rattle.tp_model.specs.DiskHistory.{State}
 use Rattle.tp_model.specs.Areas.{Held}
 use Rattle.tp_model.specs.DeviceAreas.{device_areas}
-use Rattle.tp_law_network.specs.Standing.{Rests}
+use Rattle.tp_law_network.specs.Standing.{RestsBetweenGroups}
 
 -- opened, the bytes stand for this
-abbrev pub OpensTo : Held NodeState → List ℕ → Type 0
-OpensTo h bytes = device_areas.verdict bytes ≡ Some h
+abbrev pub StandsOpened : Held NodeState → List ℕ → Type 0
+StandsOpened h bytes = device_areas.verdict bytes ≡ Some h
 
 -- for the one, or for the other
 abbrev pub OpensToEither : Held NodeState → Held NodeState → List ℕ → Type 0
-OpensToEither h k bytes = OpensTo h bytes ⊎ OpensTo k bytes
+OpensToEither h k bytes = StandsOpened h bytes ⊎ StandsOpened k bytes
 
 -- The device stands for this, and what is unsynced lies behind the other area's closed gate. So it does while pieces are
 -- put there, and at all times that nothing is unsynced.
 abbrev pub RestsAs : Held NodeState → State → Type 0
-RestsAs h s = Rests device_areas h s.now
+RestsAs h s = RestsBetweenGroups device_areas h s.now

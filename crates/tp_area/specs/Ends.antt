@@ -5,6 +5,6 @@ use Rattle.tp_model.specs.declared.limits.TheConstants.{MAX_NODES, MAX_PORTS}
 use Rattle.tp_model.specs.Head.{first_port}
 
 -- it stands for none, or for an end that a network may have: a link of one of its nodes, or one of its ports
-abbrev pub is_number : HeadVersion → ℕ → Bool
-is_number version number =
+abbrev pub is_end_number : HeadVersion → ℕ → Bool
+is_end_number version number =
     if nat_lt number (first_port version) then nat_le number (4 * MAX_NODES) else nat_lt (number - first_port version) MAX_PORTS

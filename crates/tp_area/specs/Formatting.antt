@@ -37,8 +37,8 @@ unfoldable pub area_front : ℕ → List ℕ
 area_front cut = GATE_OPEN ∷ (u64_bytes 1 ++ (u32_bytes cut ++ u64_bytes (base_number Turns 0)))
 
 -- the first area as far as it is written: its gate, its fields, the cut of that network, and a closed gate
-abbrev pub first_area : Topology → Network NodeState → List ℕ
-first_area t s = GATE_OPEN ∷ (front_bytes t 1 Turns 0 s ++ GATE_CLOSED ∷ [])
+abbrev pub fresh_area : Topology → Network NodeState → List ℕ
+fresh_area t s = GATE_OPEN ∷ (front_bytes t 1 Turns 0 s ++ GATE_CLOSED ∷ [])
 
 -- a content with both areas in it, as far as they are written: this first area, and the second one's closed gate
 abbrev pub with_areas : List ℕ → TwoAreas → List ℕ → List ℕ
@@ -56,7 +56,7 @@ pub record Wrote (first head : List ℕ) (areas : TwoAreas) (old new : State) : 
 pub record Formatted (t : Topology) (images : List (List ℕ)) (areas : TwoAreas) (old new : State) : Type 0 where
   pub start : Network NodeState
   pub is : start_of t images ≡ Some start
-  pub wrote : Wrote (first_area t start) (head_bytes (version_for t) t areas) areas old new
+  pub wrote : Wrote (fresh_area t start) (head_bytes (version_for t) t areas) areas old new
   pub synced : IsSynced new
   pub formatted : (left : List ℕ) → MayBe new.now left → IsFormatted t areas Turns start left
 
@@ -64,7 +64,7 @@ pub record Formatted (t : Topology) (images : List (List ℕ)) (areas : TwoAreas
 pub record HasNewAreas (t : Topology) (images : List (List ℕ)) (areas : TwoAreas) (old left : List ℕ) : Type 0 where
   pub start : Network NodeState
   pub is : start_of t images ≡ Some start
-  pub same : SameOutside 0 areas.first (with_areas (first_area t start) areas old) left
+  pub same : SameOutside 0 areas.first (with_areas (fresh_area t start) areas old) left
 
 -- What a crash since formatting began leaves: all outside the areas, the head too, as a crash before it might have left
 -- that; or both areas complete.
@@ -73,19 +73,19 @@ IsOldOrNew t images areas old left = ButFor areas.first (2 * areas.length) old.n
 
 -- What is answered: images that don't fit the topology before a device that is too small, and both before any call of the
 -- device. Want of memory may come before both.
-abbrev pub Answers : {A : Type 0} → Option A → Bool → Result (Unit {0}) FormatFault → Type 0
-Answers start fits (Err Memory) = Unit {0}
-Answers None fits (Err BadImage) = Unit {0}
-Answers None fits (Err AreaFull) = ⊥
-Answers None fits (Err DeviceFailed) = ⊥
-Answers None fits (Ok unit) = ⊥
-Answers (Some s) fits (Err BadImage) = ⊥
-Answers (Some s) true (Err AreaFull) = ⊥
-Answers (Some s) false (Err AreaFull) = Unit {0}
-Answers (Some s) true (Err DeviceFailed) = Unit {0}
-Answers (Some s) false (Err DeviceFailed) = ⊥
-Answers (Some s) true (Ok unit) = Unit {0}
-Answers (Some s) false (Ok unit) = ⊥
+abbrev pub FormatAnswer : {A : Type 0} → Option A → Bool → Result (Unit {0}) FormatFault → Type 0
+FormatAnswer start fits (Err Memory) = Unit {0}
+FormatAnswer None fits (Err BadImage) = Unit {0}
+FormatAnswer None fits (Err AreaFull) = ⊥
+FormatAnswer None fits (Err DeviceFailed) = ⊥
+FormatAnswer None fits (Ok unit) = ⊥
+FormatAnswer (Some s) fits (Err BadImage) = ⊥
+FormatAnswer (Some s) true (Err AreaFull) = ⊥
+FormatAnswer (Some s) false (Err AreaFull) = Unit {0}
+FormatAnswer (Some s) true (Err DeviceFailed) = Unit {0}
+FormatAnswer (Some s) false (Err DeviceFailed) = ⊥
+FormatAnswer (Some s) true (Ok unit) = Unit {0}
+FormatAnswer (Some s) false (Ok unit) = ⊥
 
 -- the answer comes before any call of the device
 abbrev pub is_early : Result (Unit {0}) FormatFault → Bool

@@ -5,7 +5,7 @@ use Rattle.tp_model.specs.declared.opening.OpenFault.{OpenFault}
 use Rattle.tp_model.specs.declared.opening.OpenFault.TheVariants.{NotFormatted, BadVersion}
 use Rattle.tp_model.specs.Bytes.{u8_at}
 use Rattle.tp_model.specs.CutImage.{or_damaged}
-use Rattle.tp_model.specs.Device.{fits}
+use Rattle.tp_model.specs.Device.{fits_device}
 use Rattle.tp_model.specs.Head.{Head, head_at, head_bytes, keeps_limits, magic, version_of}
 use Rattle.tp_model.specs.Topology.{Topology, is_topology}
 
@@ -31,7 +31,7 @@ topology_at version bytes =
 abbrev pub is_whole : ℕ → List ℕ → Head → Bool
 is_whole len bytes head =
     can_be_said head.version head.topology
-    && (bytes_eq bytes (head_bytes head.version head.topology head.areas) && fits len head.topology head.areas)
+    && (bytes_eq bytes (head_bytes head.version head.topology head.areas) && fits_device len head.topology head.areas)
 
 abbrev pub fields_in : HeadVersion → ℕ → List ℕ → Option Head
 fields_in version len bytes = if is_whole len bytes (head_at version bytes) then Some (head_at version bytes) else None

@@ -12,7 +12,7 @@ use Rattle.tp_model.specs.Opening.{Opened, verdict}
 use Rattle.tp_area.specs.declared.place.Place.{Place}
 use Rattle.tp_area.specs.declared.fault.StoreFault.{StoreFault}
 use Rattle.tp_area.specs.declared.fault.StoreFault.TheVariants.{AreaFull, StoreBroken}
-use Rattle.tp_area.specs.Crashes.{OpensTo, RestsAs}
+use Rattle.tp_area.specs.Crashes.{StandsOpened, RestsAs}
 
 -- where its gate stands
 abbrev pub other_gate : Place → ℕ
@@ -47,4 +47,4 @@ pub record PutBehind (place : Place) (at : ℕ) (bytes : List ℕ) (old new : St
 pub record Switched (place : Place) (old new : State) : Type 0 where
   pub called : Called (switch_calls (other_gate place)) old new
   pub synced : IsSynced new
-  pub rests : (h k : Held NodeState) (gate : ℕ) → OpensTo h old.now.bytes → device_areas.other old.now.bytes ≡ Some (gate, k) → RestsAs k new
+  pub rests : (h k : Held NodeState) (gate : ℕ) → StandsOpened h old.now.bytes → device_areas.other old.now.bytes ≡ Some (gate, k) → RestsAs k new

@@ -8,8 +8,8 @@ use Rattle.tp_model.specs.CutImage.{is_port_of, port_at, port_bytes}
 use Rattle.tp_area.specs.declared.port.PortRecord.{PortRecord}
 
 -- the port that a record says
-abbrev pub port_of : PortRecord → Port
-port_of r = record { pending = r.pending.now; in_base = r.in_base; outputs = r.outputs.now; out_base = r.out_base }
+abbrev pub port_said : PortRecord → Port
+port_said r = record { pending = r.pending.now; in_base = r.in_base; outputs = r.outputs.now; out_base = r.out_base }
 
 -- the bytes begin with the record of a port of a cut of `base` entries
 abbrev pub is_port_at : ℕ → List ℕ → Bool

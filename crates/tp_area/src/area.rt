@@ -2,7 +2,7 @@
 
 ghost use Rattle.std.specs.Prelude.{◌≡◌, ◌+◌, ◌*◌, ◌^◌, ◌<◌};
 ghost use Rattle.tp_model.specs.declared.limits.TheConstants.{AREA_HEAD_BYTES};
-ghost use Rattle.tp_model.specs.Device.{fits};
+ghost use Rattle.tp_model.specs.Device.{fits_device};
 ghost use Rattle.tp_model.specs.Journal.{cut_length, entry_room, reserve};
 ghost use Rattle.tp_model.specs.Topology.{line_count};
 
@@ -26,7 +26,7 @@ pub fn area_for(topology: &Topology, entries: u64) -> u64
 /// Whether a device of `size` bytes has room for the two areas, and each of them for a cut image and for an entry that anyone
 /// may make.
 pub fn fits(size: u64, topology: &Topology, areas: TwoAreas) -> bool
-    ensures { result ≡ fits size topology.now areas }
+    ensures { result ≡ fits_device size topology.now areas }
 {
     let has_areas = size >= areas.first && areas.length <= (size - areas.first) / 2;
     has_areas && JournalRoom::of(topology, areas.length).takes(1)

@@ -4,7 +4,7 @@ ghost use Rattle.std.specs.Prelude.{◌≡◌, ◌+◌, ◌*◌, ◌<◌, ◌≤
 ghost use Rattle.std.specs.List.{list_all};
 ghost use Rattle.tp_model.specs.declared.limits.TheConstants.{MAX_NODES, MAX_PORTS};
 ghost use Rattle.tp_model.specs.Head.{end_number, end_of_number, first_port};
-ghost use Rattle.tp_area.specs.Ends.{is_number};
+ghost use Rattle.tp_area.specs.Ends.{is_end_number};
 
 use arrayvec::ArrayVec;
 use tp_model::limits::{MAX_NODES, MAX_PORTS, NARROW_PORT, WIDE_PORT};
@@ -51,7 +51,7 @@ pub(crate) fn end_numbers(
 
 /// Whether `number` stands for an end that a network may have, or for none.
 fn is_number(version: HeadVersion, number: u16) -> bool
-    ensures { result ≡ is_number version number }
+    ensures { result ≡ is_end_number version number }
 {
     let first = first_port(version);
     if number < first {
@@ -63,14 +63,14 @@ fn is_number(version: HeadVersion, number: u16) -> bool
 
 /// Whether all of the numbers do.
 pub(crate) fn are_numbers(version: HeadVersion, numbers: &[u16]) -> bool
-    ensures { result ≡ list_all (is_number version) numbers.now }
+    ensures { result ≡ list_all (is_end_number version) numbers.now }
 {
     numbers.iter().all(|number| is_number(version, *number))
 }
 
 /// The end of a wire that `number` stands for.
 fn end_of_number(version: HeadVersion, number: u16) -> Option<WireEnd>
-    requires { is_number version number ≡ true }
+    requires { is_end_number version number ≡ true }
     ensures { result ≡ end_of_number version number }
 {
     let first = first_port(version);
@@ -87,7 +87,7 @@ fn end_of_number(version: HeadVersion, number: u16) -> Option<WireEnd>
 /// The ends of wires that numbers stand for.
 pub(crate) fn ends_of(version: HeadVersion, numbers: &[u16]) -> ArrayVec<Option<WireEnd>, MAX_LINES>
     requires few { length numbers.now ≤ MAX_LINES }
-    requires ends { list_all (is_number version) numbers.now ≡ true }
+    requires ends { list_all (is_end_number version) numbers.now ≡ true }
     ensures { result.items ≡ map (end_of_number version) numbers.now }
 {
     let mut ends = ArrayVec::new();

@@ -3,25 +3,25 @@
 ghost use Rattle.std.specs.Prelude.{◌≡◌, ◌⊎◌, ◌+◌, ◌*◌, ◌^◌, ◌<◌, ◌≤◌, ◌++◌, true, map, flat_map, drop, length, is_ok, OnOk};
 ghost use Rattle.tp_model.specs.declared.limits.TheConstants.{LINE_BYTES, PORT_BYTES};
 ghost use Rattle.tp_model.specs.Bytes.{zeros};
-ghost use Rattle.tp_model.specs.Device.{areas_end, fits};
+ghost use Rattle.tp_model.specs.Device.{areas_end, fits_device};
 ghost use Rattle.tp_model.specs.Disk.{SameOutside};
 ghost use Rattle.tp_model.specs.DiskHistory.{Counts, LeavesOnly};
 ghost use Rattle.tp_model.specs.Format.{start_of};
 ghost use Rattle.tp_model.specs.Head.{areas_of_length, version_for};
 ghost use Rattle.tp_model.specs.Journal.{cut_length, images_length};
 ghost use Rattle.tp_model.specs.Topology.{line_count};
-ghost use Rattle.tp_area.specs.Formatting.{Answers, Formatted, IsOldOrNew, Wrote, area_front, failed_calls, is_early, with_areas};
+ghost use Rattle.tp_area.specs.Formatting.{FormatAnswer, Formatted, IsOldOrNew, Wrote, area_front, failed_calls, is_early, with_areas};
 ghost use Rattle.tp_area.specs.Puts.{ButFor, Puts};
 
 use crate::fault::FormatFault;
 use crate::images::check_images;
 use crate::puts::{put_images, put_piece, put_zeros};
-use std::alloc::Global;
-use tp_disk::{DeviceFailed, Disk, write_through};
 use crate::{
     CutFront, FIELDS_BYTES, area_start, areas_of_length, cut_length, fits, head_bytes,
     images_length, put_fields, records_length, version_for,
 };
+use std::alloc::Global;
+use tp_disk::{DeviceFailed, Disk, write_through};
 use tp_model::limits::{GATE_CLOSED, GATE_OPEN};
 use tp_model::{Form, TwoAreas};
 use tp_net::Topology;
@@ -130,7 +130,7 @@ pub fn format<D: Disk>(
     images: &[Vec<u8>],
     area: u64,
 ) -> Result<(), FormatFault>
-    ensures answer { Answers (start_of topology.now (map (λ image. image.items) images.now)) (fits (D.size_of disk.old) topology.now (areas_of_length (version_for topology.now) area)) result }
+    ensures answer { FormatAnswer (start_of topology.now (map (λ image. image.items) images.now)) (fits_device (D.size_of disk.old) topology.now (areas_of_length (version_for topology.now) area)) result }
     ensures early { is_early result ≡ true → disk.new ≡ disk.old }
     ensures failures { D.failures_of disk.new ≡ D.failures_of disk.old + failed_calls result }
     ensures size { D.size_of disk.new ≡ D.size_of disk.old }

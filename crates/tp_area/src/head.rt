@@ -3,7 +3,7 @@
 ghost use Rattle.std.specs.Prelude.{◌≡◌, ◌≤◌, ◌<◌, ◌^◌, ◌&&◌, bytes_eq, true, length, IfOk, IfSome};
 ghost use Rattle.arrayvec.specs.ArrayVec.{array_vec_len};
 ghost use Rattle.tp_model.specs.declared.limits.TheConstants.{NARROW_HEAD_BYTES};
-ghost use Rattle.tp_model.specs.Device.{areas_end, fits};
+ghost use Rattle.tp_model.specs.Device.{areas_end, fits_device};
 ghost use Rattle.tp_model.specs.Head.{head_bytes, head_length, keeps_limits};
 ghost use Rattle.tp_model.specs.Journal.{is_roomy};
 ghost use Rattle.tp_model.specs.Topology.{is_topology};
@@ -14,9 +14,9 @@ use crate::end::{are_numbers, end_numbers};
 use crate::head_places::{
     AREA_PLACE, NODES_PLACE, PAGES_PLACE, PORTS_PLACE, VERSION_PLACE, ends_place,
 };
+use crate::layout_place::areas_of_length;
 use crate::number::u64_at;
 use crate::numbers::{numbers_in, put_numbers, put_u16s, u16s_in};
-use crate::layout_place::areas_of_length;
 use crate::version::{head_length, head_nodes, keeps_limits, version_byte, version_of};
 use crate::wires::wires_in;
 use crate::written::{pad, put};
@@ -155,7 +155,7 @@ fn is_whole(
 ) -> bool
     requires starts { areas.first ≡ head_length version }
     requires limits { keeps_limits version topology.now ≡ true }
-    ensures { result ≡ (bytes_eq bytes.now (head_bytes version topology.now areas) && fits len topology.now areas) }
+    ensures { result ≡ (bytes_eq bytes.now (head_bytes version topology.now areas) && fits_device len topology.now areas) }
 {
     spells(version, bytes, topology, areas) && fits(len, topology, areas)
 }

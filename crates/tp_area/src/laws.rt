@@ -20,7 +20,7 @@ ghost use Rattle.tp_model.specs.WholeCut.{WholeCut};
 ghost use Rattle.tp_model.specs.WriteOrder.{Resting};
 ghost use Rattle.tp_area.specs.declared.place.Place.{Place};
 ghost use Rattle.tp_area.specs.Appended.{append_refusal};
-ghost use Rattle.tp_area.specs.Crashes.{OpensTo, RestsAs};
+ghost use Rattle.tp_area.specs.Crashes.{StandsOpened, RestsAs};
 ghost use Rattle.tp_area.specs.Checkpointed.{checkpointed};
 ghost use Rattle.tp_area.specs.Other.{Cleared, Switched, other_gate};
 ghost use Rattle.tp_area.specs.Places.{place_at, place_in};
@@ -35,7 +35,7 @@ pub fn open_devices_say_their_place()
 /// the same.
 pub fn resting_devices_open_alike()
     ensures synced { (s : State) (o : Opened) → verdict s.now.bytes ≡ Ok o → IsSynced s → RestsAs (held_of o) s }
-    ensures alike { (h : Held NodeState) (s : State) → RestsAs h s → (left : List ℕ) → MayBe s.now left → OpensTo h left }
+    ensures alike { (h : Held NodeState) (s : State) → RestsAs h s → (left : List ℕ) → MayBe s.now left → StandsOpened h left }
 {}
 
 /// What finds room in the journal, each entry in a group of its own, is never refused for want of room: a group behind the

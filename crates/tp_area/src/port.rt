@@ -6,7 +6,7 @@ ghost use Rattle.std.specs.Option.{option_map};
 ghost use Rattle.arrayvec.specs.ArrayVec.{array_vec_len};
 ghost use Rattle.tp_model.specs.Bytes.{u64_at};
 ghost use Rattle.tp_model.specs.CutImage.{port_bytes, port_with};
-ghost use Rattle.tp_area.specs.Ports.{is_port_at, is_zero, keeps_rules, port_of};
+ghost use Rattle.tp_area.specs.Ports.{is_port_at, is_zero, keeps_rules, port_said};
 
 use crate::number::{u16_at, u64_at};
 use crate::written::{pad, put};
@@ -79,7 +79,7 @@ fn record_in(held: usize, shown: usize, bytes: &[u8]) -> PortRecord<'_>
     requires whole { length bytes.now ≡ PORT_BYTES }
     requires few { held ≤ MAX_HELD }
     requires few_outputs { shown ≤ MAX_HELD }
-    ensures { port_of result ≡ record { pending = take held (drop 20 bytes.now); in_base = u64_at bytes.now 0; outputs = take shown (drop (20 + MAX_HELD) bytes.now); out_base = u64_at bytes.now 8 } }
+    ensures { port_said result ≡ record { pending = take held (drop 20 bytes.now); in_base = u64_at bytes.now 0; outputs = take shown (drop (20 + MAX_HELD) bytes.now); out_base = u64_at bytes.now 8 } }
 {
     PortRecord {
         pending: &bytes[PENDING_PLACE..PENDING_PLACE + held],
@@ -92,7 +92,7 @@ fn record_in(held: usize, shown: usize, bytes: &[u8]) -> PortRecord<'_>
 /// The port of a cut of `base` entries, whose record `bytes` are, if they are one.
 pub fn port_in(base: u64, bytes: &[u8]) -> Option<PortRecord<'_>>
     requires { length bytes.now ≡ PORT_BYTES }
-    ensures { option_map port_of result ≡ port_with base bytes.now }
+    ensures { option_map port_said result ≡ port_with base bytes.now }
 {
     if !is_port_at(base, bytes) {
         return None;
@@ -106,7 +106,7 @@ pub fn port_in(base: u64, bytes: &[u8]) -> Option<PortRecord<'_>>
 pub fn port_bytes(port: PortRecord<'_>) -> ArrayVec<u8, PORT_BYTES>
     requires few { length port.pending.now ≤ MAX_HELD }
     requires few_outputs { length port.outputs.now ≤ MAX_HELD }
-    ensures bytes { result.items ≡ port_bytes (port_of port.entry) }
+    ensures bytes { result.items ≡ port_bytes (port_said port.entry) }
     ensures len { array_vec_len result ≡ PORT_BYTES }
 {
     let mut out = ArrayVec::new();

@@ -4,7 +4,7 @@ ghost use Rattle.std.specs.Prelude.{◌≡◌, ◌+◌, ◌*◌, ◌≤◌, ◌<
 ghost use Rattle.std.specs.List.{list_all, range_with_len};
 ghost use Rattle.arrayvec.specs.ArrayVec.{array_vec_len};
 ghost use Rattle.tp_model.specs.Head.{all_wires, end_of_number, is_port, port_wire};
-ghost use Rattle.tp_area.specs.Ends.{is_number};
+ghost use Rattle.tp_area.specs.Ends.{is_end_number};
 
 use crate::end::ends_of;
 use arrayvec::ArrayVec;
@@ -69,7 +69,7 @@ pub(crate) fn wires_in(
     requires few { nodes ≤ MAX_NODES }
     requires few_ports { ports ≤ MAX_PORTS }
     requires there { length numbers.now ≡ 4 * nodes }
-    requires ends { list_all (is_number version) numbers.now ≡ true }
+    requires ends { list_all (is_end_number version) numbers.now ≡ true }
     ensures { result.items ≡ all_wires nodes ports (map (end_of_number version) numbers.now) }
 {
     let links = ends_of(version, numbers);

@@ -13,18 +13,18 @@ use Rattle.tp_model.specs.declared.limits.TheConstants.{NUMBER_LIMIT}
 use Rattle.tp_model.specs.NodeState.{NodeState}
 use Rattle.tp_model.specs.Network.{Port, OfHost, put, has_wire, taken, sent}
 use Rattle.tp_model.specs.Entries.{process, takes, confirmed, does}
-use Rattle.tp_model.specs.Halves.{BookState, without, with_entry}
+use Rattle.tp_model.specs.Halves.{BookState, without, with_half}
 use Rattle.tp_law_network.proofs.Partial.{cond_some}
 use Rattle.tp_book.specs.declared.port.HostPort.{HostPort}
 use Rattle.tp_book.specs.declared.journal.Journal.TheInside.{Inside}
-use Rattle.tp_book.specs.Kept.{Keeps}
+use Rattle.tp_book.specs.Kept.{BookKeeps}
 use Rattle.tp_book.specs.Counted.{IsCounted, AreCounted}
 use Rattle.tp_book.specs.Ports.{PortValue}
-use Rattle.tp_book.specs.Ports.{fresh_port}
-use Rattle.tp_book.specs.Book.{agreed, next_number}
-use Rattle.tp_book.specs.Inside.{state_of, value_of, in_hand, IsJournal}
+use Rattle.tp_book.specs.Ports.{fresh_value}
+use Rattle.tp_book.specs.Book.{agreed, next_in_book}
+use Rattle.tp_book.specs.Inside.{state_inside, value_of, one_in_hand, IsJournal}
 use Rattle.tp_book.specs.Calls.{marks_of}
-use Rattle.tp_book.specs.Bare.{bare}
+use Rattle.tp_book.specs.Bare.{without_trace}
 use Rattle.tp_book.specs.Host.{port_in, confirmed_port, with_confirmed, after_confirm}
 use Rattle.tp_book.proofs.Commit.{Change, agreed_after}
 use Rattle.tp_book.proofs.Changes.{own_host_agreed}
@@ -45,7 +45,7 @@ confirmed_is upto port after e =
     sym (ap (λ r. r.0) both)
 
 -- a port lets confirmed outputs go
-pub confirm_change : (b : BookState NodeState) → Keeps b → (p upto : ℕ) (port after : Port) → slice_get b.ports p ≡ Some port → confirmed upto port ≡ Some (after, [])
+pub confirm_change : (b : BookState NodeState) → BookKeeps b → (p upto : ℕ) (port after : Port) → slice_get b.ports p ≡ Some port → confirmed upto port ≡ Some (after, [])
     → Change b (Confirm p upto) (set b.ports p after) (agreed b) []
 unfolding taken takes process does put
 confirm_change b K p upto port after at did = record {
@@ -60,7 +60,7 @@ confirm_change b K p upto port after at did = record {
 
 -- a port that is there, as contracts name it
 pub port_found : (b : Inside) (p : ℕ) (was : PortValue) → slice_get b.ports.items p ≡ Some was → port_in (value_of b) p ≡ was.port
-port_found b p was at = get_or_from_slice_get (state_of b).ports p was.port fresh_port.port (slice_get-map (λ q. q.port) b.ports.items p ∙ ap (option_map (λ q. q.port)) at)
+port_found b p was at = get_or_from_slice_get (state_inside b).ports p was.port fresh_value.port (slice_get-map (λ q. q.port) b.ports.items p ∙ ap (option_map (λ q. q.port)) at)
 
 module _ (b : Inside) (B : IsJournal b) (p upto : ℕ) (was after : PortValue) (at : slice_get b.ports.items p ≡ Some was) (did : confirmed upto was.port ≡ Some (after.port, []))
     (marks : after.marks ≡ drop (upto - was.port.out_base) was.marks) (past : was.port.out_base < upto) (held : upto ≤ was.port.out_base + length was.port.outputs)
@@ -69,22 +69,22 @@ module _ (b : Inside) (B : IsJournal b) (p upto : ℕ) (was after : PortValue) (
   abbrev fields : Inside
   fields = record b { ports = ports; entries = entries }
 
-  port_there : slice_get (state_of b).ports p ≡ Some was.port
+  port_there : slice_get (state_inside b).ports p ≡ Some was.port
   port_there = slice_get-map (λ q. q.port) b.ports.items p ∙ ap (option_map (λ q. q.port)) at
 
-  these_ports : map (λ q. q.port) ports.items ≡ set (state_of b).ports p after.port
+  these_ports : map (λ q. q.port) ports.items ≡ set (state_inside b).ports p after.port
   these_ports = ap (map (λ q. q.port)) put_in ∙ map-set (λ q. q.port) b.ports.items p after
 
-  made : Change (state_of b) (Confirm p upto) (map (λ q. q.port) ports.items) (agreed (state_of b)) []
-  made = subst (λ given. Change (state_of b) (Confirm p upto) given (agreed (state_of b)) []) (sym these_ports) (confirm_change (state_of b) B.keeps p upto was.port after.port port_there did)
+  made : Change (state_inside b) (Confirm p upto) (map (λ q. q.port) ports.items) (agreed (state_inside b)) []
+  made = subst (λ given. Change (state_inside b) (Confirm p upto) given (agreed (state_inside b)) []) (sym these_ports) (confirm_change (state_inside b) B.keeps p upto was.port after.port port_there did)
 
-  on : b.lines ≡ sent (has_wire b.wires.items) (without b.lines (takes (state_of b).start.wires (length (state_of b).start.nodes) (Confirm p upto))) []
+  on : b.lines ≡ sent (has_wire b.wires.items) (without b.lines (takes (state_inside b).start.wires (length (state_inside b).start.nodes) (Confirm p upto))) []
   unfolding takes without sent
   on = refl
 
-  pub confirm_agreed : agreed (state_of fields) ≡ agreed (state_of b)
+  pub confirm_agreed : agreed (state_inside fields) ≡ agreed (state_inside b)
   confirm_agreed = ap agreed (state_after b B (Confirm p upto) ports _ [] made entries b.lines items on)
-      ∙ agreed_after (state_of b) B.keeps (Confirm p upto) (map (λ q. q.port) ports.items) (agreed (state_of b)) [] made
+      ∙ agreed_after (state_inside b) B.keeps (Confirm p upto) (map (λ q. q.port) ports.items) (agreed (state_inside b)) [] made
 
   counts : IsCounted (b.base + vec_len b.entries + 1) after.port
   counts =
@@ -92,21 +92,21 @@ module _ (b : Inside) (B : IsJournal b) (p upto : ℕ) (was after : PortValue) (
       subst (IsCounted (b.base + vec_len b.entries + 1)) (sym (confirmed_is upto was.port after.port did))
       (record { inputs = omega (arith, old.inputs); outputs = omega (arith, old.outputs, length-drop (upto - was.port.out_base) was.port.outputs) })
 
-  pub confirm_fields : vec_len entries ≡ vec_len b.entries + 1 → vec_len entries + b.reserved + in_hand b.ready ≤ vec_capacity entries → b.base + vec_len entries + b.reserved + in_hand b.ready < NUMBER_LIMIT
+  pub confirm_fields : vec_len entries ≡ vec_len b.entries + 1 → vec_len entries + b.reserved + one_in_hand b.ready ≤ vec_capacity entries → b.base + vec_len entries + b.reserved + one_in_hand b.ready < NUMBER_LIMIT
       → IsJournal fields
   confirm_fields len space numbers =
       fields_after b B (Confirm p upto) ports _ [] made entries b.lines items on b.runs b.reserved b.ready len refl (ap length put_in ∙ length-set b.ports.items p after) B.reserved space numbers
       (subst (AreCounted (b.base + vec_len entries)) (sym these_ports)
-      (subst (λ n. AreCounted n (set (state_of b).ports p after.port)) (omega (arith, len))
-      (counted_set (b.base + vec_len b.entries) (b.base + vec_len b.entries + 1) (state_of b).ports p after.port B.counted counts (omega arith))))
+      (subst (λ n. AreCounted n (set (state_inside b).ports p after.port)) (omega (arith, len))
+      (counted_set (b.base + vec_len b.entries) (b.base + vec_len b.entries + 1) (state_inside b).ports p after.port B.counted counts (omega arith))))
       (subst (AreRising (b.base + vec_len entries)) (sym (ap (map (λ q. q.marks)) put_in ∙ map-set (λ q. q.marks) b.ports.items p after ∙ ap (set (map (λ q. q.marks) b.ports.items) p) marks))
       (rising_set (b.base + vec_len b.entries) (b.base + vec_len entries) (map (λ q. q.marks) b.ports.items) p _ B.rising
       (rising_drop (upto - was.port.out_base) 0 (b.base + vec_len entries) was.marks
       (rising_to 0 (b.base + vec_len b.entries) (b.base + vec_len entries) was.marks (B.rising p was.marks (slice_get-map (λ q. q.marks) b.ports.items p ∙ ap (option_map (λ q. q.marks)) at)) (omega (arith, len)))) (omega (arith, len))))
-      (confirm_in_range p upto (omega (arith, slice_get_within (state_of b).ports p was.port port_there, B.shaped.few_ports)) (omega (arith, held, (B.counted p was.port port_there).outputs, B.numbers)))
+      (confirm_in_range p upto (omega (arith, slice_get_within (state_inside b).ports p was.port port_there, B.shaped.few_ports)) (omega (arith, held, (B.counted p was.port port_there).outputs, B.numbers)))
       (confirm_of b.form p upto)
 
-  pub confirm_value : value_of fields ≡ bare (after_confirm (value_of b) p upto)
+  pub confirm_value : value_of fields ≡ without_trace (after_confirm (value_of b) p upto)
   confirm_value =
       let found : port_in (value_of b) p ≡ was.port = port_found b p was at in
       let old : marks_of (value_of b) p ≡ was.marks =
@@ -114,9 +114,9 @@ module _ (b : Inside) (B : IsJournal b) (p upto : ℕ) (was after : PortValue) (
       let marks_are : map (λ q. q.marks) ports.items ≡ set (value_of b).marks p (drop (upto - was.port.out_base) (marks_of (value_of b) p)) =
       ap (map (λ q. q.marks)) put_in ∙ map-set (λ q. q.marks) b.ports.items p after ∙ ap (set (value_of b).marks p) (marks ∙ ap (drop (upto - was.port.out_base)) (sym old)) in
       ap (λ given. record (value_of fields) { state = given }) (state_after b B (Confirm p upto) ports _ [] made entries b.lines items on)
-      ∙ ap (λ given. record (value_of fields) { state = with_entry (state_of b) (Confirm p upto) (map (λ q. q.port) ports.items) []; numbers = given }) (numbers_after b B (Confirm p upto) ports _ [] made entries b.lines items on)
-      ∙ ap (λ given. record (value_of b) { state = with_entry (state_of b) (Confirm p upto) given []; numbers = map (λ (e : Entry × ℕ). e.1) b.entries.items ++ next_number (value_of b) ∷ []; marks = map (λ q. q.marks) ports.items })
-      (these_ports ∙ ap (set (state_of b).ports p) (confirmed_is upto was.port after.port did))
-      ∙ ap (λ given. record (value_of b) { state = with_entry (state_of b) (Confirm p upto) (set (state_of b).ports p (confirmed_port was.port upto)) []; numbers = map (λ (e : Entry × ℕ). e.1) b.entries.items ++ next_number (value_of b) ∷ []; marks = given }) marks_are
-      ∙ ap (λ port. record (value_of b) { state = with_entry (state_of b) (Confirm p upto) (set (state_of b).ports p (confirmed_port port upto)) []; numbers = map (λ (e : Entry × ℕ). e.1) b.entries.items ++ next_number (value_of b) ∷ []; marks = set (value_of b).marks p (drop (upto - port.out_base) (marks_of (value_of b) p)) }) (sym found)
-      ∙ sym (ap (λ test. bare (cond test (value_of b) (with_confirmed (value_of b) p upto))) (lt-leb upto (port_in (value_of b) p).out_base (subst (λ port. port.out_base < upto) (sym found) past)))
+      ∙ ap (λ given. record (value_of fields) { state = with_half (state_inside b) (Confirm p upto) (map (λ q. q.port) ports.items) []; numbers = given }) (numbers_after b B (Confirm p upto) ports _ [] made entries b.lines items on)
+      ∙ ap (λ given. record (value_of b) { state = with_half (state_inside b) (Confirm p upto) given []; numbers = map (λ (e : Entry × ℕ). e.1) b.entries.items ++ next_in_book (value_of b) ∷ []; marks = map (λ q. q.marks) ports.items })
+      (these_ports ∙ ap (set (state_inside b).ports p) (confirmed_is upto was.port after.port did))
+      ∙ ap (λ given. record (value_of b) { state = with_half (state_inside b) (Confirm p upto) (set (state_inside b).ports p (confirmed_port was.port upto)) []; numbers = map (λ (e : Entry × ℕ). e.1) b.entries.items ++ next_in_book (value_of b) ∷ []; marks = given }) marks_are
+      ∙ ap (λ port. record (value_of b) { state = with_half (state_inside b) (Confirm p upto) (set (state_inside b).ports p (confirmed_port port upto)) []; numbers = map (λ (e : Entry × ℕ). e.1) b.entries.items ++ next_in_book (value_of b) ∷ []; marks = set (value_of b).marks p (drop (upto - port.out_base) (marks_of (value_of b) p)) }) (sym found)
+      ∙ sym (ap (λ test. without_trace (cond test (value_of b) (with_confirmed (value_of b) p upto))) (lt-leb upto (port_in (value_of b) p).out_base (subst (λ port. port.out_base < upto) (sym found) past)))

@@ -16,16 +16,16 @@ use Rattle.tp_model.specs.Order.{after}
 use Rattle.tp_model.specs.Sound.{Sound}
 use Rattle.tp_model.specs.Markers.{plain, markers, plain_network}
 use Rattle.tp_book.specs.Book.{agreed}
-use Rattle.tp_book.specs.Kept.{Keeps, AreInRange}
+use Rattle.tp_book.specs.Kept.{BookKeeps, AreInRange}
 use Rattle.tp_book.specs.Counted.{IsCounted}
 use Rattle.tp_book.specs.declared.journal.Journal.TheInside.{Inside}
 use Rattle.tp_book.specs.declared.parts.NetParts.{NetParts}
-use Rattle.tp_book.specs.Parts.{network_of}
-use Rattle.tp_book.specs.PortParts.{port_of}
-use Rattle.tp_book.specs.Inside.{state_of, value_of, IsJournal}
-use Rattle.tp_book.specs.Bare.{bare}
+use Rattle.tp_book.specs.Parts.{network_made}
+use Rattle.tp_book.specs.PortParts.{port_made}
+use Rattle.tp_book.specs.Inside.{state_inside, value_of, IsJournal}
+use Rattle.tp_book.specs.Bare.{without_trace}
 use Rattle.tp_book.specs.Start.{IsFresh, IsNetwork, first_book}
-use Rattle.tp_book.specs.Ports.{fresh_port}
+use Rattle.tp_book.specs.Ports.{fresh_value}
 use Rattle.tp_book.specs.Kept.{IsRising}
 
 pub map-replicate : {A B : Type 0} (f : A → B) (n : ℕ) (x : A) → map f (replicate n x) ≡ replicate n (f x)
@@ -37,7 +37,7 @@ on_empty zero x = refl
 on_empty (suc n) zero = refl
 on_empty (suc n) (suc x) = on_empty n x
 
-pub first_kept : (s : Network NodeState) → IsFresh s → Keeps (first_book s None).state
+pub first_kept : (s : Network NodeState) → IsFresh s → BookKeeps (first_book s None).state
 unfolding after agreed
 first_kept s F =
     let same : plain_network s ≡ s = ap (λ lines. record s { lines = lines }) (ap (map plain) F.lines ∙ map-replicate plain (length s.wires) [] ∙ sym F.lines) in
@@ -53,37 +53,37 @@ pub none_reserved : (n : ℕ) → count_by (λ run. run) (replicate n false) ≡
 none_reserved zero = refl
 none_reserved (suc n) = sum_by-cons (λ run. cond run 1 0) false (replicate n false) ∙ omega (arith, none_reserved n)
 
-fresh_counted : (next n p : ℕ) (port : Port) → slice_get (replicate n fresh_port.port) p ≡ Some port → IsCounted next port
+fresh_counted : (next n p : ℕ) (port : Port) → slice_get (replicate n fresh_value.port) p ≡ Some port → IsCounted next port
 fresh_counted next zero p port e = cc
 fresh_counted next (suc n) zero port e =
-    let same : fresh_port.port ≡ port = cc in
+    let same : fresh_value.port ≡ port = cc in
     subst (IsCounted next) same (record { inputs = omega arith; outputs = omega arith })
 fresh_counted next (suc n) (suc p) port e = fresh_counted next n p port e
 
-fresh_rising : (next n p : ℕ) (ns : List ℕ) → slice_get (replicate n fresh_port.marks) p ≡ Some ns → IsRising 0 next ns
+fresh_rising : (next n p : ℕ) (ns : List ℕ) → slice_get (replicate n fresh_value.marks) p ≡ Some ns → IsRising 0 next ns
 fresh_rising next zero p ns e = cc
 fresh_rising next (suc n) zero ns e =
-    let same : fresh_port.marks ≡ ns = cc in
+    let same : fresh_value.marks ≡ ns = cc in
     subst (IsRising 0 next) same (omega arith)
 fresh_rising next (suc n) (suc p) ns e = fresh_rising next n p ns e
 
-module _ (b : Inside) (parts : NetParts) (start : b.start.network ≡ network_of parts) (F : IsFresh (network_of parts)) (N : IsNetwork (network_of parts)) (wires : b.wires.items ≡ parts.wires.items)
-    (lines : b.lines ≡ replicate (vec_len parts.wires) []) (ports : b.ports.items ≡ replicate (vec_len parts.ports) fresh_port)
+module _ (b : Inside) (parts : NetParts) (start : b.start.network ≡ network_made parts) (F : IsFresh (network_made parts)) (N : IsNetwork (network_made parts)) (wires : b.wires.items ≡ parts.wires.items)
+    (lines : b.lines ≡ replicate (vec_len parts.wires) []) (ports : b.ports.items ≡ replicate (vec_len parts.ports) fresh_value)
     (runs : b.runs.items ≡ replicate (vec_len parts.images) false) (entries : b.entries.items ≡ []) where
   abbrev s : Network NodeState
-  s = network_of parts
+  s = network_made parts
 
   abbrev fields : Inside
   fields = record b { base = 0; reserved = 0; ready = None; broken = false; form = Turns }
 
   port_count : vec_len parts.ports ≡ length s.ports
-  port_count = parts.ports.ok.0 ∙ sym (length-map parts.ports.items port_of)
+  port_count = parts.ports.ok.0 ∙ sym (length-map parts.ports.items port_made)
 
   node_count : vec_len parts.images ≡ length s.nodes
   node_count = parts.images.ok.0 ∙ sym (length-map parts.images.items (λ image. node_at image.items))
 
   these_ports : map (λ p. p.port) b.ports.items ≡ s.ports
-  these_ports = ap (map (λ p. p.port)) ports ∙ map-replicate (λ p. p.port) (vec_len parts.ports) fresh_port ∙ ap (λ n. replicate n fresh_port.port) port_count ∙ sym F.ports
+  these_ports = ap (map (λ p. p.port)) ports ∙ map-replicate (λ p. p.port) (vec_len parts.ports) fresh_value ∙ ap (λ n. replicate n fresh_value.port) port_count ∙ sym F.ports
 
   these_lines : b.lines ≡ s.lines
   these_lines = lines ∙ ap (λ n. replicate n []) parts.wires.ok.0 ∙ sym F.lines
@@ -94,16 +94,16 @@ module _ (b : Inside) (parts : NetParts) (start : b.start.network ≡ network_of
   no_entries : vec_len b.entries ≡ 0
   no_entries = b.entries.ok.0 ∙ ap length entries
 
-  first_state : state_of fields ≡ (first_book s None).state
+  first_state : state_inside fields ≡ (first_book s None).state
   first_state =
-      ap (λ given. record (state_of fields) { start = given }) start
-      ∙ ap (λ given. record (state_of fields) { start = s; entries = map (λ (e : Entry × ℕ). e.0) given }) entries
-      ∙ ap (λ given. record (state_of fields) { start = s; entries = []; ports = given }) these_ports
-      ∙ ap (λ given. record (state_of fields) { start = s; entries = []; ports = s.ports; lines = given }) these_lines
+      ap (λ given. record (state_inside fields) { start = given }) start
+      ∙ ap (λ given. record (state_inside fields) { start = s; entries = map (λ (e : Entry × ℕ). e.0) given }) entries
+      ∙ ap (λ given. record (state_inside fields) { start = s; entries = []; ports = given }) these_ports
+      ∙ ap (λ given. record (state_inside fields) { start = s; entries = []; ports = s.ports; lines = given }) these_lines
 
   pub first_fields : IsJournal fields
   first_fields = record {
-    keeps = subst Keeps (sym first_state) (first_kept s F);
+    keeps = subst BookKeeps (sym first_state) (first_kept s F);
     shaped = record {
       count = ap (λ given. length given.nodes) start ∙ sym these_runs;
       wires = omega (arith, ap (λ given. length given.wires) start, N.wires, these_runs, ap length these_ports);
@@ -119,13 +119,13 @@ module _ (b : Inside) (parts : NetParts) (start : b.start.network ≡ network_of
     numbered = subst (λ given. AreNumbered 0 0 (map (λ (e : Entry × ℕ). e.1) given)) (sym entries) tt;
     ranged = subst (λ given. AreInRange (map (λ (e : Entry × ℕ). e.0) given)) (sym entries) tt;
     of_form = subst (AreOf Turns) (sym entries) tt;
-    rising = λ p ns at. fresh_rising (0 + vec_len b.entries) (vec_len parts.ports) p ns (ap (λ given. slice_get given p) (sym (ap (map (λ q. q.marks)) ports ∙ map-replicate (λ q. q.marks) (vec_len parts.ports) fresh_port)) ∙ at);
+    rising = λ p ns at. fresh_rising (0 + vec_len b.entries) (vec_len parts.ports) p ns (ap (λ given. slice_get given p) (sym (ap (map (λ q. q.marks)) ports ∙ map-replicate (λ q. q.marks) (vec_len parts.ports) fresh_value)) ∙ at);
   }
 
-  pub first_value : value_of fields ≡ bare (first_book s b.room)
+  pub first_value : value_of fields ≡ without_trace (first_book s b.room)
   first_value =
       ap (λ given. record (value_of fields) { state = given }) first_state
       ∙ ap (λ given. record (value_of fields) { state = (first_book s None).state; numbers = map (λ (e : Entry × ℕ). e.1) given }) entries
       ∙ ap (λ given. record (value_of fields) { state = (first_book s None).state; numbers = []; runs = given }) (runs ∙ ap (λ n. replicate n false) node_count)
       ∙ ap (λ given. record (value_of fields) { state = (first_book s None).state; numbers = []; runs = replicate (length s.nodes) false; marks = given })
-      (ap (map (λ p. p.marks)) ports ∙ map-replicate (λ p. p.marks) (vec_len parts.ports) fresh_port ∙ ap (λ n. replicate n []) port_count)
+      (ap (map (λ p. p.marks)) ports ∙ map-replicate (λ p. p.marks) (vec_len parts.ports) fresh_value ∙ ap (λ n. replicate n []) port_count)

@@ -10,14 +10,14 @@ use Rattle.tp_law_network.proofs.CutsMarks.{AreMarkers, sent_markers, taken_mark
 use Rattle.tp_book.specs.Room.{HasRoom}
 use Rattle.tp_book.proofs.Sending.{room_before}
 use Rattle.tp_book.specs.declared.journal.Journal.TheInside.{Inside}
-use Rattle.tp_book.specs.Inside.{state_of, IsJournal}
+use Rattle.tp_book.specs.Inside.{state_inside, IsJournal}
 use Rattle.tp_book.proofs.Commit.{line_small}
 use Rattle.tp_book.proofs.Remarked.{remarked}
 
 module _ (b : Inside) (B : IsJournal b) where
   pub other_lines : (lines : List (List Token)) → map plain lines ≡ map plain b.lines → ((line : ℕ) → markers (on_line lines line) ≤ 1) → length lines ≡ length b.lines → IsJournal (record b { lines = lines })
   other_lines lines same few len = record {
-    keeps = remarked (state_of b) B.keeps lines same few;
+    keeps = remarked (state_inside b) B.keeps lines same few;
     shaped = record { count = B.shaped.count; wires = B.shaped.wires; lines = len ∙ B.shaped.lines; few_nodes = B.shaped.few_nodes; few_ports = B.shaped.few_ports };
     wires = B.wires;
     reserved = B.reserved;
@@ -37,7 +37,7 @@ module _ (b : Inside) (B : IsJournal b) where
     pub markers_room : HasRoom (has_wire b.wires.items) b.lines ms
     markers_room = subst (λ wires. HasRoom (has_wire wires) b.lines ms) (sym B.wires)
         (room_before (has_wire b.start.network.wires) b.lines ms (λ l y. omega (arith, length-map b.lines plain, B.keeps.sound.there l y))
-        (line_small (record (state_of b) { lines = sent (has_wire b.start.network.wires) b.lines ms }) (remarked (state_of b) B.keeps (sent (has_wire b.start.network.wires) b.lines ms) same few)))
+        (line_small (record (state_inside b) { lines = sent (has_wire b.start.network.wires) b.lines ms }) (remarked (state_inside b) B.keeps (sent (has_wire b.start.network.wires) b.lines ms) same few)))
 
     pub markers_fields : (lines : List (List Token)) → lines ≡ sent (has_wire b.wires.items) b.lines ms → IsJournal (record b { lines = lines })
     markers_fields lines is =

@@ -29,13 +29,13 @@ use Rattle.tp_book.proofs.OpenedPorts.{opened_ports}
 use Rattle.tp_book.specs.declared.state.NetState.{NetState}
 use Rattle.tp_book.specs.declared.journal.Journal.TheInside.{Inside}
 use Rattle.tp_book.specs.Book.{agreed, nodes_in}
-use Rattle.tp_book.specs.Kept.{Keeps, AreInRange}
+use Rattle.tp_book.specs.Kept.{BookKeeps, AreInRange}
 use Rattle.tp_book.specs.Counted.{AreCounted}
-use Rattle.tp_book.specs.PortParts.{port_of}
+use Rattle.tp_book.specs.PortParts.{port_made}
 use Rattle.tp_book.specs.Ports.{opened_port}
-use Rattle.tp_book.specs.Inside.{state_of, value_of, IsJournal}
-use Rattle.tp_book.specs.Bare.{bare}
-use Rattle.tp_book.specs.Opened.{cut_of, now_of, kept_of, numbers_of, IsOpened, book_form, opened_book}
+use Rattle.tp_book.specs.Inside.{state_inside, value_of, IsJournal}
+use Rattle.tp_book.specs.Bare.{without_trace}
+use Rattle.tp_book.specs.Opened.{cut_of, now_of, kept_entries, numbers_of, IsWellOpen, book_form, opened_book}
 use Rattle.tp_book.proofs.Formed.{opened_form}
 use Rattle.tp_book.proofs.Fresh.{none_reserved}
 use Rattle.tp_book.specs.Kept.{IsRising}
@@ -53,7 +53,7 @@ markers-plain (t ∷ ts) = elim (cases_Bool (is_marker t)) [
 
 -- A book whose entries lead to a sound network without Markers keeps what every book keeps.
 pub opened_kept : (b : BookState NodeState) (s : Network NodeState) → after t414 b.start b.entries ≡ Some s → b.ports ≡ s.ports → b.lines ≡ s.lines → map plain s.lines ≡ s.lines
-    → Sound t414_ends s → Keeps b
+    → Sound t414_ends s → BookKeeps b
 unfolding agreed
 opened_kept b s history ports lines unmarked sound =
     let shape = after_shape t414 has_four_links b.start s b.entries history in
@@ -73,23 +73,23 @@ opened_kept b s history ports lines unmarked sound =
     }
 
 -- no line has more than three tokens
-pub line_few : (s : NetState) → IsOpened s → (line : ℕ) → length (on_line (now_of s).lines line) ≤ 3
+pub line_few : (s : NetState) → IsWellOpen s → (line : ℕ) → length (on_line (now_of s).lines line) ≤ 3
 line_few s O line =
     let small = sound_small O.sound line in
     let none : markers (on_line (now_of s).lines line) ≡ 0 = ap (λ given. markers (on_line given line)) (sym O.unmarked) ∙ ap markers (on_line-plain (now_of s).lines line) ∙ markers-plain (on_line (now_of s).lines line) in
     omega (arith, length-kinds (on_line (now_of s).lines line), none, small.0, small.1)
 
 -- as the vectors of its lines
-pub vec_few : (s : NetState) → IsOpened s → (k : ℕ) (d : Vec Token Global) → k < length s.net.lines.items → vec_len (get_or s.net.lines.items k d) ≤ 3
+pub vec_few : (s : NetState) → IsWellOpen s → (k : ℕ) (d : Vec Token Global) → k < length s.net.lines.items → vec_len (get_or s.net.lines.items k d) ≤ 3
 vec_few s O k d below =
     let there = slice_get-map (λ line. line.items) s.net.lines.items k ∙ ap (option_map (λ line. line.items)) (slice_get-get_or s.net.lines.items k d below) in
     let on = get_or_from_slice_get (map (λ line. line.items) s.net.lines.items) k (get_or s.net.lines.items k d).items [] there in
     omega (arith, line_few s O k, ap length on, (get_or s.net.lines.items k d).ok.0)
 
 -- the marks of what the ports of an opened state hold
-opened_marks : (parts : List PortParts) → map (λ p. p.marks) (map (λ port. opened_port (port_of port)) parts) ≡ map (λ port. (opened_port port).marks) (map port_of parts)
+opened_marks : (parts : List PortParts) → map (λ p. p.marks) (map (λ port. opened_port (port_made port)) parts) ≡ map (λ port. (opened_port port).marks) (map port_made parts)
 opened_marks [] = refl
-opened_marks (p ∷ ps) = ap (λ more. (opened_port (port_of p)).marks ∷ more) (opened_marks ps)
+opened_marks (p ∷ ps) = ap (λ more. (opened_port (port_made p)).marks ∷ more) (opened_marks ps)
 
 opened_rising : (next : ℕ) (ports : List Port) (p : ℕ) (ns : List ℕ) → slice_get (map (λ port. (opened_port port).marks) ports) p ≡ Some ns → IsRising 0 next ns
 opened_rising next [] p ns e = cc
@@ -98,23 +98,23 @@ opened_rising next (q ∷ qs) zero ns e =
     subst (IsRising 0 next) same (rising_zeros (length q.outputs) next)
 opened_rising next (q ∷ qs) (suc p) ns e = opened_rising next qs p ns e
 
-module _ (b : Inside) (s : NetState) (O : IsOpened s) (cut : b.start.network ≡ cut_of s) (wires : b.wires.items ≡ s.net.wires.items)
-    (lines : b.lines ≡ map (λ line. line.items) s.net.lines.items) (ports : b.ports.items ≡ map (λ port. opened_port (port_of port)) s.net.ports.items)
+module _ (b : Inside) (s : NetState) (O : IsWellOpen s) (cut : b.start.network ≡ cut_of s) (wires : b.wires.items ≡ s.net.wires.items)
+    (lines : b.lines ≡ map (λ line. line.items) s.net.lines.items) (ports : b.ports.items ≡ map (λ port. opened_port (port_made port)) s.net.ports.items)
     (runs : b.runs.items ≡ replicate (vec_len s.net.images) false) (entries : b.entries.items ≡ s.kept.items) (base : b.base ≡ s.base)
     (form : b.form ≡ book_form b.room s.form) where
   abbrev fields : Inside
   fields = record b { reserved = 0; ready = None; broken = false }
 
   shape : SameShape (cut_of s) (now_of s)
-  shape = after_shape t414 has_four_links (cut_of s) (now_of s) (kept_of s) O.history
+  shape = after_shape t414 has_four_links (cut_of s) (now_of s) (kept_entries s) O.history
 
-  starts : (state_of b).start ≡ cut_of s
+  starts : (state_inside b).start ≡ cut_of s
   starts = cut
 
-  these_entries : (state_of b).entries ≡ kept_of s
+  these_entries : (state_inside b).entries ≡ kept_entries s
   these_entries = ap (map (λ (e : Entry × ℕ). e.0)) entries
 
-  these_ports : (state_of b).ports ≡ (now_of s).ports
+  these_ports : (state_inside b).ports ≡ (now_of s).ports
   these_ports = ap (map (λ p. p.port)) ports ∙ opened_ports s.net.ports.items
 
   these_marks : map (λ p. p.marks) b.ports.items ≡ map (λ port. (opened_port port).marks) (now_of s).ports
@@ -129,12 +129,12 @@ module _ (b : Inside) (s : NetState) (O : IsOpened s) (cut : b.start.network ≡
   entry_count : vec_len b.entries ≡ vec_len s.kept
   entry_count = b.entries.ok.0 ∙ ap length entries ∙ sym s.kept.ok.0
 
-  leads : after t414 (state_of b).start (state_of b).entries ≡ Some (now_of s)
-  leads = ap (λ given. after t414 given (state_of b).entries) starts ∙ ap (after t414 (cut_of s)) these_entries ∙ O.history
+  leads : after t414 (state_inside b).start (state_inside b).entries ≡ Some (now_of s)
+  leads = ap (λ given. after t414 given (state_inside b).entries) starts ∙ ap (after t414 (cut_of s)) these_entries ∙ O.history
 
   pub opened_fields : IsJournal fields
   opened_fields = record {
-    keeps = opened_kept (state_of fields) (now_of s) leads these_ports lines O.unmarked O.sound;
+    keeps = opened_kept (state_inside fields) (now_of s) leads these_ports lines O.unmarked O.sound;
     shaped = record {
       count = ap (λ given. length given.nodes) starts ∙ sym shape.nodes ∙ sym these_runs;
       wires = omega (arith, ap (λ given. length given.wires) starts, ap length shape.wires, O.shaped.wires, these_runs, ap length these_ports);
@@ -154,14 +154,14 @@ module _ (b : Inside) (s : NetState) (O : IsOpened s) (cut : b.start.network ≡
     rising = λ p ns at. opened_rising (b.base + vec_len b.entries) (now_of s).ports p ns (ap (λ given. slice_get given p) (sym these_marks) ∙ at);
   }
 
-  pub opened_value : value_of fields ≡ bare (opened_book s b.room)
+  pub opened_value : value_of fields ≡ without_trace (opened_book s b.room)
   opened_value =
-      ap (λ given. record (value_of fields) { state = record (state_of fields) { start = given } }) starts
-      ∙ ap (λ given. record (value_of fields) { state = record (state_of fields) { start = cut_of s; entries = given } }) these_entries
-      ∙ ap (λ given. record (value_of fields) { state = record (state_of fields) { start = cut_of s; entries = kept_of s; ports = given } }) these_ports
+      ap (λ given. record (value_of fields) { state = record (state_inside fields) { start = given } }) starts
+      ∙ ap (λ given. record (value_of fields) { state = record (state_inside fields) { start = cut_of s; entries = given } }) these_entries
+      ∙ ap (λ given. record (value_of fields) { state = record (state_inside fields) { start = cut_of s; entries = kept_entries s; ports = given } }) these_ports
       ∙ ap (λ given. record (value_of fields) { state = record (opened_book s b.room).state { lines = given } }) lines
       ∙ ap (λ given. record (value_of fields) { state = (opened_book s b.room).state; numbers = map (λ (e : Entry × ℕ). e.1) given }) entries
       ∙ ap (λ given. record (value_of fields) { state = (opened_book s b.room).state; numbers = numbers_of s; base = given }) base
       ∙ ap (λ given. record (value_of fields) { state = (opened_book s b.room).state; numbers = numbers_of s; base = s.base; form = given }) form
-      ∙ ap (λ given. bare (record (opened_book s b.room) { runs = given; marks = map (λ p. p.marks) b.ports.items })) (runs ∙ ap (λ n. replicate n false) node_count)
-      ∙ ap (λ given. bare (record (opened_book s b.room) { marks = given })) these_marks
+      ∙ ap (λ given. without_trace (record (opened_book s b.room) { runs = given; marks = map (λ p. p.marks) b.ports.items })) (runs ∙ ap (λ n. replicate n false) node_count)
+      ∙ ap (λ given. without_trace (record (opened_book s b.room) { marks = given })) these_marks

@@ -22,7 +22,7 @@ use Rattle.tp_law_network.proofs.Lines.{same_token-self}
 use Rattle.tp_law_network.proofs.Local.{own-host, owner_of_port}
 use Rattle.tp_law_network.proofs.Room.{on_line-plain, acks-plain}
 use Rattle.tp_book.specs.Book.{agreed}
-use Rattle.tp_book.specs.Kept.{Keeps}
+use Rattle.tp_book.specs.Kept.{BookKeeps}
 use Rattle.tp_book.specs.Ports.{CanTake}
 use Rattle.tp_book.specs.Refusals.{takeable_of, is_full_for}
 use Rattle.tp_book.proofs.Commit.{length-agreed}
@@ -75,7 +75,7 @@ wired_back : (end : Option WireEnd) (N y : ℕ) → option_map (line_of N) end �
 wired_back None N y e = cc
 wired_back (Some end) N y e = refl
 
-module _ (b : BookState NodeState) (K : Keeps b) (line p : ℕ) (goes : receiver b.start.wires line ≡ Some (AtPort p)) where
+module _ (b : BookState NodeState) (K : BookKeeps b) (line p : ℕ) (goes : receiver b.start.wires line ≡ Some (AtPort p)) where
   abbrev net : Network NodeState
   net = plain_network (live b (agreed b))
 

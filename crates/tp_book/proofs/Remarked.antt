@@ -19,15 +19,15 @@ use Rattle.tp_law_network.proofs.Lines.{on_set_same}
 use Rattle.tp_law_network.proofs.CutsMarks.{marker_there}
 use Rattle.tp_law_network.proofs.Whole.{running}
 use Rattle.tp_net.specs.declared.line.TheConstants.{LINE_TOKENS}
-use Rattle.tp_law_network.specs.Invariant.{Holds}
+use Rattle.tp_law_network.specs.Invariant.{CutInvariant}
 use Rattle.tp_law_network.proofs.CutsRoom.{few_markers}
 use Rattle.tp_law_network.proofs.Happens.{happens_holds}
 use Rattle.tp_law_network.proofs.Halves.{begin_joins, record_joins, close_joins, close_over_joins}
 use Rattle.tp_book.specs.SnapCounted.{SnapshotsValue}
 use Rattle.tp_book.specs.Needs.{has_recorded_in, is_asked, KnowsLine, HasRoomBefore}
 use Rattle.tp_book.specs.Book.{BookValue, agreed, world_of}
-use Rattle.tp_book.specs.Kept.{Keeps, IsShaped}
-use Rattle.tp_book.specs.Joined.{joined, HasFloor, HostRecorded, Stands}
+use Rattle.tp_book.specs.Kept.{BookKeeps, IsShaped}
+use Rattle.tp_book.specs.Joined.{book_joined, HasFloor, HostRecorded, BookStands}
 use Rattle.std.proofs.Common.{inl, inr, get_or-set_same, get_or-set_other}
 use Rattle.std.proofs.lemmas.Bool.{and_parts, cases_eq, cases_lt}
 use Rattle.std.proofs.lemmas.List.{get_or_past}
@@ -38,7 +38,7 @@ use Rattle.tp_book.proofs.Told.{ages_kept, floor_kept}
 use Rattle.tp_book.proofs.Entered.{keeps_joined, cut_small}
 
 -- Other lines with the same tokens, Markers left out, and with no two Markers on one.
-pub remarked : (b : BookState NodeState) → Keeps b → (lines : List (List Token)) → map plain lines ≡ map plain b.lines → ((line : ℕ) → markers (on_line lines line) ≤ 1) → Keeps (record b { lines = lines })
+pub remarked : (b : BookState NodeState) → BookKeeps b → (lines : List (List Token)) → map plain lines ≡ map plain b.lines → ((line : ℕ) → markers (on_line lines line) ≤ 1) → BookKeeps (record b { lines = lines })
 unfolding agreed
 remarked b K lines same few = record {
   history = K.history ∙ ap (λ given. Some (record (live b (agreed b)) { lines = given })) (sym same);
@@ -52,79 +52,79 @@ host_counted : (n h : ℕ) → is_some (get_or (replicate n None ++ Some h ∷ [
 host_counted zero h = refl
 host_counted (suc n) h = host_counted n h
 
-module _ (j : BookValue) (s : SnapshotsValue) (g : ℕ) (B : Stands j s g) (K : Keeps j.state) where
+module _ (j : BookValue) (s : SnapshotsValue) (g : ℕ) (B : BookStands j s g) (K : BookKeeps j.state) where
   abbrev st : BookState NodeState
-  st = (joined j s g).state
+  st = (book_joined j s g).state
 
   as_many : length (agreed st) ≡ length st.start.nodes
   as_many = length-agreed st (keeps_joined j s g K)
 
   module _ (idle : s.snapshot ≡ None) where
-    pub begin_act : happens t414 (world_of (joined j s g)) Begin ≡ Some (world_of (after_begin (joined j s g)))
+    pub begin_act : happens t414 (world_of (book_joined j s g)) Begin ≡ Some (world_of (after_begin (book_joined j s g)))
     unfolding agreed
     begin_act = begin_joins t414 st (agreed st) s.frozen as_many idle ∙ ap (λ n. Some (marked (with_begin st) (agreed st) (replicate n None))) as_many
 
-    pub begin_holds : Holds t414 (world_of (after_begin (joined j s g)))
-    begin_holds = happens_holds t414 has_four_links never_marks (world_of (joined j s g)) (world_of (after_begin (joined j s g))) Begin B.holds begin_act
+    pub begin_holds : CutInvariant t414 (world_of (after_begin (book_joined j s g)))
+    begin_holds = happens_holds t414 has_four_links never_marks (world_of (book_joined j s g)) (world_of (after_begin (book_joined j s g))) Begin B.holds begin_act
 
     pub begin_few : (line : ℕ) → markers (on_line (sent (has_wire j.state.start.wires) j.state.lines (host_markers (length j.state.start.nodes) (length j.state.ports))) line) ≤ 1
-    begin_few = few_markers t414 (world_of (after_begin (joined j s g))) begin_holds
+    begin_few = few_markers t414 (world_of (after_begin (book_joined j s g))) begin_holds
 
   module _ (node : ℕ) (snap : Snapshot) (runs : s.snapshot ≡ Some snap) (below : node < length j.state.start.nodes) (new : has_recorded snap node ≡ false) where
-    record_is : after_record (joined j s g) node ≡ record (joined j s g) { state = with_record st snap node; frozen = set s.frozen node (slice_get (agreed st) node) }
-    record_is = ap (λ given. record (after_record (joined j s g) node) { state = record (after_record (joined j s g) node).state { snapshot = option_map (λ x. with_count x node (made (process st.start.wires (length st.start.nodes)) node st.entries)) given } }) runs
+    record_is : after_record (book_joined j s g) node ≡ record (book_joined j s g) { state = with_record st snap node; frozen = set s.frozen node (slice_get (agreed st) node) }
+    record_is = ap (λ given. record (after_record (book_joined j s g) node) { state = record (after_record (book_joined j s g) node).state { snapshot = option_map (λ x. with_count x node (made (process st.start.wires (length st.start.nodes)) node st.entries)) given } }) runs
 
-    pub record_act : happens t414 (world_of (joined j s g)) (Record node) ≡ Some (world_of (after_record (joined j s g) node))
+    pub record_act : happens t414 (world_of (book_joined j s g)) (Record node) ≡ Some (world_of (after_record (book_joined j s g) node))
     unfolding agreed
     record_act =
         record_joins t414 st (agreed st) s.frozen as_many snap node runs (omega (arith, below, as_many)) new
         ∙ ap (λ (b : BookValue). Some (world_of b)) (sym record_is)
 
-    pub record_holds : Holds t414 (world_of (after_record (joined j s g) node))
-    record_holds = happens_holds t414 has_four_links never_marks (world_of (joined j s g)) (world_of (after_record (joined j s g) node)) (Record node) B.holds record_act
+    pub record_holds : CutInvariant t414 (world_of (after_record (book_joined j s g) node))
+    record_holds = happens_holds t414 has_four_links never_marks (world_of (book_joined j s g)) (world_of (after_record (book_joined j s g) node)) (Record node) B.holds record_act
 
     pub record_few : (line : ℕ) → markers (on_line (sent (has_wire j.state.start.wires) j.state.lines (node_markers node)) line) ≤ 1
-    record_few = few_markers t414 (world_of (after_record (joined j s g) node)) record_holds
+    record_few = few_markers t414 (world_of (after_record (book_joined j s g) node)) record_holds
 
   module _ (line : ℕ) (snap : Snapshot) (runs : s.snapshot ≡ Some snap) (front : is_first (on_line j.state.lines line) Marker ≡ true)
-      (has : has_recorded snap (taker_of (joined j s g) line) ≡ true) where
-    close_is : after_close (joined j s g) line ≡ record (joined j s g) { state = with_close st snap line }
-    close_is = ap (λ given. record (after_close (joined j s g) line) { state = record (after_close (joined j s g) line).state { snapshot = option_map (λ x. with_closed x line) given } }) runs
+      (has : has_recorded snap (taker_of (book_joined j s g) line) ≡ true) where
+    close_is : after_close (book_joined j s g) line ≡ record (book_joined j s g) { state = with_close st snap line }
+    close_is = ap (λ given. record (after_close (book_joined j s g) line) { state = record (after_close (book_joined j s g) line).state { snapshot = option_map (λ x. with_closed x line) given } }) runs
 
-    pub close_act : happens t414 (world_of (joined j s g)) (Close line) ≡ Some (world_of (after_close (joined j s g) line))
+    pub close_act : happens t414 (world_of (book_joined j s g)) (Close line) ≡ Some (world_of (after_close (book_joined j s g) line))
     unfolding agreed
     close_act = close_joins t414 st (agreed st) s.frozen as_many snap line runs front has ∙ ap (λ (b : BookValue). Some (world_of b)) (sym close_is)
 
-    pub close_holds : Holds t414 (world_of (after_close (joined j s g) line))
-    close_holds = happens_holds t414 has_four_links never_marks (world_of (joined j s g)) (world_of (after_close (joined j s g) line)) (Close line) B.holds close_act
+    pub close_holds : CutInvariant t414 (world_of (after_close (book_joined j s g) line))
+    close_holds = happens_holds t414 has_four_links never_marks (world_of (book_joined j s g)) (world_of (after_close (book_joined j s g) line)) (Close line) B.holds close_act
 
     pub close_few : (l : ℕ) → markers (on_line (set j.state.lines line (drop 1 (on_line j.state.lines line))) l) ≤ 1
-    close_few = few_markers t414 (world_of (after_close (joined j s g) line)) close_holds
+    close_few = few_markers t414 (world_of (after_close (book_joined j s g) line)) close_holds
 
   module _ (line : ℕ) (snap : Snapshot) (runs : s.snapshot ≡ Some snap) (marker : has_marker (on_line j.state.lines line) ≡ true)
-      (has : has_recorded snap (taker_of (joined j s g) line) ≡ true) where
+      (has : has_recorded snap (taker_of (book_joined j s g) line) ≡ true) where
     abbrev passed : List Token
     passed = before (on_line j.state.lines line)
 
-    over_is : after_close_over (joined j s g) line ≡ record (joined j s g) { state = with_close_over st snap line }
-    over_is = ap (λ given. record (after_close_over (joined j s g) line) { state = record (after_close_over (joined j s g) line).state { snapshot = option_map (λ x. closed_over x line passed) given } }) runs
+    over_is : after_close_over (book_joined j s g) line ≡ record (book_joined j s g) { state = with_close_over st snap line }
+    over_is = ap (λ given. record (after_close_over (book_joined j s g) line) { state = record (after_close_over (book_joined j s g) line).state { snapshot = option_map (λ x. closed_over x line passed) given } }) runs
 
-    pub over_act : happens t414 (world_of (joined j s g)) (Close line) ≡ Some (world_of (after_close_over (joined j s g) line))
+    pub over_act : happens t414 (world_of (book_joined j s g)) (Close line) ≡ Some (world_of (after_close_over (book_joined j s g) line))
     unfolding agreed
     over_act = close_over_joins t414 st (agreed st) s.frozen as_many snap line runs marker has ∙ ap (λ (b : BookValue). Some (world_of b)) (sym over_is)
 
-    pub over_holds : Holds t414 (world_of (after_close_over (joined j s g) line))
-    over_holds = happens_holds t414 has_four_links never_marks (world_of (joined j s g)) (world_of (after_close_over (joined j s g) line)) (Close line) B.holds over_act
+    pub over_holds : CutInvariant t414 (world_of (after_close_over (book_joined j s g) line))
+    over_holds = happens_holds t414 has_four_links never_marks (world_of (book_joined j s g)) (world_of (after_close_over (book_joined j s g) line)) (Close line) B.holds over_act
 
     pub over_few : (l : ℕ) → markers (on_line (set j.state.lines line (unmarked (on_line j.state.lines line))) l) ≤ 1
-    over_few = few_markers t414 (world_of (after_close_over (joined j s g) line)) over_holds
+    over_few = few_markers t414 (world_of (after_close_over (book_joined j s g) line)) over_holds
 
     over_there : line < length snap.lines
-    over_there = let R = running t414 (world_of (joined j s g)) B.holds snap runs in omega (arith, marker_there j.state.lines line marker, R.cut_lines)
+    over_there = let R = running t414 (world_of (book_joined j s g)) B.holds snap runs in omega (arith, marker_there j.state.lines line marker, R.cut_lines)
 
     over_small : length (on_line snap.lines line ++ passed) ≤ LINE_TOKENS
     over_small =
-        let few = cut_small (world_of (after_close_over (joined j s g) line)) over_holds B.origin (closed_over snap line passed) (ap (option_map (λ x. closed_over x line passed)) runs) line in
+        let few = cut_small (world_of (after_close_over (book_joined j s g) line)) over_holds B.origin (closed_over snap line passed) (ap (option_map (λ x. closed_over x line passed)) runs) line in
         omega (arith, few, ap length (on_set_same snap.lines line (on_line snap.lines line ++ passed) over_there))
 
     pub over_room : HasRoomBefore s.snapshot j.state.lines line
@@ -132,7 +132,7 @@ module _ (j : BookValue) (s : SnapshotsValue) (g : ℕ) (B : Stands j s g) (K : 
 
     pub over_known : KnowsLine s.snapshot line
     over_known other is =
-        let R = running t414 (world_of (joined j s g)) B.holds other is in
+        let R = running t414 (world_of (book_joined j s g)) B.holds other is in
         omega (arith, marker_there j.state.lines line marker, R.cut_closed)
 
 -- ## The snapshot that runs
@@ -181,9 +181,9 @@ counted_host (Some old) node count host H snap e =
       | inr other ↦ ap is_some (get_or-set_other counts node p (Some count) (Some 0) other) ∙ h
     ]
 
-module _ (j : BookValue) (s : SnapshotsValue) (g : ℕ) (B : Stands j s g) (K : Keeps j.state) where
-  pub closed_stands : (line : ℕ) (snap : Snapshot) → s.snapshot ≡ Some snap → is_first (on_line j.state.lines line) Marker ≡ true → has_recorded snap (taker_of (joined j s g) line) ≡ true
-      → Stands (with_lines j (set j.state.lines line (drop 1 (on_line j.state.lines line)))) (record s { snapshot = option_map (λ x. with_closed x line) s.snapshot }) g
+module _ (j : BookValue) (s : SnapshotsValue) (g : ℕ) (B : BookStands j s g) (K : BookKeeps j.state) where
+  pub closed_stands : (line : ℕ) (snap : Snapshot) → s.snapshot ≡ Some snap → is_first (on_line j.state.lines line) Marker ≡ true → has_recorded snap (taker_of (book_joined j s g) line) ≡ true
+      → BookStands (with_lines j (set j.state.lines line (drop 1 (on_line j.state.lines line)))) (record s { snapshot = option_map (λ x. with_closed x line) s.snapshot }) g
   closed_stands line snap runs front has = record {
     holds = close_holds j s g B K line snap runs front has;
     origin = B.origin;
@@ -196,8 +196,8 @@ module _ (j : BookValue) (s : SnapshotsValue) (g : ℕ) (B : Stands j s g) (K : 
     told = B.told;
   }
 
-  pub passed_stands : (line : ℕ) (snap : Snapshot) → s.snapshot ≡ Some snap → has_marker (on_line j.state.lines line) ≡ true → has_recorded snap (taker_of (joined j s g) line) ≡ true
-      → Stands (with_lines j (set j.state.lines line (unmarked (on_line j.state.lines line)))) (record s { snapshot = option_map (λ x. closed_over x line (before (on_line j.state.lines line))) s.snapshot }) g
+  pub passed_stands : (line : ℕ) (snap : Snapshot) → s.snapshot ≡ Some snap → has_marker (on_line j.state.lines line) ≡ true → has_recorded snap (taker_of (book_joined j s g) line) ≡ true
+      → BookStands (with_lines j (set j.state.lines line (unmarked (on_line j.state.lines line)))) (record s { snapshot = option_map (λ x. closed_over x line (before (on_line j.state.lines line))) s.snapshot }) g
   passed_stands line snap runs marker has = record {
     holds = over_holds j s g B K line snap runs marker has;
     origin = B.origin;
@@ -221,17 +221,17 @@ module _ (j : BookValue) (s : SnapshotsValue) (g : ℕ) (B : Stands j s g) (K : 
     own : get_or s.made (length j.runs) 0 ≡ made (process j.state.start.wires (length j.state.start.nodes)) (length j.state.start.nodes) j.state.entries
     own = B.counted.each (length j.runs) (omega (arith, shaped.count, B.counted.count)) ∙ ap (λ n. made (process j.state.start.wires (length j.state.start.nodes)) n j.state.entries) (sym shaped.count)
 
-    pub begun_value : joined j_begun (begun_by (length j.runs) (get_or s.made (length j.runs) 0)) g ≡ after_begin (joined j s g)
+    pub begun_value : book_joined j_begun (begun_by (length j.runs) (get_or s.made (length j.runs) 0)) g ≡ after_begin (book_joined j s g)
     begun_value =
-        ap (λ h. joined j_begun (begun_by (length j.runs) h) g) own
-        ∙ ap (λ n. joined j_begun (begun_by n (made (process j.state.start.wires (length j.state.start.nodes)) (length j.state.start.nodes) j.state.entries)) g) (sym shaped.count)
+        ap (λ h. book_joined j_begun (begun_by (length j.runs) h) g) own
+        ∙ ap (λ n. book_joined j_begun (begun_by n (made (process j.state.start.wires (length j.state.start.nodes)) (length j.state.start.nodes) j.state.entries)) g) (sym shaped.count)
 
     floor_before : s.floor ≤ length j.state.entries
     floor_before = subst (λ given. HasFloor given s.floor (length j.state.entries)) idle B.low
 
-    pub begun_stands : g + 1 < NUMBER_LIMIT → Stands j_begun (begun_by (length j.runs) (get_or s.made (length j.runs) 0)) g
+    pub begun_stands : g + 1 < NUMBER_LIMIT → BookStands j_begun (begun_by (length j.runs) (get_or s.made (length j.runs) 0)) g
     begun_stands age = record {
-      holds = subst (λ b. Holds t414 (world_of b)) (sym begun_value) (begin_holds j s g B K idle);
+      holds = subst (λ b. CutInvariant t414 (world_of b)) (sym begun_value) (begin_holds j s g B K idle);
       origin = B.origin;
       counted = B.counted;
       host = λ snap runs.
@@ -255,15 +255,15 @@ module _ (j : BookValue) (s : SnapshotsValue) (g : ℕ) (B : Stands j s g) (K : 
     abbrev recorded_by : ℕ → Option NodeState → SnapshotsValue
     recorded_by h given = record s { snapshot = option_map (λ x. with_count x node h) s.snapshot; frozen = set s.frozen node given }
 
-    pub recorded_value : joined j_recorded (recorded_by (get_or s.made node 0) image) g ≡ after_record (joined j s g) node
+    pub recorded_value : book_joined j_recorded (recorded_by (get_or s.made node 0) image) g ≡ after_record (book_joined j s g) node
     unfolding agreed
     recorded_value =
-        ap (λ h. joined j_recorded (recorded_by h image) g) (B.counted.each node (omega (arith, below, B.counted.count)))
-        ∙ ap (λ given. joined j_recorded (recorded_by (made (process j.state.start.wires (length j.state.start.nodes)) node j.state.entries) given) g) image_is
+        ap (λ h. book_joined j_recorded (recorded_by h image) g) (B.counted.each node (omega (arith, below, B.counted.count)))
+        ∙ ap (λ given. book_joined j_recorded (recorded_by (made (process j.state.start.wires (length j.state.start.nodes)) node j.state.entries) given) g) image_is
 
-    pub recorded_stands : Stands j_recorded (recorded_by (get_or s.made node 0) image) g
+    pub recorded_stands : BookStands j_recorded (recorded_by (get_or s.made node 0) image) g
     recorded_stands = record {
-      holds = subst (λ b. Holds t414 (world_of b)) (sym recorded_value) (record_holds j s g B K node snap runs below new);
+      holds = subst (λ b. CutInvariant t414 (world_of b)) (sym recorded_value) (record_holds j s g B K node snap runs below new);
       origin = B.origin;
       counted = B.counted;
       host = counted_host s.snapshot node (get_or s.made node 0) (length j.state.start.nodes) B.host;

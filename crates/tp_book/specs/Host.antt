@@ -10,15 +10,15 @@ use Rattle.tp_model.specs.Network.{Port, has_wire, sent}
 use Rattle.tp_model.specs.Halves.{BookState}
 use Rattle.tp_book.specs.declared.refusal.Refusal.{Refusal}
 use Rattle.tp_book.specs.declared.refusal.Refusal.TheVariants.{StoreBroken, PortFull}
-use Rattle.tp_book.specs.Ports.{fresh_port}
-use Rattle.tp_book.specs.Book.{BookValue, next_number, node_count}
+use Rattle.tp_book.specs.Ports.{fresh_value}
+use Rattle.tp_book.specs.Book.{BookValue, next_in_book, count_of_nodes}
 use Rattle.tp_book.specs.Calls.{with_journalled, marks_of}
 use Rattle.tp_book.specs.Sends.{sends_on}
 use Rattle.tp_book.specs.Refusals.{else_if, entry_refusal}
 
 -- a port of the book; where there is none, one at which nothing has happened
 abbrev pub port_in : BookValue → ℕ → Port
-port_in b p = get_or b.state.ports p fresh_port.port
+port_in b p = get_or b.state.ports p fresh_value.port
 
 -- how many bytes a port has accepted
 abbrev pub accepted_of : Port → ℕ
@@ -46,11 +46,11 @@ with_input b line p port bytes =
     }
 
 -- the book after bytes were handed to a port
-abbrev pub after_input : BookValue → ℕ → List ℕ → BookValue
-after_input b p bytes =
+abbrev pub after_inputs : BookValue → ℕ → List ℕ → BookValue
+after_inputs b p bytes =
     record b {
-      state = with_input b.state (4 * node_count b + p) p (port_in b p) bytes;
-      numbers = b.numbers ++ range_with_len (next_number b) (length bytes);
+      state = with_input b.state (4 * count_of_nodes b + p) p (port_in b p) bytes;
+      numbers = b.numbers ++ range_with_len (next_in_book b) (length bytes);
       history = b.history ++ map (HostIn p) bytes;
     }
 

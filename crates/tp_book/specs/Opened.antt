@@ -14,7 +14,7 @@ use Rattle.tp_model.specs.Order.{after}
 use Rattle.tp_model.specs.Sound.{Sound}
 use Rattle.tp_model.specs.Markers.{plain}
 use Rattle.tp_book.specs.declared.state.NetState.{NetState}
-use Rattle.tp_book.specs.Parts.{network_of}
+use Rattle.tp_book.specs.Parts.{network_made}
 use Rattle.tp_book.specs.Ports.{opened_port}
 use Rattle.tp_book.specs.Counted.{AreCounted}
 use Rattle.tp_book.specs.Start.{IsNetwork}
@@ -26,11 +26,11 @@ abbrev pub cut_of : NetState → Network NodeState
 cut_of s = s.cut.network
 
 abbrev pub now_of : NetState → Network NodeState
-now_of s = network_of s.net
+now_of s = network_made s.net
 
 -- the kept entries, and their numbers
-abbrev pub kept_of : NetState → List Entry
-kept_of s = map (λ (e : Entry × ℕ). e.0) s.kept.items
+abbrev pub kept_entries : NetState → List Entry
+kept_entries s = map (λ (e : Entry × ℕ). e.0) s.kept.items
 
 abbrev pub numbers_of : NetState → List ℕ
 numbers_of s = map (λ (e : Entry × ℕ). e.1) s.kept.items
@@ -38,13 +38,13 @@ numbers_of s = map (λ (e : Entry × ℕ). e.1) s.kept.items
 -- What opening leaves: the kept entries are in the range of their bytes, are such as the area's form holds, and lead from the kept cut's network to the one that is
 -- there, which is sound and has no Markers under way; each node's image spells it; each port holds what it has room for, and has counted no more than there are
 -- entries; the number of the next entry and the generation are in their ranges.
-pub record IsOpened (s : NetState) : Type 0 where
-  pub history : after t414 (cut_of s) (kept_of s) ≡ Some (now_of s)
+pub record IsWellOpen (s : NetState) : Type 0 where
+  pub history : after t414 (cut_of s) (kept_entries s) ≡ Some (now_of s)
   pub sound : Sound t414_ends (now_of s)
   pub shaped : IsNetwork (now_of s)
   pub lines : length (now_of s).lines ≡ length (now_of s).wires
   pub unmarked : map plain (now_of s).lines ≡ (now_of s).lines
-  pub ranged : AreInRange (kept_of s)
+  pub ranged : AreInRange (kept_entries s)
   pub of_form : AreOf s.form s.kept.items
   pub numbered : AreNumbered 0 s.base (numbers_of s)
   pub next : s.next ≡ s.base + vec_len s.kept
@@ -65,7 +65,7 @@ book_form (Some most) form = form
 -- by every mark.
 abbrev pub opened_book : NetState → Option ℕ → BookValue
 opened_book s room = record {
-  state = record { start = cut_of s; entries = kept_of s; ports = (now_of s).ports; lines = (now_of s).lines; snapshot = None };
+  state = record { start = cut_of s; entries = kept_entries s; ports = (now_of s).ports; lines = (now_of s).lines; snapshot = None };
   numbers = numbers_of s;
   base = s.base;
   runs = replicate (length (now_of s).nodes) false;

@@ -3,14 +3,14 @@ use Rattle.std.specs.Prelude.{map}
 use Rattle.tp_model.specs.NodeState.{NodeState}
 use Rattle.tp_model.specs.Image.{node_at}
 use Rattle.tp_model.specs.Network.{Network}
-use Rattle.tp_book.specs.PortParts.{port_of}
+use Rattle.tp_book.specs.PortParts.{port_made}
 use Rattle.tp_book.specs.declared.parts.NetParts.{NetParts}
 
 -- the network that the parts are
-abbrev pub network_of : NetParts → Network NodeState
-network_of p = record {
+abbrev pub network_made : NetParts → Network NodeState
+network_made p = record {
   wires = p.wires.items;
   nodes = map (λ image. node_at image.items) p.images.items;
-  ports = map port_of p.ports.items;
+  ports = map port_made p.ports.items;
   lines = map (λ line. line.items) p.lines.items;
 }

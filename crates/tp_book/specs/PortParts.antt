@@ -3,5 +3,5 @@ use Rattle.tp_model.specs.Network.{Port}
 use Rattle.tp_book.specs.declared.port_parts.PortParts.{PortParts}
 
 -- the port that the parts are
-abbrev pub port_of : PortParts → Port
-port_of p = record { pending = p.pending.items; in_base = p.in_base; outputs = p.outputs.items; out_base = p.out_base }
+abbrev pub port_made : PortParts → Port
+port_made p = record { pending = p.pending.items; in_base = p.in_base; outputs = p.outputs.items; out_base = p.out_base }

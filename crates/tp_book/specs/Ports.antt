@@ -12,8 +12,8 @@ pub record PortValue : Type 0 where
   pub marks : List ℕ
 
 -- a port at which nothing has happened
-abbrev pub fresh_port : PortValue
-fresh_port = record { port = record { pending = []; in_base = 0; outputs = []; out_base = 0 }; marks = [] }
+abbrev pub fresh_value : PortValue
+fresh_value = record { port = record { pending = []; in_base = 0; outputs = []; out_base = 0 }; marks = [] }
 
 -- the marks after a token was taken whose output this mark shows
 abbrev pub marks_after : Token → List ℕ → ℕ → List ℕ

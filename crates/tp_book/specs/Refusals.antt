@@ -11,7 +11,7 @@ use Rattle.tp_model.specs.Journal.{is_full, is_full_for_cut}
 use Rattle.tp_book.specs.Needs.{is_needed}
 use Rattle.tp_book.specs.declared.refusal.Refusal.{Refusal}
 use Rattle.tp_book.specs.declared.refusal.Refusal.TheVariants.{JournalFull, StoreBroken, Memory, NothingToTake, PortFull}
-use Rattle.tp_book.specs.Book.{BookValue, next_number, reserved}
+use Rattle.tp_book.specs.Book.{BookValue, next_in_book, reserved}
 
 -- a reason, where it holds and no earlier one does
 abbrev pub else_if : Option Refusal → Bool → Refusal → Option Refusal
@@ -20,7 +20,7 @@ else_if None holds other = if holds then Some other else None
 
 -- the journal is full for `more` entries
 abbrev pub is_journal_full : BookValue → ℕ → Bool
-is_journal_full b more = is_full b.room (length b.state.lines) (length b.state.entries) (reserved b) (next_number b) more
+is_journal_full b more = is_full b.room (length b.state.lines) (length b.state.entries) (reserved b) (next_in_book b) more
 
 -- A running snapshot needs what is taken from a line: the process that receives the line has recorded in it, and the line isn't
 -- closed.
@@ -30,7 +30,7 @@ needs_take b line = is_needed b.state.snapshot (process_at (length b.state.start
 -- the journal is full for a take: one that a running snapshot needs may use the reserve
 abbrev pub is_full_for_take : BookValue → Bool → Bool
 is_full_for_take b needed =
-    if needed then is_full_for_cut b.room (length b.state.entries) (reserved b) (next_number b) else is_journal_full b 1
+    if needed then is_full_for_cut b.room (length b.state.entries) (reserved b) (next_in_book b) else is_journal_full b 1
 
 -- what can be taken from a line: the token in front, unless that is a Marker
 abbrev pub takeable_of : List Token → Option Token
@@ -67,10 +67,10 @@ is_full_for (Some port) Ack = false
 is_full_for (Some port) Marker = false
 
 -- the port that a line goes to, in the book
-abbrev pub port_at : BookValue → Option WireEnd → Option Port
-port_at b None = None
-port_at b (Some (Link i k)) = None
-port_at b (Some (AtPort p)) = slice_get b.state.ports p
+abbrev pub port_behind : BookValue → Option WireEnd → Option Port
+port_behind b None = None
+port_behind b (Some (Link i k)) = None
+port_behind b (Some (AtPort p)) = slice_get b.state.ports p
 
 -- why no port can take a line's front, where a running snapshot may need the take
 abbrev pub port_refusal : BookValue → ℕ → Bool → Option Refusal
@@ -78,7 +78,7 @@ port_refusal b line needed =
     take_refusal b needed
     (else_if
     (else_if (else_if None (is_none (takeable_of (on_line b.state.lines line))) NothingToTake) b.broken StoreBroken)
-    (is_full_for (port_at b (receiver b.state.start.wires line)) (get_or (on_line b.state.lines line) 0 Marker)) PortFull)
+    (is_full_for (port_behind b (receiver b.state.start.wires line)) (get_or (on_line b.state.lines line) 0 Marker)) PortFull)
 
 abbrev pub host_refusal : BookValue → ℕ → Option Refusal
 host_refusal b line = port_refusal b line (needs_take b line)

@@ -6,14 +6,14 @@ use Rattle.tp_model.specs.Network.{Network}
 use Rattle.tp_model.specs.Sound.{Sound}
 use Rattle.tp_model.specs.declared.form.Form.TheVariants.{Turns}
 use Rattle.tp_model.specs.declared.limits.TheConstants.{MAX_NODES, MAX_PORTS}
-use Rattle.tp_book.specs.Ports.{fresh_port}
+use Rattle.tp_book.specs.Ports.{fresh_value}
 use Rattle.tp_book.specs.Book.{BookValue}
 
 -- The network is sound, nothing is under way and nothing has happened at its ports.
 pub record IsFresh (s : Network NodeState) : Type 0 where
   pub sound : Sound t414_ends s
   pub lines : s.lines ≡ replicate (length s.wires) []
-  pub ports : s.ports ≡ replicate (length s.ports) fresh_port.port
+  pub ports : s.ports ≡ replicate (length s.ports) fresh_value.port
 
 -- A line for each link and each port, and no more nodes and ports than a network may have.
 pub record IsNetwork (s : Network NodeState) : Type 0 where

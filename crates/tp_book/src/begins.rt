@@ -7,13 +7,13 @@ ghost use Rattle.tp_model.specs.Opening.{Opened};
 ghost use Rattle.tp_model.specs.OpensTo.{book_of};
 ghost use Rattle.tp_book.specs.declared.state.NetState.{NetState};
 ghost use Rattle.tp_book.specs.Book.{world_of};
-ghost use Rattle.tp_book.specs.Opened.{cut_of, kept_of, now_of, IsOpened, opened_book};
+ghost use Rattle.tp_book.specs.Opened.{cut_of, kept_entries, now_of, IsWellOpen, opened_book};
 
 /// A state that `Book::open` asks for gives a book that the law of cuts begins with: no snapshot runs, and the entries lead from the
 /// kept cut to the network as it is, which has no Marker. Where the state is what opening answered, that book is the one with
 /// which a run goes on from the device. It does nothing.
 pub fn opened_books_begin()
-    ensures cuts { (s : NetState) (room : Option ℕ) → IsOpened s → IsFirst t414 (world_of (opened_book s room)) }
-    ensures runs { (s : NetState) (room : Option ℕ) (o : Opened) → IsOpened s → cut_of s ≡ o.cut → kept_of s ≡ map (λ e. e.0) o.kept → now_of s ≡ o.now
+    ensures cuts { (s : NetState) (room : Option ℕ) → IsWellOpen s → IsFirst t414 (world_of (opened_book s room)) }
+    ensures runs { (s : NetState) (room : Option ℕ) (o : Opened) → IsWellOpen s → cut_of s ≡ o.cut → kept_entries s ≡ map (λ e. e.0) o.kept → now_of s ≡ o.now
         → world_of (opened_book s room) ≡ book_of o }
 {}

@@ -24,7 +24,7 @@ unsafe impl Send for CutNetwork {}
 unsafe impl Sync for CutNetwork {}
 
 impl CutNetwork {
-    ghost use Rattle.tp_book.specs.Parts.{network_of};
+    ghost use Rattle.tp_book.specs.Parts.{network_made};
 
     /// The network that contracts name of a value. It does nothing.
     pub fn of<T>(_value: &T) -> CutNetwork
@@ -36,7 +36,7 @@ impl CutNetwork {
 
     /// The network of `parts`.
     pub fn of_parts(parts: &NetParts) -> CutNetwork
-        ensures { result.network ≡ network_of parts.now }
+        ensures { result.network ≡ network_made parts.now }
     {
         CutNetwork::of(parts)
     }

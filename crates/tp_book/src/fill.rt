@@ -4,11 +4,11 @@ ghost use Rattle.std.specs.Prelude.{◌≡◌, ◌<◌, ◌≤◌, [], IfOk, len
 ghost use Rattle.tp_model.specs.Network.{on_line};
 ghost use Rattle.tp_model.specs.declared.limits.TheConstants.{MAX_HELD};
 ghost use Rattle.tp_net.specs.declared.line.TheConstants.{LINE_TOKENS};
-ghost use Rattle.tp_book.specs.PortParts.{port_of};
+ghost use Rattle.tp_book.specs.PortParts.{port_made};
 ghost use Rattle.tp_book.specs.Ports.{opened_port};
 
-use crate::port_parts::PortParts;
 use crate::port::HostPort;
+use crate::port_parts::PortParts;
 use std::alloc::{AllocError, Global};
 use tp_model::Token;
 use tp_net::Lines;
@@ -41,7 +41,7 @@ pub fn lines_with(alloc: Global, tokens: &[Vec<Token>]) -> Result<Lines, AllocEr
 pub fn ports_with(alloc: Global, parts: &[PortParts]) -> Result<Vec<HostPort>, AllocError>
     requires pending { All (λ port. vec_len port.pending ≤ MAX_HELD) parts.now }
     requires outputs { All (λ port. vec_len port.outputs ≤ MAX_HELD) parts.now }
-    ensures { IfOk result (λ ports. ports.items ≡ map (λ port. opened_port (port_of port)) parts.now) }
+    ensures { IfOk result (λ ports. ports.items ≡ map (λ port. opened_port (port_made port)) parts.now) }
 {
     let mut ports = Vec::with_capacity(alloc, parts.len())?;
     for port in 0..parts.len() {

@@ -5,9 +5,9 @@ ghost use Rattle.tp_model.specs.Network.{has_wire, sent};
 ghost use Rattle.tp_model.specs.Snapshot.{host_markers, node_markers};
 ghost use Rattle.tp_book.specs.Room.{HasRoom};
 
+use crate::{send_all, send_some};
 use tp_model::{Token, WireEnd};
 use tp_net::{Lines, link_line, port_line};
-use crate::{send_all, send_some};
 
 /// A Marker on each of a node's four lines.
 const NODE_MARKERS: [(u8, Token); 4] = [

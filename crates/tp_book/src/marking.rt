@@ -7,13 +7,13 @@ ghost use Rattle.tp_model.specs.Snapshot.{closed_over, first_snapshot, host_mark
 ghost use Rattle.tp_model.specs.declared.link.Token.TheVariants.{Marker};
 ghost use Rattle.std.specs.Option.{option_map};
 ghost use Rattle.tp_book.specs.Needs.{KnowsLine, HasRoomBefore};
-ghost use Rattle.tp_book.specs.Book.{agreed, node_count};
+ghost use Rattle.tp_book.specs.Book.{agreed, count_of_nodes};
 ghost use Rattle.tp_book.specs.Marked.{with_lines};
 
 use crate::journal::Journal;
+use crate::{Image, Snapshots, mark_node, mark_ports};
 use std::alloc::{AllocError, Global};
 use tp_model::{Token, WireEnd};
-use crate::{Image, Snapshots, mark_node, mark_ports};
 
 impl Journal {
     /// Whether the store is broken.
@@ -53,8 +53,8 @@ impl Journal {
         alloc: Global,
         snapshots: &mut Snapshots,
     ) -> Result<(), AllocError>
-        requires { node_count self.now < length snapshots.old.made }
-        ensures ok { IfOk result (λ done. snapshots.new ≡ record snapshots.old { snapshot = Some (first_snapshot (node_count self.now) (length self.now.state.lines) (get_or snapshots.old.made (node_count self.now) 0) self.now.state.ports (length self.now.state.entries)); frozen = replicate (node_count self.now) None }) }
+        requires { count_of_nodes self.now < length snapshots.old.made }
+        ensures ok { IfOk result (λ done. snapshots.new ≡ record snapshots.old { snapshot = Some (first_snapshot (count_of_nodes self.now) (length self.now.state.lines) (get_or snapshots.old.made (count_of_nodes self.now) 0) self.now.state.ports (length self.now.state.entries)); frozen = replicate (count_of_nodes self.now) None }) }
         ensures err { OnErr result (snapshots.new ≡ snapshots.old) }
     {
         snapshots.begin(

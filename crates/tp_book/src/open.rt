@@ -1,14 +1,14 @@
 //! Books of opened devices.
 
 ghost use Rattle.std.specs.Prelude.{◌≡◌, IfOk};
-ghost use Rattle.tp_book.specs.Bare.{bare};
-ghost use Rattle.tp_book.specs.Opened.{IsOpened, book_form, opened_book};
+ghost use Rattle.tp_book.specs.Bare.{without_trace};
+ghost use Rattle.tp_book.specs.Opened.{IsWellOpen, book_form, opened_book};
 
 use crate::journal::Journal;
 use crate::state::NetState;
+use crate::{lines_with, ports_with};
 use std::alloc::{AllocError, Global};
 use tp_model::Form;
-use crate::{lines_with, ports_with};
 
 /// The form of a book: that of the area on its device; without a device it may hold every entry.
 fn book_form(room: Option<u64>, form: Form) -> Form
@@ -27,8 +27,8 @@ impl Journal {
         state: &NetState,
         room: Option<u64>,
     ) -> Result<Journal, AllocError>
-        requires { IsOpened state.now }
-        ensures { IfOk result (λ journal. journal ≡ bare (opened_book state.now room)) }
+        requires { IsWellOpen state.now }
+        ensures { IfOk result (λ journal. journal ≡ without_trace (opened_book state.now room)) }
     {
         Ok(Journal {
             start: state.cut.again(),

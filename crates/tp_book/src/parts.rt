@@ -1,7 +1,7 @@
 //! A network as its parts.
 
-use tp_model::{Token, WireEnd};
 use crate::PortParts;
+use tp_model::{Token, WireEnd};
 
 /// The receiver of each line, the image of each node, the tokens on each line, and the ports.
 #[derive(Drop)]

@@ -2,9 +2,9 @@
 
 ghost use Rattle.std.specs.Prelude.{◌≡◌, ◌+◌, ◌-◌, ◌^◌, ◌<◌, ◌≤◌, [], IfOk, IsTrue, ◌↔◌, Some, length, drop, option_to_list, replicate, vec_len, vec_capacity};
 ghost use Rattle.tp_model.specs.Entries.{port_took, handed_in, confirmed};
-ghost use Rattle.tp_book.specs.PortParts.{port_of};
+ghost use Rattle.tp_book.specs.PortParts.{port_made};
 ghost use Rattle.tp_book.specs.Ports.{PortValue, marks_after, opened_port, CanTake};
-ghost use Rattle.tp_book.specs.Ports.{fresh_port};
+ghost use Rattle.tp_book.specs.Ports.{fresh_value};
 
 use crate::port_parts::PortParts;
 use std::alloc::{AllocError, Global};
@@ -37,7 +37,7 @@ impl Model for HostPort {
 impl HostPort {
     /// A port at which nothing has happened.
     pub fn new(alloc: Global) -> Result<HostPort, AllocError>
-        ensures { IfOk result (λ port. port ≡ fresh_port) }
+        ensures { IfOk result (λ port. port ≡ fresh_value) }
     {
         Ok(HostPort {
             pending: Vec::with_capacity(alloc, MAX_HELD)?,
@@ -52,7 +52,7 @@ impl HostPort {
     pub fn from_parts(alloc: Global, parts: &PortParts) -> Result<HostPort, AllocError>
         requires pending { vec_len parts.now.pending ≤ MAX_HELD }
         requires outputs { vec_len parts.now.outputs ≤ MAX_HELD }
-        ensures { IfOk result (λ port. port ≡ opened_port (port_of parts.now)) }
+        ensures { IfOk result (λ port. port ≡ opened_port (port_made parts.now)) }
     {
         let mut port = HostPort::new(alloc)?;
         port.pending.extend_from_slice(&parts.pending)?;
@@ -174,7 +174,7 @@ fn drop_first<T: Drop>(items: &mut Vec<T>, count: usize)
 
 /// `count` ports at which nothing has happened.
 pub fn fresh_ports(alloc: Global, count: usize) -> Result<Vec<HostPort>, AllocError>
-    ensures { IfOk result (λ ports. ports.items ≡ replicate count fresh_port) }
+    ensures { IfOk result (λ ports. ports.items ≡ replicate count fresh_value) }
 {
     let mut ports = Vec::with_capacity(alloc, count)?;
     for _ in 0..count {

@@ -1,7 +1,7 @@
 //! A port as its parts.
 
 ghost use Rattle.std.specs.Prelude.{◌≡◌, IfOk, map};
-ghost use Rattle.tp_book.specs.PortParts.{port_of};
+ghost use Rattle.tp_book.specs.PortParts.{port_made};
 
 use crate::port::HostPort;
 use std::alloc::{AllocError, Global};
@@ -18,7 +18,7 @@ pub struct PortParts {
 
 /// A port as its parts.
 pub fn parts_of(alloc: Global, port: &HostPort) -> Result<PortParts, AllocError>
-    ensures { IfOk result (λ parts. port_of parts ≡ port.now.port) }
+    ensures { IfOk result (λ parts. port_made parts ≡ port.now.port) }
 {
     Ok(PortParts {
         pending: Vec::from_slice(alloc, port.pending())?,
@@ -30,7 +30,7 @@ pub fn parts_of(alloc: Global, port: &HostPort) -> Result<PortParts, AllocError>
 
 /// Each port as its parts.
 pub fn all_parts(alloc: Global, ports: &[HostPort]) -> Result<Vec<PortParts>, AllocError>
-    ensures { IfOk result (λ parts. map port_of parts.items ≡ map (λ port. port.port) ports.now) }
+    ensures { IfOk result (λ parts. map port_made parts.items ≡ map (λ port. port.port) ports.now) }
 {
     let mut parts = Vec::new(alloc);
     for i in 0..ports.len() {

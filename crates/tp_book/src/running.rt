@@ -12,12 +12,12 @@ ghost use Rattle.tp_model.specs.declared.wire.WireEnd.{WireEnd};
 ghost use Rattle.tp_book.specs.Room.{HasRoom};
 ghost use Rattle.tp_book.specs.SnapCounted.{FitsIn};
 
+use crate::HostPort;
 use crate::snap_cut::Cut;
 use std::alloc::{AllocError, Global};
 use std::marker::Model;
 use tp_model::{Token, WireEnd};
 use tp_net::Lines;
-use crate::HostPort;
 
 /// A snapshot that runs: the cut that it gathers, which processes have recorded, and which lines are closed.
 #[derive(Drop)]

@@ -4,13 +4,13 @@ ghost use Rattle.std.specs.Prelude.{◌≡◌, ◌+◌, ◌<◌, ◌≤◌, ◌^
 ghost use Rattle.tp_model.specs.Markers.{before};
 ghost use Rattle.tp_model.specs.Network.{on_line};
 ghost use Rattle.tp_net.specs.declared.line.TheConstants.{LINE_TOKENS};
-ghost use Rattle.tp_book.specs.PortParts.{port_of};
+ghost use Rattle.tp_book.specs.PortParts.{port_made};
 
+use crate::{HostPort, PortParts, all_parts};
 use std::alloc::{AllocError, Global};
 use std::marker::Model;
 use tp_model::Token;
 use tp_net::{Lines, is_marker};
-use crate::{HostPort, PortParts, all_parts};
 
 /// A cut: how many entries of each process it holds, the ports and lines in it, and how many entries since the kept cut
 /// it holds in all. The host is the last process.
@@ -25,11 +25,11 @@ pub struct Cut {
 impl Model for Cut {
     ghost use Rattle.std.specs.Prelude.{map};
     ghost use Rattle.tp_model.specs.WholeCut.{WholeCut};
-    ghost use Rattle.tp_book.specs.PortParts.{port_of};
+    ghost use Rattle.tp_book.specs.PortParts.{port_made};
 
     ghost Value = { WholeCut };
 
-    ghost view = { λ c. record { counts = c.counts.items; ports = map port_of c.ports.items; lines = c.lines; size = c.size } };
+    ghost view = { λ c. record { counts = c.counts.items; ports = map port_made c.ports.items; lines = c.lines; size = c.size } };
 }
 
 impl Cut {
@@ -60,7 +60,7 @@ impl Cut {
 
     /// The ports in it.
     pub fn ports(&self) -> &[PortParts]
-        ensures { map port_of result.now ≡ self.now.ports }
+        ensures { map port_made result.now ≡ self.now.ports }
     {
         self.ports.as_slice()
     }

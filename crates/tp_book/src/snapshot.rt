@@ -11,16 +11,16 @@ ghost use Rattle.tp_model.specs.Node.{t414};
 ghost use Rattle.tp_model.specs.WholeCut.{WholeCut, IsWhole, whole};
 ghost use Rattle.tp_model.specs.declared.link.Token.TheVariants.{Marker};
 ghost use Rattle.tp_book.specs.Needs.{has_recorded_in, is_asked};
-ghost use Rattle.tp_book.specs.Book.{node_count, world_of};
+ghost use Rattle.tp_book.specs.Book.{count_of_nodes, world_of};
 ghost use Rattle.tp_book.specs.Marked.{after_begin, after_record, after_close, after_close_over, is_closable, taker_of, begin_refusal};
 ghost use Rattle.tp_book.specs.Refusals.{IsAnswer};
 
+use crate::Cut;
 use crate::book::Book;
 use crate::refusal::Refusal;
 use std::alloc::Global;
 use tp_model::Token;
 use tp_model::limits::NUMBER_LIMIT;
-use crate::Cut;
 
 impl Book {
     /// Begins a snapshot: the host records its ports, and a Marker goes onto each of their wired lines. Each node is then asked
@@ -50,7 +50,7 @@ impl Book {
 
     /// Whether a snapshot runs in which a node hasn't recorded.
     pub fn asked(&self, node: u8) -> bool
-        requires { node < node_count self.now }
+        requires { node < count_of_nodes self.now }
         ensures { result ≡ is_asked self.now.state.snapshot node }
     {
         self.journal.known();
@@ -59,7 +59,7 @@ impl Book {
 
     /// Whether a snapshot runs in which a process has recorded; the host is the last one.
     pub fn recorded(&self, process: usize) -> bool
-        requires { process < node_count self.now + 1 }
+        requires { process < count_of_nodes self.now + 1 }
         ensures { result ≡ has_recorded_in self.now.state.snapshot process }
     {
         self.journal.known();
@@ -68,7 +68,7 @@ impl Book {
 
     /// A node that was asked records: its image is frozen, and a Marker goes onto each of its wired lines. It takes no memory.
     pub fn record(&mut self, node: u8)
-        requires there { node < node_count self.old }
+        requires there { node < count_of_nodes self.old }
         requires asked { is_asked self.old.state.snapshot node ≡ true }
         ensures book { self.new ≡ after_record self.old node }
         ensures act { happens t414 (world_of self.old) (Record node) ≡ Some (world_of self.new) }

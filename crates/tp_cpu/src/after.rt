@@ -3,7 +3,7 @@
 
 ghost use Rattle.std.specs.Prelude.{◌≡◌, [], ◌∷◌, ◌++◌, Some};
 ghost use Rattle.tp_model.specs.Memory.{word_offset};
-ghost use Rattle.tp_cpu.specs.After.{word_after, stored_after, changed_after};
+ghost use Rattle.tp_cpu.specs.After.{word_after, stored_after, changed_behind};
 ghost use Rattle.tp_model.specs.SharedPages.{word_ranges, block_ranges, kept_after};
 ghost use Rattle.tp_cpu.specs.AfterWrites.{first_ranges};
 ghost use Rattle.tp_cpu.specs.Ends.{Finds, Writes};
@@ -65,7 +65,7 @@ pub(crate) fn change_after<M: Mem>(
     count: u32,
     writes: &[(u32, u32)],
 ) -> Result<(), Undone>
-    ensures written { Writes (changed_after first to from count writes.now (M.bytes mem.old)) (first_ranges first ++ (block_ranges to count ++ word_ranges writes.now)) (M.kept mem.old) (M.bytes mem.old) result (M.bytes mem.new) }
+    ensures written { Writes (changed_behind first to from count writes.now (M.bytes mem.old)) (first_ranges first ++ (block_ranges to count ++ word_ranges writes.now)) (M.kept mem.old) (M.bytes mem.old) result (M.bytes mem.new) }
     ensures kept { M.kept mem.new ≡ kept_after result (M.kept mem.old) (first_ranges first ++ (block_ranges to count ++ word_ranges writes.now)) }
 {
     match first {
@@ -82,7 +82,7 @@ fn change_behind<M: Mem>(
     count: u32,
     writes: &[(u32, u32)],
 ) -> Result<(), Undone>
-    ensures written { Writes (changed_after (Some first) to from count writes.now (M.bytes mem.old)) (word_ranges (first ∷ []) ++ (block_ranges to count ++ word_ranges writes.now)) (M.kept mem.old) (M.bytes mem.old) result (M.bytes mem.new) }
+    ensures written { Writes (changed_behind (Some first) to from count writes.now (M.bytes mem.old)) (word_ranges (first ∷ []) ++ (block_ranges to count ++ word_ranges writes.now)) (M.kept mem.old) (M.bytes mem.old) result (M.bytes mem.new) }
     ensures kept { M.kept mem.new ≡ kept_after result (M.kept mem.old) (word_ranges (first ∷ []) ++ (block_ranges to count ++ word_ranges writes.now)) }
 {
     match mem.change_after(first, to, from, count, writes) {

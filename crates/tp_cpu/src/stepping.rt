@@ -5,16 +5,16 @@ ghost use Rattle.tp_model.specs.Step.{executed, instruction, idle, in_state, ste
 ghost use Rattle.tp_model.specs.SharedPages.{LacksFrames, kept_after};
 ghost use Rattle.tp_model.specs.StepWrites.{executed_ranges, instruction_ranges, idle_ranges, in_state_ranges, step_ranges};
 ghost use Rattle.tp_cpu.specs.Ends.{Does};
-ghost use Rattle.tp_cpu.specs.Advance.{Leads};
-ghost use Rattle.tp_cpu.specs.Acts.{Acts, OnNoFrame, kept_acted, kept_past, fault_of};
+ghost use Rattle.tp_cpu.specs.Advance.{LeadsByOne};
+ghost use Rattle.tp_cpu.specs.Acts.{Acts, WhereNoFrame, kept_acted, kept_past, fault_of};
 
 use crate::effect::effect;
 use crate::fetch::fetch;
-use tp_mem::Mem;
-use tp_model::{Cpu, DecodeFault, Fault, Instr, State, StepEnd};
 use crate::{
     KEPT_AT, NOT_PROCESS, Undone, dispatch_high, dispatch_low, interrupt, load, pass, restore,
 };
+use tp_mem::Mem;
+use tp_model::{Cpu, DecodeFault, Fault, Instr, State, StepEnd};
 
 /// Says why a node halts at bytes that spell no instruction. Bytes that end too soon end outside memory.
 #[inline(always)]
@@ -94,7 +94,7 @@ fn act<M: Mem>(cpu: &mut Cpu, mem: &mut M) -> Option<Result<(), Undone>>
 pub fn step<M: Mem>(cpu: &mut Cpu, mem: &mut M) -> StepEnd
     ensures makes { MakesStep (step_of cpu.old (M.bytes mem.old)) cpu.old (M.bytes mem.old) result cpu.new (M.bytes mem.new) }
     ensures kept { M.kept mem.new ≡ kept_past result (M.kept mem.old) (step_ranges cpu.old (M.bytes mem.old)) }
-    ensures refusal { OnNoFrame result (LacksFrames (M.kept mem.old) (step_ranges cpu.old (M.bytes mem.old))) }
+    ensures refusal { WhereNoFrame result (LacksFrames (M.kept mem.old) (step_ranges cpu.old (M.bytes mem.old))) }
 {
     if cpu.halt.is_some() {
         return StepEnd::Idle;
@@ -115,7 +115,7 @@ pub fn step<M: Mem>(cpu: &mut Cpu, mem: &mut M) -> StepEnd
 /// Makes one step of the processor, if it leads on, and answers whether it does. Nothing changes where it doesn't.
 #[inline(always)]
 pub(crate) fn lead<M: Mem>(cpu: &mut Cpu, mem: &mut M) -> bool
-    ensures { Leads (record { cpu = cpu.old; memory = M.bytes mem.old; kept = M.kept mem.old }) result (record { cpu = cpu.new; memory = M.bytes mem.new; kept = M.kept mem.new }) }
+    ensures { LeadsByOne (record { cpu = cpu.old; memory = M.bytes mem.old; kept = M.kept mem.old }) result (record { cpu = cpu.new; memory = M.bytes mem.new; kept = M.kept mem.new }) }
 {
     if cpu.halt.is_some() {
         return false;

@@ -5,14 +5,13 @@ ghost use Rattle.tp_model.specs.Channel.{waits_first};
 ghost use Rattle.tp_model.specs.Coding.{fun_of};
 ghost use Rattle.tp_model.specs.Step.{operate};
 ghost use Rattle.tp_model.specs.StepWrites.{waits_first_ranges, operate_ranges};
-ghost use Rattle.tp_cpu.specs.Advance.{WasDone, Leads, effect_at, ranges_at};
+ghost use Rattle.tp_cpu.specs.Advance.{WasDone, LeadsByOne, effect_at, ranges_at};
 
 use crate::advancing::runs;
 use crate::spelling::spelling_at;
-use crate::op_at;
+use crate::{NOT_PROCESS, channel_at, descriptor_of, end, op_at, pass, saved_at, state_at};
 use tp_mem::Mem;
 use tp_model::{ChannelWord, Cpu, Op, Regs};
-use crate::{NOT_PROCESS, channel_at, descriptor_of, end, pass, saved_at, state_at};
 
 /// The code of `opr`.
 const OPR: u8 = 0xF;
@@ -71,7 +70,7 @@ fn wait_by<M: Mem>(cpu: &mut Cpu, mem: &mut M, code: u8, operand: u32) -> bool
 /// where it isn't.
 #[inline]
 pub(crate) fn wait<M: Mem>(cpu: &mut Cpu, mem: &mut M) -> bool
-    ensures { Leads (record { cpu = cpu.old; memory = M.bytes mem.old; kept = M.kept mem.old }) result (record { cpu = cpu.new; memory = M.bytes mem.new; kept = M.kept mem.new }) }
+    ensures { LeadsByOne (record { cpu = cpu.old; memory = M.bytes mem.old; kept = M.kept mem.old }) result (record { cpu = cpu.new; memory = M.bytes mem.new; kept = M.kept mem.new }) }
 {
     if !runs(cpu) {
         return false;

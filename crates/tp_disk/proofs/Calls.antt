@@ -3,26 +3,26 @@ use Rattle.std.proofs.Common.{◌≡◌, ℕ, ◌+◌, ◌≤◌, ◌⊎◌, inl
 use Rattle.std.proofs.lemmas.List.{drop-append-le}
 use Rattle.std.proofs.Math.Seq.{drop-length}
 use Rattle.tp_model.specs.Disk.{Moment, MayBe, IsOutside, Call, Write, Sync, Read, written, done, within, broken, SameOutside}
-use Rattle.tp_model.specs.DiskHistory.{State, Goes, Fails, IsSynced, SomeMay, Since, moment, LeavesOnly}
+use Rattle.tp_model.specs.DiskHistory.{State, MomentPassed, Fails, IsSynced, SomeMay, MayHaveLeft, moment, LeavesOnly}
 use Rattle.tp_model.specs.StoreCalls.{all_done, moments_of, Called, BrokeIn, Broke}
-use Rattle.tp_disk.specs.Laws.{IsInside}
+use Rattle.tp_disk.specs.Laws.{IsMomentInside}
 use Rattle.tp_disk.proofs.Moments.{outside_each, may_within, write_may, may_write, broken_may, synced_may}
 
 -- ## One call
 
 -- after a call that was done, what a crash within it may leave
-pub done_may : (m : Moment) (call : Call) (left : List ℕ) → IsInside call m → MayBe (done call m) left → MayBe (within call m) left
+pub done_may : (m : Moment) (call : Call) (left : List ℕ) → IsMomentInside call m → MayBe (done call m) left → MayBe (within call m) left
 done_may m (Write at bytes) left inside may = write_may m at bytes left inside may
 done_may m Sync left inside may = record { same_length = may.same_length; same_outside = λ place out. may.same_outside place tt }
 done_may m Read left inside may = may
 
 -- so may one before it and one after it
-pub before_or_after_may : (call : Call) (m : Moment) (left : List ℕ) → IsInside call m → MayBe m left ⊎ MayBe (done call m) left → MayBe (within call m) left
+pub before_or_after_may : (call : Call) (m : Moment) (left : List ℕ) → IsMomentInside call m → MayBe m left ⊎ MayBe (done call m) left → MayBe (within call m) left
 before_or_after_may call m left inside (inl may) = may_within m call left may
 before_or_after_may call m left inside (inr may) = done_may m call left inside may
 
 -- and the other way round
-pub may_before_or_after : (call : Call) (m : Moment) (left : List ℕ) → IsInside call m → MayBe (within call m) left → MayBe m left ⊎ MayBe (done call m) left
+pub may_before_or_after : (call : Call) (m : Moment) (left : List ℕ) → IsMomentInside call m → MayBe (within call m) left → MayBe m left ⊎ MayBe (done call m) left
 may_before_or_after (Write at bytes) m left inside may = inr (may_write m at bytes left inside may)
 may_before_or_after Sync m left inside may = inl may
 may_before_or_after Read m left inside may = inl may
@@ -32,7 +32,7 @@ pub now_broken : (call : Call) (s t : State) → Fails call s t → t.now ≡ br
 now_broken call s t failed = ap (λ (ranges : List (ℕ × ℕ)). let m : Moment = record { bytes = t.now.bytes; unsynced = ranges } in m) failed.unsynced
 
 -- after a call, done or failed, what a crash within it may leave
-pub after_may : {E : Type 0} (r : Result Unit E) (call : Call) (s t : State) (left : List ℕ) → IsInside call s.now
+pub after_may : {E : Type 0} (r : Result Unit E) (call : Call) (s t : State) (left : List ℕ) → IsMomentInside call s.now
     → OnOk r (t.now ≡ done call s.now) → OnErr r (Fails call s t) → MayBe t.now left → MayBe (within call s.now) left
 after_may (Ok u) call s t left inside was failed may =
     done_may s.now call left inside (subst (λ (m : Moment). MayBe m left) was may)
@@ -50,7 +50,7 @@ pub moments_of-append : (first second : List Call) (m : Moment)
 moments_of-append [] second m = refl
 moments_of-append (call ∷ first) second m = ap (λ ms. m ∷ ms) (moments_of-append first second (done call m))
 
-pub called_one : (call : Call) (s t : State) → t.now ≡ done call s.now → Goes s t → Called (call ∷ []) s t
+pub called_one : (call : Call) (s t : State) → t.now ≡ done call s.now → MomentPassed s t → Called (call ∷ []) s t
 called_one call s t was goes = record { now = was; past = goes }
 
 pub called_then : (first second : List Call) (s t u : State) → Called first s t → Called second t u → Called (first ++ second) s u
@@ -62,7 +62,7 @@ called_then first second s t u one two = record {
       ∙ ap (λ ms. s.past ++ ms) (sym (moments_of-append first second s.now));
 }
 
-pub broke_one : (call : Call) (s t : State) → Goes s t → Fails call s t → Broke (call ∷ []) s t
+pub broke_one : (call : Call) (s t : State) → MomentPassed s t → Fails call s t → Broke (call ∷ []) s t
 broke_one call s t goes failed = record {
   at = record {
     before = [];
@@ -132,7 +132,7 @@ some_may-last (m ∷ ms) last left (inr more) =
     elim (some_may-last ms last left more) [ inl earlier ↦ inl (inr earlier) | inr may ↦ inr may ]
 
 -- after one call more
-pub since_before : (s t : State) (from : ℕ) (left : List ℕ) → from ≤ moment s → Goes s t → Since t from left → Since s from left ⊎ MayBe t.now left
+pub since_before : (s t : State) (from : ℕ) (left : List ℕ) → from ≤ moment s → MomentPassed s t → MayHaveLeft t from left → MayHaveLeft s from left ⊎ MayBe t.now left
 since_before s t from left le goes (inr now) = inr now
 since_before s t from left le goes (inl past) =
     let parts : drop from t.past ≡ drop from s.past ++ s.now ∷ [] = ap (drop from) goes ∙ drop-append-le from s.past (s.now ∷ []) le in
@@ -146,12 +146,12 @@ started s P here = record {
   before = λ from left le since. inl since;
 }
   where
-    only_now : (left : List ℕ) → Since s (moment s) left → MayBe s.now left
+    only_now : (left : List ℕ) → MayHaveLeft s (moment s) left → MayBe s.now left
     only_now left (inr now) = now
     only_now left (inl past) = absurd (subst (λ ms. SomeMay ms left) (drop-length s.past) past)
 
 -- one call more
-pub goes_on : (s t u : State) (P : List ℕ → Type 0) → LeavesOnly s t P → Goes t u → ((left : List ℕ) → MayBe u.now left → P left) → LeavesOnly s u P
+pub goes_on : (s t u : State) (P : List ℕ → Type 0) → LeavesOnly s t P → MomentPassed t u → ((left : List ℕ) → MayBe u.now left → P left) → LeavesOnly s u P
 goes_on s t u P only goes here = record {
   later = let first = only.later in let longer = ap length goes ∙ length-append t.past (t.now ∷ []) in omega (arith, longer);
   each = λ left since.
@@ -180,7 +180,7 @@ weaker s t P Q imply only = record {
 }
 
 -- one call, done or failed
-pub call_leaves : {E : Type 0} (r : Result Unit E) (call : Call) (s t : State) → IsInside call s.now → Goes s t
+pub call_leaves : {E : Type 0} (r : Result Unit E) (call : Call) (s t : State) → IsMomentInside call s.now → MomentPassed s t
     → OnOk r (t.now ≡ done call s.now) → OnErr r (Fails call s t) → LeavesOnly s t (MayBe (within call s.now))
 call_leaves r call s t inside goes was failed =
     goes_on s s t (MayBe (within call s.now)) (started s (MayBe (within call s.now)) (may_within s.now call)) goes
@@ -217,24 +217,24 @@ synced_stands s left synced may =
 -- ## Steps of a write and a sync, over their results
 
 -- a write that failed
-pub write_broke : (at : ℕ) (bytes : List ℕ) (s t : State) → Goes s t → Fails (Write at bytes) s t → Broke (Write at bytes ∷ Sync ∷ []) s t
+pub write_broke : (at : ℕ) (bytes : List ℕ) (s t : State) → MomentPassed s t → Fails (Write at bytes) s t → Broke (Write at bytes ∷ Sync ∷ []) s t
 write_broke at bytes s t goes failed = broke_first (Write at bytes ∷ []) (Sync ∷ []) s t (broke_one (Write at bytes) s t goes failed)
 
 -- a sync that failed, behind the write
-pub sync_broke : (at : ℕ) (bytes : List ℕ) (s t u : State) → t.now ≡ done (Write at bytes) s.now → Goes s t → Goes t u → Fails Sync t u
+pub sync_broke : (at : ℕ) (bytes : List ℕ) (s t u : State) → t.now ≡ done (Write at bytes) s.now → MomentPassed s t → MomentPassed t u → Fails Sync t u
     → Broke (Write at bytes ∷ Sync ∷ []) s u
 sync_broke at bytes s t u was goes then failed =
     broke_later (Write at bytes ∷ []) (Sync ∷ []) s t u (called_one (Write at bytes) s t was goes) (broke_one Sync t u then failed)
 
 -- both were done
-pub through_called : (at : ℕ) (bytes : List ℕ) (s t u : State) → t.now ≡ done (Write at bytes) s.now → Goes s t → u.now ≡ done Sync t.now → Goes t u
+pub through_called : (at : ℕ) (bytes : List ℕ) (s t u : State) → t.now ≡ done (Write at bytes) s.now → MomentPassed s t → u.now ≡ done Sync t.now → MomentPassed t u
     → Called (Write at bytes ∷ Sync ∷ []) s u
 through_called at bytes s t u was goes then goes_then =
     called_then (Write at bytes ∷ []) (Sync ∷ []) s t u (called_one (Write at bytes) s t was goes) (called_one Sync t u then goes_then)
 
 -- the write was done, and then the sync was done or failed
 pub through_leaves : {E : Type 0} (r : Result Unit E) (at : ℕ) (bytes : List ℕ) (s t u : State) → at + length bytes ≤ length s.now.bytes
-    → t.now ≡ done (Write at bytes) s.now → Goes s t → Goes t u → OnOk r (u.now ≡ done Sync t.now) → OnErr r (Fails Sync t u)
+    → t.now ≡ done (Write at bytes) s.now → MomentPassed s t → MomentPassed t u → OnOk r (u.now ≡ done Sync t.now) → OnErr r (Fails Sync t u)
     → LeavesOnly s u (MayBe (within (Write at bytes) s.now))
 through_leaves {E} r at bytes s t u room was goes goes_then then failed =
     let P : List ℕ → Type 0 = MayBe (within (Write at bytes) s.now) in
@@ -286,7 +286,7 @@ broke_leaves calls s t P broke all =
     let each : AllWithin (b.before ++ b.call ∷ b.after) s.now P = subst (λ cs. AllWithin cs s.now P) b.are all in
     let first : LeavesOnly s u P = called_leaves b.before s u P (record { now = refl; past = refl }) (within_front b.before (b.call ∷ b.after) s.now P each) in
     let next = within_later b.before (b.call ∷ b.after) s.now P each in
-    let goes : Goes u t = broke.past ∙ sym (past_then s.past b.before (b.call ∷ []) s.now) in
+    let goes : MomentPassed u t = broke.past ∙ sym (past_then s.past b.before (b.call ∷ []) s.now) in
     goes_on s u t P first goes
     (λ left may. next.0 left (broken_may u.now b.call b.left left b.may (subst (λ (m : Moment). MayBe m left) b.is may)))
 

@@ -13,15 +13,15 @@ pub data FileCall : Type 0 where
 
 -- How many calls have failed, the ranges written since the last sync that was done, the moments before each call, and the
 -- calls of the system, the oldest first. Each kind of device keeps what its own contracts name.
-pub record Told : Type 0 where
+pub record DeviceTold : Type 0 where
   pub failures : ℕ
   pub unsynced : List (ℕ × ℕ)
   pub past : List Moment
   pub calls : List FileCall
 
-abbrev pub nothing_told : Told
+abbrev pub nothing_told : DeviceTold
 nothing_told = record { failures = 0; unsynced = []; past = []; calls = [] }
 
 -- one call of the system more
-abbrev pub with_call : Told → FileCall → Told
+abbrev pub with_call : DeviceTold → FileCall → DeviceTold
 with_call told call = record told { calls = told.calls ++ call ∷ [] }

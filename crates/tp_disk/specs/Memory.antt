@@ -1,7 +1,7 @@
 -- A device in memory: what has become of it, and what a call of it comes to.
 use Rattle.std.specs.Prelude.{◌≡◌, ℕ, ◌+◌, Bool}
 use Rattle.tp_model.specs.Disk.{Call}
-use Rattle.tp_model.specs.DiskHistory.{State, Goes}
+use Rattle.tp_model.specs.DiskHistory.{State, MomentPassed}
 use Rattle.tp_disk.specs.declared.counted.Counted.{Counted}
 use Rattle.tp_disk.specs.declared.memory.RawMemory.{RawMemory}
 use Rattle.tp_disk.specs.declared.plan.Outcome.{Outcome}
@@ -27,8 +27,8 @@ disk_plan disk = disk.raw.plan
 pub record CameTo (outcome : Outcome) (call : Call) (is_ok : Bool) (old new : State) : Type 0 where
   pub result : is_ok ≡ is_done outcome
   pub now : new.now ≡ came_to outcome call old.now
-  pub past : Goes old new
+  pub past : MomentPassed old new
 
 -- a plan goes on by one call
-abbrev pub GoesOn : Plan → Plan → Type 0
-GoesOn old new = (n : ℕ) → becomes new n ≡ becomes old (n + 1)
+abbrev pub PlanGoesOn : Plan → Plan → Type 0
+PlanGoesOn old new = (n : ℕ) → becomes new n ≡ becomes old (n + 1)

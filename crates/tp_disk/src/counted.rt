@@ -14,12 +14,12 @@ pub struct Counted<F: RawDisk> {
 }
 
 impl<F: RawDisk> Counted<F> {
-    ghost use Rattle.tp_disk.specs.Failures.{number};
+    ghost use Rattle.tp_disk.specs.Failures.{failure_count};
 
     /// No call of it has failed.
     pub fn new(raw: F) -> Counted<F>
         ensures raw { result.raw ≡ raw }
-        ensures failures { number result.failed ≡ 0 }
+        ensures failures { failure_count result.failed ≡ 0 }
     {
         Counted {
             raw,
@@ -43,11 +43,11 @@ impl<F: RawDisk> Counted<F> {
 }
 
 impl<F: RawDisk> Disk for Counted<F> {
-    ghost use Rattle.tp_disk.specs.Failures.{number};
+    ghost use Rattle.tp_disk.specs.Failures.{failure_count};
 
     ghost size_of = { λ d. F.size_of d.raw };
 
-    ghost failures_of = { λ d. number d.failed };
+    ghost failures_of = { λ d. failure_count d.failed };
 
     ghost keeps = { F.keeps };
 

@@ -2,7 +2,7 @@
 
 ghost use Rattle.std.specs.Prelude.{◌≡◌, ℕ, ◌+◌, ◌-◌, ◌^◌, ◌≤◌, min, length, take, drop, is_ok, OnOk, OnErr};
 ghost use Rattle.tp_model.specs.Disk.{Write, Sync, Read, done};
-ghost use Rattle.tp_model.specs.DiskHistory.{State, Goes, Fails, Counts};
+ghost use Rattle.tp_model.specs.DiskHistory.{State, MomentPassed, Fails, Counts};
 
 use thiserror::Error;
 
@@ -40,7 +40,7 @@ pub trait Disk {
     fn read(&mut self, at: u64, out: &mut [u8]) -> Result<(), DeviceFailed>
         requires { at + length out.old ≤ size_of self.old }
         ensures counts { Counts (is_ok result) (size_of self.old) (size_of self.new) (failures_of self.old) (failures_of self.new) }
-        ensures goes { keeps → Goes (state self.old) (state self.new) }
+        ensures goes { keeps → MomentPassed (state self.old) (state self.new) }
         ensures bytes { keeps → OnOk result (out.new ≡ take (length out.old) (drop at (state self.old).now.bytes)) }
         ensures after { keeps → OnOk result ((state self.new).now ≡ done Read (state self.old).now) }
         ensures failed { keeps → OnErr result (Fails Read (state self.old) (state self.new)) };
@@ -49,14 +49,14 @@ pub trait Disk {
     fn write_at(&mut self, at: u64, bytes: &[u8]) -> Result<(), DeviceFailed>
         requires { at + length bytes.now ≤ size_of self.old }
         ensures counts { Counts (is_ok result) (size_of self.old) (size_of self.new) (failures_of self.old) (failures_of self.new) }
-        ensures goes { keeps → Goes (state self.old) (state self.new) }
+        ensures goes { keeps → MomentPassed (state self.old) (state self.new) }
         ensures after { keeps → OnOk result ((state self.new).now ≡ done (Write at bytes.now) (state self.old).now) }
         ensures failed { keeps → OnErr result (Fails (Write at bytes.now) (state self.old) (state self.new)) };
 
     /// After it, a crash leaves what a read gives.
     fn sync(&mut self) -> Result<(), DeviceFailed>
         ensures counts { Counts (is_ok result) (size_of self.old) (size_of self.new) (failures_of self.old) (failures_of self.new) }
-        ensures goes { keeps → Goes (state self.old) (state self.new) }
+        ensures goes { keeps → MomentPassed (state self.old) (state self.new) }
         ensures after { keeps → OnOk result ((state self.new).now ≡ done Sync (state self.old).now) }
         ensures failed { keeps → OnErr result (Fails Sync (state self.old) (state self.new)) };
 

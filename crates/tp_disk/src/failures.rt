@@ -13,10 +13,10 @@ pub struct Failures {
 }
 
 impl Failures {
-    ghost use Rattle.tp_disk.specs.Failures.{number};
+    ghost use Rattle.tp_disk.specs.Failures.{failure_count};
 
     pub fn new() -> Failures
-        ensures { number result ≡ 0 }
+        ensures { failure_count result ≡ 0 }
     {
         Failures {
             count: 0,
@@ -26,14 +26,14 @@ impl Failures {
 
     /// The count, or the greatest number where there are more.
     pub fn get(&self) -> u64
-        ensures { result ≡ min (number self.now) (2 ^ 64 - 1) }
+        ensures { result ≡ min (failure_count self.now) (2 ^ 64 - 1) }
     {
         self.count
     }
 
     /// One more.
     pub fn add(&mut self)
-        ensures { number self.new ≡ number self.old + 1 }
+        ensures { failure_count self.new ≡ failure_count self.old + 1 }
     {
         self.history = self.history.failed();
         self.count = self.count.saturating_add(1);

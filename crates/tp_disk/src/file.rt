@@ -2,7 +2,7 @@
 
 ghost use Rattle.std.specs.Prelude.{◌≡◌, ◌+◌, ◌≤◌, [], ◌∷◌, ◌++◌, length, take, drop, is_ok, IfOk, OnOk, OnErr};
 ghost use Rattle.tp_model.specs.Disk.{Write, Sync, Read, done};
-ghost use Rattle.tp_model.specs.DiskHistory.{Fails, Goes, unknown};
+ghost use Rattle.tp_model.specs.DiskHistory.{Fails, MomentPassed, unknown};
 ghost use Rattle.tp_disk.specs.File.{file_keeps, no_file};
 ghost use Rattle.tp_disk.specs.History.{Measures, Reads, Syncs, Writes};
 
@@ -76,7 +76,7 @@ impl<F: SystemFile + Drop> RawDisk for RawFile<F> {
     #[tactic(auto, unfolding(crate::specs::File::file_keeps))]
     fn read(&mut self, at: u64, out: &mut [u8]) -> Result<(), DeviceFailed>
         ensures size { self.new.size ≡ self.old.size }
-        ensures goes { file_keeps → Goes unknown unknown }
+        ensures goes { file_keeps → MomentPassed unknown unknown }
         ensures bytes { file_keeps → OnOk result (out.new ≡ take (length out.old) (drop at unknown.now.bytes)) }
         ensures after { file_keeps → OnOk result (unknown.now ≡ done Read unknown.now) }
         ensures failed { file_keeps → OnErr result (Fails Read unknown unknown) }
@@ -88,7 +88,7 @@ impl<F: SystemFile + Drop> RawDisk for RawFile<F> {
     #[tactic(auto, unfolding(crate::specs::File::file_keeps))]
     fn write_at(&mut self, at: u64, bytes: &[u8]) -> Result<(), DeviceFailed>
         ensures size { self.new.size ≡ self.old.size }
-        ensures goes { file_keeps → Goes unknown unknown }
+        ensures goes { file_keeps → MomentPassed unknown unknown }
         ensures after { file_keeps → OnOk result (unknown.now ≡ done (Write at bytes.now) unknown.now) }
         ensures failed { file_keeps → OnErr result (Fails (Write at bytes.now) unknown unknown) }
         ensures called { F.calls self.new.file ≡ F.calls self.old.file ++ Writes at bytes.now (is_ok result) ∷ [] }
@@ -99,7 +99,7 @@ impl<F: SystemFile + Drop> RawDisk for RawFile<F> {
     #[tactic(auto, unfolding(crate::specs::File::file_keeps))]
     fn sync(&mut self) -> Result<(), DeviceFailed>
         ensures size { self.new.size ≡ self.old.size }
-        ensures goes { file_keeps → Goes unknown unknown }
+        ensures goes { file_keeps → MomentPassed unknown unknown }
         ensures after { file_keeps → OnOk result (unknown.now ≡ done Sync unknown.now) }
         ensures failed { file_keeps → OnErr result (Fails Sync unknown unknown) }
         ensures called { F.calls self.new.file ≡ F.calls self.old.file ++ Syncs (is_ok result) ∷ [] }

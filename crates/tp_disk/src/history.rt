@@ -2,14 +2,14 @@
 
 ghost use Rattle.std.specs.Prelude.{◌≡◌, ◌+◌, [], ◌∷◌, ◌++◌};
 ghost use Rattle.std.specs.Borrow.{ftrue};
-ghost use Rattle.tp_disk.specs.History.{Told, nothing_told, with_call, Measures, Reads, Resizes, Syncs, Writes};
+ghost use Rattle.tp_disk.specs.History.{DeviceTold, nothing_told, with_call, Measures, Reads, Resizes, Syncs, Writes};
 
 use std::marker::Model;
 
 /// A history without bytes: contracts alone see it, and no call reads it.
 #[derive(Drop)]
 pub struct History {
-    pub ghost told: { Told },
+    pub ghost told: { DeviceTold },
 }
 
 impl Model for History {
@@ -20,11 +20,11 @@ impl Model for History {
 unsafe impl Send for History {}
 
 impl History {
-    ghost use Rattle.tp_disk.specs.History.{Told};
+    ghost use Rattle.tp_disk.specs.History.{DeviceTold};
 
     /// The history that contracts name of a value. It does nothing.
     pub(crate) fn of<T>(_value: &T) -> History
-        ghost told: { Told }
+        ghost told: { DeviceTold }
         ensures { result.told ≡ told }
     {
         History {}

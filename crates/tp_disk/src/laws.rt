@@ -2,7 +2,7 @@
 
 ghost use Rattle.std.specs.Prelude.{◌⊎◌, ◌↔◌, List, ℕ};
 ghost use Rattle.tp_model.specs.Disk.{Moment, Call, MayBe, done, within, broken};
-ghost use Rattle.tp_disk.specs.Laws.{IsInside};
+ghost use Rattle.tp_disk.specs.Laws.{IsMomentInside};
 
 use crate::disk::Disk;
 use crate::memory::MemDisk;
@@ -15,7 +15,7 @@ pub fn memory_keeps()
 /// What a crash within a call may leave is what one before it or one after it may leave, and after a call that broke it is
 /// the very same, so the moments between the calls say all. Nor may a crash before or after it leave anything else.
 pub fn moments_within_calls()
-    ensures is_done { (call : Call) (m : Moment) (left : List ℕ) → IsInside call m
+    ensures is_done { (call : Call) (m : Moment) (left : List ℕ) → IsMomentInside call m
         → (MayBe m left ⊎ MayBe (done call m) left) ↔ MayBe (within call m) left }
     ensures is_broken { (call : Call) (m : Moment) (stood left : List ℕ) → MayBe (within call m) stood
         → MayBe (broken call stood m) left ↔ MayBe (within call m) left }

@@ -2,7 +2,7 @@
 
 ghost use Rattle.std.specs.Prelude.{◌≡◌, ℕ, ◌+◌, ◌≤◌, [], refl, ◌∷◌, ◌++◌, length, take, drop, replicate, is_ok, OnOk, IfOk};
 ghost use Rattle.tp_model.specs.Disk.{MayBe, Write, Sync, Read, written};
-ghost use Rattle.tp_model.specs.DiskHistory.{Goes};
+ghost use Rattle.tp_model.specs.DiskHistory.{MomentPassed};
 
 use crate::counted::Counted;
 use crate::disk::{DeviceFailed, Disk};
@@ -34,7 +34,7 @@ fn put(bytes: &mut Vec<u8>, at: u64, piece: &[u8])
 
 impl RawMemory {
     ghost use Rattle.tp_disk.specs.Plan.{becomes};
-    ghost use Rattle.tp_disk.specs.Memory.{memory_state, CameTo, GoesOn};
+    ghost use Rattle.tp_disk.specs.Memory.{memory_state, CameTo, PlanGoesOn};
 
     /// The moment before a call is past, and the plan says what the call comes to.
     fn begin(&mut self) -> Outcome
@@ -42,7 +42,7 @@ impl RawMemory {
         ensures later { (n : ℕ) → becomes self.new.plan n ≡ becomes self.old.plan (n + 1) }
         ensures bytes { self.new.bytes ≡ self.old.bytes }
         ensures unsynced { self.new.history.told.unsynced ≡ self.old.history.told.unsynced }
-        ensures past { Goes (memory_state self.old) (memory_state self.new) }
+        ensures past { MomentPassed (memory_state self.old) (memory_state self.new) }
     {
         self.history = self.history.later(&self.bytes);
         self.plan.next()
@@ -52,7 +52,7 @@ impl RawMemory {
         requires { at + length out.old ≤ length self.old.bytes.items }
         ensures came { CameTo (becomes self.old.plan 0) Read (is_ok result) (memory_state self.old) (memory_state self.new) }
         ensures bytes { OnOk result (out.new ≡ take (length out.old) (drop at self.old.bytes.items)) }
-        ensures later { GoesOn self.old.plan self.new.plan }
+        ensures later { PlanGoesOn self.old.plan self.new.plan }
     {
         match self.begin() {
             Outcome::Done => {
@@ -67,7 +67,7 @@ impl RawMemory {
     fn write_planned(&mut self, at: u64, bytes: &[u8]) -> Result<(), DeviceFailed>
         requires { at + length bytes.now ≤ length self.old.bytes.items }
         ensures came { CameTo (becomes self.old.plan 0) (Write at bytes.now) (is_ok result) (memory_state self.old) (memory_state self.new) }
-        ensures later { GoesOn self.old.plan self.new.plan }
+        ensures later { PlanGoesOn self.old.plan self.new.plan }
     {
         let outcome = self.begin();
         self.history = self.history.wrote(at, bytes.len() as u64);
@@ -87,7 +87,7 @@ impl RawMemory {
 
     fn sync_planned(&mut self) -> Result<(), DeviceFailed>
         ensures came { CameTo (becomes self.old.plan 0) Sync (is_ok result) (memory_state self.old) (memory_state self.new) }
-        ensures later { GoesOn self.old.plan self.new.plan }
+        ensures later { PlanGoesOn self.old.plan self.new.plan }
     {
         match self.begin() {
             Outcome::Done => {

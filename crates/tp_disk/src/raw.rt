@@ -2,7 +2,7 @@
 
 ghost use Rattle.std.specs.Prelude.{◌≡◌, ℕ, ◌+◌, ◌≤◌, length, take, drop, OnOk, OnErr};
 ghost use Rattle.tp_model.specs.Disk.{Write, Sync, Read, done};
-ghost use Rattle.tp_model.specs.DiskHistory.{State, Goes, Fails};
+ghost use Rattle.tp_model.specs.DiskHistory.{State, MomentPassed, Fails};
 
 use crate::disk::DeviceFailed;
 
@@ -25,7 +25,7 @@ pub trait RawDisk {
     fn read(&mut self, at: u64, out: &mut [u8]) -> Result<(), DeviceFailed>
         requires { at + length out.old ≤ size_of self.old }
         ensures size { size_of self.new ≡ size_of self.old }
-        ensures goes { keeps → Goes (state self.old) (state self.new) }
+        ensures goes { keeps → MomentPassed (state self.old) (state self.new) }
         ensures bytes { keeps → OnOk result (out.new ≡ take (length out.old) (drop at (state self.old).now.bytes)) }
         ensures after { keeps → OnOk result ((state self.new).now ≡ done Read (state self.old).now) }
         ensures failed { keeps → OnErr result (Fails Read (state self.old) (state self.new)) };
@@ -34,14 +34,14 @@ pub trait RawDisk {
     fn write_at(&mut self, at: u64, bytes: &[u8]) -> Result<(), DeviceFailed>
         requires { at + length bytes.now ≤ size_of self.old }
         ensures size { size_of self.new ≡ size_of self.old }
-        ensures goes { keeps → Goes (state self.old) (state self.new) }
+        ensures goes { keeps → MomentPassed (state self.old) (state self.new) }
         ensures after { keeps → OnOk result ((state self.new).now ≡ done (Write at bytes.now) (state self.old).now) }
         ensures failed { keeps → OnErr result (Fails (Write at bytes.now) (state self.old) (state self.new)) };
 
     /// After it, a crash leaves what a read gives.
     fn sync(&mut self) -> Result<(), DeviceFailed>
         ensures size { size_of self.new ≡ size_of self.old }
-        ensures goes { keeps → Goes (state self.old) (state self.new) }
+        ensures goes { keeps → MomentPassed (state self.old) (state self.new) }
         ensures after { keeps → OnOk result ((state self.new).now ≡ done Sync (state self.old).now) }
         ensures failed { keeps → OnErr result (Fails Sync (state self.old) (state self.new)) };
 

@@ -14,9 +14,9 @@ use Rattle.tp_law_network.proofs.Stay.{mark_there}
 use Rattle.tp_book.specs.Book.{world_of}
 use Rattle.tp_shared.specs.declared.told.Told.{Told}
 use Rattle.tp_shared.specs.Seals.{Stage}
-use Rattle.tp_shared.specs.Told.{IsFirst, Since, told_of}
+use Rattle.tp_shared.specs.Told.{IsFirst, ToldSince, told_of}
 use Rattle.tp_shared.proofs.Telling.{told_journal}
-use Rattle.tp_flush.specs.Ahead.{IsAhead}
+use Rattle.tp_flush.specs.Ahead.{IsAheadOf}
 use Rattle.tp_flush.specs.Known.{Reached}
 use Rattle.tp_flush.proofs.Kept.{reached_then}
 use Rattle.tp_flush.proofs.Looks.{learned, learns}
@@ -24,7 +24,7 @@ use Rattle.tp_flush.proofs.Settling.{length-journal, reached_holds}
 
 -- a book to which acts led since it was told
 pub book_ahead : (start : Network NodeState) (before : World NodeState) (first : ℕ) (stage : Stage) (key : Told) (w : World NodeState) → Reached start w → IsFirst key w
-    → Since key (told_of before first stage) → IsAhead start w stage.book
+    → ToldSince key (told_of before first stage) → IsAheadOf start w stage.book
 book_ahead start before first stage key w R F S =
     let now = told_of before first stage in
     let v = learned w now in

@@ -7,10 +7,10 @@ use Rattle.tp_model.specs.Network.{Network}
 use Rattle.tp_model.specs.Snapshot.{MarkedNetwork}
 use Rattle.tp_model.specs.Runs.{World}
 use Rattle.tp_token.specs.Sound.{item_of, shown}
-use Rattle.tp_book.specs.Book.{next_number}
+use Rattle.tp_book.specs.Book.{next_in_book}
 use Rattle.tp_shared.specs.declared.told.Told.{Told}
 use Rattle.tp_shared.specs.Seals.{Stage, IsTied}
-use Rattle.tp_shared.specs.Told.{IsFirst, Since, told_of}
+use Rattle.tp_shared.specs.Told.{IsFirst, ToldSince, told_of}
 use Rattle.tp_shared.proofs.Telling.{told_journal}
 use Rattle.tp_flush.specs.All.{AreAll}
 use Rattle.tp_flush.specs.Known.{Reached}
@@ -23,8 +23,8 @@ none_more front (x ∷ more) h = absurd (let l = length-append front (x ∷ more
 
 -- the entries since the opening are those of the journal from the first on, where all of them are below the mark
 pub slips_are_all : (start : Network NodeState) (before : World NodeState) (first : ℕ) (stage : Stage) (key : Told) (w : World NodeState) (slips : List (ℕ × Entry)) → Reached start w → IsFirst key w
-    → Since key (told_of before first stage) → IsTied first stage.all stage.book → next_number stage.book ≤ w.mark → ((n : ℕ) → shown n slips ≡ item_of first stage.all n)
-    → AreAll first (next_number stage.book) w.journal slips
+    → ToldSince key (told_of before first stage) → IsTied first stage.all stage.book → next_in_book stage.book ≤ w.mark → ((n : ℕ) → shown n slips ≡ item_of first stage.all n)
+    → AreAll first (next_in_book stage.book) w.journal slips
 slips_are_all start before first stage key w slips R F S T stored each =
     let front = take first before.journal in
     let J = told_journal before first key stage S in

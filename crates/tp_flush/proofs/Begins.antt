@@ -13,12 +13,12 @@ use Rattle.tp_model.specs.DiskHistory.{State}
 use Rattle.tp_model.specs.Opening.{Opened, held_of, next_of, verdict}
 use Rattle.tp_model.specs.WriteOrder.{Resting}
 use Rattle.tp_model.specs.DeviceAreas.{device_areas}
-use Rattle.tp_model.specs.Runs.{World, Reopens, Leaves, reopened}
+use Rattle.tp_model.specs.Runs.{World, Reopens, CrashLeaves, reopened}
 use Rattle.tp_law_device.proofs.Verdicts.{verdict_leads}
 use Rattle.tp_law_network.proofs.Walks.{run_then}
 use Rattle.tp_area.specs.declared.place.Place.{Place}
 use Rattle.tp_flush.specs.Known.{Began, Reached}
-use Rattle.tp_flush.specs.Flushing.{Keeps, position}
+use Rattle.tp_flush.specs.Flushing.{KeepsWorld, position}
 
 next_of_held : (o : Opened) → next_of o ≡ next_number (held_of o)
 next_of_held o = ap (λ n. o.base + n) (sym (length-map o.kept (λ e. e.0)))
@@ -30,7 +30,7 @@ unfolding verdict
 first_reached start before bytes B o is =
     let R = B.reached in
     let w : World NodeState = reopened before bytes (held_of o) o.now in
-    let leaves : Leaves t414 device_areas before.disk bytes (held_of o) o.now = record {
+    let leaves : CrashLeaves t414 device_areas before.disk bytes (held_of o) o.now = record {
       may = B.may;
       reads = ap (λ r. option_map held_of (result_ok r)) is;
       is = verdict_leads bytes o is;
@@ -73,7 +73,7 @@ module _ (before : World NodeState) (net : MarkedNetwork NodeState) (base : ℕ)
 
   pub first_keeps : (keeps : Type 0) (start : Network NodeState) (s : State) (place : Place) (broken : Bool) (mark : ℕ) → s.now.bytes ≡ bytes → place.next ≡ next → broken ≡ false → mark ≡ next
       → (keeps → verdict s.now.bytes ≡ Ok o) → (keeps → s.now.unsynced ≡ [])
-      → Keeps keeps start before (record { world = begun before net base journal bytes next; opened = bytes }) s place broken mark
+      → KeepsWorld keeps start before (record { world = begun before net base journal bytes next; opened = bytes }) s place broken mark
   first_keeps keeps start s place broken mark are at unbroken marked read synced = record {
     next = at;
     cut = omega (arith, base_is, next_is);

@@ -27,12 +27,12 @@ use Rattle.tp_area.specs.declared.place.Place.{Place}
 use Rattle.tp_area.specs.declared.fault.StoreFault.{StoreFault}
 use Rattle.tp_area.specs.Appended.{Appended, body_of}
 use Rattle.tp_area.specs.Other.{OtherIsClosed, if_open, other_gate}
-use Rattle.tp_area.specs.Places.{behind, has_room}
+use Rattle.tp_area.specs.Places.{behind_group, has_room_at}
 use Rattle.tp_area.specs.Tails.{content_beside}
 use Rattle.tp_area.proofs.Behind.{CanBeAppended, length-body}
 use Rattle.tp_area.proofs.Frames.{gate_same}
 use Rattle.tp_shared.specs.declared.told.Told.{Told}
-use Rattle.tp_shared.specs.Told.{IsFirst, Since}
+use Rattle.tp_shared.specs.Told.{IsFirst, ToldSince}
 use Rattle.tp_law_network.proofs.Partial.{bind_some}
 use Rattle.tp_law_device.proofs.Contents.{length-content_of}
 use Rattle.tp_law_network.proofs.Moments.{written_same_outside}
@@ -40,7 +40,7 @@ use Rattle.tp_law_device.proofs.Frozen.{frozen_as_stays}
 use Rattle.tp_flush.specs.declared.progress.Progress.{Progress}
 use Rattle.tp_flush.specs.Progress.{is_out, not_begun, with_out}
 use Rattle.tp_flush.specs.Copying.{IsPartOut}
-use Rattle.tp_flush.specs.Flushing.{Copies}
+use Rattle.tp_flush.specs.Flushing.{KeepsCopy}
 use Rattle.tp_flush.proofs.Appends.{Answered, after_group}
 use Rattle.tp_flush.proofs.Beside.{areas_fit, content_kept, put_content}
 use Rattle.tp_flush.proofs.Puts.{Answered as PutAnswered, piece_inside}
@@ -58,7 +58,7 @@ ends_inside : (areas : TwoAreas) (second : Bool) (end size long : ℕ) → end +
 ends_inside areas false end size long high whole = omega (arith, high, whole)
 ends_inside areas true end size long high whole = omega (arith, high, whole)
 
-module _ (place : Place) (s new : State) (es : List Entry) (can : CanBeAppended place.form place.next es) (fits : has_room place (length es) ≡ true)
+module _ (place : Place) (s new : State) (es : List Entry) (can : CanBeAppended place.form place.next es) (fits : has_room_at place (length es) ≡ true)
     (low : area_start place.areas place.second + AREA_HEAD_BYTES ≤ place.end) (whole : areas_end place.areas ≤ length s.now.bytes)
     (called : Called (group_calls place.end (body_of place.next es)) s new) where
   size : length (body_of place.next es) ≡ group_length (length es)
@@ -81,7 +81,7 @@ module _ (place : Place) (s new : State) (es : List Entry) (can : CanBeAppended 
   some : 1 ≤ place.areas.length
   some = omega (arith, low, high)
 
-  pub closed_behind : OtherIsClosed place s → OtherIsClosed (behind place (length es)) new
+  pub closed_behind : OtherIsClosed place s → OtherIsClosed (behind_group place (length es)) new
   closed_behind shut = ap is_open (group_outside.same (other_gate place) (side group_apart)) ∙ shut
     where
       side : (other_gate place + place.areas.length ≤ place.end) ⊎ (place.end + (1 + length (body_of place.next es)) ≤ other_gate place)
@@ -99,9 +99,9 @@ module _ (place : Place) (s new : State) (es : List Entry) (can : CanBeAppended 
 
 -- what the flusher keeps for a snapshot's copy, behind a group that was appended or failed
 pub append_copies : (keeps : Type 0) (net : MarkedNetwork NodeState) (s new : State) (place to : Place) (t : Topology) (p : Progress) (es : List Entry) (r : Result Unit StoreFault) (broke : Bool) (filled : Option Place) (failures_old failures_new : ℕ)
-    → Copies keeps net s place false t p → Answered r es place to broke filled failures_old failures_new → CanBeAppended place.form place.next es → has_room place (length es) ≡ true
+    → KeepsCopy keeps net s place false t p → Answered r es place to broke filled failures_old failures_new → CanBeAppended place.form place.next es → has_room_at place (length es) ≡ true
     → area_start place.areas place.second + AREA_HEAD_BYTES ≤ place.end → (keeps → areas_end place.areas ≤ length s.now.bytes) → (keeps → OnOk r (Appended es place s new))
-    → Copies keeps net new to broke t p
+    → KeepsCopy keeps net new to broke t p
 append_copies keeps net s new place to t p es (Ok x) broke filled failures_old failures_new C A can fits low whole did = record {
   roomy = ap (λ (q : Place). is_roomy t q.areas.length) A.done.0 ∙ C.roomy;
   closed = λ k unbroken cleared.
@@ -130,7 +130,7 @@ closed_when (Err e) broke failures_old failures_new A X is unbroken = let no = A
 
 pub put_copies : (keeps : Type 0) (net : MarkedNetwork NodeState) (new : State) (place to : Place) (t : Topology) (p : Progress) (r : Result Unit StoreFault) (broke : Bool) (failures_old failures_new : ℕ)
     → is_roomy t place.areas.length ≡ true → PutAnswered r broke failures_old failures_new → to ≡ place → (keeps → OnOk r (OtherIsClosed place new))
-    → (keeps → OnOk r ((i : ℕ) → i < length t.pages → is_out p i ≡ true → IsPartOut t net (content_beside place new) i (get_or t.pages i 0))) → Copies keeps net new to broke t p
+    → (keeps → OnOk r ((i : ℕ) → i < length t.pages → is_out p i ≡ true → IsPartOut t net (content_beside place new) i (get_or t.pages i 0))) → KeepsCopy keeps net new to broke t p
 put_copies keeps net new place to t p r broke failures_old failures_new roomy A same shut images = record {
   roomy = ap (λ (q : Place). is_roomy t q.areas.length) same ∙ roomy;
   closed = λ k unbroken cleared. subst (λ (q : Place). OtherIsClosed q new) (sym same) (closed_when r broke failures_old failures_new A (OtherIsClosed place new) (shut k) unbroken);
@@ -174,11 +174,11 @@ frozen_since (act ∷ acts) w v none e i node F =
     let B = bind_some (happens t414 w act) (λ u. acted t414 u acts) v e in
     frozen_since acts B.0 v none.1 B.2 i node (frozen_as_stays t414 w B.0 act i node none.0 B.1 F)
 
-pub frozen_told : (w : World NodeState) (old now : Told) → IsFirst old w → Since old now → (i : ℕ) (node : NodeState) → IsFrozenAs w.net i node → IsFrozenAs now.net i node
+pub frozen_told : (w : World NodeState) (old now : Told) → IsFirst old w → ToldSince old now → (i : ℕ) (node : NodeState) → IsFrozenAs w.net i node → IsFrozenAs now.net i node
 frozen_told w old now first since i node F = frozen_since since.acts old.net now.net since.none since.net i node (subst (λ n. IsFrozenAs n i node) (sym first.net) F)
 
-pub look_copies : (keeps : Type 0) (w : World NodeState) (old now : Told) (s : State) (place : Place) (broken : Bool) (t : Topology) (p : Progress) → IsFirst old w → Since old now
-    → Copies keeps w.net s place broken t p → Copies keeps now.net s place broken t p
+pub look_copies : (keeps : Type 0) (w : World NodeState) (old now : Told) (s : State) (place : Place) (broken : Bool) (t : Topology) (p : Progress) → IsFirst old w → ToldSince old now
+    → KeepsCopy keeps w.net s place broken t p → KeepsCopy keeps now.net s place broken t p
 look_copies keeps w old now s place broken t p first since C = record {
   roomy = C.roomy;
   closed = C.closed;
@@ -197,8 +197,8 @@ none_set (suc n) (suc i) = none_set n i
 pub none_out : (p : Progress) → p ≡ not_begun → (i : ℕ) → is_out p i ≡ false
 none_out p is i = ap (λ q. is_out q i) is ∙ none_set MAX_NODES i
 
-pub out_more : (keeps : Type 0) (net : MarkedNetwork NodeState) (s : State) (place : Place) (broken : Bool) (t : Topology) (p : Progress) (node : ℕ) → Copies keeps net s place broken t p
-    → (keeps → IsPartOut t net (content_beside place s) node (get_or t.pages node 0)) → Copies keeps net s place broken t (with_out p node)
+pub out_more : (keeps : Type 0) (net : MarkedNetwork NodeState) (s : State) (place : Place) (broken : Bool) (t : Topology) (p : Progress) (node : ℕ) → KeepsCopy keeps net s place broken t p
+    → (keeps → IsPartOut t net (content_beside place s) node (get_or t.pages node 0)) → KeepsCopy keeps net s place broken t (with_out p node)
 out_more keeps net s place broken t p node C stands = record {
   roomy = C.roomy;
   closed = C.closed;

@@ -24,10 +24,10 @@ use Rattle.tp_area.specs.declared.place.Place.{Place}
 use Rattle.tp_area.specs.declared.fault.StoreFault.{StoreFault}
 use Rattle.tp_area.specs.Appended.{Appended, body_of}
 use Rattle.tp_area.specs.Other.{if_open, other_gate}
-use Rattle.tp_area.specs.Places.{has_room}
+use Rattle.tp_area.specs.Places.{has_room_at}
 use Rattle.tp_area.proofs.Behind.{CanBeAppended}
 use Rattle.tp_shared.specs.declared.told.Told.{Told}
-use Rattle.tp_shared.specs.Told.{IsFirst, Since}
+use Rattle.tp_shared.specs.Told.{IsFirst, ToldSince}
 use Rattle.tp_law_network.proofs.Stays.{start_stays}
 use Rattle.tp_law_device.proofs.Opens.{reads_of}
 use Rattle.tp_law_network.proofs.Partial.{bind_some}
@@ -74,10 +74,10 @@ start_since (act ∷ acts) w v none e =
     let B = bind_some (happens t414 w act) (λ u. acted t414 u acts) v e in
     start_since acts B.0 v none.1 B.2 ∙ start_stays t414 w B.0 act none.0 B.1
 
-pub start_told : (w : World NodeState) (old now : Told) → IsFirst old w → Since old now → now.net.start ≡ w.net.start
+pub start_told : (w : World NodeState) (old now : Told) → IsFirst old w → ToldSince old now → now.net.start ≡ w.net.start
 start_told w old now first since = start_since since.acts old.net now.net since.none since.net ∙ ap (λ (n : MarkedNetwork NodeState). n.start) first.net
 
-module _ (keeps : Type 0) (most : Option ℕ) (w : World NodeState) (old now : Told) (s : State) (place : Place) (broken : Bool) (t : Topology) (first : IsFirst old w) (since : Since old now) (D : IsOfDevice keeps most w s place broken t) where
+module _ (keeps : Type 0) (most : Option ℕ) (w : World NodeState) (old now : Told) (s : State) (place : Place) (broken : Bool) (t : Topology) (first : IsFirst old w) (since : ToldSince old now) (D : IsOfDevice keeps most w s place broken t) where
   pub look_device : IsOfDevice keeps most (learned w now) s place broken t
   look_device = same_device keeps most w (learned w now) s s place place broken broken t (since.base ∙ first.base) (start_told w old now first since) refl D.head D
 
@@ -98,7 +98,7 @@ group_start true next w disk = refl
 group_start false next w disk = refl
 
 pub append_device : (keeps : Type 0) (most : Option ℕ) (w : World NodeState) (s new : State) (place to : Place) (t : Topology) (es : List Entry) (r : Result Unit StoreFault) (broke : Bool) (filled : Option Place) (failures_old failures_new : ℕ)
-    → IsOfDevice keeps most w s place false t → Answered r es place to broke filled failures_old failures_new → CanBeAppended place.form place.next es → has_room place (length es) ≡ true
+    → IsOfDevice keeps most w s place false t → Answered r es place to broke filled failures_old failures_new → CanBeAppended place.form place.next es → has_room_at place (length es) ≡ true
     → area_start place.areas place.second + AREA_HEAD_BYTES ≤ place.end → (keeps → areas_end place.areas ≤ length s.now.bytes) → (keeps → OnOk r (Appended es place s new))
     → IsOfDevice keeps most (after_group broke to.next w new.now) new to broke t
 append_device keeps most w s new place to t es (Ok x) broke filled failures_old failures_new D A can fits low whole did =

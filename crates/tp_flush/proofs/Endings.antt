@@ -10,7 +10,7 @@ use Rattle.tp_area.specs.declared.place.Place.{Place}
 use Rattle.tp_area.specs.declared.fault.StoreFault.{StoreFault}
 use Rattle.tp_flush.specs.declared.fault.FlushFault.{FlushFault}
 use Rattle.tp_flush.specs.declared.fault.FlushFault.TheVariants.{AreaFull, DeviceFailed, Memory, StoreBroken}
-use Rattle.tp_flush.specs.Flushing.{Flushing, Looked, position}
+use Rattle.tp_flush.specs.Flushing.{Flushing, OnlyLooked, position}
 use Rattle.tp_flush.specs.Ends.{Ended, Failed, Stored, Waits}
 use Rattle.tp_flush.proofs.Appends.{Answered, after_group, appended, failed_at}
 
@@ -30,7 +30,7 @@ broken_at false is = never_both (position false) refl is
 pub waits_still : (a : Flushing) → a.world.at ≡ Resting → Waits a a
 waits_still a rests = record { rested = record { began = rests; rests = rests; failures = refl }; mark = refl; generation = refl }
 
-pub looked_waits : (a b : Flushing) → a.world.at ≡ Resting → Looked a b → b.world.mark ≡ a.world.mark → Waits a b
+pub looked_waits : (a b : Flushing) → a.world.at ≡ Resting → OnlyLooked a b → b.world.mark ≡ a.world.mark → Waits a b
 looked_waits a b rests L mark = record { rested = record { began = rests; rests = L.at ∙ rests; failures = L.failures }; mark = mark; generation = ap (λ (p : Place). p.generation) L.place }
 
 pub waits_then : (a b c : Flushing) → Waits a b → Waits b c → Waits a c

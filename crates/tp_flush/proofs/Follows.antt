@@ -14,7 +14,7 @@ use Rattle.tp_model.specs.DiskHistory.{State, LeavesOnly}
 use Rattle.tp_model.specs.DeviceAreas.{device_areas}
 use Rattle.tp_model.specs.Opening.{Opened, held_of, next_of, verdict}
 use Rattle.tp_model.specs.Runs.{World, reopened}
-use Rattle.tp_model.specs.Walks.{Leads, RecoversTo}
+use Rattle.tp_model.specs.Walks.{RunLeads, RecoversTo}
 use Rattle.tp_law_machine.proofs.LinkLaws.{has_four_links, never_marks}
 use Rattle.tp_law_device.proofs.Holds.{areas_keep}
 use Rattle.tp_law_device.proofs.Verdicts.{verdict_leads}
@@ -110,7 +110,7 @@ module _ (start : Network NodeState) (before : World NodeState) (bytes : List �
   }
 
   -- what a crash leaves in a world on the way
-  follows_at : (u : World NodeState) → Leads t414 device_areas a.world u → Leads t414 device_areas u b.world → (left : List ℕ) → MayBe u.disk left → Follows start b.world.journal 0 bytes left
+  follows_at : (u : World NodeState) → RunLeads t414 device_areas a.world u → RunLeads t414 device_areas u b.world → (left : List ℕ) → MayBe u.disk left → Follows start b.world.journal 0 bytes left
   follows_at u earlier later left may =
       let r = recovers_at t414 device_areas has_four_links never_marks (areas_keep t414 t414_ends) start there.events there.first a.world there.formatted there.run u b.world earlier later left may in
       follows_from u a.world.mark 0 left (reached_then start a.world u there earlier) may r (omega arith) (let at = mark_is in omega (arith, at))

@@ -8,7 +8,7 @@ use Rattle.tp_model.specs.EntryBytes.{AreOf, is_of}
 use Rattle.tp_area.specs.declared.place.Place.{Place}
 use Rattle.tp_area.specs.declared.fault.StoreFault.{StoreFault}
 use Rattle.tp_shared.specs.declared.told.Told.{Told}
-use Rattle.tp_shared.specs.Told.{Since}
+use Rattle.tp_shared.specs.Told.{ToldSince}
 use Rattle.tp_flush.specs.Flushing.{HoldsAllOf}
 use Rattle.tp_flush.proofs.Appends.{Answered}
 
@@ -20,7 +20,7 @@ pub holds_turns : (area book : Form) → area ≡ Turns → HoldsAllOf area book
 holds_turns area book turns entry holds = ap (λ form. is_of form entry) turns
 
 -- the book's form stays, whatever acts are done but a trim
-pub holds_since : (area : Form) (old now : Told) → Since old now → HoldsAllOf area old.form → HoldsAllOf area now.form
+pub holds_since : (area : Form) (old now : Told) → ToldSince old now → HoldsAllOf area old.form → HoldsAllOf area now.form
 holds_since area old now since holds = subst (HoldsAllOf area) (sym since.form) holds
 
 -- and the area's, in another place of it

@@ -14,28 +14,28 @@ use Rattle.tp_flush.specs.declared.fault.FlushFault.{FlushFault}
 use Rattle.tp_flush.specs.declared.fault.FlushFault.TheVariants.{AreaFull, DeviceFailed, Memory, StoreBroken}
 use Rattle.tp_flush.specs.declared.progress.Progress.{Progress}
 use Rattle.tp_flush.specs.Known.{Began}
-use Rattle.tp_flush.specs.Flushing.{Flushing, Goes, IsSameProcess, Looked}
-use Rattle.tp_flush.specs.Ends.{Checkpointed, Ended, Rested, Tried, Waits, WaitsBehind, Went, WentOn, generation_after}
+use Rattle.tp_flush.specs.Flushing.{Flushing, FlushedOn, IsSameProcess, OnlyLooked}
+use Rattle.tp_flush.specs.Ends.{Checkpointed, Ended, Rested, Tried, Waits, WaitsBehind, NothingStored, WentOn, generation_after}
 use Rattle.tp_flush.proofs.Kept.{looked_walks}
 use Rattle.tp_flush.proofs.Endings.{failed_then, looked_waits, waits_still, waits_then}
 use Rattle.tp_flush.proofs.Turns.{walked_nowhere, walked_then}
 
 module _ (keeps : Type 0) (start : Network NodeState) (before : World NodeState) where
-  pub goes_still : (a : Flushing) → (keeps → a.world.disk ≡ a.state.now) → Goes keeps start before a a
+  pub goes_still : (a : Flushing) → (keeps → a.world.disk ≡ a.state.now) → FlushedOn keeps start before a a
   goes_still a was = record { walks = λ k began. walked_nowhere a (was k); process = record { opened = refl; size = refl; topology = refl } }
 
   -- the same world, as to the device
-  pub goes_marked : (a b : Flushing) → (keeps → a.world.disk ≡ a.state.now) → b.world ≡ a.world → b.state ≡ a.state → IsSameProcess a b → Goes keeps start before a b
+  pub goes_marked : (a b : Flushing) → (keeps → a.world.disk ≡ a.state.now) → b.world ≡ a.world → b.state ≡ a.state → IsSameProcess a b → FlushedOn keeps start before a b
   goes_marked a b was world state P = record {
     walks = λ k began.
         subst (λ (v : World NodeState). Walks t414 device_areas a.world v a.state b.state) (sym world) (subst (λ (s : State). Walks t414 device_areas a.world a.world a.state s) (sym state) (walked_nowhere a (was k)));
     process = P;
   }
 
-  pub goes_looked : (a b : Flushing) → (keeps → a.world.disk ≡ a.state.now) → Looked a b → Goes keeps start before a b
+  pub goes_looked : (a b : Flushing) → (keeps → a.world.disk ≡ a.state.now) → OnlyLooked a b → FlushedOn keeps start before a b
   goes_looked a b was L = record { walks = λ k began. looked_walks a b (was k) L; process = record { opened = L.opened; size = L.size; topology = L.topology } }
 
-  pub goes_then : (a b c : Flushing) → Goes keeps start before a b → Goes keeps start before b c → Goes keeps start before a c
+  pub goes_then : (a b c : Flushing) → FlushedOn keeps start before a b → FlushedOn keeps start before b c → FlushedOn keeps start before a c
   goes_then a b c first then =
       let P = first.process in
       let Q = then.process in
@@ -46,10 +46,10 @@ module _ (keeps : Type 0) (start : Network NodeState) (before : World NodeState)
 
 -- ## How they ended
 
-pub went_still : (a : Flushing) → a.world.at ≡ Resting → Went a a
+pub went_still : (a : Flushing) → a.world.at ≡ Resting → NothingStored a a
 went_still a rests = record { waits = waits_still a rests; stored = refl; place = refl; cleared = λ h. h; frozen = λ i node F. F }
 
-pub went_then : (a b c : Flushing) → Went a b → Went b c → Went a c
+pub went_then : (a b c : Flushing) → NothingStored a b → NothingStored b c → NothingStored a c
 went_then a b c first then = record {
   waits = waits_then a b c first.waits then.waits;
   stored = then.stored ∙ first.stored;
@@ -59,7 +59,7 @@ went_then a b c first then = record {
 }
 
 -- a fault after what went on
-pub tried_then : {A : Type 0} (B : Type 0) (q : Result A FlushFault) (fault : FlushFault) → q ≡ Err fault → (a b c : Flushing) → Went a b → Tried {A = B} (Err fault) b c → Tried q a c
+pub tried_then : {A : Type 0} (B : Type 0) (q : Result A FlushFault) (fault : FlushFault) → q ≡ Err fault → (a b c : Flushing) → NothingStored a b → Tried {A = B} (Err fault) b c → Tried q a c
 tried_then {A} B q fault is a b c first then = subst (λ (x : Result A FlushFault). Tried x a c) (sym is) (by fault then)
   where
     by : (fault : FlushFault) → Tried {A = B} (Err fault) b c → Tried {A = A} (Err fault) a c
@@ -69,7 +69,7 @@ tried_then {A} B q fault is a b c first then = subst (λ (x : Result A FlushFaul
     by AreaFull then = absurd then
 
 -- the same answer, of another type
-pub tried_on : {A : Type 0} (q : Result A FlushFault) (a b c : Flushing) → Went a b → Tried q b c → Tried q a c
+pub tried_on : {A : Type 0} (q : Result A FlushFault) (a b c : Flushing) → NothingStored a b → Tried q b c → Tried q a c
 tried_on (Ok given) a b c first then = went_then a b c first then
 tried_on (Err DeviceFailed) a b c first then = (failed_then a b c first.waits then.0, then.1 ∙ first.stored)
 tried_on (Err StoreBroken) a b c first then = then
@@ -103,7 +103,7 @@ behind_ended {A} q fault is a b c first then = subst (λ (x : Result A FlushFaul
     by AreaFull then = absurd then
 
 -- no call failed so far, and the mark was raised
-pub raised_behind : (a b c : Flushing) → Waits a b → Looked b c → b.world.mark ≤ c.world.mark → b.world.stored ≤ c.world.mark → WaitsBehind a c
+pub raised_behind : (a b c : Flushing) → Waits a b → OnlyLooked b c → b.world.mark ≤ c.world.mark → b.world.stored ≤ c.world.mark → WaitsBehind a c
 raised_behind a b c first L up reaches = record {
   raised = record { mark = omega (arith, first.mark, up); reaches = omega (arith, reaches, L.stored); generation = ap (λ (p : Place). p.generation) L.place ∙ first.generation };
   rested = record { began = first.rested.began; rests = L.at ∙ first.rested.rests; failures = L.failures ∙ first.rested.failures };
@@ -115,7 +115,7 @@ rested_then a b c first then = record { began = first.began; rests = then.rests;
 -- ## The end of a checkpoint
 
 -- whether the store switched, behind what went on
-pub went_on : (switched : Bool) (a b c : Flushing) → Went a b → WentOn switched b c → WentOn switched a c
+pub went_on : (switched : Bool) (a b c : Flushing) → NothingStored a b → WentOn switched b c → WentOn switched a c
 went_on true a b c first then = record {
   rested = rested_then a b c first.waits.rested then.rested;
   mark = then.mark ∙ first.waits.mark;
@@ -124,7 +124,7 @@ went_on true a b c first then = record {
 }
 went_on false a b c first then = went_then a b c first then
 
-pub checkpointed_on : (q : Result Bool FlushFault) (a b c : Flushing) → Went a b → Checkpointed q b c → Checkpointed q a c
+pub checkpointed_on : (q : Result Bool FlushFault) (a b c : Flushing) → NothingStored a b → Checkpointed q b c → Checkpointed q a c
 checkpointed_on (Ok switched) a b c first then = went_on switched a b c first then
 checkpointed_on (Err DeviceFailed) a b c first then = (failed_then a b c first.waits then.0, then.1 ∙ first.stored)
 checkpointed_on (Err StoreBroken) a b c first then = then
@@ -132,7 +132,7 @@ checkpointed_on (Err Memory) a b c first then = went_then a b c first then
 checkpointed_on (Err AreaFull) a b c first then = then
 
 -- a fault before the switch
-pub checkpointed_before : (B : Type 0) (q : Result Bool FlushFault) (fault : FlushFault) → q ≡ Err fault → (a b c : Flushing) → Went a b → Tried {A = B} (Err fault) b c → Checkpointed q a c
+pub checkpointed_before : (B : Type 0) (q : Result Bool FlushFault) (fault : FlushFault) → q ≡ Err fault → (a b c : Flushing) → NothingStored a b → Tried {A = B} (Err fault) b c → Checkpointed q a c
 checkpointed_before B q fault is a b c first then = subst (λ (x : Result Bool FlushFault). Checkpointed x a c) (sym is) (by fault then)
   where
     by : (fault : FlushFault) → Tried {A = B} (Err fault) b c → Checkpointed (Err fault) a c
@@ -142,7 +142,7 @@ checkpointed_before B q fault is a b c first then = subst (λ (x : Result Bool F
     by AreaFull then = absurd then
 
 -- a fault behind what went on
-pub checkpointed_behind : (q : Result Bool FlushFault) (fault : FlushFault) → q ≡ Err fault → (a b c : Flushing) → Went a b → Checkpointed (Err fault) b c → Checkpointed q a c
+pub checkpointed_behind : (q : Result Bool FlushFault) (fault : FlushFault) → q ≡ Err fault → (a b c : Flushing) → NothingStored a b → Checkpointed (Err fault) b c → Checkpointed q a c
 checkpointed_behind q fault is a b c first then = subst (λ (x : Result Bool FlushFault). Checkpointed x a c) (sym is) (checkpointed_on (Err fault) a b c first then)
 
 -- what a switch, or none, leaves
@@ -155,16 +155,16 @@ went_on_mark true a b on = on.mark
 went_on_mark false a b on = on.waits.mark
 
 -- a turn that was done, behind whose checkpoint the mark was raised again
-pub done_rested : (switched : Bool) (a b c d : Flushing) → WaitsBehind a b → WentOn switched b c → Looked c d → Rested a d
+pub done_rested : (switched : Bool) (a b c d : Flushing) → WaitsBehind a b → WentOn switched b c → OnlyLooked c d → Rested a d
 done_rested switched a b c d first on L =
     let R = went_on_rested switched b c on in
     record { began = first.rested.began; rests = L.at ∙ R.rests; failures = L.failures ∙ R.failures ∙ first.rested.failures }
 
-pub done_generation : (switched : Bool) (a b c d : Flushing) → WaitsBehind a b → WentOn switched b c → Looked c d → generation_after switched a d
+pub done_generation : (switched : Bool) (a b c d : Flushing) → WaitsBehind a b → WentOn switched b c → OnlyLooked c d → generation_after switched a d
 done_generation true a b c d first on L = omega (arith, ap (λ (p : Place). p.generation) L.place, on.generation, first.raised.generation)
 done_generation false a b c d first on L = omega (arith, ap (λ (p : Place). p.generation) L.place, on.waits.generation, first.raised.generation)
 
-pub went_looked : (a b : Flushing) → a.world.at ≡ Resting → Looked a b → b.world.mark ≡ a.world.mark → ((i : ℕ) (node : NodeState) → IsFrozenAs a.world.net i node → IsFrozenAs b.world.net i node) → Went a b
+pub went_looked : (a b : Flushing) → a.world.at ≡ Resting → OnlyLooked a b → b.world.mark ≡ a.world.mark → ((i : ℕ) (node : NodeState) → IsFrozenAs a.world.net i node → IsFrozenAs b.world.net i node) → NothingStored a b
 went_looked a b rests L mark frozen = record {
   waits = looked_waits a b rests L mark;
   stored = L.stored;

@@ -11,7 +11,7 @@ use Rattle.tp_flush.specs.declared.imaged.Images.TheVariants.{NoSnapshot, Out, E
 use Rattle.tp_flush.specs.declared.progress.Progress.{Progress}
 use Rattle.tp_flush.specs.Progress.{is_out, with_out}
 use Rattle.tp_flush.specs.Flushing.{Flushing}
-use Rattle.tp_flush.specs.Images.{EndsSo, GoesOn, Imaged, ImagedIn, NodeImaged, OneWentOut, StayOut}
+use Rattle.tp_flush.specs.Images.{EndsSo, HasNextImage, Imaged, ImagedIn, NodeImaged, OneWentOut, StayOut}
 
 -- ## Images that are out stay out
 
@@ -30,7 +30,7 @@ stay_with old new node with is i out = elim (eqb_tells i node) [
 -- ## One node
 
 -- the turn goes on behind a node that has recorded: its image is out
-pub imaged_on : (done : Image) (recorded : Bool) (node : ℕ) (old new : Progress) → NodeImaged done recorded node old new → GoesOn done → recorded ≡ true → is_out new node ≡ true
+pub imaged_on : (done : Image) (recorded : Bool) (node : ℕ) (old new : Progress) → NodeImaged done recorded node old new → HasNextImage done → recorded ≡ true → is_out new node ≡ true
 imaged_on WasOut recorded node old new is on here = is
 imaged_on Unrecorded recorded node old new is on here = absurd (true≢false (sym here ∙ is))
 imaged_on Lacking recorded node old new is on here = absurd on

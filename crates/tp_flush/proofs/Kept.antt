@@ -14,20 +14,20 @@ use Rattle.tp_model.specs.DiskHistory.{State}
 use Rattle.tp_model.specs.WriteOrder.{Resting}
 use Rattle.tp_model.specs.DeviceAreas.{device_areas, numbered}
 use Rattle.tp_model.specs.Runs.{World}
-use Rattle.tp_model.specs.Walks.{Leads, Walks}
+use Rattle.tp_model.specs.Walks.{RunLeads, Walks}
 use Rattle.tp_area.specs.declared.place.Place.{Place}
-use Rattle.tp_area.specs.Appended.{entries_of}
+use Rattle.tp_area.specs.Appended.{unnumbered}
 use Rattle.tp_area.proofs.Behind.{length-entries}
 use Rattle.tp_law_network.proofs.Walks.{run_then, still_walks}
 use Rattle.tp_flush.specs.declared.progress.Progress.{Progress}
 use Rattle.tp_flush.specs.Known.{Known, Reached}
-use Rattle.tp_flush.specs.Flushing.{Flushing, IsBacklog, Keeps, Looked, Walked}
+use Rattle.tp_flush.specs.Flushing.{Flushing, IsBacklog, KeepsWorld, OnlyLooked, Walked}
 use Rattle.tp_shared.specs.declared.told.Told.{Told}
-use Rattle.tp_shared.specs.Told.{IsFirst, Since}
+use Rattle.tp_shared.specs.Told.{IsFirst, ToldSince}
 use Rattle.tp_flush.proofs.Looks.{base_is, copied, entries_stay, learned, learns, looks, raised, raises}
 
 -- a run goes on
-pub reached_then : (start : Network NodeState) (w v : World NodeState) → Reached start w → Leads t414 device_areas w v → Reached start v
+pub reached_then : (start : Network NodeState) (w v : World NodeState) → Reached start w → RunLeads t414 device_areas w v → Reached start v
 reached_then start w v R L = record {
   first = R.first;
   events = R.events ++ L.events;
@@ -36,13 +36,13 @@ reached_then start w v R L = record {
 }
 
 -- a look is a piece of a run, where the device is known
-pub looked_walks : (a b : Flushing) → a.world.disk ≡ a.state.now → Looked a b → Walked a b
+pub looked_walks : (a b : Flushing) → a.world.disk ≡ a.state.now → OnlyLooked a b → Walked a b
 looked_walks a b was L =
     subst (λ (s : State). Walks t414 device_areas a.world b.world a.state s) (sym L.state) (still_walks t414 device_areas a.world b.world a.state L.led (L.disk ∙ was))
 
 -- a look at the book; the flusher then knows more of it
-pub learned_looked : (w : World NodeState) (old now : Told) (first : IsFirst old w) (since : Since old now) (s : State) (size failures : ℕ) (opened : List ℕ) (place : Place) (t : Topology) (progress : Progress)
-    → Looked (record { world = w; state = s; size = size; failures = failures; opened = opened; place = place; topology = t; progress = progress })
+pub learned_looked : (w : World NodeState) (old now : Told) (first : IsFirst old w) (since : ToldSince old now) (s : State) (size failures : ℕ) (opened : List ℕ) (place : Place) (t : Topology) (progress : Progress)
+    → OnlyLooked (record { world = w; state = s; size = size; failures = failures; opened = opened; place = place; topology = t; progress = progress })
     (record { world = learned w now; state = s; size = size; failures = failures; opened = opened; place = place; topology = t; progress = progress })
 learned_looked w old now first since s size failures opened place t progress = record {
   led = learns w old now first since;
@@ -62,8 +62,8 @@ module _ (keeps : Type 0) (start : Network NodeState) (before : World NodeState)
   abbrev pub raised_known : Known → Known
   raised_known k = record { world = raised k.world; opened = k.opened }
 
-  pub raise_keeps : (k : Known) (s : State) (place : Place) (broken : Bool) (mark : ℕ) → Keeps keeps start before k s place broken mark
-      → Keeps keeps start before (raised_known k) s place broken (max mark place.next)
+  pub raise_keeps : (k : Known) (s : State) (place : Place) (broken : Bool) (mark : ℕ) → KeepsWorld keeps start before k s place broken mark
+      → KeepsWorld keeps start before (raised_known k) s place broken (max mark place.next)
   raise_keeps k s place broken mark K = record {
     next = K.next;
     cut = K.cut;
@@ -77,8 +77,8 @@ module _ (keeps : Type 0) (start : Network NodeState) (before : World NodeState)
   abbrev pub copied_known : Known → Told → Known
   copied_known k told = record { world = copied k.world told; opened = k.opened }
 
-  pub copy_keeps : (k : Known) (s : State) (place : Place) (broken : Bool) (mark : ℕ) → Keeps keeps start before k s place broken mark
-      → (old now : Told) → IsFirst old k.world → Since old now → k.world.at ≡ Resting → Keeps keeps start before (copied_known k now) s place broken mark
+  pub copy_keeps : (k : Known) (s : State) (place : Place) (broken : Bool) (mark : ℕ) → KeepsWorld keeps start before k s place broken mark
+      → (old now : Told) → IsFirst old k.world → ToldSince old now → k.world.at ≡ Resting → KeepsWorld keeps start before (copied_known k now) s place broken mark
   copy_keeps k s place broken mark K old now told since rests =
       let base : now.base ≡ k.world.base = base_is k.world old now told since in
       record {
@@ -94,8 +94,8 @@ module _ (keeps : Type 0) (start : Network NodeState) (before : World NodeState)
   abbrev pub learned_known : Known → Told → Known
   learned_known k told = record { world = learned k.world told; opened = k.opened }
 
-  pub learn_keeps : (k : Known) (s : State) (place : Place) (broken : Bool) (mark : ℕ) → Keeps keeps start before k s place broken mark
-      → (old now : Told) → IsFirst old k.world → Since old now → Keeps keeps start before (learned_known k now) s place broken mark
+  pub learn_keeps : (k : Known) (s : State) (place : Place) (broken : Bool) (mark : ℕ) → KeepsWorld keeps start before k s place broken mark
+      → (old now : Told) → IsFirst old k.world → ToldSince old now → KeepsWorld keeps start before (learned_known k now) s place broken mark
   learn_keeps k s place broken mark K old now told since =
       let base : now.base ≡ k.world.base = base_is k.world old now told since in
       record {
@@ -109,17 +109,17 @@ module _ (keeps : Type 0) (start : Network NodeState) (before : World NodeState)
       }
 
   -- where the copy begins
-  pub copy_from : (k : Known) (s : State) (place : Place) (broken : Bool) (mark : ℕ) → Keeps keeps start before k s place broken mark
+  pub copy_from : (k : Known) (s : State) (place : Place) (broken : Bool) (mark : ℕ) → KeepsWorld keeps start before k s place broken mark
       → (told : Told) → IsFirst told k.world → (told.base ≤ place.next) × (place.next ≤ told.base + length told.net.entries)
   copy_from k s place broken mark K told F =
       let entries : length told.net.entries ≡ length k.world.net.entries = ap (λ (n : MarkedNetwork NodeState). length n.entries) F.net in
       (omega (arith, F.base, K.cut, K.next), omega (arith, F.base, K.ends, K.next, entries))
 
   -- what was copied is the backlog
-  pub copied_backlog : (k : Known) (s : State) (place : Place) (broken : Bool) (mark : ℕ) → Keeps keeps start before k s place broken mark
-      → (old now : Told) → IsFirst old k.world → Since old now → now.base + length now.net.entries < NUMBER_LIMIT
-      → (entries : List (Entry × ℕ)) (upto : ℕ) → (entries_of entries ≡ drop (place.next - now.base) now.net.entries) × (upto ≡ now.base + length now.net.entries)
-      → AllByRecursion (λ e. IsSpelt e.0 e.1) entries → entries ≡ numbered place.next (entries_of entries) → IsBacklog (copied k.world now) entries upto
+  pub copied_backlog : (k : Known) (s : State) (place : Place) (broken : Bool) (mark : ℕ) → KeepsWorld keeps start before k s place broken mark
+      → (old now : Told) → IsFirst old k.world → ToldSince old now → now.base + length now.net.entries < NUMBER_LIMIT
+      → (entries : List (Entry × ℕ)) (upto : ℕ) → (unnumbered entries ≡ drop (place.next - now.base) now.net.entries) × (upto ≡ now.base + length now.net.entries)
+      → AllByRecursion (λ e. IsSpelt e.0 e.1) entries → entries ≡ numbered place.next (unnumbered entries) → IsBacklog (copied k.world now) entries upto
   copied_backlog k s place broken mark K old now told since numbers entries upto are each next =
       let base : now.base ≡ k.world.base = base_is k.world old now told since in
       let grew : length k.world.net.entries ≤ length now.net.entries = entries_stay k.world old now told since in
@@ -127,7 +127,7 @@ module _ (keeps : Type 0) (start : Network NodeState) (before : World NodeState)
       record {
         same = are.0 ∙ ap (λ n. drop (n - now.base) now.net.entries) K.next;
         each = each;
-        next = next ∙ ap (λ n. numbered n (entries_of entries)) K.next;
+        next = next ∙ ap (λ n. numbered n (unnumbered entries)) K.next;
         reaches = omega (arith, are.1, count, base, grew, K.cut, K.ends, K.next);
         numbers = omega (arith, count, base, grew, numbers, K.cut, K.ends, K.next);
       }

@@ -12,9 +12,9 @@ use Rattle.tp_model.specs.WriteOrder.{Resting}
 use Rattle.tp_model.specs.DeviceAreas.{device_areas}
 use Rattle.tp_model.specs.Acknowledged.{is_reopening}
 use Rattle.tp_model.specs.Runs.{World, Event, Acts, Copies, Raises, Run, grown, is_trim}
-use Rattle.tp_model.specs.Walks.{Leads}
+use Rattle.tp_model.specs.Walks.{RunLeads}
 use Rattle.tp_shared.specs.declared.told.Told.{Told}
-use Rattle.tp_shared.specs.Told.{IsFirst, Since, grown_all}
+use Rattle.tp_shared.specs.Told.{IsFirst, ToldSince, grown_all}
 use Rattle.tp_law_network.proofs.Partial.{bind_some}
 use Rattle.tp_law_network.proofs.Stays.{entries_grow}
 use Rattle.tp_law_network.proofs.Walks.{one_step, leads_then}
@@ -56,14 +56,14 @@ acts_keep_entries (act ∷ acts) w v none e =
 abbrev pub copied : World NodeState → Told → World NodeState
 copied w told = record w { net = told.net; base = told.base; journal = told.journal; backlog = drop (w.stored - told.base) told.net.entries }
 
-module _ (w : World NodeState) (old now : Told) (told : IsFirst old w) (since : Since old now) where
+module _ (w : World NodeState) (old now : Told) (told : IsFirst old w) (since : ToldSince old now) where
   net_is : acted t414 w.net since.acts ≡ Some now.net
   net_is = ap (λ n. acted t414 n since.acts) (sym told.net) ∙ since.net
 
   pub base_is : now.base ≡ w.base
   base_is = since.base ∙ told.base
 
-  pub looks : w.at ≡ Resting → Leads t414 device_areas w (copied w now)
+  pub looks : w.at ≡ Resting → RunLeads t414 device_areas w (copied w now)
   looks rests =
       let u : World NodeState = record w { net = now.net; journal = grown_all since.acts w.journal } in
       let grew : now.journal ≡ grown_all since.acts w.journal = since.journal ∙ ap (grown_all since.acts) told.journal in
@@ -81,7 +81,7 @@ module _ (w : World NodeState) (old now : Told) (told : IsFirst old w) (since : 
 abbrev pub learned : World NodeState → Told → World NodeState
 learned w told = record w { net = told.net; base = told.base; journal = told.journal }
 
-pub learns : (w : World NodeState) (old now : Told) → IsFirst old w → Since old now → Leads t414 device_areas w (learned w now)
+pub learns : (w : World NodeState) (old now : Told) → IsFirst old w → ToldSince old now → RunLeads t414 device_areas w (learned w now)
 learns w old now told since =
     let u : World NodeState = record w { net = now.net; journal = grown_all since.acts w.journal } in
     let grew : now.journal ≡ grown_all since.acts w.journal = since.journal ∙ ap (grown_all since.acts) told.journal in
@@ -92,5 +92,5 @@ learns w old now told since =
 abbrev pub raised : World NodeState → World NodeState
 raised w = record w { mark = max w.mark w.stored }
 
-pub raises : (w : World NodeState) → Leads t414 device_areas w (raised w)
+pub raises : (w : World NodeState) → RunLeads t414 device_areas w (raised w)
 raises w = one_step t414 device_areas w (raised w) Raises refl refl

@@ -13,19 +13,19 @@ use Rattle.tp_law_machine.proofs.LinkLaws.{has_four_links}
 use Rattle.tp_law_network.proofs.Reorder.{after_shape}
 use Rattle.tp_model.specs.declared.entry.Entry.{Entry}
 use Rattle.tp_book.specs.declared.state.NetState.{NetState}
-use Rattle.tp_book.specs.Book.{BookValue, next_number, world_of}
-use Rattle.tp_book.specs.Opened.{kept_of, now_of, opened_book}
+use Rattle.tp_book.specs.Book.{BookValue, next_in_book, world_of}
+use Rattle.tp_book.specs.Opened.{kept_entries, now_of, opened_book}
 use Rattle.tp_ready.specs.Seen.{RaiserValue}
 use Rattle.tp_shared.specs.Parted.{PartsValue}
-use Rattle.tp_flush.specs.Made.{StandsFor}
+use Rattle.tp_flush.specs.Made.{IsMadeOf}
 
-pub kept_is : (s : NetState) (o : Opened) → s.kept.items ≡ o.kept → kept_of s ≡ map (λ e. e.0) o.kept
+pub kept_is : (s : NetState) (o : Opened) → s.kept.items ≡ o.kept → kept_entries s ≡ map (λ e. e.0) o.kept
 kept_is s o same = ap (λ (kept : List (Entry × ℕ)). map (λ e. e.0) kept) same
 
 -- the number behind its entries is the next one
-pub next_is : (s : NetState) (o : Opened) (room : Option ℕ) → s.base ≡ o.base → s.kept.items ≡ o.kept → next_number (opened_book s room) ≡ next_of o
+pub next_is : (s : NetState) (o : Opened) (room : Option ℕ) → s.base ≡ o.base → s.kept.items ≡ o.kept → next_in_book (opened_book s room) ≡ next_of o
 next_is s o room base kept =
-    let entries : length (kept_of s) ≡ length o.kept = ap length (kept_is s o kept) ∙ length-map o.kept (λ e. e.0) in
+    let entries : length (kept_entries s) ≡ length o.kept = ap length (kept_is s o kept) ∙ length-map o.kept (λ e. e.0) in
     omega (arith, base, entries)
 
 -- its book has the ports of the topology
@@ -37,8 +37,8 @@ ports_are s o now cut leads =
 -- the parts of the book of a state that was opened
 pub stands : (s : NetState) (o : Opened) (room : Option ℕ) (parts : PartsValue) (raiser : RaiserValue) → now_of s ≡ o.now → s.base ≡ o.base → (opened_book s room).form ≡ o.form → s.next ≡ next_of o
     → s.kept.items ≡ o.kept → IsCut t414_ends o.head.topology o.base o.cut → after t414 o.cut (map (λ e. e.0) o.kept) ≡ Some o.now
-    → world_of (opened_book s room) ≡ book_of o → parts.book ≡ opened_book s room → parts.first ≡ next_number (opened_book s room)
-    → raiser ≡ record { mark = parts.mark; at = s.next } → StandsFor o parts raiser
+    → world_of (opened_book s room) ≡ book_of o → parts.book ≡ opened_book s room → parts.first ≡ next_in_book (opened_book s room)
+    → raiser ≡ record { mark = parts.mark; at = s.next } → IsMadeOf o parts raiser
 stands s o room parts raiser now base form next kept cut leads world book first raised = record {
   book = ap world_of book ∙ world;
   base = ap (λ (b : BookValue). b.base) book ∙ base;

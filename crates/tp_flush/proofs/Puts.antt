@@ -37,8 +37,8 @@ use Rattle.tp_law_network.proofs.Walks.{chain_leads}
 use Rattle.tp_flush.specs.declared.fault.FlushFault.{FlushFault}
 use Rattle.tp_flush.specs.declared.fault.FlushFault.TheVariants.{DeviceFailed}
 use Rattle.tp_flush.specs.Known.{Known, Began}
-use Rattle.tp_flush.specs.Flushing.{Flushing, Keeps}
-use Rattle.tp_flush.specs.Ends.{Failed, Tried, Went}
+use Rattle.tp_flush.specs.Flushing.{Flushing, KeepsWorld}
+use Rattle.tp_flush.specs.Ends.{Failed, Tried, NothingStored}
 use Rattle.tp_flush.proofs.Appends.{failed_at}
 use Rattle.tp_flush.proofs.Kept.{reached_then}
 
@@ -88,9 +88,9 @@ module _ (w : World NodeState) (old new : State) (place : Place) (rests : w.at �
 abbrev pub put_known : Known → Bool → State → Known
 put_known k broke s = record { world = after_put broke k.world s.now; opened = k.opened }
 
-module _ (keeps : Type 0) (start : Network NodeState) (before : World NodeState) (k : Known) (s : State) (place : Place) (mark : ℕ) (K : Keeps keeps start before k s place false mark) where
+module _ (keeps : Type 0) (start : Network NodeState) (before : World NodeState) (k : Known) (s : State) (place : Place) (mark : ℕ) (K : KeepsWorld keeps start before k s place false mark) where
   pub put_keeps : (new : State) (broke : Bool) → (keeps → Began start before k.opened → Walks t414 device_areas k.world (after_put broke k.world new.now) s new)
-      → Keeps keeps start before (put_known k broke new) new place broke mark
+      → KeepsWorld keeps start before (put_known k broke new) new place broke mark
   put_keeps new true walks = record {
     next = K.next;
     cut = K.cut;
@@ -130,7 +130,7 @@ pub put_tried : (r : Result Unit StoreFault) (q : Result Unit FlushFault) → Ma
     → OnOk r (a.progress.cleared ≡ true → b.progress.cleared ≡ true) → Tried q a b
 put_tried (Ok unit) q is broke a b disk A rests after place cleared =
     let world : b.world ≡ written_at a.world disk = after ∙ ap (λ f. after_put f a.world disk) A.done.0 in
-    let went : Went a b = record {
+    let went : NothingStored a b = record {
       waits = record {
         rested = record { began = rests; rests = ap (λ (w : World NodeState). w.at) world ∙ rests; failures = A.done.1 };
         mark = ap (λ (w : World NodeState). w.mark) world;

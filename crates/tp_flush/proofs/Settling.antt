@@ -21,10 +21,10 @@ use Rattle.tp_token.specs.Sound.{Sound, item_of}
 use Rattle.tp_shared.specs.declared.told.Told.{Told}
 use Rattle.tp_shared.specs.Receipted.{AreBelow}
 use Rattle.tp_shared.specs.Seals.{Stage, IsTied}
-use Rattle.tp_shared.specs.Told.{IsFirst, Since, told_of}
+use Rattle.tp_shared.specs.Told.{IsFirst, ToldSince, told_of}
 use Rattle.tp_shared.proofs.Telling.{told_journal}
 use Rattle.tp_flush.specs.Known.{Reached}
-use Rattle.tp_flush.specs.Settled.{AreIn, RecoversWith, Stand}
+use Rattle.tp_flush.specs.Settled.{AreIn, RecoversWith, SlipsStand}
 
 -- ## The journal has as many entries as their numbers say
 
@@ -65,15 +65,15 @@ in_prefix (suc m) (x ∷ xs) (suc n) h = in_prefix m xs n (omega (arith, h))
 
 -- ## What slips show
 
-stand_in : (journal front items more : List Entry) (slips : List (ℕ × Entry)) → front ++ items ≡ journal ++ more → Sound (item_of (length front) items) slips → Stand journal slips
+stand_in : (journal front items more : List Entry) (slips : List (ℕ × Entry)) → front ++ items ≡ journal ++ more → Sound (item_of (length front) items) slips → SlipsStand journal slips
 stand_in journal front items more [] both sound = tt
 stand_in journal front items more (slip ∷ slips) both sound = (
   (λ below. sym (in_front journal more slip.0 below) ∙ ap (λ es. slice_get es slip.0) (sym both) ∙ behind_front front items slip.0 slip.1 sound.0),
   stand_in journal front items more slips both sound.2,
 )
 
-pub slips_stand : (before : World NodeState) (first : ℕ) (stage : Stage) (key : Told) (w : World NodeState) (slips : List (ℕ × Entry)) → IsFirst key w → Since key (told_of before first stage)
-    → IsTied first stage.all stage.book → length w.journal ≡ w.base + length w.net.entries → Sound (item_of first stage.all) slips → Stand w.journal slips
+pub slips_stand : (before : World NodeState) (first : ℕ) (stage : Stage) (key : Told) (w : World NodeState) (slips : List (ℕ × Entry)) → IsFirst key w → ToldSince key (told_of before first stage)
+    → IsTied first stage.all stage.book → length w.journal ≡ w.base + length w.net.entries → Sound (item_of first stage.all) slips → SlipsStand w.journal slips
 slips_stand before first stage key w slips F S T long sound =
     let front = take first before.journal in
     let J = told_journal before first key stage S in
@@ -93,7 +93,7 @@ slips_stand before first stage key w slips F S T long sound =
 
 -- ## What a crash leaves of them
 
-are_in : (journal : List Entry) (least m : ℕ) (slips : List (ℕ × Entry)) → least ≤ m → m ≤ length journal → AreBelow least slips → Stand journal slips → AreIn (take m journal) slips
+are_in : (journal : List Entry) (least m : ℕ) (slips : List (ℕ × Entry)) → least ≤ m → m ≤ length journal → AreBelow least slips → SlipsStand journal slips → AreIn (take m journal) slips
 are_in journal least m [] low high below stand = tt
 are_in journal least m (slip ∷ slips) low high below stand =
     let up = below.0 in (
@@ -102,7 +102,7 @@ are_in journal least m (slip ∷ slips) low high below stand =
     )
 
 pub recovers_with : (start : Network NodeState) (journal : List Entry) (least : ℕ) (slips : List (ℕ × Entry)) (bytes : List ℕ) → RecoversTo t414 device_areas start journal least bytes
-    → AreBelow least slips → Stand journal slips → RecoversWith start journal least slips bytes
+    → AreBelow least slips → SlipsStand journal slips → RecoversWith start journal least slips bytes
 recovers_with start journal least slips bytes R below stand = record {
   recovers = R;
   has = are_in journal least (next_number R.held) slips R.no_less R.no_more below stand;

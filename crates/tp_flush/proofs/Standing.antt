@@ -21,7 +21,7 @@ use Rattle.tp_law_device.proofs.Pieces.{there_kept, there_written}
 use Rattle.tp_shared.specs.Pieces.{IsFrozenHead, IsFrozenPage}
 use Rattle.tp_area.specs.Tails.{content_beside}
 use Rattle.tp_flush.specs.Flushing.{Flushing}
-use Rattle.tp_flush.specs.Ends.{Went}
+use Rattle.tp_flush.specs.Ends.{NothingStored}
 use Rattle.tp_flush.specs.Copying.{IsPartOut}
 use Rattle.tp_flush.proofs.Puts.{length_suc, piece_ends, place_suc}
 
@@ -143,7 +143,7 @@ image_out t net content i cut nodes node P has at N count =
 
 -- ## Behind a look, and behind a piece that was put
 
-pub part_looked : (a b : Flushing) → Went a b → b.state ≡ a.state → b.topology ≡ a.topology → (i count : ℕ) → IsPartOut a.topology a.world.net (content_beside a.place a.state) i count
+pub part_looked : (a b : Flushing) → NothingStored a b → b.state ≡ a.state → b.topology ≡ a.topology → (i count : ℕ) → IsPartOut a.topology a.world.net (content_beside a.place a.state) i count
     → IsPartOut b.topology b.world.net (content_beside b.place b.state) i count
 part_looked a b W state topology i count P =
     let here : IsPartOut a.topology b.world.net (content_beside a.place a.state) i count =

@@ -6,7 +6,7 @@ use Rattle.tp_model.specs.WriteOrder.{Resting, Broken}
 use Rattle.tp_flush.specs.declared.fault.FlushFault.{FlushFault}
 use Rattle.tp_flush.specs.declared.fault.FlushFault.TheVariants.{AreaFull, DeviceFailed, Memory, StoreBroken}
 use Rattle.tp_flush.specs.declared.checkpoint.Checkpoint.{Checkpoint}
-use Rattle.tp_flush.specs.Flushing.{Flushing, Looked}
+use Rattle.tp_flush.specs.Flushing.{Flushing, OnlyLooked}
 
 -- No call of the device has failed.
 pub record Rested (old new : Flushing) : Type 0 where
@@ -29,20 +29,20 @@ pub record Waits (old new : Flushing) : Type 0 where
   pub generation : new.place.generation ≡ old.place.generation
 
 -- The mark was raised to what was stored.
-pub record Raised (old new : Flushing) : Type 0 where
+pub record MarkRaised (old new : Flushing) : Type 0 where
   pub mark : old.world.mark ≤ new.world.mark
   pub reaches : new.world.stored ≤ new.world.mark
   pub generation : new.place.generation ≡ old.place.generation
 
 -- The backlog was stored and the mark raised. Then a call of the device failed, or nothing did.
 pub record FailedBehind (old new : Flushing) : Type 0 where
-  pub raised : Raised old new
+  pub raised : MarkRaised old new
   pub began : old.world.at ≡ Resting
   pub broken : new.world.at ≡ Broken
   pub failures : new.failures ≡ old.failures + 1
 
 pub record WaitsBehind (old new : Flushing) : Type 0 where
-  pub raised : Raised old new
+  pub raised : MarkRaised old new
   pub rested : Rested old new
 
 -- That the device failed earlier comes before everything. That memory was refused comes before the first call of the device, or
@@ -51,7 +51,7 @@ abbrev pub Ended : {A : Type 0} → Result A FlushFault → Flushing → Flushin
 Ended (Ok given) old new = Rested old new
 Ended (Err DeviceFailed) old new = Failed old new ⊎ FailedBehind old new
 Ended (Err StoreBroken) old new = (old.world.at ≡ Broken) × (new ≡ old)
-Ended (Err Memory) old new = (Waits old new × Looked old new) ⊎ WaitsBehind old new
+Ended (Err Memory) old new = (Waits old new × OnlyLooked old new) ⊎ WaitsBehind old new
 Ended (Err AreaFull) old new = Waits old new
 
 -- The area isn't said to be full.
@@ -68,7 +68,7 @@ generation_after switched old new = new.place.generation ≡ old.place.generatio
 
 -- Nothing was stored, the next group goes where it went, the other area stays closed where it was, and nodes stay frozen as they
 -- were.
-pub record Went (old new : Flushing) : Type 0 where
+pub record NothingStored (old new : Flushing) : Type 0 where
   pub waits : Waits old new
   pub stored : new.world.stored ≡ old.world.stored
   pub place : new.place ≡ old.place
@@ -77,7 +77,7 @@ pub record Went (old new : Flushing) : Type 0 where
 
 -- That was done, or a call of the device failed.
 abbrev pub Tried : {A : Type 0} → Result A FlushFault → Flushing → Flushing → Type 0
-Tried (Ok given) old new = Went old new
+Tried (Ok given) old new = NothingStored old new
 Tried (Err DeviceFailed) old new = Failed old new × (new.world.stored ≡ old.world.stored)
 Tried (Err StoreBroken) old new = ⊥
 Tried (Err Memory) old new = ⊥
@@ -94,7 +94,7 @@ Stored (Err AreaFull) count old new = Waits old new
 
 -- The store switched to its other area, which holds all that was copied of the book then. No call failed, and the mark is where it
 -- was.
-pub record Switched (old new : Flushing) : Type 0 where
+pub record StoreSwitched (old new : Flushing) : Type 0 where
   pub rested : Rested old new
   pub mark : new.world.mark ≡ old.world.mark
   pub stored : old.world.stored ≤ new.world.stored
@@ -102,15 +102,15 @@ pub record Switched (old new : Flushing) : Type 0 where
 
 -- whether the store switched; where it didn't, nothing was stored
 abbrev pub WentOn : Bool → Flushing → Flushing → Type 0
-WentOn true old new = Switched old new
-WentOn false old new = Went old new
+WentOn true old new = StoreSwitched old new
+WentOn false old new = NothingStored old new
 
 -- That was done, or a call of the device failed, or memory was refused for the copy of the whole cut's tail.
 abbrev pub Checkpointed : Result Bool FlushFault → Flushing → Flushing → Type 0
 Checkpointed (Ok switched) old new = WentOn switched old new
 Checkpointed (Err DeviceFailed) old new = Failed old new × (new.world.stored ≡ old.world.stored)
 Checkpointed (Err StoreBroken) old new = ⊥
-Checkpointed (Err Memory) old new = Went old new
+Checkpointed (Err Memory) old new = NothingStored old new
 Checkpointed (Err AreaFull) old new = ⊥
 
 -- whether the store switched, beside what became of images

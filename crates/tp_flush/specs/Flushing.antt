@@ -17,9 +17,9 @@ use Rattle.tp_model.specs.DiskHistory.{State}
 use Rattle.tp_model.specs.WriteOrder.{Position, Resting, Broken}
 use Rattle.tp_model.specs.DeviceAreas.{device_areas, numbered}
 use Rattle.tp_model.specs.Runs.{World}
-use Rattle.tp_model.specs.Walks.{Leads, Walks}
+use Rattle.tp_model.specs.Walks.{RunLeads, Walks}
 use Rattle.tp_area.specs.declared.place.Place.{Place}
-use Rattle.tp_area.specs.Appended.{entries_of}
+use Rattle.tp_area.specs.Appended.{unnumbered}
 use Rattle.tp_area.specs.Other.{OtherIsClosed}
 use Rattle.tp_area.specs.Tails.{content_beside}
 use Rattle.tp_model.specs.Snapshot.{MarkedNetwork}
@@ -48,7 +48,7 @@ position broken = if broken then Broken else Resting
 
 -- What the flusher keeps of the world, beside the mark: the place of its store is the world's number; what was copied of the
 -- book ends where the book did then; and the world is reached by a run, whose device is the flusher's.
-pub record Keeps (keeps : Type 0) (start : Network NodeState) (before : World NodeState) (known : Known) (state : State) (place : Place) (broken : Bool) (raised : ℕ) : Type 0 where
+pub record KeepsWorld (keeps : Type 0) (start : Network NodeState) (before : World NodeState) (known : Known) (state : State) (place : Place) (broken : Bool) (raised : ℕ) : Type 0 where
   pub next : place.next ≡ known.world.stored
   pub cut : known.world.base ≤ known.world.stored
   pub ends : known.world.stored + length known.world.backlog ≤ known.world.base + length known.world.net.entries
@@ -59,7 +59,7 @@ pub record Keeps (keeps : Type 0) (start : Network NodeState) (before : World No
 
 -- What it keeps for the copy of a snapshot: its areas have room for any cut of its topology; the other area's gate is closed once
 -- that was done for the snapshot; and each frozen image that is out stands there.
-pub record Copies (keeps : Type 0) (net : MarkedNetwork NodeState) (state : State) (place : Place) (broken : Bool) (t : Topology) (progress : Progress) : Type 0 where
+pub record KeepsCopy (keeps : Type 0) (net : MarkedNetwork NodeState) (state : State) (place : Place) (broken : Bool) (t : Topology) (progress : Progress) : Type 0 where
   pub roomy : is_roomy t place.areas.length ≡ true
   pub closed : keeps → broken ≡ false → progress.cleared ≡ true → OtherIsClosed place state
   pub images : keeps → broken ≡ false → (i : ℕ) → i < length t.pages → is_out progress i ≡ true → IsPartOut t net (content_beside place state) i (get_or t.pages i 0)
@@ -85,8 +85,8 @@ abbrev pub Walked : Flushing → Flushing → Type 0
 Walked old new = Walks t414 device_areas old.world new.world old.state new.state
 
 -- No call of the device was made, and nothing was stored.
-pub record Looked (old new : Flushing) : Type 0 where
-  pub led : Leads t414 device_areas old.world new.world
+pub record OnlyLooked (old new : Flushing) : Type 0 where
+  pub led : RunLeads t414 device_areas old.world new.world
   pub at : new.world.at ≡ old.world.at
   pub stored : new.world.stored ≡ old.world.stored
   pub disk : new.world.disk ≡ old.world.disk
@@ -107,14 +107,14 @@ pub record IsSameProcess (old new : Flushing) : Type 0 where
 -- The backlog was copied: `entries`, which have a spelling and the numbers that come next on the device, and which end below
 -- `upto`.
 pub record IsBacklog (w : World NodeState) (entries : List (Entry × ℕ)) (upto : ℕ) : Type 0 where
-  pub same : entries_of entries ≡ w.backlog
+  pub same : unnumbered entries ≡ w.backlog
   pub each : AllByRecursion (λ e. IsSpelt e.0 e.1) entries
-  pub next : entries ≡ numbered w.stored (entries_of entries)
+  pub next : entries ≡ numbered w.stored (unnumbered entries)
   pub reaches : upto ≡ w.stored + length entries
   pub numbers : w.stored + length entries < NUMBER_LIMIT
 
 -- Where this process opened what a run had led to: each moment of the device since is that of a world on the way of one run. The
 -- process and its device are the same.
-pub record Goes (keeps : Type 0) (start : Network NodeState) (before : World NodeState) (old new : Flushing) : Type 0 where
+pub record FlushedOn (keeps : Type 0) (start : Network NodeState) (before : World NodeState) (old new : Flushing) : Type 0 where
   pub walks : keeps → Began start before old.opened → Walked old new
   pub process : IsSameProcess old new

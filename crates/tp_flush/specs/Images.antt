@@ -25,11 +25,11 @@ abbrev pub StayOut : Progress → Progress → Type 0
 StayOut old new = (i : ℕ) → is_out old i ≡ true → is_out new i ≡ true
 
 -- the turn goes on with the next node
-abbrev pub GoesOn : Image → Type 0
-GoesOn WasOut = Unit {0}
-GoesOn Unrecorded = Unit {0}
-GoesOn Lacking = ⊥
-GoesOn (Copied pages) = Unit {0}
+abbrev pub HasNextImage : Image → Type 0
+HasNextImage WasOut = Unit {0}
+HasNextImage Unrecorded = Unit {0}
+HasNextImage Lacking = ⊥
+HasNextImage (Copied pages) = Unit {0}
 
 -- or its copying ends so
 abbrev pub EndsSo : Image → ℕ → Images → Type 0

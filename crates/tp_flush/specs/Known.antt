@@ -5,7 +5,7 @@ use Rattle.tp_model.specs.Node.{t414}
 use Rattle.tp_model.specs.Network.{Network}
 use Rattle.tp_model.specs.Disk.{MayBe}
 use Rattle.tp_model.specs.DeviceAreas.{device_areas}
-use Rattle.tp_model.specs.Runs.{World, Event, Run, IsFormatted}
+use Rattle.tp_model.specs.Runs.{World, Event, Run, BeginsFormatted}
 
 -- the world as the flusher knows it, and the bytes that this process opened
 pub record Known : Type 0 where
@@ -16,7 +16,7 @@ pub record Known : Type 0 where
 pub record Reached (start : Network NodeState) (w : World NodeState) : Type 0 where
   pub first : World NodeState
   pub events : List (Event NodeState)
-  pub formatted : IsFormatted t414 device_areas start first
+  pub formatted : BeginsFormatted t414 device_areas start first
   pub run : Run t414 device_areas first events w
 
 -- What this process opened: the world before it was reached, and its end, or a crash of it, may leave `bytes`.

@@ -7,7 +7,7 @@ use Rattle.tp_book.specs.Book.{world_of}
 use Rattle.tp_shared.specs.Parted.{PartsValue}
 
 -- Parts whose book is that of what was opened, and the raiser of their mark, which has the next number.
-pub record StandsFor (o : Opened) (parts : PartsValue) (raiser : RaiserValue) : Type 0 where
+pub record IsMadeOf (o : Opened) (parts : PartsValue) (raiser : RaiserValue) : Type 0 where
   pub book : world_of parts.book ≡ book_of o
   pub base : parts.book.base ≡ o.base
   pub form : parts.book.form ≡ o.form

@@ -19,7 +19,7 @@ IsBeginRefusal PortFull = ⊥
 
 -- A snapshot was to begin, with this answer, in a book that was found and left so: it is refused exactly for the first reason that holds
 -- in the book that was found, before all others that one runs, and the book is then left as it was; else it began, or memory was refused.
-pub record IsBegun (start : Network NodeState) (found left : BookValue) (answer : Result Unit Refusal) : Type 0 where
+pub record SnapshotBegun (start : Network NodeState) (found left : BookValue) (answer : Result Unit Refusal) : Type 0 where
   pub nodes : length found.state.start.nodes ≡ length start.nodes
   pub ports : length found.state.ports ≡ length start.ports
   pub exact : IsAnswer (begin_refusal found) answer
@@ -30,5 +30,5 @@ pub record IsBegun (start : Network NodeState) (found left : BookValue) (answer 
 abbrev pub BegunIn : Network NodeState → List BookValue → Result Unit Refusal → Type 0
 BegunIn start [] answer = ⊥
 BegunIn start (found ∷ []) answer = ⊥
-BegunIn start (found ∷ left ∷ []) answer = IsBegun start found left answer
+BegunIn start (found ∷ left ∷ []) answer = SnapshotBegun start found left answer
 BegunIn start (found ∷ left ∷ other ∷ more) answer = ⊥

@@ -10,8 +10,8 @@ use Rattle.tp_model.specs.DeviceAreas.{device_areas}
 use Rattle.tp_model.specs.Walks.{RecoversTo}
 
 -- Each slip's entry stands in the journal at its number, where the journal reaches so far.
-abbrev pub Stand : List Entry → List (ℕ × Entry) → Type 0
-Stand journal slips = AllByRecursion (λ slip. slip.0 < length journal → slice_get journal slip.0 ≡ Some slip.1) slips
+abbrev pub SlipsStand : List Entry → List (ℕ × Entry) → Type 0
+SlipsStand journal slips = AllByRecursion (λ slip. slip.0 < length journal → slice_get journal slip.0 ≡ Some slip.1) slips
 
 -- Each slip's entry stands there.
 abbrev pub AreIn : List Entry → List (ℕ × Entry) → Type 0

@@ -1,7 +1,7 @@
 //! What the flusher knows beside the book as it is.
 
 ghost use Rattle.std.specs.Prelude.{◌≡◌};
-ghost use Rattle.tp_flush.specs.Ahead.{IsAhead};
+ghost use Rattle.tp_flush.specs.Ahead.{IsAheadOf};
 ghost use Rattle.tp_flush.specs.Known.{Began};
 
 use crate::flusher::Flusher;
@@ -13,7 +13,7 @@ impl<J: Naming, D: Disk> Flusher<J, D> {
     /// images that the device was formatted with to the one that the book has.
     pub fn settle_book(&mut self, held: &mut Locked<J>)
         ensures same { (self.new ≡ self.old) × (held.new ≡ held.old) }
-        ensures ahead { D.keeps → Began J.formatted J.before self.old.opened → IsAhead J.formatted self.old.world held.old.book }
+        ensures ahead { D.keeps → Began J.formatted J.before self.old.opened → IsAheadOf J.formatted self.old.world held.old.book }
     {
         self.known();
         let Flusher { parts, .. } = self;

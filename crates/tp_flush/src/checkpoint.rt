@@ -2,7 +2,7 @@
 
 ghost use Rattle.std.specs.Prelude.{◌≡◌, false, length, IfOk};
 ghost use Rattle.tp_model.specs.WriteOrder.{Resting};
-ghost use Rattle.tp_flush.specs.Flushing.{Goes};
+ghost use Rattle.tp_flush.specs.Flushing.{FlushedOn};
 ghost use Rattle.tp_flush.specs.Ends.{Checkpointed, switched_of};
 ghost use Rattle.tp_flush.specs.Images.{ImagedIn, LookedIn};
 
@@ -58,7 +58,7 @@ impl<J: Naming, D: Disk> Flusher<J, D> {
         requires rests { self.old.world.at ≡ Resting }
         ensures checkpointed { Checkpointed (switched_of result) self.old self.new }
         ensures imaged { IfOk result (λ done. done.switched ≡ false → ImagedIn (length J.start.nodes) done.images looked.old looked.new self.old self.new) }
-        ensures goes { Goes D.keeps J.formatted J.before self.old self.new }
+        ensures goes { FlushedOn D.keeps J.formatted J.before self.old self.new }
     {
         self.known();
         let Some(look) = look(rt, shared, looked) else {

@@ -5,8 +5,8 @@ ghost use Rattle.tp_model.specs.WriteOrder.{Resting};
 ghost use Rattle.tp_area.specs.Tails.{content_beside};
 ghost use Rattle.tp_flush.specs.Copying.{IsPartOut};
 ghost use Rattle.tp_flush.specs.Progress.{is_out, with_out};
-ghost use Rattle.tp_flush.specs.Flushing.{Goes};
-ghost use Rattle.tp_flush.specs.Ends.{Went};
+ghost use Rattle.tp_flush.specs.Flushing.{FlushedOn};
+ghost use Rattle.tp_flush.specs.Ends.{NothingStored};
 
 use crate::flusher::Flusher;
 use std::sync::Wait;
@@ -20,10 +20,10 @@ impl<J: Naming, D: Disk> Flusher<J, D> {
         requires node { node < length self.old.topology.pages }
         requires there { node < length J.start.nodes }
         requires stands { D.keeps → IsPartOut self.old.topology self.old.world.net (content_beside self.old.place self.old.state) node (get_or self.old.topology.pages node 0) }
-        ensures went { Went self.old self.new }
+        ensures went { NothingStored self.old self.new }
         ensures out { self.new.progress ≡ with_out self.old.progress node }
         ensures is { is_out self.new.progress node ≡ true }
-        ensures goes { Goes D.keeps J.formatted J.before self.old self.new }
+        ensures goes { FlushedOn D.keeps J.formatted J.before self.old self.new }
     {
         shared.drop_frozen(rt, node);
         self.put_out(node as usize);

@@ -19,8 +19,8 @@ use std::marker::Model;
 use std::snapshot::Snapshot;
 use tp_area::Store;
 use tp_disk::Disk;
-use tp_ready::Raiser;
 use tp_net::Topology;
+use tp_ready::Raiser;
 use tp_recover::Opened;
 use tp_shared::{Naming, Sights, Told};
 use tp_token::Key;
@@ -50,14 +50,14 @@ pub struct Flusher<J: Naming, D: Disk> {
 impl<J: Naming, D: Disk> Model for Flusher<J, D> {
     ghost use Rattle.std.specs.Prelude.{◌≡◌, ◌≤◌};
     ghost use Rattle.tp_shared.specs.Told.{IsFirst};
-    ghost use Rattle.tp_flush.specs.Flushing.{Copies, Flushing, HoldsAllOf, IsOfDevice, Keeps};
+    ghost use Rattle.tp_flush.specs.Flushing.{KeepsCopy, Flushing, HoldsAllOf, IsOfDevice, KeepsWorld};
     ghost use Rattle.tp_flush.specs.WasTold.{ToldWhere};
 
     ghost Value = { Flushing };
 
     ghost view = { λ f. record { world = f.parts.whole.known.world; state = D.state f.parts.store.disk; size = D.size_of f.parts.store.disk; failures = D.failures_of f.parts.store.disk; opened = f.parts.whole.known.opened; place = f.parts.store.place; topology = f.parts.topology; progress = f.parts.progress } };
 
-    ghost invariant = { λ f. (f.parts.key.name ≡ J.flusher) × (f.parts.raiser.mark ≡ J.mark) × IsFirst f.parts.key.value f.parts.whole.known.world × Keeps D.keeps J.formatted J.before f.parts.whole.known (D.state f.parts.store.disk) f.parts.store.place f.parts.store.broken f.parts.raiser.at × Copies D.keeps f.parts.whole.known.world.net (D.state f.parts.store.disk) f.parts.store.place f.parts.store.broken f.parts.topology f.parts.progress × IsOfDevice D.keeps J.room f.parts.whole.known.world (D.state f.parts.store.disk) f.parts.store.place f.parts.store.broken f.parts.topology × (J.first ≤ f.parts.whole.known.world.stored) × (f.parts.key.value.numbered_from ≤ f.parts.whole.known.world.stored) × HoldsAllOf f.parts.store.place.form f.parts.key.value.form × ToldWhere f.parts.store.broken f.told };
+    ghost invariant = { λ f. (f.parts.key.name ≡ J.flusher) × (f.parts.raiser.mark ≡ J.mark) × IsFirst f.parts.key.value f.parts.whole.known.world × KeepsWorld D.keeps J.formatted J.before f.parts.whole.known (D.state f.parts.store.disk) f.parts.store.place f.parts.store.broken f.parts.raiser.at × KeepsCopy D.keeps f.parts.whole.known.world.net (D.state f.parts.store.disk) f.parts.store.place f.parts.store.broken f.parts.topology f.parts.progress × IsOfDevice D.keeps J.room f.parts.whole.known.world (D.state f.parts.store.disk) f.parts.store.place f.parts.store.broken f.parts.topology × (J.first ≤ f.parts.whole.known.world.stored) × (f.parts.key.value.numbered_from ≤ f.parts.whole.known.world.stored) × HoldsAllOf f.parts.store.place.form f.parts.key.value.form × ToldWhere f.parts.store.broken f.told };
 }
 
 impl<J: Naming, D: Disk> Flusher<J, D> {

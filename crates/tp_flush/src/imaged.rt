@@ -1,7 +1,7 @@
 //! What a turn of the flusher did with frozen images.
 
 ghost use Rattle.std.specs.Prelude.{◌≡◌, IfErr, IfOk};
-ghost use Rattle.tp_flush.specs.Images.{EndsSo, GoesOn};
+ghost use Rattle.tp_flush.specs.Images.{EndsSo, HasNextImage};
 
 /// What a turn did with the frozen images of the snapshot that runs.
 #[derive(Clone, Copy, Debug, PartialEq, Eq)]
@@ -32,7 +32,7 @@ pub(crate) enum Image {
 impl Image {
     /// How many pages a turn may copy behind this image of `node`, which might copy `left` with it. Or how it ends with it.
     pub(crate) fn left(self, node: u8, left: usize) -> Result<usize, Images>
-        ensures goes_on { IfOk result (λ rest. GoesOn self) }
+        ensures goes_on { IfOk result (λ rest. HasNextImage self) }
         ensures ends { IfErr result (λ images. EndsSo self node images) }
     {
         match self {

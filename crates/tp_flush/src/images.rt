@@ -7,7 +7,7 @@ ghost use Rattle.tp_area.specs.Tails.{content_beside};
 ghost use Rattle.tp_area.specs.Pieces.{piece_place};
 ghost use Rattle.tp_flush.specs.Copying.{IsPartOut};
 ghost use Rattle.tp_flush.specs.Progress.{is_out};
-ghost use Rattle.tp_flush.specs.Flushing.{Goes};
+ghost use Rattle.tp_flush.specs.Flushing.{FlushedOn};
 ghost use Rattle.tp_flush.specs.Images.{Imaged, NodeImaged, StayOut};
 ghost use Rattle.tp_flush.specs.Ends.{Tried};
 
@@ -16,8 +16,8 @@ use crate::flusher::Flusher;
 use crate::imaged::{Image, Images};
 use crate::turn::FLUSHER;
 use std::sync::Wait;
-use tp_disk::Disk;
 use tp_area::FIELDS_BYTES;
+use tp_disk::Disk;
 use tp_model::limits::{IMAGE_HEAD_BYTES, MAX_PAGES, PAGE_BYTES};
 use tp_shared::gate::PAGE_COPIED;
 use tp_shared::{Gate, Look, Naming, Shared};
@@ -66,7 +66,7 @@ impl<J: Naming, D: Disk> Flusher<J, D> {
         ensures tried { Tried result self.old self.new }
         ensures same { self.new.progress ≡ self.old.progress }
         ensures stands { D.keeps → IfOk result (λ found. found ≡ true → IsPartOut self.new.topology self.new.world.net (content_beside self.new.place self.new.state) node 0) }
-        ensures goes { Goes D.keeps J.formatted J.before self.old self.new }
+        ensures goes { FlushedOn D.keeps J.formatted J.before self.old self.new }
     {
         let mut head = [0; IMAGE_HEAD_BYTES];
         if !self.read_head(rt, shared, node, &mut head) {
@@ -98,7 +98,7 @@ impl<J: Naming, D: Disk> Flusher<J, D> {
         ensures tried { Tried result self.old self.new }
         ensures same { self.new.progress ≡ self.old.progress }
         ensures stands { D.keeps → IfOk result (λ found. found ≡ true → IsPartOut self.new.topology self.new.world.net (content_beside self.new.place self.new.state) node (page + 1)) }
-        ensures goes { Goes D.keeps J.formatted J.before self.old self.new }
+        ensures goes { FlushedOn D.keeps J.formatted J.before self.old self.new }
     {
         let mut bytes = [0; PAGE_BYTES];
         if !self.read_page(rt, shared, node, page, &mut bytes) {
@@ -127,7 +127,7 @@ impl<J: Naming, D: Disk> Flusher<J, D> {
         ensures tried { Tried result self.old self.new }
         ensures same { self.new.progress ≡ self.old.progress }
         ensures stands { D.keeps → IfOk result (λ found. found ≡ true → IsPartOut self.new.topology self.new.world.net (content_beside self.new.place self.new.state) node (get_or self.new.topology.pages node 0)) }
-        ensures goes { Goes D.keeps J.formatted J.before self.old self.new }
+        ensures goes { FlushedOn D.keeps J.formatted J.before self.old self.new }
     {
         if !self.copy_head(rt, shared, node, image)? {
             return Ok(false);
@@ -159,7 +159,7 @@ impl<J: Naming, D: Disk> Flusher<J, D> {
         ensures tried { Tried result self.old self.new }
         ensures imaged { IfOk result (λ done. NodeImaged done (get_or look.now.recorded node false) node self.old.progress self.new.progress) }
         ensures stay { StayOut self.old.progress self.new.progress }
-        ensures goes { Goes D.keeps J.formatted J.before self.old self.new }
+        ensures goes { FlushedOn D.keeps J.formatted J.before self.old self.new }
     {
         self.known();
         if self.is_out(node as usize) {
@@ -197,7 +197,7 @@ impl<J: Naming, D: Disk> Flusher<J, D> {
         requires cleared { self.old.progress.cleared ≡ true }
         ensures tried { Tried result self.old self.new }
         ensures imaged { IfOk result (λ images. Imaged true (λ i. get_or look.now.recorded i false) (length J.start.nodes) (length self.new.topology.pages) images self.old.progress self.new.progress) }
-        ensures goes { Goes D.keeps J.formatted J.before self.old self.new }
+        ensures goes { FlushedOn D.keeps J.formatted J.before self.old self.new }
     {
         self.known();
         let count = self.nodes().min(shared.nodes() as usize);

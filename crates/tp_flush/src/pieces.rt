@@ -9,8 +9,8 @@ ghost use Rattle.tp_flush.specs.Copying.{IsPartOut};
 ghost use Rattle.tp_flush.specs.Progress.{is_out, with_out};
 ghost use Rattle.tp_model.specs.declared.limits.TheConstants.{MAX_PAGES};
 ghost use Rattle.tp_model.specs.WriteOrder.{Resting};
-ghost use Rattle.tp_flush.specs.Flushing.{Goes};
-ghost use Rattle.tp_flush.specs.Ends.{Tried, Went};
+ghost use Rattle.tp_flush.specs.Flushing.{FlushedOn};
+ghost use Rattle.tp_flush.specs.Ends.{Tried, NothingStored};
 
 use crate::appending::answer_of;
 use crate::fault::FlushFault;
@@ -28,7 +28,7 @@ impl<J: Naming, D: Disk> Flusher<J, D> {
     pub(crate) fn clear<R: Wait>(&mut self, rt: &R, shared: &Shared<J>) -> Result<(), FlushFault>
         requires rests { self.old.world.at ≡ Resting }
         ensures tried { Tried result self.old self.new }
-        ensures goes { Goes D.keeps J.formatted J.before self.old self.new }
+        ensures goes { FlushedOn D.keeps J.formatted J.before self.old self.new }
         ensures cleared { self.new.progress.cleared ≡ true }
         ensures out { self.new.progress.out ≡ self.old.progress.out }
     {
@@ -67,7 +67,7 @@ impl<J: Naming, D: Disk> Flusher<J, D> {
         ensures same { (self.new.world.net ≡ self.old.world.net) × (self.new.progress ≡ self.old.progress) }
         ensures room { D.keeps → piece_place self.old.topology node piece + piece_length piece ≤ length (content_beside self.old.place self.old.state) }
         ensures content { D.keeps → IfOk result (λ done. content_beside self.new.place self.new.state ≡ written (content_beside self.old.place self.old.state) (piece_place self.old.topology node piece) bytes.now) }
-        ensures goes { Goes D.keeps J.formatted J.before self.old self.new }
+        ensures goes { FlushedOn D.keeps J.formatted J.before self.old self.new }
     {
         self.known();
         let _node = node;
@@ -88,10 +88,10 @@ impl<J: Naming, D: Disk> Flusher<J, D> {
     ) -> bool
         requires rests { self.old.world.at ≡ Resting }
         requires there { node < length J.start.nodes }
-        ensures went { Went self.old self.new }
+        ensures went { NothingStored self.old self.new }
         ensures same { (self.new.state ≡ self.old.state) × (self.new.progress ≡ self.old.progress) }
         ensures head { result ≡ true → IsFrozenHead self.new.world.net node out.new }
-        ensures goes { Goes D.keeps J.formatted J.before self.old self.new }
+        ensures goes { FlushedOn D.keeps J.formatted J.before self.old self.new }
     {
         self.known();
         let Flusher { parts, .. } = self;
@@ -111,10 +111,10 @@ impl<J: Naming, D: Disk> Flusher<J, D> {
     ) -> bool
         requires rests { self.old.world.at ≡ Resting }
         requires there { node < length J.start.nodes }
-        ensures went { Went self.old self.new }
+        ensures went { NothingStored self.old self.new }
         ensures same { (self.new.state ≡ self.old.state) × (self.new.progress ≡ self.old.progress) }
         ensures page { result ≡ true → IsFrozenPage self.new.world.net node page out.new }
-        ensures goes { Goes D.keeps J.formatted J.before self.old self.new }
+        ensures goes { FlushedOn D.keeps J.formatted J.before self.old self.new }
     {
         self.known();
         let Flusher { parts, .. } = self;
@@ -128,10 +128,10 @@ impl<J: Naming, D: Disk> Flusher<J, D> {
         requires rests { self.old.world.at ≡ Resting }
         requires node { node < length self.old.topology.pages }
         requires stands { D.keeps → IsPartOut self.old.topology self.old.world.net (content_beside self.old.place self.old.state) node (get_or self.old.topology.pages node 0) }
-        ensures went { Went self.old self.new }
+        ensures went { NothingStored self.old self.new }
         ensures out { self.new.progress ≡ with_out self.old.progress node }
         ensures is { is_out self.new.progress node ≡ true }
-        ensures goes { Goes D.keeps J.formatted J.before self.old self.new }
+        ensures goes { FlushedOn D.keeps J.formatted J.before self.old self.new }
     {
         self.known();
         let Flusher { parts, .. } = self;

@@ -5,8 +5,8 @@ ghost use Rattle.tp_model.specs.declared.limits.TheConstants.{MAX_PAGES};
 ghost use Rattle.tp_area.specs.Pieces.{piece_place, place_in_image};
 
 use crate::flusher::Flusher;
-use tp_disk::Disk;
 use tp_area::image_length;
+use tp_disk::Disk;
 use tp_model::limits::{IMAGE_HEAD_BYTES, PAGE_BYTES};
 use tp_shared::Naming;
 

@@ -1,7 +1,7 @@
 //! The flusher raises the mark.
 
 ghost use Rattle.std.specs.Prelude.{◌≡◌, ◌≤◌};
-ghost use Rattle.tp_flush.specs.Flushing.{Goes, Looked};
+ghost use Rattle.tp_flush.specs.Flushing.{FlushedOn, OnlyLooked};
 
 use crate::flusher::Flusher;
 use crate::whole::Whole;
@@ -14,8 +14,8 @@ impl<J: Naming, D: Disk> Flusher<J, D> {
         ensures mark { result ≡ self.new.world.mark }
         ensures reaches { self.old.world.stored ≤ result }
         ensures up { self.old.world.mark ≤ result }
-        ensures looked { Looked self.old self.new }
-        ensures goes { Goes D.keeps J.formatted J.before self.old self.new }
+        ensures looked { OnlyLooked self.old self.new }
+        ensures goes { FlushedOn D.keeps J.formatted J.before self.old self.new }
     {
         self.known();
         let Flusher { parts, .. } = self;

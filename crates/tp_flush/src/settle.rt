@@ -10,7 +10,7 @@ ghost use Rattle.tp_model.specs.Walks.{RecoversTo};
 ghost use Rattle.tp_model.specs.declared.entry.Entry.{Entry};
 ghost use Rattle.tp_shared.specs.Receipted.{AreBelow};
 ghost use Rattle.tp_flush.specs.Known.{Began};
-ghost use Rattle.tp_flush.specs.Settled.{RecoversWith, Stand};
+ghost use Rattle.tp_flush.specs.Settled.{RecoversWith, SlipsStand};
 
 use crate::flusher::Flusher;
 use std::sync::Wait;
@@ -32,7 +32,7 @@ impl<J: Naming, D: Disk> Flusher<J, D> {
     /// Changes nothing. Each slip's entry stands in the flusher's journal at its number, where that reaches so far.
     pub fn settle_seat(&mut self, held: &mut Locked<J>, seat: &mut Seat<J>)
         ensures same { (self.new ≡ self.old) × (held.new ≡ held.old) × (seat.new ≡ seat.old) }
-        ensures stand { D.keeps → Began J.formatted J.before self.old.opened → Stand self.old.world.journal seat.old }
+        ensures stand { D.keeps → Began J.formatted J.before self.old.opened → SlipsStand self.old.world.journal seat.old }
     {
         self.known();
         held.audit(seat);
@@ -44,7 +44,7 @@ impl<J: Naming, D: Disk> Flusher<J, D> {
     pub fn settle_receipt(&mut self, held: &mut Locked<J>, receipt: &mut Receipt<J>)
         ensures same { (self.new ≡ self.old) × (held.new ≡ held.old) × (receipt.new ≡ receipt.old) }
         ensures below { AreBelow receipt.old.number receipt.old.seat }
-        ensures stand { D.keeps → Began J.formatted J.before self.old.opened → Stand self.old.world.journal receipt.old.seat }
+        ensures stand { D.keeps → Began J.formatted J.before self.old.opened → SlipsStand self.old.world.journal receipt.old.seat }
     {
         self.known();
         held.audit_receipt(receipt);
@@ -56,7 +56,7 @@ impl<J: Naming, D: Disk> Flusher<J, D> {
     fn settle_under<R: Wait>(&mut self, rt: &R, shared: &Shared<J>, receipt: &mut Receipt<J>)
         ensures same { (self.new ≡ self.old) × (receipt.new ≡ receipt.old) }
         ensures below { AreBelow receipt.old.number receipt.old.seat }
-        ensures stand { D.keeps → Began J.formatted J.before self.old.opened → Stand self.old.world.journal receipt.old.seat }
+        ensures stand { D.keeps → Began J.formatted J.before self.old.opened → SlipsStand self.old.world.journal receipt.old.seat }
     {
         let mut held = shared.book().lock(rt);
         self.settle_receipt(&mut held, receipt);
@@ -76,7 +76,7 @@ impl<J: Naming, D: Disk> Flusher<J, D> {
         ensures same { (self.new ≡ self.old) × (pass.new ≡ pass.old) × (receipt.new ≡ receipt.old) }
         ensures mark { pass.old.at ≤ self.old.world.mark }
         ensures below { AreBelow receipt.old.number receipt.old.seat }
-        ensures stand { D.keeps → Began J.formatted J.before self.old.opened → Stand self.old.world.journal receipt.old.seat }
+        ensures stand { D.keeps → Began J.formatted J.before self.old.opened → SlipsStand self.old.world.journal receipt.old.seat }
         ensures recovers { D.keeps → Began J.formatted J.before self.old.opened → receipt.old.number ≤ pass.old.at
             → (left : List ℕ) → MayBe self.old.state.now left → RecoversWith J.formatted self.old.world.journal self.old.world.mark receipt.old.seat left }
     {
@@ -90,5 +90,5 @@ impl<J: Naming, D: Disk> Flusher<J, D> {
 /// slips below that stand in the journal. The function does nothing; its contract is the law.
 pub fn stored_slips_are_recovered()
     ensures { (start : Network NodeState) (journal : List Entry) (least : ℕ) (slips : List (ℕ × Entry)) (bytes : List ℕ) → RecoversTo t414 device_areas start journal least bytes
-        → AreBelow least slips → Stand journal slips → RecoversWith start journal least slips bytes }
+        → AreBelow least slips → SlipsStand journal slips → RecoversWith start journal least slips bytes }
 {}

@@ -1,6 +1,6 @@
 -- The frames of counts and a region: what each is, and what a change of one makes of them.
 use Rattle.std.proofs.Common.{◌≡◌, ℕ, zero, suc, ◌+◌, ◌<◌, List, [], ◌∷◌, Option, Some, None, get_or, set, length, refl, ap, ◌∙◌, arith}
-use Rattle.tp_model.specs.Frames.{Held, Frames, frame, owned, held_owners, held_bytes, owners_of, bytes_of, with_frame, free_in}
+use Rattle.tp_model.specs.Frames.{HeldFrame, Frames, frame, owned, held_owners, held_bytes, owners_of, bytes_of, with_frame, free_in}
 use Rattle.tp_frames.specs.FreeList.{frames_of}
 
 pub length-frames_of : (counts : List ℕ) (region : List (List ℕ)) → length counts ≡ length region → length (frames_of counts region) ≡ length counts
@@ -42,7 +42,7 @@ held_within (count ∷ counts) zero held = omega arith
 held_within (count ∷ counts) (suc i) held = omega (arith, held_within counts i held)
 
 -- one where a frame is free
-abbrev pub vacancy : Option Held → ℕ
+abbrev pub vacancy : Option HeldFrame → ℕ
 vacancy None = 1
 vacancy (Some held) = 0
 
@@ -50,12 +50,12 @@ pub vacancy-owned : (count : ℕ) (bytes : List ℕ) → 0 < count → vacancy (
 vacancy-owned zero bytes some = absurd (omega arith)
 vacancy-owned (suc count) bytes some = refl
 
-free_in-cons : (entry : Option Held) (frames : Frames) → free_in (entry ∷ frames) ≡ vacancy entry + free_in frames
+free_in-cons : (entry : Option HeldFrame) (frames : Frames) → free_in (entry ∷ frames) ≡ vacancy entry + free_in frames
 free_in-cons None frames = refl
 free_in-cons (Some held) frames = omega arith
 
 -- what the change of one frame does to the number of those that are free
-pub free_in-set : (frames : Frames) (i : ℕ) (entry : Option Held) → i < length frames → free_in (set frames i entry) + vacancy (frame frames i) ≡ free_in frames + vacancy entry
+pub free_in-set : (frames : Frames) (i : ℕ) (entry : Option HeldFrame) → i < length frames → free_in (set frames i entry) + vacancy (frame frames i) ≡ free_in frames + vacancy entry
 free_in-set [] i entry within = absurd (omega arith)
 free_in-set (here ∷ frames) zero entry within = omega (arith, free_in-cons here frames, free_in-cons entry frames)
 free_in-set (here ∷ frames) (suc i) entry within = omega (arith, free_in-cons here frames, free_in-cons here (set frames i entry), free_in-set frames i entry (omega arith))

@@ -1,7 +1,7 @@
 -- What is so of every pool stays so.
 use Rattle.std.proofs.Common.{◌≡◌, ℕ, zero, suc, ◌+◌, ◌-◌, ◌<◌, ◌^◌, List, [], ◌∷◌, Option, None, get_or, set, length, replicate, refl, sym, ap, subst, ◌∙◌, arith}
 use Rattle.std.proofs.lemmas.List.{length-set, get_or-set_same, get_or-set_other, set-get_or, length-replicate, get_or-replicate}
-use Rattle.tp_model.specs.Frames.{Held, Frames, frame, owned, owners_of, bytes_of, IsHeld, with_frame, free_in}
+use Rattle.tp_model.specs.Frames.{HeldFrame, Frames, frame, owned, owners_of, bytes_of, IsHeld, with_frame, free_in}
 use Rattle.tp_frames.specs.FreeList.{frames_of, next_in, AreLinked, IsApart, IsChain, IsPool}
 use Rattle.tp_frames.proofs.Frames.{length-frames_of, frame-frames_of, frames_of-set, owners_of-frames_of, bytes_of-frames_of, held_within, vacancy, vacancy-owned, free_in-set, free_in-le-length}
 
@@ -15,7 +15,7 @@ IsApart-held frames region first (number ∷ numbers) i held chain = (
 )
 
 -- the free list outlives a change elsewhere
-pub IsChain-set : (frames : Frames) (region : List (List ℕ)) (first : ℕ) (numbers : List ℕ) (i : ℕ) (entry : Option Held) (bytes : List ℕ) → IsApart i numbers
+pub IsChain-set : (frames : Frames) (region : List (List ℕ)) (first : ℕ) (numbers : List ℕ) (i : ℕ) (entry : Option HeldFrame) (bytes : List ℕ) → IsApart i numbers
     → IsChain frames region first numbers → IsChain (set frames i entry) (set region i bytes) first numbers
 IsChain-set frames region first [] i entry bytes apart chain = tt
 IsChain-set frames region first (number ∷ numbers) i entry bytes apart chain =
@@ -186,10 +186,10 @@ IsApart-numbers_from i at (suc k) below = ((λ same. absurd (omega arith)), IsAp
 fresh_chain : (n : ℕ) (region : List (List ℕ)) → length region ≡ n → AreLinked region → (at k : ℕ) → at + k ≡ n → IsChain (replicate n None) region at (numbers_from at k)
 fresh_chain n region long linked at zero all = tt
 fresh_chain n region long linked at (suc zero) all =
-    (refl, omega (arith, length-replicate {A = Option Held} n None), get_or-replicate n at None None (omega arith), tt, tt)
+    (refl, omega (arith, length-replicate {A = Option HeldFrame} n None), get_or-replicate n at None None (omega arith), tt, tt)
 fresh_chain n region long linked at (suc (suc k)) all = (
   refl,
-  omega (arith, length-replicate {A = Option Held} n None),
+  omega (arith, length-replicate {A = Option HeldFrame} n None),
   get_or-replicate n at None None (omega arith),
   IsApart-numbers_from at (at + 1) (suc k) (omega arith),
   rw (linked at (omega arith)) (fresh_chain n region long linked (at + 1) (suc k) (omega arith)),

@@ -13,7 +13,7 @@ use Rattle.tp_model.specs.WholeCut.{WholeCut, count_in, whole}
 use Rattle.tp_model.specs.Areas.{Held}
 use Rattle.tp_model.specs.Opening.{opening, verdict}
 use Rattle.tp_model.specs.DeviceAreas.{device_areas}
-use Rattle.tp_model.specs.Runs.{World, Event, Run, IsFormatted}
+use Rattle.tp_model.specs.Runs.{World, Event, Run, BeginsFormatted}
 use Rattle.tp_law_machine.proofs.LinkLaws.{has_four_links, never_marks, keeps_flight}
 use Rattle.tp_law_network.proofs.Counted.{after_counted}
 use Rattle.tp_law_network.proofs.History.{journal_leads, kept_leads, stays_sound, three_tokens}
@@ -23,7 +23,7 @@ use Rattle.tp_law_device.proofs.Opens.{held_opened}
 use Rattle.tp_law_device.proofs.Verdicts.{verdict_sound}
 
 module _ (start : Network NodeState) (events : List (Event NodeState)) (first last : World NodeState)
-    (formatted : IsFormatted t414 device_areas start first) (run : Run t414 device_areas first events last) where
+    (formatted : BeginsFormatted t414 device_areas start first) (run : Run t414 device_areas first events last) where
   -- the device opens as the start, so that is sound
   start_sound : Sound t414_ends start
   unfolding verdict

@@ -23,15 +23,15 @@ use Rattle.tp_model.specs.EntryBytes.{is_in_range}
 use Rattle.tp_model.specs.Areas.{Held}
 use Rattle.tp_model.specs.WriteOrder.{Resting}
 use Rattle.tp_model.specs.Device.{is_open}
-use Rattle.tp_model.specs.Spelling.{IsCut, Spells, entries_in}
+use Rattle.tp_model.specs.Spelling.{IsCut, SpellsArea, entries_in}
 use Rattle.tp_model.specs.Opening.{Opened, held_of, opening}
 use Rattle.tp_model.specs.DeviceAreas.{other_start, other_is_open, other_content, spare_of, device_areas}
-use Rattle.tp_model.specs.Runs.{World, Event, copy_of, HasCut, IsFormatted}
+use Rattle.tp_model.specs.Runs.{World, Event, copy_of, HasCut, BeginsFormatted}
 use Rattle.tp_law_machine.proofs.LinkLaws.{has_four_links}
 use Rattle.tp_law_machine.proofs.Numbers.{AreBytes}
 use Rattle.tp_law_network.proofs.Choice.{length-pre-post, chosen_keeps}
 use Rattle.tp_law_network.proofs.Reorder.{after_front}
-use Rattle.tp_law_network.specs.Invariant.{Holds}
+use Rattle.tp_law_network.specs.Invariant.{CutInvariant}
 use Rattle.tp_law_network.proofs.Kept.{cut_network}
 use Rattle.tp_law_network.proofs.Whole.{whole_holds}
 use Rattle.tp_law_network.proofs.Moments.{length-written, get_or-written_outside}
@@ -74,7 +74,7 @@ all_map (e ∷ es) h = (h.0, all_map es h.1)
 -- ## The copy of a whole cut
 
 module _ (t : Topology) (w : MarkedNetwork NodeState) (base : ℕ) (cut : WholeCut) (nodes : List NodeState) (kept : List (Entry × ℕ))
-    (topology : is_topology t ≡ true) (H : Holds t414 w) (has : HasCut w cut nodes) (C : CutSpelt t base w.start)
+    (topology : is_topology t ≡ true) (H : CutInvariant t414 w) (has : HasCut w cut nodes) (C : CutSpelt t base w.start)
     (range : AllByRecursion (λ e. is_in_range e ≡ true) w.entries) (entries : map (λ (e : Entry × ℕ). e.0) kept ≡ w.entries) (numbers : AreNumbered 0 base (map (λ (e : Entry × ℕ). e.1) kept))
     (few : base + length w.entries < NUMBER_LIMIT) where
   abbrev tail : List (Entry × ℕ)
@@ -170,13 +170,13 @@ put_closed bytes o content is closed long =
 
 pub put_opens : (bytes : List ℕ) (o : Opened) (copy : Held NodeState) (content : List ℕ) (groups : List (List (Entry × ℕ))) (now : Network NodeState)
     → opening t414 t414_ends bytes ≡ Ok o → other_is_open o bytes ≡ false → length content ≡ o.head.areas.length - 1
-    → Spells t414 t414_ends o.head.topology content (o.generation + 1) Turns copy.base copy.network groups now → map (λ (e : Entry × ℕ). e.0) (entries_in groups) ≡ copy.entries → CanPut bytes o copy
+    → SpellsArea t414 t414_ends o.head.topology content (o.generation + 1) Turns copy.base copy.network groups now → map (λ (e : Entry × ℕ). e.0) (entries_in groups) ≡ copy.entries → CanPut bytes o copy
 put_opens bytes o copy content groups now is closed long S entries =
     let left = with_other bytes o content in
     let stays = put_stays bytes o content is closed long in
     let shut = put_closed bytes o content is closed long in
-    let there : Spells t414 t414_ends o.head.topology (other_content o left) (o.generation + 1) Turns copy.base copy.network groups now =
-    subst (λ xs. Spells t414 t414_ends o.head.topology xs (o.generation + 1) Turns copy.base copy.network groups now) (sym (content_written bytes o content is long)) S in
+    let there : SpellsArea t414 t414_ends o.head.topology (other_content o left) (o.generation + 1) Turns copy.base copy.network groups now =
+    subst (λ xs. SpellsArea t414 t414_ends o.head.topology xs (o.generation + 1) Turns copy.base copy.network groups now) (sym (content_written bytes o content is long)) S in
     let same : held_then copy.base copy.network groups ≡ copy = λ i. record { network = copy.network; entries = entries i; base = copy.base } in
     let other : device_areas.other left ≡ Some (other_start o, copy) =
     other_spelt left o (o.generation + 1) Turns copy.base copy.network groups now stays shut (omega arith) there ∙ (λ i. Some (other_start o, same i)) in
@@ -241,7 +241,7 @@ tail_put most start w o cut nodes kept S rests bytes has is closed entries numbe
     let held = copy_is o.head.topology w.net w.base cut nodes kept R.topology S.inv.net has C G.entries entries numbers G.few in
     put_opens w.disk.bytes o copy A.content (in_groups (tail_of w.net.start cut kept)) (plain_network w.net.live) is closed A.long A.spells (ap (λ (h : Held NodeState). h.entries) held)
 
-pub run_tail_put : (most : ℕ) (start : Network NodeState) (events : List (Event NodeState)) (first w : World NodeState) → IsFormatted t414 device_areas start first → AreBytes first.disk.bytes → KeptRun most first events w
+pub run_tail_put : (most : ℕ) (start : Network NodeState) (events : List (Event NodeState)) (first w : World NodeState) → BeginsFormatted t414 device_areas start first → AreBytes first.disk.bytes → KeptRun most first events w
     → (o : Opened) (cut : WholeCut) (nodes : List NodeState) (kept : List (Entry × ℕ)) → w.at ≡ Resting → AreBytes w.disk.bytes
     → HasCut w.net cut nodes → opening t414 t414_ends w.disk.bytes ≡ Ok o → other_is_open o w.disk.bytes ≡ false
     → map (λ (e : Entry × ℕ). e.0) kept ≡ w.net.entries → AreNumbered 0 w.base (map (λ (e : Entry × ℕ). e.1) kept)
@@ -249,13 +249,13 @@ pub run_tail_put : (most : ℕ) (start : Network NodeState) (events : List (Even
     → CanPut w.disk.bytes o (copy_of w.net w.base cut nodes)
 run_tail_put most start events first w F bytes run o cut nodes kept = tail_put most start w o cut nodes kept (formatted_kept most start events first w F bytes run)
 
-pub run_tail_spelt : (most : ℕ) (start : Network NodeState) (events : List (Event NodeState)) (first w : World NodeState) → IsFormatted t414 device_areas start first → AreBytes first.disk.bytes → KeptRun most first events w
+pub run_tail_spelt : (most : ℕ) (start : Network NodeState) (events : List (Event NodeState)) (first w : World NodeState) → BeginsFormatted t414 device_areas start first → AreBytes first.disk.bytes → KeptRun most first events w
     → (o : Opened) (cut : WholeCut) (nodes : List NodeState) (kept : List (Entry × ℕ)) → w.at ≡ Resting → AreBytes w.disk.bytes
     → HasCut w.net cut nodes → opening t414 t414_ends w.disk.bytes ≡ Ok o
     → map (λ (e : Entry × ℕ). e.0) kept ≡ w.net.entries → AreNumbered 0 w.base (map (λ (e : Entry × ℕ). e.1) kept)
     → CopySpelt o.head.topology (copy_of w.net w.base cut nodes) (tail_of w.net.start cut kept)
 run_tail_spelt most start events first w F bytes run o cut nodes kept = tail_spelt most start w o cut nodes kept (formatted_kept most start events first w F bytes run)
 
-pub run_kept_spelt : (most : ℕ) (start : Network NodeState) (events : List (Event NodeState)) (first w : World NodeState) → IsFormatted t414 device_areas start first → AreBytes first.disk.bytes → KeptRun most first events w
+pub run_kept_spelt : (most : ℕ) (start : Network NodeState) (events : List (Event NodeState)) (first w : World NodeState) → BeginsFormatted t414 device_areas start first → AreBytes first.disk.bytes → KeptRun most first events w
     → (o : Opened) → w.at ≡ Resting → AreBytes w.disk.bytes → opening t414 t414_ends w.disk.bytes ≡ Ok o → CutSpelt o.head.topology w.base w.net.start
 run_kept_spelt most start events first w F bytes run o rests are is = let R = at_rest most start w o (formatted_kept most start events first w F bytes run) rests are is in R.cut

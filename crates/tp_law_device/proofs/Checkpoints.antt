@@ -8,7 +8,7 @@ use Rattle.tp_model.specs.declared.form.Form.{Form}
 use Rattle.tp_model.specs.NodeState.{NodeState}
 use Rattle.tp_model.specs.Node.{t414, t414_ends}
 use Rattle.tp_model.specs.Network.{Machine, Network}
-use Rattle.tp_model.specs.Sound.{Ends}
+use Rattle.tp_model.specs.Sound.{EndsSeen}
 use Rattle.tp_model.specs.WholeCut.{WholeCut, trimmed}
 use Rattle.tp_model.specs.Disk.{Moment, Call, Write, Sync, written, done, within, IsWithin}
 use Rattle.tp_model.specs.StoreCalls.{all_done, put_calls}
@@ -34,7 +34,7 @@ use Rattle.tp_law_device.proofs.Holds.{areas_keep}
 
 -- ## What the other area is, by its spelling
 
-module _ (M : Machine NodeState) (E : Ends NodeState) (bytes : List ℕ) (o : Opened) (is : opening M E bytes ≡ Ok o) (closed : other_is_open o bytes ≡ false)
+module _ (M : Machine NodeState) (E : EndsSeen NodeState) (bytes : List ℕ) (o : Opened) (is : opening M E bytes ≡ Ok o) (closed : other_is_open o bytes ≡ false)
     (generation : ℕ) (form : Form) (base : ℕ) (s : Network NodeState) (groups : List (List (Entry × ℕ))) (now : Network NodeState)
     (spelt : SpeltArea M E o.head.topology (other_content o bytes) generation form base s groups now) (later : o.generation < generation) where
   -- what it opens as
@@ -75,7 +75,7 @@ module _ (M : Machine NodeState) (E : Ends NodeState) (bytes : List ℕ) (o : Op
 
 -- ## Pieces that are written behind its gate
 
-module _ (M : Machine NodeState) (E : Ends NodeState) (o : Opened) where
+module _ (M : Machine NodeState) (E : EndsSeen NodeState) (o : Opened) where
   -- the device opens so, and the other area is closed
   record Keeps (bytes : List ℕ) (spare : ℕ × ℕ) : Type 0 where
     opens : opening M E bytes ≡ Ok o

@@ -12,11 +12,11 @@ use Rattle.tp_model.specs.Image.{IsNode}
 use Rattle.tp_model.specs.Node.{t414, t414_ends}
 use Rattle.tp_model.specs.Network.{Network}
 use Rattle.tp_model.specs.Order.{after}
-use Rattle.tp_model.specs.Sound.{Ends}
+use Rattle.tp_model.specs.Sound.{EndsSeen}
 use Rattle.tp_model.specs.Numbers.{AreNumbered}
 use Rattle.tp_model.specs.Topology.{Topology, is_topology}
 use Rattle.tp_model.specs.Journal.{entry_room, room, is_roomy}
-use Rattle.tp_model.specs.Spelling.{front_bytes, groups_bytes, entries_in, IsCut, Spells}
+use Rattle.tp_model.specs.Spelling.{front_bytes, groups_bytes, entries_in, IsCut, SpellsArea}
 use Rattle.tp_model.specs.Opening.{groups_place}
 use Rattle.tp_law_machine.proofs.Images.{node_of-image}
 use Rattle.tp_law_device.proofs.Forms.{are_of_turns}
@@ -30,7 +30,7 @@ nodes_back : (nodes : List NodeState) → AllByRecursion IsNode nodes → AllByR
 nodes_back [] h = tt
 nodes_back (n ∷ ns) h = (node_of-image n h.0, nodes_back ns h.1)
 
-pub cut_back : (E : Ends NodeState) (t : Topology) (base : ℕ) (s : Network NodeState) → IsCut E t base s → ReadsBack E t base s
+pub cut_back : (E : EndsSeen NodeState) (t : Topology) (base : ℕ) (s : Network NodeState) → IsCut E t base s → ReadsBack E t base s
 cut_back E t base s C = record {
   wires = C.wires;
   nodes = nodes_back s.nodes C.nodes;
@@ -46,7 +46,7 @@ cut_back E t base s C = record {
 pub record AreaSpelling (t : Topology) (area generation base : ℕ) (s : Network NodeState) (tail : List (Entry × ℕ)) (now : Network NodeState) : Type 0 where
   pub content : List ℕ
   pub long : length content ≡ area - 1
-  pub spells : Spells t414 t414_ends t content generation Turns base s (in_groups tail) now
+  pub spells : SpellsArea t414 t414_ends t content generation Turns base s (in_groups tail) now
 
 pub can_be_spelt : (t : Topology) (area generation base : ℕ) (s : Network NodeState) (tail : List (Entry × ℕ)) (now : Network NodeState) → is_topology t ≡ true → is_roomy t area ≡ true → generation < NUMBER_LIMIT
     → IsCut t414_ends t base s → AreSpelt tail → AreNumbered 0 base (map (λ (e : Entry × ℕ). e.1) tail) → base + length tail ≤ NUMBER_LIMIT - 1

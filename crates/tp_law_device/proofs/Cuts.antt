@@ -12,7 +12,7 @@ use Rattle.tp_model.specs.Bytes.{u16_at}
 use Rattle.tp_model.specs.NodeState.{NodeState}
 use Rattle.tp_model.specs.Image.{page_count, node_of}
 use Rattle.tp_model.specs.Network.{Port, Network}
-use Rattle.tp_model.specs.Sound.{Ends}
+use Rattle.tp_model.specs.Sound.{EndsSeen}
 use Rattle.tp_model.specs.Topology.{Topology, line_count}
 use Rattle.tp_model.specs.Journal.{image_length}
 use Rattle.tp_model.specs.Flight.{flights_in}
@@ -115,7 +115,7 @@ ports_same base at (suc count) xs ys ports h is =
 -- ## The cut
 
 -- The cut is the same in contents that are the same in front of the groups.
-pub cut_same : (E : Ends NodeState) (t : Topology) (at : ℕ) (xs ys : List ℕ) (s : Network NodeState) → length t.wires ≡ line_count t
+pub cut_same : (E : EndsSeen NodeState) (t : Topology) (at : ℕ) (xs ys : List ℕ) (s : Network NodeState) → length t.wires ≡ line_count t
     → SameFront (groups_place t) xs ys → cut_in E t at xs ≡ Ok s → cut_in E t at ys ≡ Ok s
 unfolding cut_in
 cut_same E t at xs ys s lines h is =

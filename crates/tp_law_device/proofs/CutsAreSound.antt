@@ -13,7 +13,7 @@ use Rattle.tp_model.specs.Markers.{markers}
 use Rattle.tp_model.specs.Order.{after}
 use Rattle.tp_model.specs.Acts.{IsOpened}
 use Rattle.tp_model.specs.Runs.{fresh}
-use Rattle.tp_model.specs.Sound.{Ends, Wired, Sound}
+use Rattle.tp_model.specs.Sound.{EndsSeen, Wired, Sound}
 use Rattle.tp_model.specs.Topology.{Topology, node_count, line_count, is_end, is_line, joins_link, leads_back, is_topology}
 use Rattle.tp_model.specs.Spelling.{are_lines, IsCut}
 use Rattle.tp_law_network.proofs.InPlace.{flights_found, sound_in_place}
@@ -58,7 +58,7 @@ leads_inside N H wires x i k h =
 -- ## What a cut has
 
 -- as many nodes, lines and ports as the topology says, whose lines have records, and each byte under way in one place
-pub record HasParts (E : Ends NodeState) (t : Topology) (s : Network NodeState) : Type 0 where
+pub record HasParts (E : EndsSeen NodeState) (t : Topology) (s : Network NodeState) : Type 0 where
   pub wires : s.wires ≡ t.wires
   pub nodes : length s.nodes ≡ node_count t
   pub lines : are_lines t.wires s.lines ≡ true
@@ -75,7 +75,7 @@ nodes_counted at (pages ∷ more) bytes nodes is =
     ap length (sym all) ∙ ap suc (nodes_counted (at + image_length pages) more (drop (image_length pages) bytes) rest.0 rest.1)
 
 -- what is read as a cut has them
-pub read_parts : (E : Ends NodeState) (t : Topology) (at : ℕ) (content : List ℕ) (s : Network NodeState) → cut_in E t at content ≡ Ok s → HasParts E t s
+pub read_parts : (E : EndsSeen NodeState) (t : Topology) (at : ℕ) (content : List ℕ) (s : Network NodeState) → cut_in E t at content ≡ Ok s → HasParts E t s
 unfolding cut_in
 read_parts E t at content s is =
     let a = bind_ok (nodes_in (at + nodes_place) t.pages (drop nodes_place content)) _ s is in
@@ -94,7 +94,7 @@ read_parts E t at content s is =
       flights = λ line low. flights_found E network (at + lines_place t) 0 (line_count t) d.1 line (omega arith) (omega arith);
     })
 
-module _ (E : Ends NodeState) (t : Topology) (s : Network NodeState) (topology : is_topology t ≡ true) (P : HasParts E t s) where
+module _ (E : EndsSeen NodeState) (t : Topology) (s : Network NodeState) (topology : is_topology t ≡ true) (P : HasParts E t s) where
   shape : HasShape t
   shape = has_shape t topology
 
@@ -139,7 +139,7 @@ module _ (E : Ends NodeState) (t : Topology) (s : Network NodeState) (topology :
 
 -- ## A network that a cut image can hold
 
-module _ (E : Ends NodeState) (t : Topology) (base : ℕ) (s : Network NodeState) (topology : is_topology t ≡ true) (C : IsCut E t base s) where
+module _ (E : EndsSeen NodeState) (t : Topology) (base : ℕ) (s : Network NodeState) (topology : is_topology t ≡ true) (C : IsCut E t base s) where
   pub cut_nodes : length s.nodes ≡ node_count t
   cut_nodes = sym (length-map s.nodes (λ n. page_count n.memory)) ∙ ap length C.pages
 

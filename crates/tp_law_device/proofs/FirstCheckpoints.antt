@@ -28,7 +28,7 @@ use Rattle.tp_model.specs.DeviceAreas.{device_areas, other_start, other_is_open,
 use Rattle.tp_model.specs.Runs.{World, Acts, HasCut, copy_of, fresh, is_trim}
 use Rattle.tp_law_machine.proofs.LinkLaws.{has_four_links, never_marks}
 use Rattle.tp_law_network.proofs.Partial.{bind_some}
-use Rattle.tp_law_network.specs.Invariant.{Holds}
+use Rattle.tp_law_network.specs.Invariant.{CutInvariant}
 use Rattle.tp_law_network.proofs.Happens.{acted_holds, opened_holds}
 use Rattle.tp_law_network.proofs.Kept.{cut_network}
 use Rattle.tp_law_network.proofs.Stays.{start_stays}
@@ -53,7 +53,7 @@ acts_start M w v (act ∷ acts) none e =
     acts_start M F.0 v acts none.1 F.2 ∙ start_stays M w F.0 act none.0 F.1
 
 -- a cut of no entry is where the book starts
-none_copied : (net : MarkedNetwork NodeState) → Holds t414 net → net.entries ≡ [] → (cut : WholeCut) (nodes : List NodeState) → HasCut net cut nodes
+none_copied : (net : MarkedNetwork NodeState) → CutInvariant t414 net → net.entries ≡ [] → (cut : WholeCut) (nodes : List NodeState) → HasCut net cut nodes
     → copy_of net 0 cut nodes ≡ record { network = net.start; entries = []; base = 0 }
 unfolding chosen after
 none_copied net H none cut nodes has =

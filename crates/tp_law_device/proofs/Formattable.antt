@@ -10,7 +10,7 @@ use Rattle.tp_model.specs.declared.form.Form.{Form}
 use Rattle.tp_model.specs.NodeState.{NodeState}
 use Rattle.tp_model.specs.Image.{image}
 use Rattle.tp_model.specs.Network.{Network}
-use Rattle.tp_model.specs.Sound.{Ends}
+use Rattle.tp_model.specs.Sound.{EndsSeen}
 use Rattle.tp_model.specs.Node.{t414_ends}
 use Rattle.tp_model.specs.Topology.{Topology, is_topology}
 use Rattle.tp_model.specs.Journal.{image_length, is_roomy}
@@ -28,7 +28,7 @@ use Rattle.tp_law_device.proofs.SpeltCuts.{ReadsBack, length-images, length-line
 use Rattle.tp_law_device.proofs.Formatted.{start_reads_back}
 
 -- the fields and the cut are as long as the place of the groups says
-pub length-front_bytes : (E : Ends NodeState) (t : Topology) (L : HasShape t) (generation : ℕ) (form : Form) (base : ℕ) (s : Network NodeState) → ReadsBack E t base s → length (front_bytes t generation form base s) ≡ groups_place t
+pub length-front_bytes : (E : EndsSeen NodeState) (t : Topology) (L : HasShape t) (generation : ℕ) (form : Form) (base : ℕ) (s : Network NodeState) → ReadsBack E t base s → length (front_bytes t generation form base s) ≡ groups_place t
 unfolding front_bytes cut_bytes
 length-front_bytes E t L generation form base s C =
     let images = flat_map image s.nodes in

@@ -21,7 +21,7 @@ use Rattle.tp_model.specs.Head.{Head, version_for}
 use Rattle.tp_model.specs.Spelling.{groups_bytes}
 use Rattle.tp_model.specs.Opening.{Opened, network_of, opening, verdict, StandsFor}
 use Rattle.tp_model.specs.Format.{start_of, fresh_nodes, fresh_port}
-use Rattle.tp_model.specs.Runs.{fresh, IsFormatted}
+use Rattle.tp_model.specs.Runs.{fresh, BeginsFormatted}
 use Rattle.tp_model.specs.DeviceAreas.{areas_of}
 use Rattle.tp_law_network.proofs.Partial.{map_some}
 use Rattle.tp_law_device.specs.FormattedWorld.{formatted_world, WasFormatted}
@@ -140,7 +140,7 @@ module _ (M : Machine NodeState) (t : Topology) (areas : TwoAreas) (form : Form)
   }
 
 pub formatted_starts : (M : Machine NodeState) (t : Topology) (areas : TwoAreas) (form : Form) (given : List (List ℕ)) (s : Network NodeState) (bytes : List ℕ) → WasFormatted t areas form given s bytes
-    → IsFormatted M (areas_of M t414_ends) s (formatted_world s bytes)
+    → BeginsFormatted M (areas_of M t414_ends) s (formatted_world s bytes)
 formatted_starts M t areas form given s bytes W = record {
   reads = formatted_holds M t areas form given s bytes W;
   synced = refl;

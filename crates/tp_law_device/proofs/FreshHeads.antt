@@ -11,7 +11,7 @@ use Rattle.tp_model.specs.declared.head.HeadVersion.TheVariants.{Narrow, Wide}
 use Rattle.tp_model.specs.declared.limits.TheConstants.{MIN_PAGES, MAX_PAGES}
 use Rattle.tp_model.specs.Bytes.{u16_bytes, u64_bytes, u8_at, u16_at, u64_at, zeros, padded}
 use Rattle.tp_model.specs.Topology.{Topology, node_count, is_page_count, is_topology}
-use Rattle.tp_model.specs.Device.{areas_end, fits}
+use Rattle.tp_model.specs.Device.{areas_end, fits_device}
 use Rattle.tp_model.specs.Head.{version_byte, version_of, head_length, head_nodes, keeps_limits, magic, end_number, end_of_number, numbers_bytes, numbers_at, ends_place, head_bytes, all_wires, u16s_at, head_at, head_of}
 use Rattle.tp_law_device.proofs.Fronts.{SameFront, front_shorter, front_get}
 use Rattle.tp_law_device.proofs.Heads.{number_width, head_long, ends_fit, keeps_nodes, head_at_same, head_from}
@@ -147,7 +147,7 @@ module _ (version : HeadVersion) (t : Topology) (L : HasShape t) (keeps : keeps_
       λ i. record { version = version; topology = record { pages = pages i; ports = ports i; wires = wires i }; areas = record { first = sym starts i; length = size i } }
 
 -- A device whose first bytes are a head's has this head.
-pub head_of-head_bytes : (version : HeadVersion) (t : Topology) (areas : TwoAreas) (bytes : List ℕ) → is_topology t ≡ true → keeps_limits version t ≡ true → fits (length bytes) t areas ≡ true
+pub head_of-head_bytes : (version : HeadVersion) (t : Topology) (areas : TwoAreas) (bytes : List ℕ) → is_topology t ≡ true → keeps_limits version t ≡ true → fits_device (length bytes) t areas ≡ true
     → areas.first ≡ head_length version → areas.length < 2 ^ 64 → take areas.first bytes ≡ head_bytes version t areas → head_of bytes ≡ Ok (record { version = version; topology = t; areas = areas })
 head_of-head_bytes version t areas bytes topology keeps room starts low is =
     let L = has_shape t topology in

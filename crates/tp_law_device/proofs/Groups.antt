@@ -7,7 +7,7 @@ use Rattle.tp_model.specs.declared.entry.Entry.{Entry}
 use Rattle.tp_model.specs.declared.limits.TheConstants.{GATE_OPEN}
 use Rattle.tp_model.specs.NodeState.{NodeState}
 use Rattle.tp_model.specs.Network.{Machine}
-use Rattle.tp_model.specs.Sound.{Ends}
+use Rattle.tp_model.specs.Sound.{EndsSeen}
 use Rattle.tp_model.specs.Areas.{Held, with_more, ArePossible, gate_open}
 use Rattle.tp_model.specs.Device.{area_start, is_open}
 use Rattle.tp_model.specs.Disk.{MayBe, written}
@@ -46,13 +46,13 @@ group_written o es gate body is =
       room = omega (arith, C.room);
     }
 
-pub written_in : (M : Machine NodeState) (E : Ends NodeState) (bytes : List ℕ) (o : Opened) (es : List Entry) (gate : ℕ) (body : List ℕ) → opening M E bytes ≡ Ok o
+pub written_in : (M : Machine NodeState) (E : EndsSeen NodeState) (bytes : List ℕ) (o : Opened) (es : List Entry) (gate : ℕ) (body : List ℕ) → opening M E bytes ≡ Ok o
     → group_of (opening M E bytes) es ≡ Some (gate, body) → Written o es gate body
 written_in M E bytes o es gate body is group = group_written o es gate body (ap (λ found. group_of found es) (sym is) ∙ group)
 
 -- ## The bytes of a group, whatever of them is there
 
-pub body_holds : (M : Machine NodeState) (E : Ends NodeState) (bytes left : List ℕ) (h : Held NodeState) (es : List Entry) (gate : ℕ) (body : List ℕ) → held_in (opening M E bytes) ≡ Some h
+pub body_holds : (M : Machine NodeState) (E : EndsSeen NodeState) (bytes left : List ℕ) (h : Held NodeState) (es : List Entry) (gate : ℕ) (body : List ℕ) → held_in (opening M E bytes) ≡ Some h
     → group_of (opening M E bytes) es ≡ Some (gate, body)
     → MayBe (record { bytes = bytes; unsynced = spare_of (opening M E bytes) bytes ∷ (gate + 1, length body) ∷ [] }) left
     → held_in (opening M E left) ≡ Some h
@@ -67,7 +67,7 @@ body_holds M E bytes left h es gate body reads group may =
     (loose_keeps M E bytes o F.is F.reads left may.same_length (λ q out beside. may.same_outside q (out, (outside q beside, tt))))
     F.holds
 
-pub body_has_room : (M : Machine NodeState) (E : Ends NodeState) (bytes : List ℕ) (h : Held NodeState) (es : List Entry) (gate : ℕ) (body : List ℕ) → held_in (opening M E bytes) ≡ Some h
+pub body_has_room : (M : Machine NodeState) (E : EndsSeen NodeState) (bytes : List ℕ) (h : Held NodeState) (es : List Entry) (gate : ℕ) (body : List ℕ) → held_in (opening M E bytes) ≡ Some h
     → group_of (opening M E bytes) es ≡ Some (gate, body) → gate + 1 + length body ≤ length bytes
 body_has_room M E bytes h es gate body reads group =
     let F = found_in M E bytes h reads in
@@ -78,7 +78,7 @@ body_has_room M E bytes h es gate body reads group =
 
 -- ## A group that is there, at any byte of its gate
 
-module _ (M : Machine NodeState) (E : Ends NodeState) (bytes : List ℕ) (o : Opened) (R : Reads M E bytes o) (es : List Entry)
+module _ (M : Machine NodeState) (E : EndsSeen NodeState) (bytes : List ℕ) (o : Opened) (R : Reads M E bytes o) (es : List Entry)
     (room : o.end + 1 + length (body_of o es) ≤ area_start o.head.areas o.second + o.head.areas.length) where
   abbrev areas : TwoAreas
   areas = o.head.areas
@@ -141,7 +141,7 @@ module _ (M : Machine NodeState) (E : Ends NodeState) (bytes : List ℕ) (o : Op
       | inl opened ↦ inr (group_adds can possible (eqb-true (get_or left o.end 0) GATE_OPEN opened))
     ]
 
-pub gate_holds : (M : Machine NodeState) (E : Ends NodeState) (bytes left : List ℕ) (h : Held NodeState) (es : List Entry) (gate : ℕ) (body : List ℕ) → held_in (opening M E bytes) ≡ Some h
+pub gate_holds : (M : Machine NodeState) (E : EndsSeen NodeState) (bytes left : List ℕ) (h : Held NodeState) (es : List Entry) (gate : ℕ) (body : List ℕ) → held_in (opening M E bytes) ≡ Some h
     → group_of (opening M E bytes) es ≡ Some (gate, body) → ArePossible M h es
     → MayBe (record { bytes = written bytes (gate + 1) body; unsynced = (gate, 1) ∷ [] }) left
     → (held_in (opening M E left) ≡ Some h) ⊎ (held_in (opening M E left) ≡ Some (with_more h es))
@@ -155,7 +155,7 @@ gate_holds M E bytes left h es gate body reads group possible may =
     subst (λ k. (held_in (opening M E left) ≡ Some k) ⊎ (held_in (opening M E left) ≡ Some (with_more k es))) F.holds
     (group_either M E bytes o F.reads es W.room left (moved.same_length ∙ size) (λ q out. moved.same_outside q (out, tt)) W.can (subst (λ k. ArePossible M k es) (sym F.holds) possible))
 
-pub added_holds : (M : Machine NodeState) (E : Ends NodeState) (bytes : List ℕ) (h : Held NodeState) (es : List Entry) (gate : ℕ) (body : List ℕ) → held_in (opening M E bytes) ≡ Some h
+pub added_holds : (M : Machine NodeState) (E : EndsSeen NodeState) (bytes : List ℕ) (h : Held NodeState) (es : List Entry) (gate : ℕ) (body : List ℕ) → held_in (opening M E bytes) ≡ Some h
     → group_of (opening M E bytes) es ≡ Some (gate, body) → ArePossible M h es
     → held_in (opening M E (written (written bytes (gate + 1) body) gate gate_open)) ≡ Some (with_more h es)
 added_holds M E bytes h es gate body reads group possible =

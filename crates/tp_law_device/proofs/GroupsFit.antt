@@ -12,12 +12,12 @@ use Rattle.tp_model.specs.NodeState.{NodeState}
 use Rattle.tp_model.specs.Node.{t414, t414_ends}
 use Rattle.tp_model.specs.Network.{Machine}
 use Rattle.tp_model.specs.Entries.{next}
-use Rattle.tp_model.specs.Sound.{Ends}
+use Rattle.tp_model.specs.Sound.{EndsSeen}
 use Rattle.tp_model.specs.Topology.{Topology}
 use Rattle.tp_model.specs.Bytes.{u16_at}
 use Rattle.tp_model.specs.Group.{rows_of, rows_at, rows_behind, rises, header, group_length, group_bytes}
 use Rattle.tp_model.specs.CutImage.{or_damaged}
-use Rattle.tp_model.specs.Replay.{Listing, Replay, row_entry, placed, at_open_gate, listing, with_entry, is_number, after_row, after_rows, replay_from}
+use Rattle.tp_model.specs.Replay.{Listing, Replay, row_entry, group_rows_at, at_open_gate, listing, with_entry, is_number, after_row, after_rows, replay_from}
 use Rattle.tp_model.specs.Journal.{cut_length, room, entry_room}
 use Rattle.tp_model.specs.Device.{area_start, content_of}
 use Rattle.tp_model.specs.Spelling.{IsGroup, groups_bytes, entries_in}
@@ -59,7 +59,7 @@ rows_some bytes rows is =
     let both = and_parts (nat_le 1 n) (nat_le n MAX_GROUP) tests.0 in
     omega (arith, leb-true 1 n both.0, rows_counted bytes rows is)
 
-pub length-placed : (at : ℕ) (rows : List (List ℕ)) → length (placed at rows) ≡ length rows
+pub length-placed : (at : ℕ) (rows : List (List ℕ)) → length (group_rows_at at rows) ≡ length rows
 length-placed at [] = refl
 length-placed at (row ∷ rows) = ap suc (length-placed (at + ENTRY_BYTES) rows)
 
@@ -83,7 +83,7 @@ listing_room zero at (gate ∷ bytes) = go (gate == GATE_OPEN) (rows_behind byte
         let more = listing (group_length (length rows) - 1) (at + 1) bytes in
         let rest = each (group_length (length rows) - 1) in
         let some = rows_some bytes rows is in
-        omega (arith, length-append (placed (at + GROUP_HEAD_BYTES) rows) more.rows, length-placed (at + GROUP_HEAD_BYTES) rows)
+        omega (arith, length-append (group_rows_at (at + GROUP_HEAD_BYTES) rows) more.rows, length-placed (at + GROUP_HEAD_BYTES) rows)
 
 -- one entry is kept of each row
 row_kept : {Node : Type 0} (M : Machine Node) (r v : Replay Node) (row : List ℕ) → after_row M r row ≡ Some v → length v.kept ≡ length r.kept + 1
@@ -101,7 +101,7 @@ rows_kept M r v (row ∷ rows) is =
     let first = bind_ok (or_damaged row.0 (after_row M r row.1)) (λ more. after_rows M more rows) v is in
     omega (arith, row_kept M r first.0 row.1 (or_damaged_ok row.0 (after_row M r row.1) first.0 first.1), rows_kept M first.0 v rows first.2)
 
-opening_ends : (M : Machine NodeState) (E : Ends NodeState) (bytes : List ℕ) (o : Opened) → opening M E bytes ≡ Ok o
+opening_ends : (M : Machine NodeState) (E : EndsSeen NodeState) (bytes : List ℕ) (o : Opened) → opening M E bytes ≡ Ok o
     → o.end ≤ area_start o.head.areas o.second + AREA_HEAD_BYTES + cut_length o.head.topology + entry_room * length o.kept
 opening_ends M E bytes o is =
     let R = reads_of M E bytes o is in

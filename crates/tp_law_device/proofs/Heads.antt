@@ -12,7 +12,7 @@ use Rattle.tp_model.specs.declared.opening.OpenFault.TheVariants.{NotFormatted, 
 use Rattle.tp_model.specs.Bytes.{u8_at, u64_at}
 use Rattle.tp_model.specs.Topology.{Topology, node_count, line_count, is_page_count, is_topology}
 use Rattle.tp_model.specs.Journal.{is_roomy}
-use Rattle.tp_model.specs.Device.{areas_end, fits}
+use Rattle.tp_model.specs.Device.{areas_end, fits_device}
 use Rattle.tp_model.specs.Head.{Head, version_of, head_length, head_nodes, head_pages, keeps_limits, version_for, magic, end_of_number, numbers_at, ends_place, head_bytes, areas_of_length, all_wires, u16s_at, head_at, is_head, head_with, head_of}
 use Rattle.tp_law_device.proofs.Faults.{fault_or, or_fault}
 use Rattle.tp_law_device.proofs.Fronts.{SameFront, front_shorter, front_part, front_get, u16_front, u64_front}
@@ -97,7 +97,7 @@ pub record HeadParts (bytes : List ℕ) (head : Head) : Type 0 where
   pub topology : is_topology head.topology ≡ true
   pub limits : keeps_limits head.version head.topology ≡ true
   pub front : take head.areas.first bytes ≡ head_bytes head.version head.topology head.areas
-  pub room : fits (length bytes) head.topology head.areas ≡ true
+  pub room : fits_device (length bytes) head.topology head.areas ≡ true
 
 -- the version that was found, and what is read by it
 head_found : (found : Option HeadVersion) (bytes : List ℕ) (head : Head) → head_with found bytes ≡ Ok head
@@ -121,7 +121,7 @@ head_parts bytes head is =
     let tests = subst (λ h. is_head h bytes ≡ true) found.3 found.2 in
     let d = and_parts (is_topology head.topology && keeps_limits head.version head.topology) _ tests in
     let said = and_parts (is_topology head.topology) (keeps_limits head.version head.topology) d.0 in
-    let e = and_parts (bytes_eq (take head.areas.first bytes) (head_bytes head.version head.topology head.areas)) (fits (length bytes) head.topology head.areas) d.1 in
+    let e = and_parts (bytes_eq (take head.areas.first bytes) (head_bytes head.version head.topology head.areas)) (fits_device (length bytes) head.topology head.areas) d.1 in
     record {
       long = leb-true NARROW_HEAD_BYTES (length bytes) made.0;
       formatted = (bytes_eq-Decides (take 7 bytes) magic).0 made.1;
@@ -163,7 +163,7 @@ pub head_from : (bytes : List ℕ) (head : Head) → HeadParts bytes head → he
 unfolding head_of
 head_from bytes head H =
     let same = bytes_eq (take head.areas.first bytes) (head_bytes head.version head.topology head.areas) in
-    let room = fits (length bytes) head.topology head.areas in
+    let room = fits_device (length bytes) head.topology head.areas in
     let made : (nat_le NARROW_HEAD_BYTES (length bytes) && bytes_eq (take 7 bytes) magic) ≡ true =
     and_from (nat_le NARROW_HEAD_BYTES (length bytes)) (bytes_eq (take 7 bytes) magic) (le-leb NARROW_HEAD_BYTES (length bytes) H.long) ((bytes_eq-Decides (take 7 bytes) magic).1 H.formatted) in
     let version = H.version in
@@ -202,7 +202,7 @@ head_same xs ys head size h is =
       topology = H.topology;
       limits = H.limits;
       front = sym h.same ∙ H.front;
-      room = ap (λ n. fits n head.topology head.areas) size ∙ H.room;
+      room = ap (λ n. fits_device n head.topology head.areas) size ∙ H.room;
     })
 
 -- ## Where the areas lie

@@ -24,7 +24,7 @@ use Rattle.tp_model.specs.EntryBytes.{is_received, is_in_range, IsSpelt}
 use Rattle.tp_model.specs.Areas.{Held}
 use Rattle.tp_model.specs.Topology.{Topology, is_topology}
 use Rattle.tp_model.specs.Device.{area_start, content_of}
-use Rattle.tp_model.specs.Spelling.{entries_in, IsGroup, Stands}
+use Rattle.tp_model.specs.Spelling.{entries_in, IsGroup, DeviceSpells}
 use Rattle.tp_model.specs.Opening.{Opened, held_of, opening}
 use Rattle.tp_model.specs.DeviceAreas.{device_areas}
 use Rattle.tp_model.specs.Runs.{World, Event, Acts, Copies, CopiesTail, Does, Breaks, Trims, Raises, Reads as ReadsMark, Reopens, grown, HasCut, Step, fresh}
@@ -34,7 +34,7 @@ use Rattle.tp_law_machine.proofs.Numbers.{AreBytes, are_bytes-take, are_bytes-dr
 use Rattle.tp_law_machine.proofs.Partial.{all_append}
 use Rattle.tp_law_network.proofs.Choice.{length-pre-post, chosen_keeps}
 use Rattle.tp_law_network.proofs.Reorder.{after_last}
-use Rattle.tp_law_network.specs.Invariant.{Holds}
+use Rattle.tp_law_network.specs.Invariant.{CutInvariant}
 use Rattle.tp_law_network.proofs.Whole.{whole_holds}
 use Rattle.tp_law_network.proofs.Stays.{start_stays, entries_grow}
 use Rattle.tp_law_network.proofs.Happens.{happens_holds}
@@ -105,7 +105,7 @@ groups_in_range (group ∷ groups) h =
     (group_in_range group (map (λ (e : Entry × ℕ). e.0) (entries_in groups)) is.each (groups_in_range groups h.1))
 
 -- the cut of an opened device has an image
-pub opened_spelt : (bytes : List ℕ) (o : Opened) → AreBytes bytes → opening t414 t414_ends bytes ≡ Ok o → Stands t414 t414_ends bytes o → CutSpelt o.head.topology o.base o.cut
+pub opened_spelt : (bytes : List ℕ) (o : Opened) → AreBytes bytes → opening t414 t414_ends bytes ≡ Ok o → DeviceSpells t414 t414_ends bytes o → CutSpelt o.head.topology o.base o.cut
 opened_spelt bytes o h is S =
     let content = content_of o.head.areas o.second bytes in
     let R = reads_of t414 t414_ends bytes o is in
@@ -137,7 +137,7 @@ held_read bytes h are reads =
 -- ## Acts
 
 -- an entry that was journalled is spelt
-journalled_range : (w v : MarkedNetwork NodeState) (base : ℕ) (e : Entry) → HeldSpelt (record { network = w.start; entries = w.entries; base = base }) → Holds t414 w → Holds t414 v
+journalled_range : (w v : MarkedNetwork NodeState) (base : ℕ) (e : Entry) → HeldSpelt (record { network = w.start; entries = w.entries; base = base }) → CutInvariant t414 w → CutInvariant t414 v
     → v.start ≡ w.start → v.entries ≡ w.entries ++ e ∷ [] → HasByte e → is_in_range e ≡ true
 journalled_range w v base e G H K start entries byte =
     let was = plain_network w.live in
@@ -147,7 +147,7 @@ journalled_range w v base e G H K start entries byte =
     let step : next t414 was e ≡ Some now = sym (after_last t414 w.start was w.entries e H.base.now) ∙ whole in
     in_range_next G.topology was e now (base + length w.entries) C G.few byte step
 
-act_keeps : (w v : MarkedNetwork NodeState) (base : ℕ) (act : Act) → HeldSpelt (record { network = w.start; entries = w.entries; base = base }) → Holds t414 w → Holds t414 v
+act_keeps : (w v : MarkedNetwork NodeState) (base : ℕ) (act : Act) → HeldSpelt (record { network = w.start; entries = w.entries; base = base }) → CutInvariant t414 w → CutInvariant t414 v
     → v.start ≡ w.start → v.entries ≡ grown act w.entries → ActKeeps (base + length w.entries) act → HeldSpelt (record { network = v.start; entries = v.entries; base = base })
 act_keeps w v base Begin G H K start entries keeps = subst HeldSpelt (λ i. record { network = sym start i; entries = sym entries i; base = base }) G
 act_keeps w v base (Record i) G H K start entries keeps = subst HeldSpelt (λ i. record { network = sym start i; entries = sym entries i; base = base }) G
@@ -166,7 +166,7 @@ act_keeps w v base (Journal e) G H K start entries keeps =
 
 -- ## The trim
 
-trim_keeps : (w : MarkedNetwork NodeState) (base : ℕ) (cut : WholeCut) (nodes : List NodeState) → HeldSpelt (record { network = w.start; entries = w.entries; base = base }) → Holds t414 w → HasCut w cut nodes
+trim_keeps : (w : MarkedNetwork NodeState) (base : ℕ) (cut : WholeCut) (nodes : List NodeState) → HeldSpelt (record { network = w.start; entries = w.entries; base = base }) → CutInvariant t414 w → HasCut w cut nodes
     → HeldSpelt (record { network = network_in w.start cut nodes; entries = post (process w.start.wires (length w.start.nodes)) (count_in cut) w.entries; base = base + cut.size })
 trim_keeps w base cut nodes G H has =
     let C = whole_holds t414 has_four_links w H cut has.is in

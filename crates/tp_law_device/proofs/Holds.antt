@@ -1,14 +1,14 @@
 -- The device keeps what crashes need.
 use Rattle.tp_model.specs.NodeState.{NodeState}
 use Rattle.tp_model.specs.Network.{Machine}
-use Rattle.tp_model.specs.Sound.{Ends}
+use Rattle.tp_model.specs.Sound.{EndsSeen}
 use Rattle.tp_model.specs.Areas.{AreasHold}
 use Rattle.tp_model.specs.DeviceAreas.{areas_of}
 use Rattle.tp_law_device.proofs.Spare.{spare_holds, spare_has_room}
 use Rattle.tp_law_device.proofs.Groups.{body_holds, body_has_room, gate_holds, added_holds}
 use Rattle.tp_law_device.proofs.Switches.{clear_holds, clear_has_room, switch_holds, switched_holds, switch_has_room}
 
-pub areas_keep : (M : Machine NodeState) (E : Ends NodeState) → AreasHold M (areas_of M E)
+pub areas_keep : (M : Machine NodeState) (E : EndsSeen NodeState) → AreasHold M (areas_of M E)
 areas_keep M E = record {
   spare = spare_holds M E;
   spare_room = spare_has_room M E;

@@ -21,7 +21,7 @@ use Rattle.tp_model.specs.Opening.{Opened, held_of, groups_place, opening, verdi
 use Rattle.tp_model.specs.DeviceAreas.{device_areas, has_room}
 use Rattle.tp_model.specs.WriteOrder.{Resting}
 use Rattle.tp_model.specs.WholeCut.{WholeCut, count_in}
-use Rattle.tp_model.specs.Runs.{World, Event, HasCut, IsFormatted}
+use Rattle.tp_model.specs.Runs.{World, Event, HasCut, BeginsFormatted}
 use Rattle.tp_model.specs.KeptRun.{KeptRun}
 use Rattle.tp_law_machine.proofs.LinkLaws.{has_four_links}
 use Rattle.tp_law_machine.proofs.Numbers.{AreBytes}
@@ -60,7 +60,7 @@ group_inside bytes o count is = verdict_has_room bytes o is count
 
 -- ## Of a run
 
-pub run_group_inside : (most : ℕ) (start : Network NodeState) (events : List (Event NodeState)) (first w : World NodeState) → IsFormatted t414 device_areas start first → AreBytes first.disk.bytes → KeptRun most first events w
+pub run_group_inside : (most : ℕ) (start : Network NodeState) (events : List (Event NodeState)) (first w : World NodeState) → BeginsFormatted t414 device_areas start first → AreBytes first.disk.bytes → KeptRun most first events w
     → (o : Opened) (es more : List Entry) → w.at ≡ Resting → AreBytes w.disk.bytes → opening t414 t414_ends w.disk.bytes ≡ Ok o → w.backlog ≡ es ++ more → 1 ≤ length es
     → most ≤ room o.head.topology o.head.areas.length → has_room o (length es) ≡ true
 run_group_inside most start events first w F bytes run o es more rests are is backlog some enough = go (KeptAt.room K).group
@@ -84,7 +84,7 @@ run_group_inside most start events first w F bytes run o es more rests are is ba
     go (inl few) = group_inside w.disk.bytes o (length es) is some (omega (arith, few, entries, enough))
     go (inr all) = absurd (omega (arith, all, entries, kept, a.0.reach, a.0.count, some))
 
-pub run_tail_room : (most : ℕ) (start : Network NodeState) (events : List (Event NodeState)) (first w : World NodeState) → IsFormatted t414 device_areas start first → AreBytes first.disk.bytes → KeptRun most first events w
+pub run_tail_room : (most : ℕ) (start : Network NodeState) (events : List (Event NodeState)) (first w : World NodeState) → BeginsFormatted t414 device_areas start first → AreBytes first.disk.bytes → KeptRun most first events w
     → (cut : WholeCut) (nodes : List NodeState) → HasCut w.net cut nodes → entry_room * length (post (process w.net.start.wires (length w.net.start.nodes)) (count_in cut) w.net.entries) ≤ most
 run_tail_room most start events first w F bytes run cut nodes has =
     let K = formatted_kept most start events first w F bytes run in

@@ -7,7 +7,7 @@ use Rattle.tp_model.specs.Acts.{IsOpened}
 use Rattle.tp_model.specs.Snapshot.{MarkedNetwork}
 use Rattle.tp_model.specs.TailRoom.{HasTailRoom}
 use Rattle.tp_model.specs.DeviceAreas.{device_areas}
-use Rattle.tp_model.specs.Runs.{World, Event, fresh, IsFormatted}
+use Rattle.tp_model.specs.Runs.{World, Event, fresh, BeginsFormatted}
 use Rattle.tp_model.specs.KeptRun.{KeptRun}
 use Rattle.tp_law_machine.proofs.LinkLaws.{has_four_links, never_marks}
 use Rattle.tp_law_machine.proofs.Numbers.{AreBytes}
@@ -33,7 +33,7 @@ run_kept most start opened (event ∷ events) w v K run =
     }) run.3
 
 -- From a formatted device on.
-pub formatted_kept : (most : ℕ) (start : Network NodeState) (events : List (Event NodeState)) (first last : World NodeState) → IsFormatted t414 device_areas start first → AreBytes first.disk.bytes
+pub formatted_kept : (most : ℕ) (start : Network NodeState) (events : List (Event NodeState)) (first last : World NodeState) → BeginsFormatted t414 device_areas start first → AreBytes first.disk.bytes
     → KeptRun most first events last → KeptAt most start last
 formatted_kept most start events first last F bytes run =
     let G : HeldSpelt (record { network = start; entries = []; base = 0 }) = held_read first.disk.bytes (record { network = start; entries = []; base = 0 }) bytes F.reads in

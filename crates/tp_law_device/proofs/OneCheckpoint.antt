@@ -12,11 +12,11 @@ use Rattle.tp_model.specs.Disk.{Write, Sync}
 use Rattle.tp_model.specs.Opening.{Opened, held_of, verdict}
 use Rattle.tp_model.specs.DeviceAreas.{device_areas}
 use Rattle.tp_model.specs.WriteOrder.{Resting, Body, Ready, Gate, add_body, body_done, add_gate, gate_done}
-use Rattle.tp_model.specs.Runs.{World, Event, Acts, Copies, Does, Raises, Reads, IsFormatted}
+use Rattle.tp_model.specs.Runs.{World, Event, Acts, Copies, Does, Raises, Reads, BeginsFormatted}
 use Rattle.tp_model.specs.KeptRun.{KeptRun}
 use Rattle.tp_law_machine.specs.OneNode.{one_node, one_before}
-use Rattle.tp_law_machine.specs.Transfers.{sends, awaits}
-use Rattle.tp_law_network.specs.Planned.{moved}
+use Rattle.tp_law_machine.specs.Transfers.{sending_node, awaits}
+use Rattle.tp_law_network.specs.Planned.{moved_on}
 use Rattle.tp_law_device.specs.Checkpoints.{Switches}
 use Rattle.tp_law_device.specs.FormattedWorld.{formatted_world}
 use Rattle.tp_law_device.proofs.Formatted.{formatted_starts}
@@ -39,16 +39,16 @@ abbrev copied : World NodeState
 copied = record journalled { backlog = inside }
 
 abbrev body_written : World NodeState
-body_written = moved copied (Write (one_gate + 1) one_body) (Body one_gate inside)
+body_written = moved_on copied (Write (one_gate + 1) one_body) (Body one_gate inside)
 
 abbrev body_synced : World NodeState
-body_synced = moved body_written Sync (Ready one_gate inside)
+body_synced = moved_on body_written Sync (Ready one_gate inside)
 
 abbrev gate_written : World NodeState
-gate_written = moved body_synced (Write one_gate gate_open) (Gate one_gate inside)
+gate_written = moved_on body_synced (Write one_gate gate_open) (Gate one_gate inside)
 
 abbrev stored : World NodeState
-stored = moved gate_written Sync Resting
+stored = moved_on gate_written Sync Resting
 
 abbrev raised : World NodeState
 raised = record stored { mark = max stored.mark stored.stored }
@@ -103,8 +103,8 @@ one_run =
 
 -- ## The checkpoint
 
-begins : IsFormatted t414 device_areas one_before formatted
-begins = formatted_starts t414 one_node one_areas Turns (image sends ∷ []) one_before one_device one_formatted
+begins : BeginsFormatted t414 device_areas one_before formatted
+begins = formatted_starts t414 one_node one_areas Turns (image sending_node ∷ []) one_before one_device one_formatted
 
 one_switches : Switches whole_world grouped one_cut (awaits ∷ []) 2 Turns
 one_switches =

@@ -29,12 +29,12 @@ use Rattle.tp_model.specs.Bytes.{zeros}
 use Rattle.tp_model.specs.Opening.{Opened, chosen_area, cut_in, area_in, opening}
 use Rattle.tp_model.specs.DeviceAreas.{numbered, group_of}
 use Rattle.tp_law_machine.specs.OneNode.{one_node, one_before}
-use Rattle.tp_law_machine.specs.Transfers.{sends}
+use Rattle.tp_law_machine.specs.Transfers.{sending_node}
 use Rattle.tp_law_machine.proofs.Numbers.{AreBytes}
 use Rattle.tp_law_device.specs.FormattedWorld.{WasFormatted}
-use Rattle.tp_law_device.specs.OneCheckpoint.{one_areas, first_content, one_device, inside, cut_network}
+use Rattle.tp_law_device.specs.OneCheckpoint.{one_areas, first_content, one_device, inside, checkpoint_network}
 
-pub one_formatted : WasFormatted one_node one_areas Turns (image sends ∷ []) one_before one_device
+pub one_formatted : WasFormatted one_node one_areas Turns (image sending_node ∷ []) one_before one_device
 unfolding image_head image node_at is_node node_of ends_at cut_bytes is_topology all_lead_back head_bytes front_bytes fresh_nodes
 one_formatted = record {
   topology = refl;
@@ -86,7 +86,7 @@ grouped = record {
   base = 0;
   cut = one_before;
   kept = numbered 0 inside;
-  now = cut_network;
+  now = checkpoint_network;
   end = one_gate + group_length (length inside);
 }
 

@@ -14,16 +14,16 @@ use Rattle.tp_model.specs.Acts.{happens, acted}
 use Rattle.tp_model.specs.Runs.{HasCut, copy_of, fresh}
 use Rattle.tp_law_machine.specs.OneNode.{one_before, one_after}
 use Rattle.tp_law_machine.specs.Transfers.{awaits}
-use Rattle.tp_law_device.specs.OneCheckpoint.{inside, outside, before_snapshot, snapshot, cut_network}
+use Rattle.tp_law_device.specs.OneCheckpoint.{inside, outside_checkpoint, before_snapshot, snapshot, checkpoint_network}
 
 -- the book before the snapshot, and when its cut is whole
 abbrev pub early : MarkedNetwork NodeState
-early = record { start = one_before; entries = inside; live = cut_network; snapshot = None; frozen = [] }
+early = record { start = one_before; entries = inside; live = checkpoint_network; snapshot = None; frozen = [] }
 
 abbrev pub late : MarkedNetwork NodeState
 late = record {
   start = one_before;
-  entries = inside ++ outside;
+  entries = inside ++ outside_checkpoint;
   live = one_after;
   snapshot = Some (record {
     counts = Some 1 ∷ Some 1 ∷ [];
@@ -56,14 +56,14 @@ unfolding whole
 late_cut = record { is = refl; images = refl }
 
 -- what the flusher copies, and the book that is trimmed
-pub one_copy : copy_of late 0 one_cut (awaits ∷ []) ≡ record { network = cut_network; entries = outside; base = 2 }
+pub one_copy : copy_of late 0 one_cut (awaits ∷ []) ≡ record { network = checkpoint_network; entries = outside_checkpoint; base = 2 }
 unfolding process chosen
 one_copy = refl
 
-pub one_trimmed : trimmed late one_cut (awaits ∷ []) ≡ record { start = cut_network; entries = outside; live = one_after; snapshot = None; frozen = [] }
+pub one_trimmed : trimmed late one_cut (awaits ∷ []) ≡ record { start = checkpoint_network; entries = outside_checkpoint; live = one_after; snapshot = None; frozen = [] }
 unfolding process chosen
 one_trimmed = refl
 
-pub outside_leads : after t414 cut_network outside ≡ Some one_after
+pub outside_leads : after t414 checkpoint_network outside_checkpoint ≡ Some one_after
 unfolding step_of node_step took steps own put taken pushed sent process takes of_port receives does next acts after
 outside_leads = refl

@@ -13,7 +13,7 @@ use Rattle.tp_model.specs.Results.{◌>>=◌}
 use Rattle.tp_model.specs.NodeState.{NodeState}
 use Rattle.tp_model.specs.Network.{Machine, Network}
 use Rattle.tp_model.specs.Order.{after}
-use Rattle.tp_model.specs.Sound.{Ends}
+use Rattle.tp_model.specs.Sound.{EndsSeen}
 use Rattle.tp_model.specs.Topology.{line_count}
 use Rattle.tp_model.specs.Areas.{Held, with_more}
 use Rattle.tp_model.specs.Device.{area_start, content_of, is_open, generation_of}
@@ -32,12 +32,12 @@ use Rattle.tp_law_device.proofs.Contents.{places, length-content_of, get_or-cont
 
 -- ## Opening taken apart
 
-pub record Reads (M : Machine NodeState) (E : Ends NodeState) (bytes : List ℕ) (o : Opened) : Type 0 where
+pub record Reads (M : Machine NodeState) (E : EndsSeen NodeState) (bytes : List ℕ) (o : Opened) : Type 0 where
   pub head : head_of bytes ≡ Ok o.head
   pub chosen : chosen_area o.head.areas bytes ≡ Ok o.second
   pub area : area_in M E o.head o.second (content_of o.head.areas o.second bytes) ≡ Ok o
 
-pub reads_of : (M : Machine NodeState) (E : Ends NodeState) (bytes : List ℕ) (o : Opened) → opening M E bytes ≡ Ok o → Reads M E bytes o
+pub reads_of : (M : Machine NodeState) (E : EndsSeen NodeState) (bytes : List ℕ) (o : Opened) → opening M E bytes ≡ Ok o → Reads M E bytes o
 unfolding opening
 reads_of M E bytes o is =
     let h = bind_ok (head_of bytes) _ o is in
@@ -53,7 +53,7 @@ reads_of M E bytes o is =
           (subst (λ (head : Head). area_in M E head c.0 (content_of head.areas c.0 bytes) ≡ Ok o) head_is c.2);
     }
 
-pub opening_from : (M : Machine NodeState) (E : Ends NodeState) (bytes : List ℕ) (head : Head) (second : Bool) (o : Opened)
+pub opening_from : (M : Machine NodeState) (E : EndsSeen NodeState) (bytes : List ℕ) (head : Head) (second : Bool) (o : Opened)
     → head_of bytes ≡ Ok head → chosen_area head.areas bytes ≡ Ok second → area_in M E head second (content_of head.areas second bytes) ≡ Ok o → opening M E bytes ≡ Ok o
 unfolding opening
 opening_from M E bytes head second o head_is chosen_is area_is =
@@ -76,7 +76,7 @@ held_from found o h is holds = ap held_in is ∙ (λ i. Some (holds i))
 
 -- ## Bytes that another device shares
 
-module _ (M : Machine NodeState) (E : Ends NodeState) (bytes : List ℕ) (o : Opened) (R : Reads M E bytes o) where
+module _ (M : Machine NodeState) (E : EndsSeen NodeState) (bytes : List ℕ) (o : Opened) (R : Reads M E bytes o) where
   abbrev pub areas : TwoAreas
   areas = o.head.areas
 
@@ -210,13 +210,13 @@ module _ (M : Machine NodeState) (E : Ends NodeState) (bytes : List ℕ) (o : Op
 
 -- ## A device that opens
 
-pub record Found (M : Machine NodeState) (E : Ends NodeState) (bytes : List ℕ) (h : Held NodeState) : Type 0 where
+pub record Found (M : Machine NodeState) (E : EndsSeen NodeState) (bytes : List ℕ) (h : Held NodeState) : Type 0 where
   pub opened : Opened
   pub is : opening M E bytes ≡ Ok opened
   pub holds : held_of opened ≡ h
   pub reads : Reads M E bytes opened
 
-pub found_in : (M : Machine NodeState) (E : Ends NodeState) (bytes : List ℕ) (h : Held NodeState) → held_in (opening M E bytes) ≡ Some h → Found M E bytes h
+pub found_in : (M : Machine NodeState) (E : EndsSeen NodeState) (bytes : List ℕ) (h : Held NodeState) → held_in (opening M E bytes) ≡ Some h → Found M E bytes h
 found_in M E bytes h is =
     let o = held_opened (opening M E bytes) h is in
     record { opened = o.0; is = o.1; holds = o.2; reads = reads_of M E bytes o.0 o.1 }

@@ -8,7 +8,7 @@ use Rattle.tp_model.specs.Node.{t414, t414_ends}
 use Rattle.tp_model.specs.Network.{Network}
 use Rattle.tp_model.specs.Areas.{Held}
 use Rattle.tp_model.specs.Disk.{written}
-use Rattle.tp_model.specs.Spelling.{entries_in, Spells}
+use Rattle.tp_model.specs.Spelling.{entries_in, SpellsArea}
 use Rattle.tp_model.specs.Opening.{Opened, opening}
 use Rattle.tp_model.specs.DeviceAreas.{other_start, other_is_open, other_content, device_areas}
 use Rattle.tp_law_network.proofs.Moments.{length-written, get_or-written_inside}
@@ -23,7 +23,7 @@ held_then base s groups = record { network = s; entries = map (λ (e : Entry × 
 
 pub other_spelt : (bytes : List ℕ) (o : Opened) (generation : ℕ) (form : Form) (base : ℕ) (s : Network NodeState) (groups : List (List (Entry × ℕ))) (now : Network NodeState)
     → opening t414 t414_ends bytes ≡ Ok o → other_is_open o bytes ≡ false → o.generation < generation
-    → Spells t414 t414_ends o.head.topology (other_content o bytes) generation form base s groups now
+    → SpellsArea t414 t414_ends o.head.topology (other_content o bytes) generation form base s groups now
     → device_areas.other bytes ≡ Some (other_start o, held_then base s groups)
 other_spelt bytes o generation form base s groups now is closed higher S =
     spelt_other t414 t414_ends bytes o is closed generation form base s groups now (spelt_area t414 t414_ends o.head.topology (other_content o bytes) generation form base s groups now S) higher

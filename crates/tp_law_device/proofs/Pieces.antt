@@ -20,7 +20,7 @@ use Rattle.tp_model.specs.EntryBytes.{IsSpelt}
 use Rattle.tp_model.specs.Topology.{Topology, is_topology}
 use Rattle.tp_model.specs.Journal.{image_length, images_length, cut_length}
 use Rattle.tp_model.specs.CutImage.{base_number, line_bytes, port_bytes, cut_bytes}
-use Rattle.tp_model.specs.Spelling.{front_bytes, groups_bytes, entries_in, IsGroup, Spells}
+use Rattle.tp_model.specs.Spelling.{front_bytes, groups_bytes, entries_in, IsGroup, SpellsArea}
 use Rattle.tp_model.specs.Opening.{nodes_place, lines_place, ports_place, groups_place}
 use Rattle.tp_law_network.proofs.Moments.{get_or-written_outside, get_or-written_inside}
 use Rattle.tp_law_device.proofs.Contents.{drop_there}
@@ -82,7 +82,7 @@ groups_are (group ∷ groups) sized spelt =
 
 pub pieces_spell : (t : Topology) (content : List ℕ) (generation : ℕ) (copy : Held NodeState) (tail : List (Entry × ℕ)) (groups : List (List (Entry × ℕ))) → is_topology t ≡ true → generation < NUMBER_LIMIT
     → (C : CopySpelt t copy tail) → entries_in groups ≡ tail → AllByRecursion IsSized groups → PiecesStand t content generation copy groups
-    → Spells t414 t414_ends t content generation Turns copy.base copy.network groups C.now
+    → SpellsArea t414 t414_ends t content generation Turns copy.base copy.network groups C.now
 unfolding front_bytes cut_bytes
 pieces_spell t content generation copy tail groups topology young C all sized P =
     let s = copy.network in

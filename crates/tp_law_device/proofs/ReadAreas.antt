@@ -12,14 +12,14 @@ use Rattle.tp_model.specs.Bytes.{u32_at}
 use Rattle.tp_model.specs.NodeState.{NodeState}
 use Rattle.tp_model.specs.Network.{Machine}
 use Rattle.tp_model.specs.Order.{after}
-use Rattle.tp_model.specs.Sound.{Ends}
+use Rattle.tp_model.specs.Sound.{EndsSeen}
 use Rattle.tp_model.specs.Topology.{line_count}
 use Rattle.tp_model.specs.Journal.{cut_length}
 use Rattle.tp_model.specs.EntryBytes.{AreOf}
 use Rattle.tp_model.specs.Device.{area_start, content_of, generation_of}
 use Rattle.tp_model.specs.Head.{Head, head_at}
 use Rattle.tp_model.specs.Replay.{replay_from}
-use Rattle.tp_model.specs.Spelling.{front_bytes, entries_in, Spells, Stands}
+use Rattle.tp_model.specs.Spelling.{front_bytes, entries_in, SpellsArea, DeviceSpells}
 use Rattle.tp_model.specs.Opening.{Opened, base_field, base_of, groups_place, choice, chosen_area, opening}
 use Rattle.tp_law_machine.proofs.Numbers.{AreBytes, are_bytes-take, are_bytes-drop}
 use Rattle.tp_law_device.proofs.Heads.{head_first, head_parts, wires_count}
@@ -71,13 +71,13 @@ chosen_over areas bytes true is = choice_second (area_start areas true) (open_in
 -- ## The area that is taken
 
 -- what is spelt in it
-record AreaSpelt (M : Machine NodeState) (E : Ends NodeState) (head : Head) (second : Bool) (content : List ℕ) (o : Opened) : Type 0 where
+record AreaSpelt (M : Machine NodeState) (E : EndsSeen NodeState) (head : Head) (second : Bool) (content : List ℕ) (o : Opened) : Type 0 where
   groups : List (List (Entry × ℕ))
-  spells : Spells M E head.topology content o.generation o.form o.base o.cut groups o.now
+  spells : SpellsArea M E head.topology content o.generation o.form o.base o.cut groups o.now
   kept : entries_in groups ≡ o.kept
   end : o.end ≡ end_of_groups head second groups
 
-area_read : (M : Machine NodeState) (E : Ends NodeState) (head : Head) (second : Bool) (content : List ℕ) (o : Opened) → length head.topology.wires ≡ line_count head.topology
+area_read : (M : Machine NodeState) (E : EndsSeen NodeState) (head : Head) (second : Bool) (content : List ℕ) (o : Opened) → length head.topology.wires ≡ line_count head.topology
     → AreBytes content → AreaParts M E head second content o → AreaSpelt M E head second content o
 area_read M E head second content o wires h A =
     let t = head.topology in
@@ -98,7 +98,7 @@ area_read M E head second content o wires h A =
     let end : (groups_in head second content).end ≡ o.end = ap (λ (p : Opened). p.end) A.is in
     let tests = and_parts (u32_at content 8 == cut_length t) (nat_lt (generation_of content) NUMBER_LIMIT) A.front in
     let base_low = base_below (base_field content) in
-    let here : Spells M E t content (generation_of content) A.form (base_of content) A.cut D.in_groups A.replay.now = record {
+    let here : SpellsArea M E t content (generation_of content) A.form (base_of content) A.cut D.in_groups A.replay.now = record {
       gate = G.gate;
       rest = G.rest;
       shut = G.shut;
@@ -114,11 +114,11 @@ area_read M E head second content o wires h A =
     let size = ap length D.bytes in
     record {
       groups = D.in_groups;
-      spells = subst (λ g. Spells M E t content g o.form o.base o.cut D.in_groups o.now) age
-          (subst (λ f. Spells M E t content (generation_of content) f o.base o.cut D.in_groups o.now) form
-          (subst (λ b. Spells M E t content (generation_of content) A.form b o.cut D.in_groups o.now) base
-          (subst (λ s. Spells M E t content (generation_of content) A.form (base_of content) s D.in_groups o.now) cut
-          (subst (λ n. Spells M E t content (generation_of content) A.form (base_of content) A.cut D.in_groups n) now here))));
+      spells = subst (λ g. SpellsArea M E t content g o.form o.base o.cut D.in_groups o.now) age
+          (subst (λ f. SpellsArea M E t content (generation_of content) f o.base o.cut D.in_groups o.now) form
+          (subst (λ b. SpellsArea M E t content (generation_of content) A.form b o.cut D.in_groups o.now) base
+          (subst (λ s. SpellsArea M E t content (generation_of content) A.form (base_of content) s D.in_groups o.now) cut
+          (subst (λ n. SpellsArea M E t content (generation_of content) A.form (base_of content) A.cut D.in_groups n) now here))));
       kept = D.are ∙ sym V.kept ∙ kept;
       end = sym end ∙ G.end ∙ omega arith;
     }
@@ -129,7 +129,7 @@ area_below : (version : HeadVersion) (bytes : List ℕ) (head : Head) → AreByt
 unfolding head_at
 area_below version bytes head h is = subst (λ (p : Head). p.areas.length < 2 ^ 64) is (u64_below bytes 16 h)
 
-pub opens_stand : (M : Machine NodeState) (E : Ends NodeState) (bytes : List ℕ) (o : Opened) → AreBytes bytes → opening M E bytes ≡ Ok o → Stands M E bytes o
+pub opens_stand : (M : Machine NodeState) (E : EndsSeen NodeState) (bytes : List ℕ) (o : Opened) → AreBytes bytes → opening M E bytes ≡ Ok o → DeviceSpells M E bytes o
 opens_stand M E bytes o h is =
     let R = reads_of M E bytes o is in
     let H = head_parts bytes o.head R.head in

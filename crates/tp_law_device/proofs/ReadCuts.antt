@@ -16,7 +16,7 @@ use Rattle.tp_model.specs.Bytes.{u8_at, u32_at, u64_at, u32_bytes, u64_bytes}
 use Rattle.tp_model.specs.NodeState.{NodeState}
 use Rattle.tp_model.specs.Image.{page_count, image, node_of, IsNode}
 use Rattle.tp_model.specs.Network.{Port, Network}
-use Rattle.tp_model.specs.Sound.{Ends}
+use Rattle.tp_model.specs.Sound.{EndsSeen}
 use Rattle.tp_model.specs.Topology.{Topology, line_count}
 use Rattle.tp_model.specs.Journal.{image_length, images_length, cut_length}
 use Rattle.tp_model.specs.Device.{generation_of}
@@ -150,11 +150,11 @@ ports_read base at (suc count) xs ports is =
 
 -- ## The cut
 
-pub record CutRead (E : Ends NodeState) (t : Topology) (content : List ℕ) (form : Form) (s : Network NodeState) : Type 0 where
+pub record CutRead (E : EndsSeen NodeState) (t : Topology) (content : List ℕ) (form : Form) (s : Network NodeState) : Type 0 where
   pub cut : IsCut E t (base_of content) s
   pub are : content ≡ front_bytes t (generation_of content) form (base_of content) s ++ drop (groups_place t) content
 
-pub cut_read : (E : Ends NodeState) (t : Topology) (at : ℕ) (content : List ℕ) (form : Form) (s : Network NodeState) → length t.wires ≡ line_count t → AreBytes content → 20 ≤ length content
+pub cut_read : (E : EndsSeen NodeState) (t : Topology) (at : ℕ) (content : List ℕ) (form : Form) (s : Network NodeState) → length t.wires ≡ line_count t → AreBytes content → 20 ≤ length content
     → form_of content ≡ Some form → has_front t content ≡ true → cut_in E t at content ≡ Ok s → CutRead E t content form s
 unfolding cut_in front_bytes cut_bytes
 cut_read E t at content form s lines h room form_is front is =

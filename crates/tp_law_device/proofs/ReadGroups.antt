@@ -16,7 +16,7 @@ use Rattle.tp_model.specs.EntryBytes.{AreOf, IsSpelt, entry_bytes, is_of}
 use Rattle.tp_model.specs.Group.{rows_of, rows_behind, header, group_length, group_bytes, or_bad}
 use Rattle.tp_model.specs.CutImage.{or_damaged}
 use Rattle.tp_model.specs.Spelling.{groups_bytes, entries_in, IsGroup}
-use Rattle.tp_model.specs.Replay.{Listing, Replay, row_entry, placed, at_open_gate, listing, with_entry, is_number, after_row, after_rows}
+use Rattle.tp_model.specs.Replay.{Listing, Replay, row_entry, group_rows_at, at_open_gate, listing, with_entry, is_number, after_row, after_rows}
 use Rattle.tp_law_machine.proofs.EntryLaws.{entry_at-bytes}
 use Rattle.tp_law_machine.proofs.GroupLaws.{group_at-are}
 use Rattle.tp_law_network.proofs.Partial.{map_some, cond_some}
@@ -104,7 +104,7 @@ groups_read zero at (gate ∷ bytes) closed = go (gate == GATE_OPEN) refl (rows_
           rest = r.rest;
           shut = r.shut;
           are = G.are ∙ ap (λ zs. group_bytes rows ++ zs) r.are ∙ sym (append_assoc (group_bytes rows) (all_bytes r.groups) (r.gate ∷ r.rest));
-          rows = map-append (λ (row : ℕ × List ℕ). row.1) (placed (at + 16) rows) behind.rows ∙ ap (λ zs. zs ++ bytes_of_rows behind.rows) (placed_rows (at + 16) rows) ∙ ap (λ zs. rows ++ zs) r.rows;
+          rows = map-append (λ (row : ℕ × List ℕ). row.1) (group_rows_at (at + 16) rows) behind.rows ∙ ap (λ zs. zs ++ bytes_of_rows behind.rows) (placed_rows (at + 16) rows) ∙ ap (λ zs. rows ++ zs) r.rows;
           end = omega (arith, r.end, size, length-append (group_bytes rows) (all_bytes r.groups));
         }
 

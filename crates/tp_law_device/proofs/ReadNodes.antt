@@ -5,7 +5,7 @@ use Rattle.std.specs.List.{AllByRecursion}
 use Rattle.tp_model.specs.NodeState.{NodeState}
 use Rattle.tp_model.specs.Image.{page_count, node_of}
 use Rattle.tp_model.specs.Network.{Network}
-use Rattle.tp_model.specs.Sound.{Ends}
+use Rattle.tp_model.specs.Sound.{EndsSeen}
 use Rattle.tp_model.specs.Topology.{Topology, line_count}
 use Rattle.tp_model.specs.Journal.{image_length}
 use Rattle.tp_model.specs.CutImage.{node_with, or_damaged, nodes_in, lines_in, ports_in}
@@ -28,7 +28,7 @@ nodes_of_bytes at (pages ∷ more) xs nodes h is =
     subst (AllByRecursion IsNodeOfBytes) all
     (node_of_bytes (take long xs) first.0 (are_bytes-take long xs h) found.0, nodes_of_bytes (at + long) more (drop long xs) rest.0 (are_bytes-drop long xs h) rest.1)
 
-pub read_of_bytes : (E : Ends NodeState) (t : Topology) (at : ℕ) (content : List ℕ) (s : Network NodeState) → AreBytes content → cut_in E t at content ≡ Ok s → AllByRecursion IsNodeOfBytes s.nodes
+pub read_of_bytes : (E : EndsSeen NodeState) (t : Topology) (at : ℕ) (content : List ℕ) (s : Network NodeState) → AreBytes content → cut_in E t at content ≡ Ok s → AllByRecursion IsNodeOfBytes s.nodes
 unfolding cut_in
 read_of_bytes E t at content s h is =
     let a = bind_ok (nodes_in (at + nodes_place) t.pages (drop nodes_place content)) _ s is in

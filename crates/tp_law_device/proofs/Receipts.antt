@@ -13,7 +13,7 @@ use Rattle.tp_model.specs.DeviceAreas.{device_areas}
 use Rattle.tp_model.specs.Opening.{next_of, held_of, opening, verdict}
 use Rattle.tp_model.specs.OpensTo.{OpensTo}
 use Rattle.tp_model.specs.Acknowledged.{IsAcknowledged}
-use Rattle.tp_model.specs.Runs.{World, Event, Run, IsFormatted, Recovers}
+use Rattle.tp_model.specs.Runs.{World, Event, Run, BeginsFormatted, Recovers}
 use Rattle.tp_law_machine.proofs.LinkLaws.{has_four_links, never_marks}
 use Rattle.tp_law_network.proofs.Acknowledged.{acknowledged}
 use Rattle.tp_law_device.proofs.Opens.{held_from}
@@ -41,7 +41,7 @@ module _ (start : Network NodeState) (w : World NodeState) (bytes : List ℕ) (O
   unfolding opens_recovers
   held_number = sym number_is
 
-pub receipts_held : (start : Network NodeState) (before : List (Event NodeState)) (first made last : World NodeState) → IsFormatted t414 device_areas start first → Run t414 device_areas first before made
+pub receipts_held : (start : Network NodeState) (before : List (Event NodeState)) (first made last : World NodeState) → BeginsFormatted t414 device_areas start first → Run t414 device_areas first before made
     → (earlier entries : List Entry) → made.journal ≡ earlier ++ entries → IsAcknowledged t414 device_areas (length made.journal) made last
     → (bytes : List ℕ) → MayBe last.disk bytes → (O : OpensTo start last bytes)
     → take (length entries) (drop (length earlier) (take (next_of O.opened) last.journal)) ≡ entries

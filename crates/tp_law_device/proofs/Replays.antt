@@ -15,7 +15,7 @@ use Rattle.tp_model.specs.Order.{after}
 use Rattle.tp_model.specs.EntryBytes.{entry_bytes, is_of, is_spelt, AreOf, IsSpelt}
 use Rattle.tp_model.specs.Group.{rows_of}
 use Rattle.tp_model.specs.CutImage.{or_damaged}
-use Rattle.tp_model.specs.Replay.{Replay, row_entry, placed, with_entry, is_number, after_entry, after_row, after_rows, replay_from}
+use Rattle.tp_model.specs.Replay.{Replay, row_entry, group_rows_at, with_entry, is_number, after_entry, after_row, after_rows, replay_from}
 use Rattle.tp_model.specs.Numbers.{AreNumbered}
 use Rattle.tp_law_network.proofs.Partial.{map_some, cond_some}
 use Rattle.tp_law_network.proofs.Reorder.{after_last, first_possible}
@@ -101,7 +101,7 @@ pub record Replayed {Node : Type 0} (M : Machine Node) (r : Replay Node) (rows :
 -- Possible entries are replayed from their rows, with numbers that they may have.
 pub rows_spelt : {Node : Type 0} (M : Machine Node) (entries : List (Entry × ℕ)) (r : Replay Node) (at : ℕ) (last : Network Node) → after M r.now (map (λ e. e.0) entries) ≡ Some last
     → AreNumbered r.least r.next (map (λ e. e.1) entries) → r.next + length entries < NUMBER_LIMIT → AllByRecursion (λ e. IsSpelt e.0 e.1) entries
-    → AreOf r.form entries → Replayed M r (placed at (rows_of entries)) entries last
+    → AreOf r.form entries → Replayed M r (group_rows_at at (rows_of entries)) entries last
 unfolding after_rows after
 rows_spelt M [] r at last possible numbers below spelt of = record { to = r; is = refl; kept = sym (append-nil r.kept); now = let same = possible in cc }
 rows_spelt {Node} M (e ∷ es) r at last possible numbers below spelt of =
@@ -111,7 +111,7 @@ rows_spelt {Node} M (e ∷ es) r at last possible numbers below spelt of =
     let rest = rows_spelt M es v (at + 16) last step.2 numbers.2 (omega arith) spelt.1 of.1 in
     record {
       to = rest.to;
-      is = (λ i. or_damaged at (row i) >>= λ more. after_rows M more (placed (at + 16) (rows_of es))) ∙ rest.is;
+      is = (λ i. or_damaged at (row i) >>= λ more. after_rows M more (group_rows_at (at + 16) (rows_of es))) ∙ rest.is;
       kept = rest.kept ∙ append_assoc r.kept (e ∷ []) es;
       now = rest.now;
     }

@@ -17,7 +17,7 @@ use Rattle.tp_model.specs.TailRoom.{HasTailRoom, FindsRoom}
 use Rattle.tp_model.specs.KeptRun.{IsKept}
 use Rattle.tp_law_machine.proofs.LinkLaws.{has_four_links}
 use Rattle.tp_law_network.proofs.Choice.{length-pre-post}
-use Rattle.tp_law_network.specs.Invariant.{Holds}
+use Rattle.tp_law_network.specs.Invariant.{CutInvariant}
 use Rattle.tp_law_network.proofs.Whole.{whole_holds}
 use Rattle.tp_law_network.proofs.Stays.{entries_grow}
 use Rattle.tp_law_network.proofs.Invariant.{Inv, At}
@@ -67,7 +67,7 @@ reached_more start w Broken a = le_refl w.stored
 
 -- ## The trim
 
-trim_room : (most : ℕ) (w : World NodeState) (cut : WholeCut) (nodes : List NodeState) → Holds t414 w.net → HasCut w.net cut nodes → RunRoom most w
+trim_room : (most : ℕ) (w : World NodeState) (cut : WholeCut) (nodes : List NodeState) → CutInvariant t414 w.net → HasCut w.net cut nodes → RunRoom most w
     → RunRoom most (record w { net = trimmed w.net cut nodes; base = w.base + cut.size; at = Resting })
 trim_room most w cut nodes H has R = record { tail = tail_room_trim t414 has_four_links most w.net cut nodes has.is R.tail; group = go R.group }
   where

@@ -3,7 +3,7 @@ use Rattle.std.proofs.Common.{◌≡◌, ℕ, ◌+◌, ◌-◌, ◌<◌, ◌≤�
 use Rattle.tp_model.specs.declared.areas.TwoAreas.{TwoAreas}
 use Rattle.tp_model.specs.NodeState.{NodeState}
 use Rattle.tp_model.specs.Network.{Machine}
-use Rattle.tp_model.specs.Sound.{Ends}
+use Rattle.tp_model.specs.Sound.{EndsSeen}
 use Rattle.tp_model.specs.Areas.{Held}
 use Rattle.tp_model.specs.Device.{area_start, is_open}
 use Rattle.tp_model.specs.Disk.{MayBe}
@@ -22,7 +22,7 @@ spare_found : (o : Opened) (bytes : List ℕ) → spare_of (Ok o) bytes ≡ rang
 unfolding spare_of
 spare_found o bytes = refl
 
-module _ (M : Machine NodeState) (E : Ends NodeState) (bytes : List ℕ) (o : Opened) (is : opening M E bytes ≡ Ok o) (R : Reads M E bytes o) where
+module _ (M : Machine NodeState) (E : EndsSeen NodeState) (bytes : List ℕ) (o : Opened) (is : opening M E bytes ≡ Ok o) (R : Reads M E bytes o) where
   abbrev areas : TwoAreas
   areas = o.head.areas
 
@@ -107,7 +107,7 @@ module _ (M : Machine NodeState) (E : Ends NodeState) (bytes : List ℕ) (o : Op
     loose_spare = ap (λ found. spare_of found left) loose_keeps ∙ spare_found o left ∙ ap (range_of o) loose_gate ∙ sym spare_is
 
 -- Whatever stands behind the other area's closed gate.
-pub spare_holds : (M : Machine NodeState) (E : Ends NodeState) (bytes left : List ℕ) (h : Held NodeState) → held_in (opening M E bytes) ≡ Some h
+pub spare_holds : (M : Machine NodeState) (E : EndsSeen NodeState) (bytes left : List ℕ) (h : Held NodeState) → held_in (opening M E bytes) ≡ Some h
     → MayBe (record { bytes = bytes; unsynced = spare_of (opening M E bytes) bytes ∷ [] }) left
     → (held_in (opening M E left) ≡ Some h) × (spare_of (opening M E left) left ≡ spare_of (opening M E bytes) bytes)
 spare_holds M E bytes left h reads may =
@@ -117,7 +117,7 @@ spare_holds M E bytes left h reads may =
       loose_spare M E bytes F.opened F.is F.reads left may.same_length stays,
     )
 
-pub spare_has_room : (M : Machine NodeState) (E : Ends NodeState) (bytes : List ℕ) (h : Held NodeState) → held_in (opening M E bytes) ≡ Some h
+pub spare_has_room : (M : Machine NodeState) (E : EndsSeen NodeState) (bytes : List ℕ) (h : Held NodeState) → held_in (opening M E bytes) ≡ Some h
     → (spare_of (opening M E bytes) bytes).0 + (spare_of (opening M E bytes) bytes).1 ≤ length bytes
 spare_has_room M E bytes h reads =
     let F = found_in M E bytes h reads in

@@ -19,7 +19,7 @@ use Rattle.tp_model.specs.Bytes.{u16_at, u32_at, u64_at, zeros, padded}
 use Rattle.tp_model.specs.NodeState.{NodeState}
 use Rattle.tp_model.specs.Image.{page_count, image_head, image, node_at, is_memory, is_node, node_of}
 use Rattle.tp_model.specs.Network.{Port, Network, back}
-use Rattle.tp_model.specs.Sound.{Ends}
+use Rattle.tp_model.specs.Sound.{EndsSeen}
 use Rattle.tp_model.specs.Topology.{Topology, line_count, is_page_count}
 use Rattle.tp_model.specs.Journal.{image_length, images_length, cut_length}
 use Rattle.tp_model.specs.Device.{generation_of}
@@ -211,7 +211,7 @@ ports_spelt base at (port ∷ ports) rest h low =
 
 -- ## Flights
 
-pub flights_hold : (E : Ends NodeState) (s : Network NodeState) (at line count : ℕ) → ((k : ℕ) → line ≤ k → k < line + count → is_in_one_place E s k (back s k) ≡ true)
+pub flights_hold : (E : EndsSeen NodeState) (s : Network NodeState) (at line count : ℕ) → ((k : ℕ) → line ≤ k → k < line + count → is_in_one_place E s k (back s k) ≡ true)
     → flights_in E s at line count ≡ Ok tt
 unfolding flights_in
 flights_hold E s at line zero each = refl
@@ -222,7 +222,7 @@ flights_hold E s at line (suc count) each =
 -- ## The cut
 
 -- a network that is read back of a cut image, as that of a cut of `base` entries
-pub record ReadsBack (E : Ends NodeState) (t : Topology) (base : ℕ) (s : Network NodeState) : Type 0 where
+pub record ReadsBack (E : EndsSeen NodeState) (t : Topology) (base : ℕ) (s : Network NodeState) : Type 0 where
   pub wires : s.wires ≡ t.wires
   pub nodes : AllByRecursion IsReadBack s.nodes
   pub pages : pages_of s.nodes ≡ t.pages
@@ -243,7 +243,7 @@ pub cut_fits : (t : Topology) → HasShape t → cut_length t < 2 ^ 32
 cut_fits t L = omega (arith, images_most t.pages L.pages, L.few_nodes, L.few_ports)
 
 -- A content that begins with the fields and the cut image.
-module _ (E : Ends NodeState) (t : Topology) (L : HasShape t) (generation : ℕ) (form : Form) (base : ℕ) (s : Network NodeState) (C : ReadsBack E t base s) (content more : List ℕ)
+module _ (E : EndsSeen NodeState) (t : Topology) (L : HasShape t) (generation : ℕ) (form : Form) (base : ℕ) (s : Network NodeState) (C : ReadsBack E t base s) (content more : List ℕ)
     (is : content ≡ front_bytes t generation form base s ++ more) where
   abbrev images : List ℕ
   images = flat_map image s.nodes

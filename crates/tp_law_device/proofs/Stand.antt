@@ -7,10 +7,10 @@ use Rattle.tp_model.specs.declared.form.Form.{Form}
 use Rattle.tp_model.specs.NodeState.{NodeState}
 use Rattle.tp_model.specs.Image.{IsNode}
 use Rattle.tp_model.specs.Network.{Machine, Network}
-use Rattle.tp_model.specs.Sound.{Ends}
+use Rattle.tp_model.specs.Sound.{EndsSeen}
 use Rattle.tp_model.specs.Topology.{Topology}
 use Rattle.tp_model.specs.Device.{content_of}
-use Rattle.tp_model.specs.Spelling.{IsCut, Spells, Stands}
+use Rattle.tp_model.specs.Spelling.{IsCut, SpellsArea, DeviceSpells}
 use Rattle.tp_model.specs.Opening.{Opened, chosen_area, opening, verdict}
 use Rattle.tp_model.specs.Node.{t414, t414_ends}
 use Rattle.tp_law_machine.proofs.Images.{node_of-image}
@@ -27,7 +27,7 @@ nodes_back : (nodes : List NodeState) → AllByRecursion IsNode nodes → AllByR
 nodes_back [] h = tt
 nodes_back (n ∷ ns) h = (node_of-image n h.0, nodes_back ns h.1)
 
-cut_back : (E : Ends NodeState) (t : Topology) (base : ℕ) (s : Network NodeState) → IsCut E t base s → ReadsBack E t base s
+cut_back : (E : EndsSeen NodeState) (t : Topology) (base : ℕ) (s : Network NodeState) → IsCut E t base s → ReadsBack E t base s
 cut_back E t base s C = record {
   wires = C.wires;
   nodes = nodes_back s.nodes C.nodes;
@@ -39,8 +39,8 @@ cut_back E t base s C = record {
   base_fits = C.base_fits;
 }
 
-pub spelt_area : (M : Machine NodeState) (E : Ends NodeState) (t : Topology) (content : List ℕ) (generation : ℕ) (form : Form) (base : ℕ) (s : Network NodeState) (groups : List (List (Entry × ℕ))) (now : Network NodeState)
-    → Spells M E t content generation form base s groups now → SpeltArea M E t content generation form base s groups now
+pub spelt_area : (M : Machine NodeState) (E : EndsSeen NodeState) (t : Topology) (content : List ℕ) (generation : ℕ) (form : Form) (base : ℕ) (s : Network NodeState) (groups : List (List (Entry × ℕ))) (now : Network NodeState)
+    → SpellsArea M E t content generation form base s groups now → SpeltArea M E t content generation form base s groups now
 spelt_area M E t content generation form base s groups now S = record {
   gate = S.gate;
   rest = S.rest;
@@ -55,7 +55,7 @@ spelt_area M E t content generation form base s groups now S = record {
   leads = S.leads;
 }
 
-pub stands_opens : (M : Machine NodeState) (E : Ends NodeState) (bytes : List ℕ) (o : Opened) → Stands M E bytes o → opening M E bytes ≡ Ok o
+pub stands_opens : (M : Machine NodeState) (E : EndsSeen NodeState) (bytes : List ℕ) (o : Opened) → DeviceSpells M E bytes o → opening M E bytes ≡ Ok o
 stands_opens M E bytes o S =
     let t = o.head.topology in
     let areas = o.head.areas in
@@ -76,10 +76,10 @@ stands_opens M E bytes o S =
     (area_spelt M E o.head o.second L content o.generation o.form o.base o.cut S.groups o.now A
     ∙ (λ i. Ok (record { head = o.head; second = o.second; generation = o.generation; form = o.form; base = o.base; cut = o.cut; kept = kept i; now = o.now; end = end i })))
 
-pub stands_for_verdict : (bytes : List ℕ) (o : Opened) → Stands t414 t414_ends bytes o → verdict bytes ≡ Ok o
+pub stands_for_verdict : (bytes : List ℕ) (o : Opened) → DeviceSpells t414 t414_ends bytes o → verdict bytes ≡ Ok o
 unfolding verdict
 stands_for_verdict bytes o S = stands_opens t414 t414_ends bytes o S
 
-pub verdict_stands : (bytes : List ℕ) (o : Opened) → AreBytes bytes → verdict bytes ≡ Ok o → Stands t414 t414_ends bytes o
+pub verdict_stands : (bytes : List ℕ) (o : Opened) → AreBytes bytes → verdict bytes ≡ Ok o → DeviceSpells t414 t414_ends bytes o
 unfolding verdict
 verdict_stands bytes o h is = opens_stand t414 t414_ends bytes o h is

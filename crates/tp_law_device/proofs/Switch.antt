@@ -8,7 +8,7 @@ use Rattle.tp_model.specs.NodeState.{NodeState}
 use Rattle.tp_model.specs.Node.{t414, t414_ends}
 use Rattle.tp_model.specs.Areas.{Held, gate_open}
 use Rattle.tp_model.specs.Disk.{written}
-use Rattle.tp_model.specs.Spelling.{entries_in, Spells}
+use Rattle.tp_model.specs.Spelling.{entries_in, SpellsArea}
 use Rattle.tp_model.specs.Opening.{Opened, opening}
 use Rattle.tp_model.specs.DeviceAreas.{other_start, other_is_open, other_content, device_areas}
 use Rattle.tp_law_device.proofs.Heads.{head_parts}
@@ -25,7 +25,7 @@ module _ (bytes : List ℕ) (o : Opened) (copy : Held NodeState) (tail : List (E
     (is : opening t414 t414_ends bytes ≡ Ok o) (closed : other_is_open o bytes ≡ false) (young : o.generation + 1 < NUMBER_LIMIT)
     (C : CopySpelt o.head.topology copy tail) (all : entries_in groups ≡ tail) (sized : AllByRecursion IsSized groups)
     (P : PiecesStand o.head.topology (other_content o bytes) (o.generation + 1) copy groups) where
-  spells : Spells t414 t414_ends o.head.topology (other_content o bytes) (o.generation + 1) Turns copy.base copy.network groups C.now
+  spells : SpellsArea t414 t414_ends o.head.topology (other_content o bytes) (o.generation + 1) Turns copy.base copy.network groups C.now
   spells =
       let H = head_parts bytes o.head (reads_of t414 t414_ends bytes o is).head in
       pieces_spell o.head.topology (other_content o bytes) (o.generation + 1) copy tail groups H.topology young C all sized P

@@ -8,7 +8,7 @@ use Rattle.tp_model.specs.declared.limits.TheConstants.{GATE_OPEN}
 use Rattle.tp_model.specs.declared.areas.TwoAreas.{TwoAreas}
 use Rattle.tp_model.specs.NodeState.{NodeState}
 use Rattle.tp_model.specs.Network.{Machine}
-use Rattle.tp_model.specs.Sound.{Ends}
+use Rattle.tp_model.specs.Sound.{EndsSeen}
 use Rattle.tp_model.specs.Areas.{Held, gate_open}
 use Rattle.tp_model.specs.Device.{area_start, content_of, is_open}
 use Rattle.tp_model.specs.Disk.{MayBe, written}
@@ -24,7 +24,7 @@ use Rattle.tp_law_device.proofs.Spare.{spare_none}
 
 -- ## Bytes that differ at the other area's gate
 
-module _ (M : Machine NodeState) (E : Ends NodeState) (bytes : List ℕ) (o : Opened) (R : Reads M E bytes o) where
+module _ (M : Machine NodeState) (E : EndsSeen NodeState) (bytes : List ℕ) (o : Opened) (R : Reads M E bytes o) where
   abbrev areas : TwoAreas
   areas = o.head.areas
 
@@ -78,7 +78,7 @@ open_found o bytes at is =
     let found = cond_some (other_is_open o bytes) (area_start o.head.areas (not o.second)) at is in
     record { opened = found.0; place = sym found.1 }
 
-pub clear_holds : (M : Machine NodeState) (E : Ends NodeState) (bytes left : List ℕ) (h : Held NodeState) (at : ℕ) → held_in (opening M E bytes) ≡ Some h
+pub clear_holds : (M : Machine NodeState) (E : EndsSeen NodeState) (bytes left : List ℕ) (h : Held NodeState) (at : ℕ) → held_in (opening M E bytes) ≡ Some h
     → open_other_of (opening M E bytes) bytes ≡ Some at
     → MayBe (record { bytes = bytes; unsynced = spare_of (opening M E bytes) bytes ∷ (at, 1) ∷ [] }) left
     → held_in (opening M E left) ≡ Some h
@@ -92,7 +92,7 @@ clear_holds M E bytes left h at reads was may =
     (λ opened. S.opened))
     F.holds
 
-pub clear_has_room : (M : Machine NodeState) (E : Ends NodeState) (bytes : List ℕ) (h : Held NodeState) (at : ℕ) → held_in (opening M E bytes) ≡ Some h
+pub clear_has_room : (M : Machine NodeState) (E : EndsSeen NodeState) (bytes : List ℕ) (h : Held NodeState) (at : ℕ) → held_in (opening M E bytes) ≡ Some h
     → open_other_of (opening M E bytes) bytes ≡ Some at → at + 1 ≤ length bytes
 clear_has_room M E bytes h at reads was =
     let F = found_in M E bytes h reads in
@@ -102,7 +102,7 @@ clear_has_room M E bytes h at reads was =
 -- ## Open
 
 -- the other area as it is once its gate is open
-record Other (M : Machine NodeState) (E : Ends NodeState) (o : Opened) (bytes : List ℕ) (at : ℕ) (k : Held NodeState) : Type 0 where
+record Other (M : Machine NodeState) (E : EndsSeen NodeState) (o : Opened) (bytes : List ℕ) (at : ℕ) (k : Held NodeState) : Type 0 where
   closed : open_in o.head.areas bytes (not o.second) ≡ false
   place : at ≡ area_start o.head.areas (not o.second)
   next : Opened
@@ -117,7 +117,7 @@ newer_found o (Ok next) at k is =
     let found = cond_some (nat_lt o.generation next.generation) (area_start o.head.areas (not o.second), held_of next) (at, k) is in
     (next, refl, ltb-true o.generation next.generation found.0, ap (λ pair. pair.0) found.1, ap (λ pair. pair.1) found.1)
 
-other_found : (M : Machine NodeState) (E : Ends NodeState) (o : Opened) (bytes : List ℕ) (at : ℕ) (k : Held NodeState) → other_of M E (Ok o) bytes ≡ Some (at, k) → Other M E o bytes at k
+other_found : (M : Machine NodeState) (E : EndsSeen NodeState) (o : Opened) (bytes : List ℕ) (at : ℕ) (k : Held NodeState) → other_of M E (Ok o) bytes ≡ Some (at, k) → Other M E o bytes at k
 unfolding other_of
 other_found M E o bytes at k is =
     let split = none_or (other_is_open o bytes) (if_newer o (area_in M E o.head (not o.second) (other_content o bytes))) (at, k) is in
@@ -131,7 +131,7 @@ other_found M E o bytes at k is =
       holds = newer.4;
     }
 
-pub switch_holds : (M : Machine NodeState) (E : Ends NodeState) (bytes left : List ℕ) (h k : Held NodeState) (at : ℕ) → held_in (opening M E bytes) ≡ Some h
+pub switch_holds : (M : Machine NodeState) (E : EndsSeen NodeState) (bytes left : List ℕ) (h k : Held NodeState) (at : ℕ) → held_in (opening M E bytes) ≡ Some h
     → other_of M E (opening M E bytes) bytes ≡ Some (at, k) → MayBe (record { bytes = bytes; unsynced = (at, 1) ∷ [] }) left
     → (held_in (opening M E left) ≡ Some h) ⊎ (held_in (opening M E left) ≡ Some k)
 switch_holds M E bytes left h k at reads is may =
@@ -145,7 +145,7 @@ switch_holds M E bytes left h k at reads is may =
       | inl opened ↦ inr (held_from (opening M E left) S.next k (gate_switches M E bytes o F.reads left may.same_length same S.next S.read S.later opened) S.holds)
     ]
 
-pub switched_holds : (M : Machine NodeState) (E : Ends NodeState) (bytes : List ℕ) (h k : Held NodeState) (at : ℕ) → held_in (opening M E bytes) ≡ Some h
+pub switched_holds : (M : Machine NodeState) (E : EndsSeen NodeState) (bytes : List ℕ) (h k : Held NodeState) (at : ℕ) → held_in (opening M E bytes) ≡ Some h
     → other_of M E (opening M E bytes) bytes ≡ Some (at, k) → held_in (opening M E (written bytes at gate_open)) ≡ Some k
 switched_holds M E bytes h k at reads is =
     let F = found_in M E bytes h reads in
@@ -160,7 +160,7 @@ switched_holds M E bytes h k at reads is =
     (gate_switches M E bytes o F.reads left (length-written bytes place gate_open room) (get_or-written_outside bytes place gate_open room) S.next S.read S.later (ap (λ byte. is_open byte) opened))
     S.holds)
 
-pub switch_has_room : (M : Machine NodeState) (E : Ends NodeState) (bytes : List ℕ) (h k : Held NodeState) (at : ℕ) → held_in (opening M E bytes) ≡ Some h
+pub switch_has_room : (M : Machine NodeState) (E : EndsSeen NodeState) (bytes : List ℕ) (h k : Held NodeState) (at : ℕ) → held_in (opening M E bytes) ≡ Some h
     → other_of M E (opening M E bytes) bytes ≡ Some (at, k) → at + 1 ≤ length bytes
 switch_has_room M E bytes h k at reads is =
     let F = found_in M E bytes h reads in

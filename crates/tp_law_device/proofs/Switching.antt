@@ -16,7 +16,7 @@ use Rattle.tp_model.specs.Numbers.{AreNumbered}
 use Rattle.tp_model.specs.Opening.{Opened, opening}
 use Rattle.tp_model.specs.DeviceAreas.{device_areas, numbered, other_start, other_is_open, spare_of, open_other_of}
 use Rattle.tp_model.specs.WriteOrder.{Allows, Resting, Cleared, clearing, clear_done, reached, left}
-use Rattle.tp_model.specs.Runs.{World, Event, Does, HasCut, IsFormatted, Run, copy_of}
+use Rattle.tp_model.specs.Runs.{World, Event, Does, HasCut, BeginsFormatted, Run, copy_of}
 use Rattle.tp_model.specs.KeptRun.{KeptRun}
 use Rattle.tp_law_machine.proofs.Moments.{length-written, get_or-written_outside, get_or-written_inside}
 use Rattle.tp_law_machine.proofs.Numbers.{AreBytes, are_bytes-append, are_bytes-take, are_bytes-drop}
@@ -126,7 +126,7 @@ cleared_are_bytes bytes o are =
 -- ## Either way
 
 -- as many bytes as the room of its areas are enough
-module _ (most : ℕ) (start : Network NodeState) (first : World NodeState) (F : IsFormatted t414 device_areas start first) (first_bytes : AreBytes first.disk.bytes) where
+module _ (most : ℕ) (start : Network NodeState) (first : World NodeState) (F : BeginsFormatted t414 device_areas start first) (first_bytes : AreBytes first.disk.bytes) where
   switches_from : (events : List (Event NodeState)) (w : World NodeState) → KeptRun most first events w → (o : Opened) (cut : WholeCut) (nodes : List NodeState) → w.at ≡ Resting → AreBytes w.disk.bytes
       → HasCut w.net cut nodes → opening t414 t414_ends w.disk.bytes ≡ Ok o → other_is_open o w.disk.bytes ≡ false → o.generation + 1 < NUMBER_LIMIT → most ≤ room o.head.topology o.head.areas.length
       → Switches w o cut nodes (o.generation + 1) Turns

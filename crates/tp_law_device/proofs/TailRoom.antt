@@ -15,7 +15,7 @@ use Rattle.tp_model.specs.Journal.{entry_room}
 use Rattle.tp_model.specs.Runs.{is_trim}
 use Rattle.tp_law_network.proofs.Choice.{length-pre-post, post_all}
 use Rattle.tp_law_network.proofs.Reorder.{after_shape}
-use Rattle.tp_law_network.specs.Invariant.{Holds}
+use Rattle.tp_law_network.specs.Invariant.{CutInvariant}
 use Rattle.tp_law_network.proofs.Whole.{all_counts}
 use Rattle.tp_law_network.proofs.Acts.{begin_parts, record_parts, close_parts, journal_parts}
 use Rattle.tp_law_network.proofs.Begin.{made_past}
@@ -66,7 +66,7 @@ recorded_early counts i own new early p count is = elim (cases_eq p i) [
 ]
 
 module _ {Node : Type 0} (M : Machine Node) (four : HasFourLinks M) (most : ℕ) where
-  pub tail_room_stays : (w v : MarkedNetwork Node) (act : Act) → is_trim act ≡ false → Holds M w → happens M w act ≡ Some v → FindsRoom most w act → HasTailRoom most w → HasTailRoom most v
+  pub tail_room_stays : (w v : MarkedNetwork Node) (act : Act) → is_trim act ≡ false → CutInvariant M w → happens M w act ≡ Some v → FindsRoom most w act → HasTailRoom most w → HasTailRoom most v
   unfolding happens
   tail_room_stays w v Begin t H e found (inl few) = let P = begin_parts w v w.snapshot e in subst (HasTailRoom most) P.1 (inl few)
   tail_room_stays w v Begin t H e found (inr early) =

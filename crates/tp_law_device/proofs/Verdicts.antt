@@ -8,7 +8,7 @@ use Rattle.tp_model.specs.NodeState.{NodeState}
 use Rattle.tp_model.specs.Node.{t414, t414_ends}
 use Rattle.tp_model.specs.Network.{Machine, Network}
 use Rattle.tp_model.specs.Order.{after}
-use Rattle.tp_model.specs.Sound.{Ends, Sound}
+use Rattle.tp_model.specs.Sound.{EndsSeen, Sound}
 use Rattle.tp_model.specs.Acts.{IsOpened}
 use Rattle.tp_model.specs.CutOrder.{HasOrder}
 use Rattle.tp_model.specs.Disk.{MayBe}
@@ -17,10 +17,10 @@ use Rattle.tp_model.specs.DeviceAreas.{device_areas}
 use Rattle.tp_model.specs.Device.{area_start, content_of}
 use Rattle.tp_model.specs.Opening.{Opened, next_of, held_of, base_of, opening, verdict}
 use Rattle.tp_model.specs.OpensTo.{OpensTo, book_of}
-use Rattle.tp_model.specs.Runs.{World, Event, Run, fresh, IsFormatted}
+use Rattle.tp_model.specs.Runs.{World, Event, Run, fresh, BeginsFormatted}
 use Rattle.tp_law_machine.proofs.LinkLaws.{has_four_links, never_marks, keeps_flight}
 use Rattle.tp_law_network.proofs.Sound.{sound_after}
-use Rattle.tp_law_network.specs.Invariant.{Holds}
+use Rattle.tp_law_network.specs.Invariant.{CutInvariant}
 use Rattle.tp_law_network.proofs.Runs.{reopened_holds, run_recovers}
 use Rattle.tp_law_network.proofs.History.{crash_order}
 use Rattle.tp_law_device.proofs.Heads.{head_parts}
@@ -30,7 +30,7 @@ use Rattle.tp_law_device.proofs.CutsAreSound.{HasParts, read_parts, parts_sound,
 use Rattle.tp_law_device.proofs.Opens.{reads_of, held_opened}
 use Rattle.tp_law_device.proofs.Holds.{areas_keep}
 
-module _ (M : Machine NodeState) (E : Ends NodeState) (bytes : List ℕ) (o : Opened) (is : opening M E bytes ≡ Ok o) where
+module _ (M : Machine NodeState) (E : EndsSeen NodeState) (bytes : List ℕ) (o : Opened) (is : opening M E bytes ≡ Ok o) where
   -- the kept entries lead from the kept cut to the state
   pub opening_leads : after M o.cut (map (λ e. e.0) o.kept) ≡ Some o.now
   opening_leads =
@@ -76,14 +76,14 @@ pub verdict_begins : (bytes : List ℕ) (o : Opened) → verdict bytes ≡ Ok o 
 unfolding verdict
 verdict_begins bytes o is =
     let leads = opening_leads t414 t414_ends bytes o is in
-    let H : Holds t414 (book_of o) =
+    let H : CutInvariant t414 (book_of o) =
     reopened_holds t414 has_four_links never_marks device_areas (areas_keep t414 t414_ends) o.cut (opening_begins t414 t414_ends bytes o is) (map (λ e. e.0) o.kept) (held_of o) o.now leads leads in
     record { idle = refl; now = H.base.now; unmarked = H.inside; lines = H.base.lines; wired = H.base.wired; unwired = H.base.unwired }
 
 -- ## After a crash
 
 module _ (start : Network NodeState) (events : List (Event NodeState)) (first last : World NodeState)
-    (formatted : IsFormatted t414 device_areas start first) (run : Run t414 device_areas first events last) where
+    (formatted : BeginsFormatted t414 device_areas start first) (run : Run t414 device_areas first events last) where
   pub crash_opens : (bytes : List ℕ) → MayBe last.disk bytes → OpensTo start last bytes
   unfolding verdict
   crash_opens bytes may =

@@ -7,7 +7,7 @@ use Rattle.tp_model.specs.Node.{t414, t414_ends}
 use Rattle.tp_model.specs.Network.{Network}
 use Rattle.tp_model.specs.Areas.{Held, gate_open}
 use Rattle.tp_model.specs.Disk.{written}
-use Rattle.tp_model.specs.Spelling.{entries_in, Spells}
+use Rattle.tp_model.specs.Spelling.{entries_in, SpellsArea}
 use Rattle.tp_model.specs.Opening.{Opened, held_of}
 use Rattle.tp_model.specs.DeviceAreas.{other_start, device_areas}
 
@@ -22,7 +22,7 @@ pub record CanPut (bytes : List ℕ) (o : Opened) (copy : Held NodeState) : Type
   pub long : length content ≡ o.head.areas.length - 1
   pub groups : List (List (Entry × ℕ))
   pub now : Network NodeState
-  pub spells : Spells t414 t414_ends o.head.topology content (o.generation + 1) Turns copy.base copy.network groups now
+  pub spells : SpellsArea t414 t414_ends o.head.topology content (o.generation + 1) Turns copy.base copy.network groups now
   pub entries : map (λ e. e.0) (entries_in groups) ≡ copy.entries
   pub stays : device_areas.verdict (with_other bytes o content) ≡ Some (held_of o)
   pub other : device_areas.other (with_other bytes o content) ≡ Some (other_start o, copy)

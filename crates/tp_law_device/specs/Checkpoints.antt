@@ -18,7 +18,7 @@ use Rattle.tp_model.specs.StoreCalls.{all_done, put_calls}
 use Rattle.tp_model.specs.Areas.{Held}
 use Rattle.tp_model.specs.DeviceAreas.{device_areas, other_is_open, other_content}
 use Rattle.tp_model.specs.Opening.{Opened, held_of, network_of, verdict}
-use Rattle.tp_model.specs.Spelling.{Spells, entries_in}
+use Rattle.tp_model.specs.Spelling.{SpellsArea, entries_in}
 use Rattle.tp_model.specs.WriteOrder.{Resting}
 use Rattle.tp_model.specs.Runs.{World, Event, Run, HasCut, copy_of, fresh}
 use Rattle.tp_law_device.specs.FormattedWorld.{formatted_world}
@@ -31,7 +31,7 @@ pub record SpellsCopy (w : World NodeState) (o : Opened) (pieces : List (ℕ × 
   pub inside : AllByRecursion (λ piece. IsWithin (device_areas.spare w.disk.bytes) (piece.0, length piece.1)) pieces
   pub groups : List (List (Entry × ℕ))
   pub now : Network NodeState
-  pub spells : Spells t414 t414_ends o.head.topology (other_content o (all_done (put_calls pieces) w.disk).bytes) generation form copy.base copy.network groups now
+  pub spells : SpellsArea t414 t414_ends o.head.topology (other_content o (all_done (put_calls pieces) w.disk).bytes) generation form copy.base copy.network groups now
   pub entries : map (λ e. e.0) (entries_in groups) ≡ copy.entries
   pub later : o.generation < generation
 
@@ -66,19 +66,19 @@ pub record HasCheckpoint (start : Network NodeState) (bytes : List ℕ) (net : M
 
 -- ## A snapshot of one node, whose link 0 is wired to port 0
 
-abbrev pub one_node : Topology
-one_node = record { pages = 4 ∷ []; ports = 1; wires = Some (AtPort 0) ∷ None ∷ None ∷ None ∷ Some (Link 0 0) ∷ [] }
+abbrev pub checkpoint_topology : Topology
+checkpoint_topology = record { pages = 4 ∷ []; ports = 1; wires = Some (AtPort 0) ∷ None ∷ None ∷ None ∷ Some (Link 0 0) ∷ [] }
 
-abbrev pub one_before : NodeState → Network NodeState
-one_before node = network_of one_node (node ∷ []) ([] ∷ [] ∷ [] ∷ [] ∷ [] ∷ []) (fresh_port ∷ [])
+abbrev pub before_checkpoint : NodeState → Network NodeState
+before_checkpoint node = network_of checkpoint_topology (node ∷ []) ([] ∷ [] ∷ [] ∷ [] ∷ [] ∷ []) (fresh_port ∷ [])
 
 -- it begins, the node records, and each line with a wire is closed
-abbrev pub one_snapshot : List Act
-one_snapshot = Begin ∷ Record 0 ∷ Close 0 ∷ Close 4 ∷ []
+abbrev pub checkpoint_acts : List Act
+checkpoint_acts = Begin ∷ Record 0 ∷ Close 0 ∷ Close 4 ∷ []
 
 pub record HasSnapshot (node : NodeState) : Type 0 where
   pub net : MarkedNetwork NodeState
-  pub is : acted t414 (fresh (one_before node)) one_snapshot ≡ Some net
+  pub is : acted t414 (fresh (before_checkpoint node)) checkpoint_acts ≡ Some net
   pub none : net.entries ≡ []
   pub cut : WholeCut
   pub has : HasCut net cut (node ∷ [])

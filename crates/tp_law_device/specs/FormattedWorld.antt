@@ -6,7 +6,7 @@ use Rattle.tp_model.specs.NodeState.{NodeState}
 use Rattle.tp_model.specs.Network.{Network}
 use Rattle.tp_model.specs.WriteOrder.{Resting}
 use Rattle.tp_model.specs.Topology.{Topology, is_topology}
-use Rattle.tp_model.specs.Device.{fits}
+use Rattle.tp_model.specs.Device.{fits_device}
 use Rattle.tp_model.specs.Format.{start_of, IsFormatted}
 use Rattle.tp_model.specs.Runs.{World, fresh}
 
@@ -28,7 +28,7 @@ formatted_world start bytes = record {
 -- room and a field; its open area is of this form.
 pub record WasFormatted (t : Topology) (areas : TwoAreas) (form : Form) (images : List (List ℕ)) (start : Network NodeState) (bytes : List ℕ) : Type 0 where
   pub topology : is_topology t ≡ true
-  pub room : fits (length bytes) t areas ≡ true
+  pub room : fits_device (length bytes) t areas ≡ true
   pub area_fits : areas.length < 2 ^ 64
   pub network : start_of t images ≡ Some start
   pub format : IsFormatted t areas form start bytes

@@ -20,7 +20,7 @@ use Rattle.tp_model.specs.Opening.{Opened, held_of, network_of, verdict}
 use Rattle.tp_model.specs.Runs.{World, Event, HasCut}
 use Rattle.tp_model.specs.KeptRun.{KeptRun}
 use Rattle.tp_law_machine.specs.OneNode.{one_node, one_before, one_after}
-use Rattle.tp_law_machine.specs.Transfers.{sends, awaits}
+use Rattle.tp_law_machine.specs.Transfers.{sending_node, awaits}
 use Rattle.tp_law_device.specs.Checkpoints.{Switches}
 use Rattle.tp_law_device.specs.FormattedWorld.{formatted_world, WasFormatted}
 
@@ -40,8 +40,8 @@ one_device =
 abbrev pub inside : List Entry
 inside = Run 0 3 ∷ Take 0 (Data 0x41) ∷ []
 
-abbrev pub outside : List Entry
-outside = Take 4 Ack ∷ Run 0 16 ∷ []
+abbrev pub outside_checkpoint : List Entry
+outside_checkpoint = Take 4 Ack ∷ Run 0 16 ∷ []
 
 abbrev pub before_snapshot : List Act
 before_snapshot = map Journal inside
@@ -50,8 +50,8 @@ abbrev pub snapshot : List Act
 snapshot = Begin ∷ Record 0 ∷ Journal (Take 4 Ack) ∷ Close 4 ∷ Journal (Run 0 16) ∷ Close 0 ∷ []
 
 -- in the cut the node waits for the Ack, which is on its line, and the byte is an output of the port
-abbrev pub cut_network : Network NodeState
-cut_network = network_of one_node (awaits ∷ []) ([] ∷ [] ∷ [] ∷ [] ∷ (Ack ∷ []) ∷ []) (record fresh_port { outputs = 0x41 ∷ [] } ∷ [])
+abbrev pub checkpoint_network : Network NodeState
+checkpoint_network = network_of one_node (awaits ∷ []) ([] ∷ [] ∷ [] ∷ [] ∷ (Ack ∷ []) ∷ []) (record fresh_port { outputs = 0x41 ∷ [] } ∷ [])
 
 -- the bytes that groups may fill in such an area
 abbrev pub one_room : ℕ
@@ -62,13 +62,13 @@ one_room = 3862
 -- trimmed to the cut, and the device opens as the second area, of generation 2; it holds the cut, of two entries, and the two
 -- entries outside it, which lead to the network as it is.
 pub record OneCheckpoint : Type 0 where
-  pub formatted : WasFormatted one_node one_areas Turns (image sends ∷ []) one_before one_device
+  pub formatted : WasFormatted one_node one_areas Turns (image sending_node ∷ []) one_before one_device
   pub events : List (Event NodeState)
   pub w : World NodeState
   pub run : KeptRun one_room (formatted_world one_before one_device) events w
   pub seen : w.seen ≡ 2 ∷ []
-  pub journal : w.journal ≡ inside ++ outside
-  pub entries : w.net.entries ≡ inside ++ outside
+  pub journal : w.journal ≡ inside ++ outside_checkpoint
+  pub entries : w.net.entries ≡ inside ++ outside_checkpoint
   pub live : w.net.live ≡ one_after
   pub first : Opened
   pub reads : verdict w.disk.bytes ≡ Ok first
@@ -77,6 +77,6 @@ pub record OneCheckpoint : Type 0 where
   pub cut : WholeCut
   pub has : HasCut w.net cut (awaits ∷ [])
   pub switches : Switches w first cut (awaits ∷ []) 2 Turns
-  pub book : switches.last.net ≡ record { start = cut_network; entries = outside; live = one_after; snapshot = None; frozen = [] }
-  pub copy : held_of switches.opened ≡ record { network = cut_network; entries = outside; base = 2 }
+  pub book : switches.last.net ≡ record { start = checkpoint_network; entries = outside_checkpoint; live = one_after; snapshot = None; frozen = [] }
+  pub copy : held_of switches.opened ≡ record { network = checkpoint_network; entries = outside_checkpoint; base = 2 }
   pub now : switches.opened.now ≡ one_after

@@ -4,8 +4,6 @@
 
 mod the_copy;
 
-pub use the_copy::{copies_open, cuts_are_spelt, copies_are_spelt, copies_can_be_put, groups_stay_inside, entries_find_room, frozen_images_stay, pieces_stay, cuts_can_be_switched_to, a_run_checkpoints, a_device_has_a_turn};
-
 ghost use Rattle.std.specs.Prelude.{◌≡◌, ◌≤◌, ◌<◌, ◌+◌, ◌++◌, ◌*◌, ◌^◌, ℕ, true, false, List, [], Some, Ok, length, map, take, drop, slice_get};
 ghost use Rattle.tp_model.specs.declared.areas.TwoAreas.{TwoAreas};
 ghost use Rattle.tp_model.specs.declared.entry.Entry.{Entry};
@@ -22,17 +20,17 @@ ghost use Rattle.tp_model.specs.Order.{after, AreIndependent, pre, post};
 ghost use Rattle.tp_model.specs.CutOrder.{HasOrder};
 ghost use Rattle.tp_model.specs.Markers.{markers, plain_network};
 ghost use Rattle.tp_model.specs.Topology.{Topology, is_topology};
-ghost use Rattle.tp_model.specs.Device.{fits};
+ghost use Rattle.tp_model.specs.Device.{fits_device};
 ghost use Rattle.tp_model.specs.Head.{head_bytes, head_length, head_of, keeps_limits, version_for};
 ghost use Rattle.tp_model.specs.Format.{start_of};
 ghost use Rattle.tp_model.specs.Journal.{cut_length, entry_room, is_full, is_full_for_cut, is_roomy, reserve, room};
 ghost use Rattle.tp_model.specs.Group.{group_length};
 ghost use Rattle.tp_model.specs.Opening.{Opened, StandsFor, held_of, next_of, verdict};
 ghost use Rattle.tp_model.specs.OpensTo.{OpensTo, book_of};
-ghost use Rattle.tp_model.specs.Spelling.{IsGroup, Spells, Stands, entries_in, groups_bytes};
+ghost use Rattle.tp_model.specs.Spelling.{IsGroup, SpellsArea, DeviceSpells, entries_in, groups_bytes};
 ghost use Rattle.tp_law_device.specs.Checkpoints.{HasCheckpoint, HasSnapshot, SpellsCopy, Switches};
 ghost use Rattle.tp_law_device.specs.FormattedWorld.{formatted_world, WasFormatted};
-ghost use Rattle.tp_model.specs.Sound.{Ends, Sound};
+ghost use Rattle.tp_model.specs.Sound.{EndsSeen, Sound};
 ghost use Rattle.tp_model.specs.Snapshot.{MarkedNetwork};
 ghost use Rattle.tp_model.specs.WholeCut.{WholeCut, count_in, whole, IsWhole};
 ghost use Rattle.tp_model.specs.Acts.{Act, acted, IsOpened, CutHolds};
@@ -40,15 +38,21 @@ ghost use Rattle.tp_model.specs.Disk.{MayBe};
 ghost use Rattle.tp_model.specs.Areas.{AreasHold, next_number};
 ghost use Rattle.tp_model.specs.DeviceAreas.{areas_of, device_areas, has_room, other_content, other_is_open, other_start};
 ghost use Rattle.tp_model.specs.WriteOrder.{Resting};
-ghost use Rattle.tp_model.specs.Runs.{World, Event, HasCut, Reopens, Step, Run, IsFormatted, Recovers, copy_of, fresh, is_trim, reopened};
+ghost use Rattle.tp_model.specs.Runs.{World, Event, HasCut, Reopens, Step, Run, BeginsFormatted, Recovers, copy_of, fresh, is_trim, reopened};
 ghost use Rattle.tp_model.specs.Acknowledged.{IsAcknowledged, IsShown};
+
+pub use the_copy::{
+    a_device_has_a_turn, a_run_checkpoints, copies_are_spelt, copies_can_be_put, copies_open,
+    cuts_are_spelt, cuts_can_be_switched_to, entries_find_room, frozen_images_stay,
+    groups_stay_inside, pieces_stay,
+};
 
 /// What each write leaves on a device, whatever bytes stand there: opening reads nothing behind the other area's closed
 /// gate, nor behind the first closed gate of the groups; a group's entries are read exactly once its gate is open; the
 /// other area is taken exactly once its gate is open. The device's format has this for any kind of step and of link ends.
 pub fn areas_hold()
     ensures device { AreasHold t414 device_areas }
-    ensures any { (M : Machine NodeState) (E : Ends NodeState) → AreasHold M (areas_of M E) }
+    ensures any { (M : Machine NodeState) (E : EndsSeen NodeState) → AreasHold M (areas_of M E) }
 {}
 
 /// After each run over a device that was formatted, whatever a crash leaves stands for the network after a prefix of the
@@ -58,15 +62,15 @@ pub fn areas_hold()
 /// mark that was ever read among them.
 pub fn crashes_hold()
     ensures recovers { (start : Network NodeState) (events : List (Event NodeState)) (first last : World NodeState)
-        → IsFormatted t414 device_areas start first → Run t414 device_areas first events last
+        → BeginsFormatted t414 device_areas start first → Run t414 device_areas first events last
         → (bytes : List ℕ) → MayBe last.disk bytes → Recovers t414 device_areas start last bytes }
     ensures stays { (start : Network NodeState) (before events : List (Event NodeState)) (first w last : World NodeState)
-        → IsFormatted t414 device_areas start first → Run t414 device_areas first before w → Run t414 device_areas w events last
+        → BeginsFormatted t414 device_areas start first → Run t414 device_areas first before w → Run t414 device_areas w events last
         → (w.mark ≤ last.mark) × (take w.mark last.journal ≡ take w.mark w.journal) }
     ensures goes_on { (start : Network NodeState) (last : World NodeState) (bytes : List ℕ) → MayBe last.disk bytes → (r : Recovers t414 device_areas start last bytes)
         → Step t414 device_areas last (Reopens bytes r.held r.now) (reopened last bytes r.held r.now) }
     ensures opens { (start : Network NodeState) (events : List (Event NodeState)) (first last : World NodeState)
-        → IsFormatted t414 device_areas start first → Run t414 device_areas first events last
+        → BeginsFormatted t414 device_areas start first → Run t414 device_areas first events last
         → (bytes : List ℕ) → MayBe last.disk bytes → OpensTo start last bytes }
 {}
 
@@ -82,16 +86,16 @@ pub fn every_run_holds()
     ensures whole { (w v : MarkedNetwork NodeState) → IsOpened t414 w → (acts : List Act) → acted t414 w acts ≡ Some v
         → ((cut : WholeCut) → whole v ≡ Some cut → IsWhole v) × (IsWhole v → (cut : WholeCut) × (whole v ≡ Some cut)) }
     ensures snapshots { (start : Network NodeState) (events : List (Event NodeState)) (first last : World NodeState)
-        → IsFormatted t414 device_areas start first → Run t414 device_areas first events last
+        → BeginsFormatted t414 device_areas start first → Run t414 device_areas first events last
         → (cut : WholeCut) → whole last.net ≡ Some cut → CutHolds t414 last.net cut }
     ensures recovers { (start : Network NodeState) (events : List (Event NodeState)) (first last : World NodeState)
-        → IsFormatted t414 device_areas start first → Run t414 device_areas first events last
+        → BeginsFormatted t414 device_areas start first → Run t414 device_areas first events last
         → (bytes : List ℕ) → MayBe last.disk bytes → Recovers t414 device_areas start last bytes }
     ensures acknowledged { (start : Network NodeState) (before : List (Event NodeState)) (first made last : World NodeState)
-        → IsFormatted t414 device_areas start first → Run t414 device_areas first before made → (number : ℕ) → number ≤ length made.journal → IsAcknowledged t414 device_areas number made last
+        → BeginsFormatted t414 device_areas start first → Run t414 device_areas first before made → (number : ℕ) → number ≤ length made.journal → IsAcknowledged t414 device_areas number made last
         → (bytes : List ℕ) → MayBe last.disk bytes → (r : Recovers t414 device_areas start last bytes)
         → (number ≤ next_number r.held) × (take number last.journal ≡ take number made.journal) }
-    ensures shown { (start : Network NodeState) (first last : World NodeState) → IsFormatted t414 device_areas start first
+    ensures shown { (start : Network NodeState) (first last : World NodeState) → BeginsFormatted t414 device_areas start first
         → (number line port byte : ℕ) → (s : IsShown t414 device_areas number line port byte first last)
         → (bytes : List ℕ) → MayBe last.disk bytes → (r : Recovers t414 device_areas start last bytes)
         → (number < next_number r.held) × (take (number + 1) last.journal ≡ take (number + 1) s.reading.journal) }
@@ -100,7 +104,7 @@ pub fn every_run_holds()
 /// A head of either version that was written is read back, where its version can say the topology: the topology, whose wires
 /// the head has for links alone, and the areas.
 pub fn heads_read_back()
-    ensures { (version : HeadVersion) (t : Topology) (areas : TwoAreas) (bytes : List ℕ) → is_topology t ≡ true → keeps_limits version t ≡ true → fits (length bytes) t areas ≡ true
+    ensures { (version : HeadVersion) (t : Topology) (areas : TwoAreas) (bytes : List ℕ) → is_topology t ≡ true → keeps_limits version t ≡ true → fits_device (length bytes) t areas ≡ true
         → areas.first ≡ head_length version → areas.length < 2 ^ 64
         → take areas.first bytes ≡ head_bytes version t areas → head_of bytes ≡ Ok (record { version = version; topology = t; areas = areas }) }
 {}
@@ -113,7 +117,7 @@ pub fn formatted_starts()
     ensures form { (t : Topology) (areas : TwoAreas) (form : Form) (images : List (List ℕ)) (start : Network NodeState) (bytes : List ℕ)
         → WasFormatted t areas form images start bytes → (o : Opened) → verdict bytes ≡ Ok o → o.form ≡ form }
     ensures starts { (t : Topology) (areas : TwoAreas) (form : Form) (images : List (List ℕ)) (start : Network NodeState) (bytes : List ℕ)
-        → WasFormatted t areas form images start bytes → IsFormatted t414 device_areas start (formatted_world start bytes) }
+        → WasFormatted t areas form images start bytes → BeginsFormatted t414 device_areas start (formatted_world start bytes) }
     ensures recovers { (t : Topology) (areas : TwoAreas) (form : Form) (images : List (List ℕ)) (start : Network NodeState) (bytes : List ℕ) → WasFormatted t areas form images start bytes
         → (events : List (Event NodeState)) (last : World NodeState) → Run t414 device_areas (formatted_world start bytes) events last
         → (left : List ℕ) → MayBe last.disk left → Recovers t414 device_areas start last left }
@@ -129,8 +133,8 @@ pub fn devices_can_be_formatted()
 /// a closed gate behind them opens as those, and a device that opens so is spelt so. Whatever the bytes, the entries that are
 /// kept lead from the kept cut to the network that is answered.
 pub fn opening_is_exact()
-    ensures spelt { (bytes : List ℕ) (o : Opened) → Stands t414 t414_ends bytes o → verdict bytes ≡ Ok o }
-    ensures read { (bytes : List ℕ) (o : Opened) → AllByRecursion (λ byte. byte < 256) bytes → verdict bytes ≡ Ok o → Stands t414 t414_ends bytes o }
+    ensures spelt { (bytes : List ℕ) (o : Opened) → DeviceSpells t414 t414_ends bytes o → verdict bytes ≡ Ok o }
+    ensures read { (bytes : List ℕ) (o : Opened) → AllByRecursion (λ byte. byte < 256) bytes → verdict bytes ≡ Ok o → DeviceSpells t414 t414_ends bytes o }
     ensures leads { (bytes : List ℕ) (o : Opened) → verdict bytes ≡ Ok o → after t414 o.cut (map (λ e. e.0) o.kept) ≡ Some o.now }
 {}
 
@@ -148,20 +152,20 @@ pub fn openings_begin()
 /// since the start by as many bytes as the journal's entries hand to it, and what came out of it by as many as they take to it.
 pub fn histories_hold()
     ensures journal { (start : Network NodeState) (events : List (Event NodeState)) (first last : World NodeState)
-        → IsFormatted t414 device_areas start first → Run t414 device_areas first events last → after t414 start last.journal ≡ Some (plain_network last.net.live) }
+        → BeginsFormatted t414 device_areas start first → Run t414 device_areas first events last → after t414 start last.journal ≡ Some (plain_network last.net.live) }
     ensures kept { (start : Network NodeState) (events : List (Event NodeState)) (first last : World NodeState)
-        → IsFormatted t414 device_areas start first → Run t414 device_areas first events last → after t414 last.net.start last.net.entries ≡ Some (plain_network last.net.live) }
+        → BeginsFormatted t414 device_areas start first → Run t414 device_areas first events last → after t414 last.net.start last.net.entries ≡ Some (plain_network last.net.live) }
     ensures markers { (start : Network NodeState) (events : List (Event NodeState)) (first last : World NodeState)
-        → IsFormatted t414 device_areas start first → Run t414 device_areas first events last → (line : ℕ) → markers (on_line last.net.live.lines line) ≤ 1 }
+        → BeginsFormatted t414 device_areas start first → Run t414 device_areas first events last → (line : ℕ) → markers (on_line last.net.live.lines line) ≤ 1 }
     ensures sound { (start : Network NodeState) (events : List (Event NodeState)) (first last : World NodeState)
-        → IsFormatted t414 device_areas start first → Run t414 device_areas first events last → Sound t414_ends last.net.live }
+        → BeginsFormatted t414 device_areas start first → Run t414 device_areas first events last → Sound t414_ends last.net.live }
     ensures room { (start : Network NodeState) (events : List (Event NodeState)) (first last : World NodeState)
-        → IsFormatted t414 device_areas start first → Run t414 device_areas first events last → (line : ℕ) → length (on_line last.net.live.lines line) ≤ 3 }
+        → BeginsFormatted t414 device_areas start first → Run t414 device_areas first events last → (line : ℕ) → length (on_line last.net.live.lines line) ≤ 3 }
     ensures both { (start : Network NodeState) (events : List (Event NodeState)) (first last : World NodeState)
-        → IsFormatted t414 device_areas start first → Run t414 device_areas first events last → (cut : WholeCut) → whole last.net ≡ Some cut
+        → BeginsFormatted t414 device_areas start first → Run t414 device_areas first events last → (cut : WholeCut) → whole last.net ≡ Some cut
         → after t414 last.net.start (pre (process last.net.start.wires (length last.net.start.nodes)) (count_in cut) last.net.entries ++ post (process last.net.start.wires (length last.net.start.nodes)) (count_in cut) last.net.entries) ≡ Some (plain_network last.net.live) }
     ensures ports { (start : Network NodeState) (events : List (Event NodeState)) (first last : World NodeState)
-        → IsFormatted t414 device_areas start first → Run t414 device_areas first events last → (p : ℕ) (port : Port) → slice_get start.ports p ≡ Some port
+        → BeginsFormatted t414 device_areas start first → Run t414 device_areas first events last → (p : ℕ) (port : Port) → slice_get start.ports p ≡ Some port
         → (later : Port) × (slice_get last.net.live.ports p ≡ Some later)
         × (accepted later ≡ accepted port + count_by (is_input p) last.journal) × (came_out later ≡ came_out port + count_by (is_output start.wires p) last.journal) }
 {}
@@ -171,12 +175,12 @@ pub fn histories_hold()
 /// cut that is whole; and there is a whole cut exactly where a snapshot runs, all have recorded and each Marker was taken.
 pub fn cuts_are_orders()
     ensures kept { (start : Network NodeState) (events : List (Event NodeState)) (first last : World NodeState)
-        → IsFormatted t414 device_areas start first → Run t414 device_areas first events last → HasOrder t414 start last.journal last.net.start last.net.entries last.base }
+        → BeginsFormatted t414 device_areas start first → Run t414 device_areas first events last → HasOrder t414 start last.journal last.net.start last.net.entries last.base }
     ensures cut { (start : Network NodeState) (events : List (Event NodeState)) (first last : World NodeState)
-        → IsFormatted t414 device_areas start first → Run t414 device_areas first events last → (cut : WholeCut) → (c : CutHolds t414 last.net cut)
+        → BeginsFormatted t414 device_areas start first → Run t414 device_areas first events last → (cut : WholeCut) → (c : CutHolds t414 last.net cut)
         → HasOrder t414 start last.journal c.consistent.state (post (process last.net.start.wires (length last.net.start.nodes)) (count_in cut) last.net.entries) (last.base + cut.size) }
     ensures whole { (start : Network NodeState) (events : List (Event NodeState)) (first last : World NodeState)
-        → IsFormatted t414 device_areas start first → Run t414 device_areas first events last
+        → BeginsFormatted t414 device_areas start first → Run t414 device_areas first events last
         → ((cut : WholeCut) → whole last.net ≡ Some cut → IsWhole last.net) × (IsWhole last.net → (cut : WholeCut) × (whole last.net ≡ Some cut)) }
 {}
 
@@ -204,7 +208,7 @@ pub fn groups_fit()
 pub fn checkpoints_switch()
     ensures other { (bytes : List ℕ) (o : Opened) → verdict bytes ≡ Ok o → other_is_open o bytes ≡ false
         → (generation : ℕ) (form : Form) (base : ℕ) (s : Network NodeState) (groups : List (List (Entry × ℕ))) (now : Network NodeState)
-        → Spells t414 t414_ends o.head.topology (other_content o bytes) generation form base s groups now → o.generation < generation
+        → SpellsArea t414 t414_ends o.head.topology (other_content o bytes) generation form base s groups now → o.generation < generation
         → device_areas.other bytes ≡ Some (other_start o, record { network = s; entries = map (λ e. e.0) (entries_in groups); base = base }) }
     ensures switches { (w : World NodeState) (cut : WholeCut) (nodes : List NodeState) (o : Opened) (pieces : List (ℕ × List ℕ)) (generation : ℕ) (form : Form)
         → w.at ≡ Resting → HasCut w.net cut nodes → SpellsCopy w o pieces (copy_of w.net w.base cut nodes) generation form → Switches w o cut nodes generation form }
@@ -218,7 +222,7 @@ pub fn checkpoints_switch()
 /// replays after any crash from then on have just them at their numbers.
 pub fn receipts_cover_entries()
     ensures { (start : Network NodeState) (before : List (Event NodeState)) (first made last : World NodeState)
-        → IsFormatted t414 device_areas start first → Run t414 device_areas first before made
+        → BeginsFormatted t414 device_areas start first → Run t414 device_areas first before made
         → (earlier entries : List Entry) → made.journal ≡ earlier ++ entries → IsAcknowledged t414 device_areas (length made.journal) made last
         → (bytes : List ℕ) → MayBe last.disk bytes → (o : OpensTo start last bytes)
         → take (length entries) (drop (length earlier) (take (next_of o.opened) last.journal)) ≡ entries }

@@ -28,7 +28,7 @@ ghost use Rattle.tp_model.specs.OpenedCopy.{opened_copy};
 ghost use Rattle.tp_model.specs.Opening.{Opened, groups_place, verdict};
 ghost use Rattle.tp_model.specs.Order.{post};
 ghost use Rattle.tp_model.specs.PiecesStand.{IsSized, IsThere, PiecesStand};
-ghost use Rattle.tp_model.specs.Runs.{Event, HasCut, IsFormatted, World, copy_of, is_trim};
+ghost use Rattle.tp_model.specs.Runs.{Event, HasCut, BeginsFormatted, World, copy_of, is_trim};
 ghost use Rattle.tp_model.specs.Snapshot.{MarkedNetwork};
 ghost use Rattle.tp_model.specs.Spelling.{entries_in, groups_bytes};
 ghost use Rattle.tp_model.specs.Topology.{Topology, is_topology};
@@ -57,14 +57,14 @@ pub fn cuts_are_spelt()
     ensures cut { (t : Topology) (base : ℕ) (w : MarkedNetwork NodeState) (cut : WholeCut) (nodes : List NodeState) → is_topology t ≡ true → CutSpelt t base w.start
         → AllByRecursion HasByte w.entries → CutHolds t414 w cut → all_some w.frozen ≡ Some nodes → base + length w.entries < NUMBER_LIMIT
         → CutSpelt t (base + cut.size) (network_in w.start cut nodes) }
-    ensures kept { (most : ℕ) (start : Network NodeState) (events : List (Event NodeState)) (first w : World NodeState) → IsFormatted t414 device_areas start first
+    ensures kept { (most : ℕ) (start : Network NodeState) (events : List (Event NodeState)) (first w : World NodeState) → BeginsFormatted t414 device_areas start first
         → AllByRecursion (λ byte. byte < 256) first.disk.bytes → KeptRun most first events w
         → (o : Opened) → w.at ≡ Resting → AllByRecursion (λ byte. byte < 256) w.disk.bytes → verdict w.disk.bytes ≡ Ok o → CutSpelt o.head.topology w.base w.net.start }
 {}
 
 /// In a run over a device that was formatted, whenever the flusher rests: the copy that it makes of a whole cut, with the entries outside that and their numbers, has a spelling. It is of the device's topology.
 pub fn copies_are_spelt()
-    ensures { (most : ℕ) (start : Network NodeState) (events : List (Event NodeState)) (first w : World NodeState) → IsFormatted t414 device_areas start first
+    ensures { (most : ℕ) (start : Network NodeState) (events : List (Event NodeState)) (first w : World NodeState) → BeginsFormatted t414 device_areas start first
         → AllByRecursion (λ byte. byte < 256) first.disk.bytes → KeptRun most first events w
         → (o : Opened) (cut : WholeCut) (nodes : List NodeState) (kept : List (Entry × ℕ)) → w.at ≡ Resting
         → AllByRecursion (λ byte. byte < 256) w.disk.bytes → HasCut w.net cut nodes → verdict w.disk.bytes ≡ Ok o
@@ -75,7 +75,7 @@ pub fn copies_are_spelt()
 /// At such a moment, where each entry of the tail finds room in a group of its own: there is a content of the other area that
 /// spells the copy; with it the device stands for what it did, and with that area's gate open for the copy.
 pub fn copies_can_be_put()
-    ensures { (most : ℕ) (start : Network NodeState) (events : List (Event NodeState)) (first w : World NodeState) → IsFormatted t414 device_areas start first
+    ensures { (most : ℕ) (start : Network NodeState) (events : List (Event NodeState)) (first w : World NodeState) → BeginsFormatted t414 device_areas start first
         → AllByRecursion (λ byte. byte < 256) first.disk.bytes → KeptRun most first events w
         → (o : Opened) (cut : WholeCut) (nodes : List NodeState) (kept : List (Entry × ℕ)) → w.at ≡ Resting
         → AllByRecursion (λ byte. byte < 256) w.disk.bytes → HasCut w.net cut nodes → verdict w.disk.bytes ≡ Ok o → other_is_open o w.disk.bytes ≡ false
@@ -96,10 +96,10 @@ pub fn groups_stay_inside()
 /// room, each in a group of its own, and whenever the flusher rests a group of the first entries of what it copied has room
 /// behind the groups that are there.
 pub fn entries_find_room()
-    ensures tails { (most : ℕ) (start : Network NodeState) (events : List (Event NodeState)) (first w : World NodeState) → IsFormatted t414 device_areas start first
+    ensures tails { (most : ℕ) (start : Network NodeState) (events : List (Event NodeState)) (first w : World NodeState) → BeginsFormatted t414 device_areas start first
         → AllByRecursion (λ byte. byte < 256) first.disk.bytes → KeptRun most first events w
         → (cut : WholeCut) (nodes : List NodeState) → HasCut w.net cut nodes → entry_room * length (post (process w.net.start.wires (length w.net.start.nodes)) (count_in cut) w.net.entries) ≤ most }
-    ensures groups { (most : ℕ) (start : Network NodeState) (events : List (Event NodeState)) (first w : World NodeState) → IsFormatted t414 device_areas start first
+    ensures groups { (most : ℕ) (start : Network NodeState) (events : List (Event NodeState)) (first w : World NodeState) → BeginsFormatted t414 device_areas start first
         → AllByRecursion (λ byte. byte < 256) first.disk.bytes → KeptRun most first events w
         → (o : Opened) (es more : List Entry) → w.at ≡ Resting → AllByRecursion (λ byte. byte < 256) w.disk.bytes → verdict w.disk.bytes ≡ Ok o
         → w.backlog ≡ es ++ more → 1 ≤ length es → most ≤ room o.head.topology o.head.areas.length → has_room o (length es) ≡ true }
@@ -134,7 +134,7 @@ pub fn pieces_stay()
 /// book. Its last world's device opens as the other area, of the next generation and with turns, and holds the cut and each entry
 /// outside it.
 pub fn cuts_can_be_switched_to()
-    ensures { (most : ℕ) (start : Network NodeState) (events : List (Event NodeState)) (first w : World NodeState) → IsFormatted t414 device_areas start first
+    ensures { (most : ℕ) (start : Network NodeState) (events : List (Event NodeState)) (first w : World NodeState) → BeginsFormatted t414 device_areas start first
         → AllByRecursion (λ byte. byte < 256) first.disk.bytes → KeptRun most first events w
         → (o : Opened) (cut : WholeCut) (nodes : List NodeState) → w.at ≡ Resting → AllByRecursion (λ byte. byte < 256) w.disk.bytes → HasCut w.net cut nodes
         → verdict w.disk.bytes ≡ Ok o → o.generation + 1 < NUMBER_LIMIT → most ≤ room o.head.topology o.head.areas.length

@@ -8,7 +8,7 @@ use Rattle.tp_model.specs.NodeState.{NodeState}
 use Rattle.tp_model.specs.Network.{Network}
 use Rattle.tp_model.specs.Opening.{network_of}
 use Rattle.tp_model.specs.Format.{fresh_port}
-use Rattle.tp_law_machine.specs.Start.{resting, running, blank, with_bytes, with_word, transfer, outputs, node}
+use Rattle.tp_law_machine.specs.Start.{resting, running, blank, with_bytes, start_word, transfer, outputs, node}
 use Rattle.tp_law_machine.specs.OneNode.{one_node}
 
 -- A process gets one byte of link 0 and sends another one there: `ldlp 0`, `mint`, `ldnlp 4`, `ldc 1`, `in`, and then
@@ -20,7 +20,7 @@ answers = node (running 0x8000_0100 0x8000_0200)
 abbrev pub has_answered : NodeState
 has_answered = record answers {
   cpu = record resting { slice = 8 };
-  memory = with_word 0x8000_0200 0x41 (with_word 0x8000_01FC 0x8000_010B answers.memory);
+  memory = start_word 0x8000_0200 0x41 (start_word 0x8000_01FC 0x8000_010B answers.memory);
   outputs = outputs (Waits (transfer 0x8000_0201 0x8000_0200 1));
 }
 

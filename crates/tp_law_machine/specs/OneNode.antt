@@ -9,14 +9,14 @@ use Rattle.tp_model.specs.Network.{Network}
 use Rattle.tp_model.specs.Topology.{Topology}
 use Rattle.tp_model.specs.Opening.{network_of}
 use Rattle.tp_model.specs.Format.{fresh_port}
-use Rattle.tp_law_machine.specs.Transfers.{sends, jumps}
+use Rattle.tp_law_machine.specs.Transfers.{sending_node, jumps}
 
 abbrev pub one_node : Topology
 one_node = record { pages = 4 ∷ []; ports = 1; wires = Some (AtPort 0) ∷ None ∷ None ∷ None ∷ Some (Link 0 0) ∷ [] }
 
 -- the network before its first entry, where the node is about to send a byte
 abbrev pub one_before : Network NodeState
-one_before = network_of one_node (sends ∷ []) ([] ∷ [] ∷ [] ∷ [] ∷ [] ∷ []) (fresh_port ∷ [])
+one_before = network_of one_node (sending_node ∷ []) ([] ∷ [] ∷ [] ∷ [] ∷ [] ∷ []) (fresh_port ∷ [])
 
 -- the node sends it, the host takes it, the node hears of that, and goes on
 abbrev pub one_byte : List Entry

@@ -45,12 +45,12 @@ abbrev pub with_bytes : ℕ → List ℕ → List ℕ → List ℕ
 with_bytes address bytes memory =
     take (offset address) memory ++ bytes ++ drop (offset address + length bytes) memory
 
-abbrev pub with_word : ℕ → ℕ → List ℕ → List ℕ
-with_word address word memory = set_word memory (offset address) word
+abbrev pub start_word : ℕ → ℕ → List ℕ → List ℕ
+start_word address word memory = set_word memory (offset address) word
 
 -- memory of four pages in which no interrupted process is kept, and all else is 0
 abbrev pub blank : List ℕ
-blank = with_word 0x8000_002C not_process (zeros 4096)
+blank = start_word 0x8000_002C not_process (zeros 4096)
 
 -- `left` bytes from `pointer` on, which a process has still to send or to get
 abbrev pub transfer : ℕ → ℕ → ℕ → Transfer

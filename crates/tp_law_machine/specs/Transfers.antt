@@ -4,20 +4,20 @@ use Rattle.tp_model.specs.declared.link.OutEnd.TheVariants.{Idle as NoOutput, Wa
 use Rattle.tp_model.specs.declared.link.InEnd.{InEnd}
 use Rattle.tp_model.specs.declared.link.InEnd.TheVariants.{Idle, Inputs}
 use Rattle.tp_model.specs.NodeState.{NodeState}
-use Rattle.tp_law_machine.specs.Start.{regs, queue, resting, running, blank, with_bytes, with_word, transfer, outputs, inputs, node}
+use Rattle.tp_law_machine.specs.Start.{regs, queue, resting, running, blank, with_bytes, start_word, transfer, outputs, inputs, node}
 
 -- A low process sends the byte 41 on link 0, and then jumps to where it is: `ldc MostNeg`, `ldc 41`, `outbyte`, `j -2`.
 abbrev pub byte_program : List ℕ
 byte_program = 0x27 ∷ 0x2F ∷ 0x2F ∷ 0x2F ∷ 0x2F ∷ 0x2F ∷ 0x6F ∷ 0x40 ∷ 0x24 ∷ 0x41 ∷ 0xFE ∷ 0x60 ∷ 0x0E ∷ []
 
-abbrev pub sends : NodeState
-sends = node (running 0x8000_0100 0x8000_0200) (with_bytes 0x8000_0100 byte_program blank)
+abbrev pub sending_node : NodeState
+sending_node = node (running 0x8000_0100 0x8000_0200) (with_bytes 0x8000_0100 byte_program blank)
 
 -- The byte is out, and its acknowledge hasn't come.
 abbrev pub awaits : NodeState
-awaits = record sends {
+awaits = record sending_node {
   cpu = record resting { slice = 3 };
-  memory = with_word 0x8000_0200 0x41 (with_word 0x8000_01FC 0x8000_010B sends.memory);
+  memory = start_word 0x8000_0200 0x41 (start_word 0x8000_01FC 0x8000_010B sending_node.memory);
   outputs = outputs (Waits (transfer 0x8000_0201 0x8000_0200 1));
 }
 
@@ -44,20 +44,20 @@ gets count end = record (node (record (running 0x8000_0100 0x8000_0200) { regs =
 abbrev pub has_got_one : NodeState
 has_got_one = record (gets 1 (Idle None)) {
   cpu = record (running 0x8000_0101 0x8000_0200) { regs = regs 1 0x8000_0013 0x8000_0300; slice = 1 };
-  memory = with_word 0x8000_0300 7 (gets 1 (Idle None)).memory;
+  memory = start_word 0x8000_0300 7 (gets 1 (Idle None)).memory;
 }
 
 -- It has got the first of two bytes and waits for the second one; that has come too.
 abbrev pub has_got_first : NodeState
 has_got_first = record (gets 2 (Inputs (transfer 0x8000_0201 0x8000_0301 1))) {
   cpu = record resting { slice = 1 };
-  memory = with_word 0x8000_0300 7 (with_word 0x8000_01FC 0x8000_0101 (gets 2 (Idle None)).memory);
+  memory = start_word 0x8000_0300 7 (start_word 0x8000_01FC 0x8000_0101 (gets 2 (Idle None)).memory);
 }
 
 abbrev pub has_got_both : NodeState
 has_got_both = record (gets 2 (Idle None)) {
   cpu = record resting { low = queue 0x8000_0200 0x8000_0200; slice = 1 };
-  memory = with_word 0x8000_0300 0x907 (with_word 0x8000_01FC 0x8000_0101 (gets 2 (Idle None)).memory);
+  memory = start_word 0x8000_0300 0x907 (start_word 0x8000_01FC 0x8000_0101 (gets 2 (Idle None)).memory);
 }
 
 -- It has nothing to get and goes on.

@@ -13,7 +13,7 @@ use Rattle.tp_model.specs.Format.{fresh_port}
 use Rattle.tp_model.specs.Snapshot.{MarkedNetwork}
 use Rattle.tp_model.specs.Acts.{Act, Begin, Record, Journal, Close, Trim}
 use Rattle.tp_law_machine.specs.Start.{resting, blank, inputs, node}
-use Rattle.tp_law_machine.specs.Transfers.{sends, awaits}
+use Rattle.tp_law_machine.specs.Transfers.{sending_node, awaits}
 
 abbrev pub two_nodes : Topology
 two_nodes = record {
@@ -26,7 +26,7 @@ abbrev pub silent : NodeState
 silent = node resting blank
 
 abbrev pub two_before : Network NodeState
-two_before = network_of two_nodes (sends ∷ silent ∷ []) (replicate 9 []) (fresh_port ∷ [])
+two_before = network_of two_nodes (sending_node ∷ silent ∷ []) (replicate 9 []) (fresh_port ∷ [])
 
 -- Node 0 sends a byte. A snapshot begins; node 1 records, and takes the byte after that; node 0 records; and each line with
 -- a wire is closed. Then the book is trimmed to the cut.

@@ -10,7 +10,7 @@ use Rattle.tp_model.specs.Markers.{NeverMarks}
 use Rattle.tp_model.specs.Acts.{Act, Begin, Record, Journal, Close, Trim, IsOpened}
 use Rattle.tp_model.specs.Disk.{MayBe}
 use Rattle.tp_model.specs.Areas.{Areas, AreasHold, next_number}
-use Rattle.tp_model.specs.Runs.{World, Event, Acts, Copies, CopiesTail, Does, Breaks, Trims, Raises, Reads, Reopens, grown, Step, Run, fresh, IsFormatted, Recovers}
+use Rattle.tp_model.specs.Runs.{World, Event, Acts, Copies, CopiesTail, Does, Breaks, Trims, Raises, Reads, Reopens, grown, Step, Run, fresh, BeginsFormatted, Recovers}
 use Rattle.tp_model.specs.Acknowledged.{is_reopening, IsAcknowledged, IsShown}
 use Rattle.tp_law_network.proofs.Invariant.{Inv}
 use Rattle.tp_law_network.proofs.Runs.{reads_now, run_keeps, formatted_run}
@@ -76,7 +76,7 @@ module _ {Node : Type 0} (M : Machine Node) (four : HasFourLinks M) (never : Nev
 
 -- The entries of an acknowledged receipt are in what a crash leaves, and the journal has them as when it was made.
 pub acknowledged : {Node : Type 0} (M : Machine Node) → HasFourLinks M → NeverMarks M → (A : Areas Node) → AreasHold M A → (start : Network Node) (before : List (Event Node)) (first w last : World Node)
-    → IsFormatted M A start first → Run M A first before w → (number : ℕ) → number ≤ length w.journal → IsAcknowledged M A number w last
+    → BeginsFormatted M A start first → Run M A first before w → (number : ℕ) → number ≤ length w.journal → IsAcknowledged M A number w last
     → (bytes : List ℕ) → MayBe last.disk bytes → (r : Recovers M A start last bytes)
     → (number ≤ next_number r.held) × (take number last.journal ≡ take number w.journal)
 acknowledged M four never A law start before first w last F run number there a bytes may r =
@@ -89,7 +89,7 @@ acknowledged M four never A law start before first w last F run number there a b
 -- The entry by which shown output was taken, and all of lower number, are in what a crash leaves, and the journal has them
 -- as when the output was shown.
 pub shown : {Node : Type 0} (M : Machine Node) → HasFourLinks M → NeverMarks M → (A : Areas Node) → AreasHold M A → (start : Network Node) (first last : World Node)
-    → IsFormatted M A start first → (number line port byte : ℕ) → (s : IsShown M A number line port byte first last)
+    → BeginsFormatted M A start first → (number line port byte : ℕ) → (s : IsShown M A number line port byte first last)
     → (bytes : List ℕ) → MayBe last.disk bytes → (r : Recovers M A start last bytes)
     → (number < next_number r.held) × (take (number + 1) last.journal ≡ take (number + 1) s.reading.journal)
 shown M four never A law start first last F number line port byte s bytes may r =

@@ -14,7 +14,7 @@ use Rattle.tp_model.specs.Sound.{owner}
 use Rattle.tp_law_network.proofs.Partial.{bind_some}
 use Rattle.tp_law_network.proofs.Lines.{for_line-append, for_line-elsewhere, on_taken, length_taken, on_sent}
 use Rattle.tp_law_network.proofs.Local.{Step, SameShape, step_of, process_same, takes_same, step_sends, step_shape, step_lines, step_own_same, step_own_other, own-host, own-node}
-use Rattle.tp_law_network.specs.ByItself.{Alone, doing_all, doing}
+use Rattle.tp_law_network.specs.ByItself.{AloneState, doing_all, doing}
 use Rattle.tp_law_network.specs.Arrivals.{named}
 
 -- what is sent on a line that has a wire
@@ -30,11 +30,11 @@ arriving-none true l ms h = h
 arriving-none false l ms h = refl
 
 -- a process's own entry, and another's
-pub doing-own : {Node : Type 0} (M : Machine Node) (s : Network Node) (p : ℕ) (a : Alone Node) (e : Entry) → p ≡ process s.wires (length s.nodes) e
+pub doing-own : {Node : Type 0} (M : Machine Node) (s : Network Node) (p : ℕ) (a : AloneState Node) (e : Entry) → p ≡ process s.wires (length s.nodes) e
     → doing M s p a e ≡ (does M s.wires (length s.nodes) e a.0 >>= λ change. Some (change.0, a.1 ++ change.1))
 doing-own M s p a e h = rw (eq-eqb p (process s.wires (length s.nodes) e) h)
 
-doing-other : {Node : Type 0} (M : Machine Node) (s : Network Node) (p : ℕ) (a : Alone Node) (e : Entry) → p ≢ process s.wires (length s.nodes) e → doing M s p a e ≡ Some a
+doing-other : {Node : Type 0} (M : Machine Node) (s : Network Node) (p : ℕ) (a : AloneState Node) (e : Entry) → p ≢ process s.wires (length s.nodes) e → doing M s p a e ≡ Some a
 doing-other M s p a e h = rw (ne_eqb p (process s.wires (length s.nodes) e) h)
 
 -- a node of a number that is there
@@ -57,8 +57,8 @@ owner_there {Node} s l = elim (cases_lt l (4 * length s.nodes)) [
 -- ## Over entries that the network goes through
 
 -- The process goes on from `a` to `b`; on its lines, what was there and what it then sent is what was taken and what is there.
-pub record GoesOn {Node : Type 0} (M : Machine Node) (s : Network Node) (p : ℕ) (a : Alone Node) (t v : Network Node) (es : List Entry) : Type 0 where
-  pub to : Alone Node
+pub record GoesOn {Node : Type 0} (M : Machine Node) (s : Network Node) (p : ℕ) (a : AloneState Node) (t v : Network Node) (es : List Entry) : Type 0 where
+  pub to : AloneState Node
   pub leads : doing_all M s p a es ≡ Some to
   pub stands : own v p ≡ Some to.0
   pub more : List (ℕ × Token)
@@ -99,9 +99,9 @@ module _ {Node : Type 0} (M : Machine Node) (four : HasFourLinks M) (s : Network
         ∙ ap (λ ts. for_line l (takes s.wires (length s.nodes) e) ++ ts) h
         ∙ sym (append_assoc (for_line l (takes s.wires (length s.nodes) e)) (named s l es) (on_line v.lines l))
 
-    module _ (a : Alone Node) (at : own t p ≡ Some a.0) where
+    module _ (a : AloneState Node) (at : own t p ≡ Some a.0) where
       -- after one of its own entries
-      abbrev done : Alone Node
+      abbrev done : AloneState Node
       done = (S.now, a.1 ++ S.sends)
 
       does_it : p ≡ process s.wires (length s.nodes) e → doing M s p a e ≡ Some done
@@ -147,7 +147,7 @@ module _ {Node : Type 0} (M : Machine Node) (four : HasFourLinks M) (s : Network
         lines = λ l of. ap (λ ts. on_line t.lines l ++ (ts ++ arriving (has_wire s.wires l) l R.more)) (sym (sends_none apart l of)) ∙ line_further l R.more (R.lines l of);
       }
 
-  pub goes_on : (a : Alone Node) (t v : Network Node) → SameShape s t → own t p ≡ Some a.0 → (es : List Entry) → after M t es ≡ Some v → GoesOn M s p a t v es
+  pub goes_on : (a : AloneState Node) (t v : Network Node) → SameShape s t → own t p ≡ Some a.0 → (es : List Entry) → after M t es ≡ Some v → GoesOn M s p a t v es
   unfolding after doing_all named
   goes_on a t v shape at [] h =
       let same : t ≡ v = cc in

@@ -15,7 +15,7 @@ use Rattle.tp_law_network.proofs.Lines.{on_taken, taken_from}
 use Rattle.tp_law_network.proofs.Local.{Step, SameShape, step_of, next_from, process_same, takes_same, own-host, own_host, own_node, own-node}
 use Rattle.tp_law_network.proofs.Reorder.{after_last, after_shape}
 use Rattle.tp_law_network.specs.Reach.{after_by, reach}
-use Rattle.tp_law_network.specs.ByItself.{Alone, doing_all, doing}
+use Rattle.tp_law_network.specs.ByItself.{AloneState, doing_all, doing}
 use Rattle.tp_law_network.specs.Arrivals.{arrivals, came, named}
 use Rattle.tp_law_network.specs.Becomes.{BecomesByItself}
 use Rattle.tp_law_network.specs.CanFollow.{CanFollow, StopsAtFault}
@@ -40,21 +40,21 @@ own_still {Node} s t shape p y h = elim (cases_eq p (length s.nodes)) [
         (OfNode N.0, own-node s p apart ∙ ap (option_map OfNode) N.1)
     node (OfHost ports) h apart = absurd (apart ((own_host t p ports h).0 ∙ shape.nodes))
 
-doing_all-append : {Node : Type 0} (M : Machine Node) (s : Network Node) (p : ℕ) (a : Alone Node) (xs ys : List Entry) → doing_all M s p a (xs ++ ys) ≡ (doing_all M s p a xs >>= λ b. doing_all M s p b ys)
+doing_all-append : {Node : Type 0} (M : Machine Node) (s : Network Node) (p : ℕ) (a : AloneState Node) (xs ys : List Entry) → doing_all M s p a (xs ++ ys) ≡ (doing_all M s p a xs >>= λ b. doing_all M s p b ys)
 unfolding doing_all
 doing_all-append M s p a [] ys = refl
 doing_all-append {Node} M s p a (x ∷ xs) ys = go (doing M s p a x) (λ b. doing_all-append M s p b xs ys)
   where
-    go : (first : Option (Alone Node)) → ((b : Alone Node) → doing_all M s p b (xs ++ ys) ≡ (doing_all M s p b xs >>= λ c. doing_all M s p c ys))
+    go : (first : Option (AloneState Node)) → ((b : AloneState Node) → doing_all M s p b (xs ++ ys) ≡ (doing_all M s p b xs >>= λ c. doing_all M s p c ys))
         → (first >>= λ b. doing_all M s p b (xs ++ ys)) ≡ ((first >>= λ b. doing_all M s p b xs) >>= λ c. doing_all M s p c ys)
     go None h = refl
     go (Some b) h = h b
 
-doing_all-one : {Node : Type 0} (M : Machine Node) (s : Network Node) (p : ℕ) (a : Alone Node) (e : Entry) (b : Alone Node) → doing_all M s p a (e ∷ []) ≡ Some b → doing M s p a e ≡ Some b
+doing_all-one : {Node : Type 0} (M : Machine Node) (s : Network Node) (p : ℕ) (a : AloneState Node) (e : Entry) (b : AloneState Node) → doing_all M s p a (e ∷ []) ≡ Some b → doing M s p a e ≡ Some b
 unfolding doing_all
 doing_all-one {Node} M s p a e b h = go (doing M s p a e) h
   where
-    go : (o : Option (Alone Node)) → (o >>= λ c. Some c) ≡ Some b → o ≡ Some b
+    go : (o : Option (AloneState Node)) → (o >>= λ c. Some c) ≡ Some b → o ≡ Some b
     go None h = h
     go (Some c) h = h
 

@@ -3,14 +3,14 @@ use Rattle.std.proofs.Common.{◌≡◌, ℕ, ◌+◌, ◌≤◌, Bool, true, fa
 use Rattle.std.specs.Prelude.{◌&&◌}
 use Rattle.std.proofs.lemmas.Bool.{cases_Bool}
 use Rattle.tp_model.specs.Network.{Machine, has_wire, on_line}
-use Rattle.tp_model.specs.Sound.{Ends, Sound, owner}
+use Rattle.tp_model.specs.Sound.{EndsSeen, Sound, owner}
 use Rattle.tp_model.specs.Markers.{markers, plain_network}
 use Rattle.tp_model.specs.Snapshot.{Snapshot, MarkedNetwork, has_recorded, is_closed}
 use Rattle.tp_law_network.proofs.Room.{line_room as sound_room, sound_marked}
-use Rattle.tp_law_network.specs.Invariant.{Inside, Holds}
+use Rattle.tp_law_network.specs.Invariant.{Inside, CutInvariant}
 use Rattle.tp_law_network.proofs.Whole.{running}
 
-module _ {Node : Type 0} (M : Machine Node) (w : MarkedNetwork Node) (H : Holds M w) where
+module _ {Node : Type 0} (M : Machine Node) (w : MarkedNetwork Node) (H : CutInvariant M w) where
   -- a line has at most one Marker
   pub few_markers : (l : ℕ) → markers (on_line w.live.lines l) ≤ 1
   few_markers l = go w.snapshot H.inside
@@ -35,5 +35,5 @@ module _ {Node : Type 0} (M : Machine Node) (w : MarkedNetwork Node) (H : Holds 
   ]
 
   -- Over a sound network a line has at most a Data and an Ack beside its Marker.
-  pub line_room : (E : Ends Node) → Sound E (plain_network w.live) → (l : ℕ) → length (on_line w.live.lines l) ≤ 2 + markers (on_line w.live.lines l)
+  pub line_room : (E : EndsSeen Node) → Sound E (plain_network w.live) → (l : ℕ) → length (on_line w.live.lines l) ≤ 2 + markers (on_line w.live.lines l)
   line_room E sound l = sound_room (sound_marked w.live sound H.base.unwired) l

@@ -5,26 +5,26 @@ use Rattle.tp_model.specs.Network.{Machine}
 use Rattle.tp_model.specs.Disk.{Moment, MayBe, Call, Write, Sync, written, done, within, IsWithin, AreWithin}
 use Rattle.tp_model.specs.Areas.{Areas, AreasHold, Held, with_more, gate_open, gate_closed, ArePossible}
 use Rattle.tp_model.specs.WriteOrder.{Position, Allows, putting, syncing, looking, clearing, clear_done, add_body, body_done, add_gate, gate_done, tail_putting, tail_syncing, switching, switch_done}
-use Rattle.tp_law_network.specs.Standing.{Rests, Bodied, Readied, Gated, Clearing, Switching, DeviceAt, held_next, held_after, IsPossibleAt}
+use Rattle.tp_law_network.specs.Standing.{RestsBetweenGroups, Bodied, Readied, Gated, Clearing, Switching, DeviceAt, held_next, held_after, IsPossibleAt}
 use Rattle.tp_law_network.proofs.Moments.{length-written, within_last, may_stand, may_be_written, write_may, synced_may, loose_may, loose_more}
 
 module _ {Node : Type 0} (M : Machine Node) (A : Areas Node) (law : AreasHold M A) (h : Held Node) where
   -- ## Between groups
 
-  pub rests_may : (disk : Moment) → Rests A h disk → (left : List ℕ) → MayBe disk left → A.verdict left ≡ Some h
+  pub rests_may : (disk : Moment) → RestsBetweenGroups A h disk → (left : List ℕ) → MayBe disk left → A.verdict left ≡ Some h
   rests_may disk r left may = (law.spare disk.bytes left h r.reads (loose_may disk (A.spare disk.bytes) left r.loose may)).0
 
   -- a piece is written behind the other area's closed gate
-  pub put_may : (disk : Moment) → Rests A h disk → (at : ℕ) (bytes : List ℕ) → IsWithin (A.spare disk.bytes) (at, length bytes)
+  pub put_may : (disk : Moment) → RestsBetweenGroups A h disk → (at : ℕ) (bytes : List ℕ) → IsWithin (A.spare disk.bytes) (at, length bytes)
       → (left : List ℕ) → MayBe (within (Write at bytes) disk) left → (A.verdict left ≡ Some h) × (A.spare left ≡ A.spare disk.bytes)
   put_may disk r at bytes inside left may =
       law.spare disk.bytes left h r.reads
       (loose_may (within (Write at bytes) disk) (A.spare disk.bytes) left (within_last (A.spare disk.bytes) disk.unsynced (at, length bytes) r.loose inside) may)
 
-  pub put_room : (disk : Moment) → Rests A h disk → (at : ℕ) (bytes : List ℕ) → IsWithin (A.spare disk.bytes) (at, length bytes) → at + length bytes ≤ length disk.bytes
+  pub put_room : (disk : Moment) → RestsBetweenGroups A h disk → (at : ℕ) (bytes : List ℕ) → IsWithin (A.spare disk.bytes) (at, length bytes) → at + length bytes ≤ length disk.bytes
   put_room disk r at bytes inside = let room = law.spare_room disk.bytes h r.reads in let last = inside.1 in omega arith
 
-  pub put_done : (disk : Moment) → Rests A h disk → (at : ℕ) (bytes : List ℕ) → IsWithin (A.spare disk.bytes) (at, length bytes) → Rests A h (done (Write at bytes) disk)
+  pub put_done : (disk : Moment) → RestsBetweenGroups A h disk → (at : ℕ) (bytes : List ℕ) → IsWithin (A.spare disk.bytes) (at, length bytes) → RestsBetweenGroups A h (done (Write at bytes) disk)
   put_done disk r at bytes inside =
       let after = put_may disk r at bytes inside (written disk.bytes at bytes) (may_be_written disk at bytes (put_room disk r at bytes inside)) in
       record {
@@ -33,16 +33,16 @@ module _ {Node : Type 0} (M : Machine Node) (A : Areas Node) (law : AreasHold M 
             (within_last (A.spare disk.bytes) disk.unsynced (at, length bytes) r.loose inside);
       }
 
-  pub rests_synced : (disk : Moment) → Rests A h disk → Rests A h (done Sync disk)
+  pub rests_synced : (disk : Moment) → RestsBetweenGroups A h disk → RestsBetweenGroups A h (done Sync disk)
   rests_synced disk r = record { reads = r.reads; loose = tt }
 
   -- ## The other area's gate is written closed
 
-  pub clear_within : (disk : Moment) → Rests A h disk → (at : ℕ) → A.open_other disk.bytes ≡ Some at
+  pub clear_within : (disk : Moment) → RestsBetweenGroups A h disk → (at : ℕ) → A.open_other disk.bytes ≡ Some at
       → (left : List ℕ) → MayBe (within (Write at gate_closed) disk) left → A.verdict left ≡ Some h
   clear_within disk r at was left may = law.clear disk.bytes left h at r.reads was (loose_more disk.bytes disk.unsynced (A.spare disk.bytes) (at, 1) left r.loose may)
 
-  pub clear_written : (disk : Moment) → Rests A h disk → (at : ℕ) → A.open_other disk.bytes ≡ Some at → Clearing A h (done (Write at gate_closed) disk)
+  pub clear_written : (disk : Moment) → RestsBetweenGroups A h disk → (at : ℕ) → A.open_other disk.bytes ≡ Some at → Clearing A h (done (Write at gate_closed) disk)
   clear_written disk r at was = record { old = disk.bytes; ranges = disk.unsynced; place = at; reads = r.reads; loose = r.loose; other = was; is = refl }
 
   pub clear_may : (disk : Moment) → Clearing A h disk → (left : List ℕ) → MayBe disk left → A.verdict left ≡ Some h
@@ -51,17 +51,17 @@ module _ {Node : Type 0} (M : Machine Node) (A : Areas Node) (law : AreasHold M 
       clear_within before (record { reads = c.reads; loose = c.loose }) c.place c.other left
       (write_may before c.place gate_closed left (law.clear_room c.old h c.place c.reads c.other) (subst (λ m. MayBe m left) c.is may))
 
-  pub clear_synced : (disk : Moment) → Clearing A h disk → Rests A h (done Sync disk)
+  pub clear_synced : (disk : Moment) → Clearing A h disk → RestsBetweenGroups A h (done Sync disk)
   clear_synced disk c = record { reads = clear_may disk c disk.bytes (may_stand disk); loose = tt }
 
   -- ## A group is written behind its closed gate
 
-  pub body_within : (disk : Moment) → Rests A h disk → (place : ℕ) (es : List Entry) (body : List ℕ) → A.group disk.bytes es ≡ Some (place, body)
+  pub body_within : (disk : Moment) → RestsBetweenGroups A h disk → (place : ℕ) (es : List Entry) (body : List ℕ) → A.group disk.bytes es ≡ Some (place, body)
       → (left : List ℕ) → MayBe (within (Write (place + 1) body) disk) left → A.verdict left ≡ Some h
   body_within disk r place es body spelt left may =
       law.body disk.bytes left h es place body r.reads spelt (loose_more disk.bytes disk.unsynced (A.spare disk.bytes) (place + 1, length body) left r.loose may)
 
-  pub body_written : (disk : Moment) → Rests A h disk → (place : ℕ) (es : List Entry) (body : List ℕ) → A.group disk.bytes es ≡ Some (place, body)
+  pub body_written : (disk : Moment) → RestsBetweenGroups A h disk → (place : ℕ) (es : List Entry) (body : List ℕ) → A.group disk.bytes es ≡ Some (place, body)
       → Bodied A h (done (Write (place + 1) body) disk) place es
   body_written disk r place es body spelt = record { old = disk.bytes; ranges = disk.unsynced; body = body; reads = r.reads; loose = r.loose; group = spelt; is = refl }
 
@@ -101,7 +101,7 @@ module _ {Node : Type 0} (M : Machine Node) (A : Areas Node) (law : AreasHold M 
       law.gate g.old left h es place g.body g.reads g.group possible
       (write_may before place gate_open left (omega arith) (subst (λ m. MayBe m left) g.is may))
 
-  pub gate_synced : (disk : Moment) (place : ℕ) (es : List Entry) → Gated A h disk place es → ArePossible M h es → Rests A (with_more h es) (done Sync disk)
+  pub gate_synced : (disk : Moment) (place : ℕ) (es : List Entry) → Gated A h disk place es → ArePossible M h es → RestsBetweenGroups A (with_more h es) (done Sync disk)
   gate_synced disk place es g possible = record {
     reads = ap (λ m. A.verdict m.bytes) g.is ∙ law.added g.old h es place g.body g.reads g.group possible;
     loose = tt;
@@ -109,12 +109,12 @@ module _ {Node : Type 0} (M : Machine Node) (A : Areas Node) (law : AreasHold M 
 
   -- ## The other area's gate is written open
 
-  pub switch_within : (disk : Moment) (copy : Held Node) → Rests A h disk → (at : ℕ) → disk.unsynced ≡ [] → A.other disk.bytes ≡ Some (at, copy)
+  pub switch_within : (disk : Moment) (copy : Held Node) → RestsBetweenGroups A h disk → (at : ℕ) → disk.unsynced ≡ [] → A.other disk.bytes ≡ Some (at, copy)
       → (left : List ℕ) → MayBe (within (Write at gate_open) disk) left → (A.verdict left ≡ Some h) ⊎ (A.verdict left ≡ Some copy)
   switch_within disk copy r at synced other left may =
       law.switch disk.bytes left h copy at r.reads other (subst (λ ranges. MayBe (record { bytes = disk.bytes; unsynced = ranges ++ (at, 1) ∷ [] }) left) synced may)
 
-  pub switch_written : (disk : Moment) (copy : Held Node) → Rests A h disk → (at : ℕ) → disk.unsynced ≡ [] → A.other disk.bytes ≡ Some (at, copy)
+  pub switch_written : (disk : Moment) (copy : Held Node) → RestsBetweenGroups A h disk → (at : ℕ) → disk.unsynced ≡ [] → A.other disk.bytes ≡ Some (at, copy)
       → Switching A h (done (Write at gate_open) disk) copy
   switch_written disk copy r at synced other = record {
     old = disk.bytes;

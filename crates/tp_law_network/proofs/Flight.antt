@@ -16,7 +16,7 @@ use Rattle.tp_model.specs.Word.{bit}
 use Rattle.tp_model.specs.Network.{◌>>=◌, Machine, steps, Network, Port, Own, OfNode, OfHost, own, receiver, process_at, line_of, back, for_line}
 use Rattle.tp_model.specs.Turn.{by_link, by_line, comes_in, took_all}
 use Rattle.tp_model.specs.Entries.{process, takes, of_node, of_port, acked, port_took, first_only, handed_in, confirmed, receives, does}
-use Rattle.tp_model.specs.Sound.{Ends, datas, acks, owner, is_some_byte, is_pending, own_waits, own_holds, Wired, KeepsFlight}
+use Rattle.tp_model.specs.Sound.{EndsSeen, datas, acks, owner, is_some_byte, is_pending, own_waits, own_holds, Wired, KeepsFlight}
 use Rattle.tp_law_network.proofs.Lines.{for_line-append}
 use Rattle.tp_model.specs.Snapshot.{taker}
 use Rattle.tp_law_network.proofs.Local.{turn_step, comes_first, own_node, owner_of_link, owner_of_port}
@@ -36,12 +36,12 @@ acks-append (t ∷ ts) us = omega (arith, acks-append ts us)
 
 -- What a node's links do where it goes from one state to another: `ms` are the tokens that it takes, each with its
 -- link.
-pub record NodeMoves {Node : Type 0} (E : Ends Node) (node : Node) (ms : List (ℕ × Token)) (after : Node × List (ℕ × Token)) : Type 0 where
+pub record NodeMoves {Node : Type 0} (E : EndsSeen Node) (node : Node) (ms : List (ℕ × Token)) (after : Node × List (ℕ × Token)) : Type 0 where
   pub out : (k : ℕ) → k < 4 → bit (E.waits after.0 k) + acks (for_line k ms) ≡ bit (E.waits node k) + datas (for_line k after.1)
   pub inn : (k : ℕ) → k < 4 → bit (E.holds after.0 k) + acks (for_line k after.1) ≡ bit (E.holds node k) + datas (for_line k ms)
 
 -- one after another
-pub joined_moves : {Node : Type 0} {E : Ends Node} {node : Node} (ms ns : List (ℕ × Token)) (mid last : Node × List (ℕ × Token))
+pub joined_moves : {Node : Type 0} {E : EndsSeen Node} {node : Node} (ms ns : List (ℕ × Token)) (mid last : Node × List (ℕ × Token))
     → NodeMoves E node ms mid → NodeMoves E mid.0 ns last → NodeMoves E node (ms ++ ns) (last.0, mid.1 ++ last.1)
 joined_moves {E = E} {node = node} ms ns mid last a b = record {
   out = λ k h. rw (for_line-append k ms ns, for_line-append k mid.1 last.1, acks-append (for_line k ms) (for_line k ns), datas-append (for_line k mid.1) (for_line k last.1)) (omega (arith, a.out k h, b.out k h));
@@ -49,10 +49,10 @@ joined_moves {E = E} {node = node} ms ns mid last a b = record {
 }
 
 -- as it stays
-pub no_moves : {Node : Type 0} (E : Ends Node) (node : Node) → NodeMoves E node [] (node, [])
+pub no_moves : {Node : Type 0} (E : EndsSeen Node) (node : Node) → NodeMoves E node [] (node, [])
 no_moves E node = record { out = λ k h. refl; inn = λ k h. refl }
 
-module _ {Node : Type 0} {M : Machine Node} {E : Ends Node} (keeps : KeepsFlight M E) where
+module _ {Node : Type 0} {M : Machine Node} {E : EndsSeen Node} (keeps : KeepsFlight M E) where
   pub took_moves : (node : Node) (j : ℕ) (token : Token) (after : Node × List (ℕ × Token)) → M.took node j token ≡ Some after → NodeMoves E node ((j, token) ∷ []) after
   took_moves node j token after e = record {
     out = λ k h. keeps.took_out node j token after k h e;
@@ -109,11 +109,11 @@ for_line-shift a k (m ∷ ms) = elim (cases_eq m.0 k) [
 
 -- What the ends of process p do where its state changes, and tokens are sent: `ms` are those that come in, each with
 -- the line that the end sends at which it comes in.
-pub record Moves {Node : Type 0} (E : Ends Node) (N p : ℕ) (state : Own Node) (ms : List (ℕ × Token)) (change : Own Node × List (ℕ × Token)) : Type 0 where
+pub record Moves {Node : Type 0} (E : EndsSeen Node) (N p : ℕ) (state : Own Node) (ms : List (ℕ × Token)) (change : Own Node × List (ℕ × Token)) : Type 0 where
   pub out : (z : ℕ) → owner N z ≡ p → bit (own_waits E N change.0 z) + acks (for_line z ms) ≡ bit (own_waits E N state z) + datas (for_line z change.1)
   pub inn : (z : ℕ) → owner N z ≡ p → bit (own_holds E change.0 z) + acks (for_line z change.1) ≡ bit (own_holds E state z) + datas (for_line z ms)
 
-pub node_moves : {Node : Type 0} {E : Ends Node} (N i : ℕ) (node : Node) (ms : List (ℕ × Token)) (after : Node × List (ℕ × Token))
+pub node_moves : {Node : Type 0} {E : EndsSeen Node} (N i : ℕ) (node : Node) (ms : List (ℕ × Token)) (after : Node × List (ℕ × Token))
     → i < N → NodeMoves E node ms after
     → Moves E N i (OfNode node) (map (λ m. (4 * i + m.0, m.1)) ms) (of_node i after)
 node_moves {E = E} N i node ms after h moves = record {
@@ -169,7 +169,7 @@ pub for_line-none : (k l : ℕ) (ts : List Token) → k ≢ l → for_line l (ma
 for_line-none k l [] n = refl
 for_line-none k l (t ∷ ts) n = rw (ne_eqb k l n) (for_line-none k l ts n)
 
-pub port_moves : {Node : Type 0} {E : Ends Node} (N p : ℕ) (ports : List Port) (port : Port) (ms : List Token) (after : Port × List Token)
+pub port_moves : {Node : Type 0} {E : EndsSeen Node} (N p : ℕ) (ports : List Port) (port : Port) (ms : List Token) (after : Port × List Token)
     → slice_get ports p ≡ Some port → PortMoves port ms after
     → Moves E N N (OfHost ports) (map (λ t. (4 * N + p, t)) ms) (OfHost (set ports p after.0), map (λ t. (4 * N + p, t)) after.1)
 port_moves {E = E} N p ports port ms after is moves = record {
@@ -230,7 +230,7 @@ turn_arrivals s i (m ∷ ms) e =
     rw C.0 (ap (λ rest. (4 * i + m.0, m.1) ∷ rest) (turn_arrivals s i ms C.1))
 
 -- the tokens that port p takes
-pub of_port_moves : {Node : Type 0} {E : Ends Node} (N p : ℕ) (ports : List Port) (ms : List Token) (f : Port → Option (Port × List Token)) (change : Own Node × List (ℕ × Token))
+pub of_port_moves : {Node : Type 0} {E : EndsSeen Node} (N p : ℕ) (ports : List Port) (ms : List Token) (f : Port → Option (Port × List Token)) (change : Own Node × List (ℕ × Token))
     → ((port : Port) (after : Port × List Token) → f port ≡ Some after → PortMoves port ms after)
     → of_port N p ports f ≡ Some change → Moves E N N (OfHost ports) (map (λ t. (4 * N + p, t)) ms) change
 unfolding of_port
@@ -241,7 +241,7 @@ of_port_moves {Node = Node} {E = E} N p ports ms f change moves e =
     let same : (OfHost (set ports p b.0.0), map (λ t. (4 * N + p, t)) b.0.1) ≡ change = cc in
     subst (λ c. Moves E N N (OfHost ports) (map (λ t. (4 * N + p, t)) ms) c) same (port_moves N p ports a.0 ms b.0 a.1 (moves a.0 b.0 b.1))
 
-module _ {Node : Type 0} {M : Machine Node} {E : Ends Node} (keeps : KeepsFlight M E) where
+module _ {Node : Type 0} {M : Machine Node} {E : EndsSeen Node} (keeps : KeepsFlight M E) where
   -- an end receives a token
   pub receives_moves : (N : ℕ) (end : Option WireEnd) (token : Token) (state : Own Node) (change : Own Node × List (ℕ × Token))
       → ((i k : ℕ) → end ≡ Some (Link i k) → (i < N) × (k < 4))

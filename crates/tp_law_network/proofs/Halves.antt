@@ -15,7 +15,7 @@ use Rattle.tp_model.specs.Markers.{before, has_marker, unmarked}
 use Rattle.tp_model.specs.Snapshot.{Snapshot, has_recorded, taker, closed_over, collected, journalled, first_snapshot, host_markers}
 use Rattle.tp_model.specs.WholeCut.{WholeCut, all_some, whole}
 use Rattle.tp_model.specs.Acts.{Begin, Record, Journal, Close, Trim, begin, record_node, close_line, trim, happens}
-use Rattle.tp_model.specs.Halves.{BookState, live, marked, whole_in, without, with_entry, with_begin, with_record, with_close, with_close_over, with_trim}
+use Rattle.tp_model.specs.Halves.{BookState, live, marked, whole_in, without, with_half, with_begin, with_record, with_close, with_close_over, with_trim}
 use Rattle.tp_law_network.proofs.Lines.{first_is, without_taken}
 use Rattle.tp_law_network.proofs.Local.{Step, next_from, own-node, own-host, process_same, takes_same}
 
@@ -37,11 +37,11 @@ module _ {Node : Type 0} (M : Machine Node) (b : BookState Node) (nodes : List N
   pub node_joins : (e : Entry) (n after : Node) (sends : List (ℕ × Token)) (out : List (List Token))
       → slice_get nodes (process b.start.wires (length b.start.nodes) e) ≡ Some n → taken b.lines (takes b.start.wires (length b.start.nodes) e) ≡ Some out
       → does M b.start.wires (length nodes) e (OfNode n) ≡ Some (OfNode after, sends)
-      → happens M (marked b nodes frozen) (Journal e) ≡ Some (marked (with_entry b e b.ports sends) (set nodes (process b.start.wires (length b.start.nodes) e) after) frozen)
+      → happens M (marked b nodes frozen) (Journal e) ≡ Some (marked (with_half b e b.ports sends) (set nodes (process b.start.wires (length b.start.nodes) e) after) frozen)
   unfolding put
-  node_joins e n after sends out at takes_out change = joined e (live (with_entry b e b.ports sends) (set nodes (process b.start.wires (length b.start.nodes) e) after)) (next_from M (live b nodes) e _ S)
+  node_joins e n after sends out at takes_out change = joined e (live (with_half b e b.ports sends) (set nodes (process b.start.wires (length b.start.nodes) e) after)) (next_from M (live b nodes) e _ S)
     where
-      S : Step M (live b nodes) e (live (with_entry b e b.ports sends) (set nodes (process b.start.wires (length b.start.nodes) e) after))
+      S : Step M (live b nodes) e (live (with_half b e b.ports sends) (set nodes (process b.start.wires (length b.start.nodes) e) after))
       S = record {
         out = without b.lines (takes b.start.wires (length b.start.nodes) e);
         takes_out = ap (λ ms. taken b.lines ms) (takes_same b.start (live b nodes) refl as_many e) ∙ takes_out ∙ ap Some (sym (without_taken b.lines (takes b.start.wires (length b.start.nodes) e) out takes_out));
@@ -59,11 +59,11 @@ module _ {Node : Type 0} (M : Machine Node) (b : BookState Node) (nodes : List N
   pub host_joins : (e : Entry) (ports : List Port) (sends : List (ℕ × Token)) (out : List (List Token))
       → process b.start.wires (length b.start.nodes) e ≡ length nodes → taken b.lines (takes b.start.wires (length b.start.nodes) e) ≡ Some out
       → does M b.start.wires (length nodes) e (OfHost b.ports) ≡ Some (OfHost ports, sends)
-      → happens M (marked b nodes frozen) (Journal e) ≡ Some (marked (with_entry b e ports sends) nodes frozen)
+      → happens M (marked b nodes frozen) (Journal e) ≡ Some (marked (with_half b e ports sends) nodes frozen)
   unfolding put
-  host_joins e ports sends out host takes_out change = joined e (live (with_entry b e ports sends) nodes) (next_from M (live b nodes) e _ S)
+  host_joins e ports sends out host takes_out change = joined e (live (with_half b e ports sends) nodes) (next_from M (live b nodes) e _ S)
     where
-      S : Step M (live b nodes) e (live (with_entry b e ports sends) nodes)
+      S : Step M (live b nodes) e (live (with_half b e ports sends) nodes)
       S = record {
         out = without b.lines (takes b.start.wires (length b.start.nodes) e);
         takes_out = ap (λ ms. taken b.lines ms) (takes_same b.start (live b nodes) refl as_many e) ∙ takes_out ∙ ap Some (sym (without_taken b.lines (takes b.start.wires (length b.start.nodes) e) out takes_out));

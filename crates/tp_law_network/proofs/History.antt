@@ -3,14 +3,14 @@ use Rattle.std.proofs.Common.{◌≡◌, ℕ, ◌+◌, ◌≤◌, List, length, 
 use Rattle.tp_model.specs.Network.{Machine, Network, on_line}
 use Rattle.tp_model.specs.Entries.{process, HasFourLinks}
 use Rattle.tp_model.specs.Order.{after, pre, post}
-use Rattle.tp_model.specs.Sound.{Ends, KeepsFlight, Sound}
+use Rattle.tp_model.specs.Sound.{EndsSeen, KeepsFlight, Sound}
 use Rattle.tp_model.specs.Markers.{NeverMarks, markers, plain_network}
 use Rattle.tp_model.specs.WholeCut.{WholeCut, count_in, whole, IsWhole}
 use Rattle.tp_model.specs.Acts.{CutHolds}
 use Rattle.tp_model.specs.CutOrder.{HasOrder}
 use Rattle.tp_model.specs.Disk.{MayBe}
 use Rattle.tp_model.specs.Areas.{Areas, AreasHold, next_number}
-use Rattle.tp_model.specs.Runs.{World, Event, Run, IsFormatted, Recovers}
+use Rattle.tp_model.specs.Runs.{World, Event, Run, BeginsFormatted, Recovers}
 use Rattle.tp_law_network.proofs.Sound.{sound_after}
 use Rattle.tp_law_network.proofs.Room.{sound_marked}
 use Rattle.tp_law_network.proofs.CutsRoom.{few_markers, line_room}
@@ -21,7 +21,7 @@ use Rattle.tp_law_network.proofs.Invariant.{Inv}
 use Rattle.tp_law_network.proofs.Runs.{reads_now, formatted_run}
 
 module _ {Node : Type 0} (M : Machine Node) (four : HasFourLinks M) (never : NeverMarks M) (A : Areas Node) (law : AreasHold M A) (start : Network Node)
-    (events : List (Event Node)) (first last : World Node) (formatted : IsFormatted M A start first) (run : Run M A first events last) where
+    (events : List (Event Node)) (first last : World Node) (formatted : BeginsFormatted M A start first) (run : Run M A first events last) where
   holds : Inv M A start last
   holds = formatted_run M four never A law start events first last formatted run
 
@@ -38,10 +38,10 @@ module _ {Node : Type 0} (M : Machine Node) (four : HasFourLinks M) (never : Nev
   pub one_marker : (line : ℕ) → markers (on_line last.net.live.lines line) ≤ 1
   one_marker line = few_markers M last.net holds.net line
 
-  pub stays_sound : (E : Ends Node) → KeepsFlight M E → Sound E start → Sound E last.net.live
+  pub stays_sound : (E : EndsSeen Node) → KeepsFlight M E → Sound E start → Sound E last.net.live
   stays_sound E keeps sound = sound_marked last.net.live (sound_after four keeps start (plain_network last.net.live) last.journal sound journal_leads) holds.net.base.unwired
 
-  pub three_tokens : (E : Ends Node) → KeepsFlight M E → Sound E start → (line : ℕ) → length (on_line last.net.live.lines line) ≤ 3
+  pub three_tokens : (E : EndsSeen Node) → KeepsFlight M E → Sound E start → (line : ℕ) → length (on_line last.net.live.lines line) ≤ 3
   three_tokens E keeps sound line =
       let most = line_room M last.net holds.net E (sound_after four keeps start (plain_network last.net.live) last.journal sound journal_leads) line in
       let one = one_marker line in

@@ -8,7 +8,7 @@ use Rattle.tp_model.specs.declared.opening.OpenFault.TheVariants.{Damaged}
 use Rattle.tp_model.specs.declared.limits.TheConstants.{LINE_BYTES}
 use Rattle.tp_model.specs.Word.{bit}
 use Rattle.tp_model.specs.Network.{Network, OfNode, OfHost, own, is_wired, has_wire, back, on_line}
-use Rattle.tp_model.specs.Sound.{Ends, datas, acks, owner, waits_at, holds_at, end_waits, end_holds, is_pending, Wired, Sound}
+use Rattle.tp_model.specs.Sound.{EndsSeen, datas, acks, owner, waits_at, holds_at, end_waits, end_holds, is_pending, Wired, Sound}
 use Rattle.tp_model.specs.Flight.{is_in_one_place, flights_in}
 use Rattle.tp_law_machine.proofs.Faults.{or_fault}
 use Rattle.tp_law_network.proofs.Local.{own-node, own-host}
@@ -25,22 +25,22 @@ own-port s line h =
     let of_port : owner (length s.nodes) line ≡ length s.nodes = rw (le-ltb line (4 * length s.nodes) h) refl in
     ap (own s) of_port ∙ own-host s
 
-pub end_waits-link : {Node : Type 0} (E : Ends Node) (s : Network Node) (line : ℕ) (node : Node) → line < 4 * length s.nodes → slice_get s.nodes (line / 4) ≡ Some node → end_waits E s line ≡ E.waits node (line % 4)
+pub end_waits-link : {Node : Type 0} (E : EndsSeen Node) (s : Network Node) (line : ℕ) (node : Node) → line < 4 * length s.nodes → slice_get s.nodes (line / 4) ≡ Some node → end_waits E s line ≡ E.waits node (line % 4)
 end_waits-link E s line node h at = ap (λ o. waits_at E (length s.nodes) o line) (own-link s line node h at)
 
-pub end_waits-port : {Node : Type 0} (E : Ends Node) (s : Network Node) (line : ℕ) → 4 * length s.nodes ≤ line → end_waits E s line ≡ is_pending (slice_get s.ports (line - 4 * length s.nodes))
+pub end_waits-port : {Node : Type 0} (E : EndsSeen Node) (s : Network Node) (line : ℕ) → 4 * length s.nodes ≤ line → end_waits E s line ≡ is_pending (slice_get s.ports (line - 4 * length s.nodes))
 end_waits-port E s line h = ap (λ o. waits_at E (length s.nodes) o line) (own-port s line h)
 
-pub end_holds-link : {Node : Type 0} (E : Ends Node) (s : Network Node) (line : ℕ) (node : Node) → line < 4 * length s.nodes → slice_get s.nodes (line / 4) ≡ Some node → end_holds E s line ≡ E.holds node (line % 4)
+pub end_holds-link : {Node : Type 0} (E : EndsSeen Node) (s : Network Node) (line : ℕ) (node : Node) → line < 4 * length s.nodes → slice_get s.nodes (line / 4) ≡ Some node → end_holds E s line ≡ E.holds node (line % 4)
 end_holds-link E s line node h at = ap (λ o. holds_at E o line) (own-link s line node h at)
 
-pub end_holds-port : {Node : Type 0} (E : Ends Node) (s : Network Node) (line : ℕ) → 4 * length s.nodes ≤ line → end_holds E s line ≡ false
+pub end_holds-port : {Node : Type 0} (E : EndsSeen Node) (s : Network Node) (line : ℕ) → 4 * length s.nodes ≤ line → end_holds E s line ≡ false
 end_holds-port E s line h = ap (λ o. holds_at E o line) (own-port s line h)
 
 -- ## Flights
 
 -- the test was passed by each of `count` lines
-pub flights_found : {Node : Type 0} (E : Ends Node) (s : Network Node) (at line count : ℕ) → flights_in E s at line count ≡ Ok tt
+pub flights_found : {Node : Type 0} (E : EndsSeen Node) (s : Network Node) (at line count : ℕ) → flights_in E s at line count ≡ Ok tt
     → (k : ℕ) → line ≤ k → k < line + count → is_in_one_place E s k (back s k) ≡ true
 unfolding flights_in
 flights_found E s at line zero is k low high = absurd (omega arith)
@@ -57,7 +57,7 @@ wire_below s x wired = elim (cases_lt x (length s.wires)) [
   | inr past ↦ absurd (true≢false (sym wired ∙ ap is_wired (get_or_past s.wires x None past)))
 ]
 
-pub sound_in_place : {Node : Type 0} (E : Ends Node) (s : Network Node) → Wired s → length s.wires ≡ length s.lines → length s.lines ≡ 4 * length s.nodes + length s.ports
+pub sound_in_place : {Node : Type 0} (E : EndsSeen Node) (s : Network Node) → Wired s → length s.wires ≡ length s.lines → length s.lines ≡ 4 * length s.nodes + length s.ports
     → ((x : ℕ) → has_wire s.wires x ≡ false → on_line s.lines x ≡ []) → ((x : ℕ) → x < length s.wires → is_in_one_place E s x (back s x) ≡ true) → Sound E s
 sound_in_place E s wired as_long shaped empty placed = record {
   wires = wired;

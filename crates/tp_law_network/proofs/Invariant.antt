@@ -9,8 +9,8 @@ use Rattle.tp_model.specs.Areas.{Areas, Held}
 use Rattle.tp_model.specs.WriteOrder.{Position, Resting, Body, Ready, Gate, Cleared, Tail, Opening, Opened, Broken}
 use Rattle.tp_model.specs.Runs.{World}
 use Rattle.tp_model.specs.CutOrder.{HasOrder}
-use Rattle.tp_law_network.specs.Invariant.{Holds}
-use Rattle.tp_law_network.specs.Standing.{Rests, Bodied, Readied, Gated, Clearing, Switching}
+use Rattle.tp_law_network.specs.Invariant.{CutInvariant}
+use Rattle.tp_law_network.specs.Standing.{RestsBetweenGroups, Bodied, Readied, Gated, Clearing, Switching}
 use Rattle.tp_law_network.proofs.Prefix.{Stands, Kept, Copied, held_of}
 
 -- The bytes are read well, and what they hold leads where a prefix of the journal leads.
@@ -35,12 +35,12 @@ BeginsWith es backlog = (more : List Entry) × (backlog ≡ es ++ more)
 -- What holds of the device, and of the entries on it, at each position of the flusher. While the copy of a tail is kept
 -- nothing of the book is copied; and after the other area's gate is synced the device stands for the copy.
 abbrev pub At : {Node : Type 0} → Machine Node → Areas Node → Network Node → World Node → Position Node → Type 0
-At M A start w Resting = WithKept M start w (λ h. Rests A h w.disk)
+At M A start w Resting = WithKept M start w (λ h. RestsBetweenGroups A h w.disk)
 At M A start w (Body place es) = WithKept M start w (λ h. Bodied A h w.disk place es) × BeginsWith es w.backlog
 At M A start w (Ready place es) = WithKept M start w (λ h. Readied A h w.disk place es) × BeginsWith es w.backlog
 At M A start w (Gate place es) = WithKept M start w (λ h. Gated A h w.disk place es) × BeginsWith es w.backlog
 At M A start w Cleared = WithKept M start w (λ h. Clearing A h w.disk)
-At M A start w (Tail copy upto) = WithKept M start w (λ h. Rests A h w.disk) × CopiedOf M start w copy upto × (w.backlog ≡ [])
+At M A start w (Tail copy upto) = WithKept M start w (λ h. RestsBetweenGroups A h w.disk) × CopiedOf M start w copy upto × (w.backlog ≡ [])
 At M A start w (Opening copy upto) = WithKept M start w (λ h. Switching A h w.disk copy) × CopiedOf M start w copy upto × (w.backlog ≡ [])
 At M A start w (Opened copy upto) = (A.verdict w.disk.bytes ≡ Some copy) × (w.disk.unsynced ≡ []) × CopiedOf M start w copy upto × (w.backlog ≡ []) × (w.stored ≡ upto)
 At M A start w Broken = (left : List ℕ) → MayBe w.disk left → Reads M A start w.journal w.stored left
@@ -49,7 +49,7 @@ At M A start w Broken = (left : List ℕ) → MayBe w.disk left → Reads M A st
 -- entries in the kept cut they are an order of it; the mark is no more than what the synced gates reach, and each mark
 -- that was read no more than the mark.
 pub record Inv {Node : Type 0} (M : Machine Node) (A : Areas Node) (start : Network Node) (w : World Node) : Type 0 where
-  pub net : Holds M w.net
+  pub net : CutInvariant M w.net
   pub agree : after M w.net.start w.net.entries ≡ after M start w.journal
   pub order : HasOrder M start w.journal w.net.start w.net.entries w.base
   pub mark : w.mark ≤ w.stored

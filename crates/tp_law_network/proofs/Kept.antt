@@ -11,7 +11,7 @@ use Rattle.tp_model.specs.Snapshot.{MarkedNetwork, has_recorded, is_closed}
 use Rattle.tp_model.specs.WholeCut.{WholeCut, count_in, all_some, whole, network_in, trimmed}
 use Rattle.tp_model.specs.Acts.{CutHolds}
 use Rattle.tp_law_network.proofs.Reorder.{after_front, after_shape}
-use Rattle.tp_law_network.specs.Invariant.{Holds}
+use Rattle.tp_law_network.specs.Invariant.{CutInvariant}
 use Rattle.tp_law_network.proofs.Whole.{all_some-map, all_closed_at, whole_parts, running, whole_holds}
 
 -- the frozen nodes and the cut are the network that the entries in the cut lead to
@@ -26,7 +26,7 @@ cut_network {Node} M four w cut nodes C e =
     ∙ ap (λ ports. record (network_in C.consistent.state cut C.consistent.state.nodes) { ports = ports }) (sym C.ports)
     ∙ ap (λ lines. record C.consistent.state { lines = lines }) (sym C.lines)
 
-module _ {Node : Type 0} (M : Machine Node) (w : MarkedNetwork Node) (H : Holds M w) (cut : WholeCut) (is : whole w ≡ Some cut) where
+module _ {Node : Type 0} (M : Machine Node) (w : MarkedNetwork Node) (H : CutInvariant M w) (cut : WholeCut) (is : whole w ≡ Some cut) where
   -- where a cut is whole no Marker is on its way
   pub whole_unmarked : (l : ℕ) → ◌≡◌ {A = ℕ} (markers (on_line w.live.lines l)) 0
   whole_unmarked l =
@@ -43,8 +43,8 @@ module _ {Node : Type 0} (M : Machine Node) (w : MarkedNetwork Node) (H : Holds 
       none false c h = refl
 
 -- A book that is trimmed to a whole cut keeps what holds.
-pub trim_holds : {Node : Type 0} (M : Machine Node) → HasFourLinks M → (w : MarkedNetwork Node) → Holds M w → (cut : WholeCut) (nodes : List Node)
-    → whole w ≡ Some cut → all_some w.frozen ≡ Some nodes → Holds M (trimmed w cut nodes)
+pub trim_holds : {Node : Type 0} (M : Machine Node) → HasFourLinks M → (w : MarkedNetwork Node) → CutInvariant M w → (cut : WholeCut) (nodes : List Node)
+    → whole w ≡ Some cut → all_some w.frozen ≡ Some nodes → CutInvariant M (trimmed w cut nodes)
 trim_holds M four w H cut nodes is images = record {
   base = record { now = now; lines = H.base.lines; wired = H.base.wired; unwired = H.base.unwired };
   inside = whole_unmarked M w H cut is;

@@ -11,8 +11,8 @@ use Rattle.tp_model.specs.Areas.{Areas, AreasHold, Held, gate_open}
 use Rattle.tp_model.specs.WriteOrder.{Position, Resting, Body, Tail, Opening, Opened, Broken, Allows, putting, looking, clearing, clear_done, add_body, body_done, add_gate, gate_done, tail_putting, tail_syncing, switching, switch_done, reached, left}
 use Rattle.tp_model.specs.Runs.{World, Event, Does, Breaks, Run}
 use Rattle.tp_model.specs.Walks.{Chained, AreWalked}
-use Rattle.tp_law_network.specs.Standing.{Rests}
-use Rattle.tp_law_network.specs.Planned.{moved, ArePlanned, AreQuiet, calls_of, worlds_of, all_moved, all_does, group_plan, clear_plan, put_then, switch_plan}
+use Rattle.tp_law_network.specs.Standing.{RestsBetweenGroups}
+use Rattle.tp_law_network.specs.Planned.{moved_on, ArePlanned, AreQuiet, calls_of, worlds_of, all_moved, all_does, group_plan, clear_plan, put_then, switch_plan}
 use Rattle.tp_law_network.proofs.Moments.{may_be_written}
 use Rattle.tp_law_network.proofs.Device.{put_may, put_room}
 use Rattle.tp_law_network.proofs.Walks.{no_step, one_step, chained_from, disks}
@@ -22,22 +22,22 @@ use Rattle.tp_law_network.proofs.Walks.{no_step, one_step, chained_from, disks}
 -- the device is where the calls lead
 planned_disk : {Node : Type 0} (w : World Node) (plan : List (Call × Position Node)) → (all_moved w plan).disk ≡ all_done (calls_of plan) w.disk
 planned_disk w [] = refl
-planned_disk w (step ∷ plan) = planned_disk (moved w step.0 step.1) plan
+planned_disk w (step ∷ plan) = planned_disk (moved_on w step.0 step.1) plan
 
 module _ {Node : Type 0} (M : Machine Node) (A : Areas Node) where
   planned_chain : (w : World Node) (plan : List (Call × Position Node)) → ArePlanned A w plan → Chained M A w (worlds_of w plan) (all_moved w plan)
   planned_chain w [] planned = no_step M A w
   planned_chain w (step ∷ plan) planned =
-      let u : World Node = moved w step.0 step.1 in
+      let u : World Node = moved_on w step.0 step.1 in
       (no_step M A w, chained_from M A w u (all_moved u plan) (worlds_of u plan) (one_step M A w u (Does step.0 step.1) refl (planned.0, refl)) (planned_chain u plan planned.1))
 
   pub planned_run : (w : World Node) (plan : List (Call × Position Node)) → ArePlanned A w plan → Run M A w (all_does plan) (all_moved w plan)
   planned_run w [] planned = refl
-  planned_run w (step ∷ plan) planned = (moved w step.0 step.1, (planned.0, refl), planned_run (moved w step.0 step.1) plan planned.1)
+  planned_run w (step ∷ plan) planned = (moved_on w step.0 step.1, (planned.0, refl), planned_run (moved_on w step.0 step.1) plan planned.1)
 
   planned_disks : (w : World Node) (plan : List (Call × Position Node)) → disks M A (worlds_of w plan) ≡ moments_of (calls_of plan) w.disk
   planned_disks w [] = refl
-  planned_disks w (step ∷ plan) = ap (λ ms. w.disk ∷ ms) (planned_disks (moved w step.0 step.1) plan)
+  planned_disks w (step ∷ plan) = ap (λ ms. w.disk ∷ ms) (planned_disks (moved_on w step.0 step.1) plan)
 
   -- ## One of its calls breaks
 
@@ -65,7 +65,7 @@ module _ {Node : Type 0} (M : Machine Node) (A : Areas Node) where
   breaks_off u (step ∷ next ∷ plan) planned quiet (c ∷ cs) call after stands are may =
       let same : step.0 ≡ c = cc in
       let more : calls_of (next ∷ plan) ≡ cs ++ call ∷ after = cc in
-      let v : World Node = moved u step.0 step.1 in
+      let v : World Node = moved_on u step.0 step.1 in
       let there : all_done cs (done c u.disk) ≡ all_done cs (done step.0 u.disk) = ap (λ x. all_done cs (done x u.disk)) (sym same) in
       let R = breaks_off v (next ∷ plan) planned.1 quiet.2 cs call after stands more (subst (λ m. MayBe (within call m) stands) there may) in
       let end : broken_off v cs call stands ≡ broken_off u (c ∷ cs) call stands =
@@ -155,7 +155,7 @@ module _ {Node : Type 0} (M : Machine Node) (A : Areas Node) where
       let r : reached w.at w.stored ≡ w.stored = ap (λ p. reached p w.stored) at ∙ S.stored w.stored in
       let l : left w.at w.backlog ≡ w.backlog = ap (λ p. left p w.backlog) at ∙ S.backlog w.backlog in
       let here : step.1 ≡ w.at = same.0 ∙ sym at in
-      stays_moved pos S (moved w step.0 step.1) plan same.1 same.0
+      stays_moved pos S (moved_on w step.0 step.1) plan same.1 same.0
       ∙ (λ i. record w { disk = all_done (calls_of plan) (done step.0 w.disk); at = here i; stored = r i; backlog = l i })
 
   stays_quiet : (pos : Position Node) → IsStill pos → (w : World Node) (plan : List (Call × Position Node)) → AllByRecursion (λ step. step.1 ≡ pos) plan → w.at ≡ pos → AreQuiet w plan
@@ -164,7 +164,7 @@ module _ {Node : Type 0} (M : Machine Node) (A : Areas Node) where
   stays_quiet pos S w (step ∷ next ∷ plan) same at = (
     ap (λ p. reached p w.stored) at ∙ S.stored w.stored,
     ap (λ p. left p w.backlog) at ∙ S.backlog w.backlog,
-    stays_quiet pos S (moved w step.0 step.1) (next ∷ plan) same.1 same.0,
+    stays_quiet pos S (moved_on w step.0 step.1) (next ∷ plan) same.1 same.0,
   )
 
   put_stays : (pos : Position Node) (pieces : List (ℕ × List ℕ)) (last : List (Call × Position Node)) → AllByRecursion (λ step. step.1 ≡ pos) last → AllByRecursion (λ step. step.1 ≡ pos) (put_then pos pieces last)
@@ -185,7 +185,7 @@ module _ {Node : Type 0} (M : Machine Node) (A : Areas Node) where
         → (A.verdict (written bytes at piece) ≡ Some h) × (A.spare (written bytes at piece) ≡ A.spare bytes)
     put_reads bytes reads at piece inside =
         let m : Moment = record { bytes = bytes; unsynced = [] } in
-        let r : Rests A h m = record { reads = reads; loose = tt } in
+        let r : RestsBetweenGroups A h m = record { reads = reads; loose = tt } in
         put_may M A law h m r at piece inside (written bytes at piece) (may_be_written m at piece (put_room M A law h m r at piece inside))
 
     put_planned : (w : World Node) (pieces : List (ℕ × List ℕ)) (last : List (Call × Position Node)) → ((u : World Node) → u.at ≡ pos → ArePlanned A u last)
@@ -194,7 +194,7 @@ module _ {Node : Type 0} (M : Machine Node) (A : Areas Node) where
     put_planned w (piece ∷ pieces) last then at reads inside =
         let behind = put_reads w.disk.bytes reads piece.0 piece.1 inside.0 in (
           subst (λ p. Allows A w.disk w.backlog p (Write piece.0 piece.1) pos) (sym at) (S.puts w.disk.unsynced w.disk.bytes w.backlog piece.0 piece.1 inside.0),
-          put_planned (moved w (Write piece.0 piece.1) pos) pieces last then refl behind.0 (subst (λ spare. AreInside spare pieces) (sym behind.1) inside.1),
+          put_planned (moved_on w (Write piece.0 piece.1) pos) pieces last then refl behind.0 (subst (λ spare. AreInside spare pieces) (sym behind.1) inside.1),
         )
 
     put_then_walks : (w : World Node) (old new : State) (pieces : List (ℕ × List ℕ)) (last : List (Call × Position Node)) → ((u : World Node) → u.at ≡ pos → ArePlanned A u last)

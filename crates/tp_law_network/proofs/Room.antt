@@ -10,7 +10,7 @@ use Rattle.tp_model.specs.declared.entry.Entry.{Entry}
 use Rattle.tp_model.specs.Word.{bit}
 use Rattle.tp_model.specs.Network.{◌>>=◌, Machine, steps, Network, own, has_wire, on_line, sent, for_line}
 use Rattle.tp_model.specs.Entries.{HasFourLinks, takes}
-use Rattle.tp_model.specs.Sound.{Ends, datas, acks, end_waits, end_holds, Sound, KeepsFlight}
+use Rattle.tp_model.specs.Sound.{EndsSeen, datas, acks, end_waits, end_holds, Sound, KeepsFlight}
 use Rattle.tp_model.specs.Markers.{is_marker, plain, markers, plain_network, NeverMarks}
 use Rattle.tp_law_network.proofs.Partial.{all_append, bind_some}
 use Rattle.tp_law_network.proofs.Local.{Step, next_from, step_lines, steps_links}
@@ -53,7 +53,7 @@ steps_unmarked {M = M} never (suc count) node after e =
     subst (λ r. AllByRecursion (λ m. is_marker m.1 ≡ false) r.1) same
     (all_append (λ m. is_marker m.1 ≡ false) a.0.1 b.0.1 (never.step node a.0 a.1) (steps_unmarked never count a.0.0 b.0 b.1))
 
-module _ {Node : Type 0} {M : Machine Node} {E : Ends Node} (four : HasFourLinks M) (keeps : KeepsFlight M E) where
+module _ {Node : Type 0} {M : Machine Node} {E : EndsSeen Node} (four : HasFourLinks M) (keeps : KeepsFlight M E) where
   -- Over a run of steps, each link sends at most one Data and one Ack.
   pub run_small : (count : ℕ) (node : Node) (after : Node × List (ℕ × Token)) → steps M count node ≡ Some after
       → (k : ℕ) → k < 4 → (datas (for_line k after.1) ≤ 1) × (acks (for_line k after.1) ≤ 1)
@@ -81,7 +81,7 @@ module _ {Node : Type 0} {M : Machine Node} {E : Ends Node} (four : HasFourLinks
 -- ## Room for a push
 
 -- A line holds at most a Data, an Ack and its Markers.
-pub line_room : {Node : Type 0} {E : Ends Node} {s : Network Node} → Sound E s → (x : ℕ) → length (on_line s.lines x) ≤ 2 + markers (on_line s.lines x)
+pub line_room : {Node : Type 0} {E : EndsSeen Node} {s : Network Node} → Sound E s → (x : ℕ) → length (on_line s.lines x) ≤ 2 + markers (on_line s.lines x)
 line_room {s = s} sound x = let small = sound_small sound x in omega (arith, length-kinds (on_line s.lines x), small.0, small.1)
 
 -- a line is longer after more was sent on it
@@ -91,7 +91,7 @@ push_longer on lines front m more y h =
     rw (on_sent_open on lines front m.0 y h, on_sent_open on lines (front ++ m ∷ more) m.0 y h, for_line-append m.0 front (m ∷ more), for_line-here m.0 m.1 more) (omega (arith, length-append (on_line lines m.0) (for_line m.0 front), length-append (on_line lines m.0) (for_line m.0 front ++ m.1 ∷ for_line m.0 more), length-append (for_line m.0 front) (m.1 ∷ for_line m.0 more)))
 
 -- Where an entry pushes a token, fewer than two stand on the line beside its Markers.
-pub push_room : {Node : Type 0} {M : Machine Node} {E : Ends Node} → HasFourLinks M → KeepsFlight M E → (s t : Network Node) (e : Entry) → Sound E s → (S : Step M s e t)
+pub push_room : {Node : Type 0} {M : Machine Node} {E : EndsSeen Node} → HasFourLinks M → KeepsFlight M E → (s t : Network Node) (e : Entry) → Sound E s → (S : Step M s e t)
     → (front : List (ℕ × Token)) (m : ℕ × Token) (more : List (ℕ × Token)) → S.sends ≡ front ++ m ∷ more → has_wire s.wires m.0 ≡ true
     → length (on_line (sent (has_wire s.wires) S.out front) m.0) < 2 + markers (on_line t.lines m.0)
 push_room {M = M} four keeps s t e sound S front m more is y =
@@ -125,16 +125,16 @@ pub own-plain : {Node : Type 0} (s : Network Node) (p : ℕ) → own (plain_netw
 unfolding own
 own-plain s p = refl
 
-pub end_waits-plain : {Node : Type 0} (E : Ends Node) (s : Network Node) (x : ℕ) → end_waits E (plain_network s) x ≡ end_waits E s x
+pub end_waits-plain : {Node : Type 0} (E : EndsSeen Node) (s : Network Node) (x : ℕ) → end_waits E (plain_network s) x ≡ end_waits E s x
 unfolding own
 end_waits-plain E s x = refl
 
-pub end_holds-plain : {Node : Type 0} (E : Ends Node) (s : Network Node) (x : ℕ) → end_holds E (plain_network s) x ≡ end_holds E s x
+pub end_holds-plain : {Node : Type 0} (E : EndsSeen Node) (s : Network Node) (x : ℕ) → end_holds E (plain_network s) x ≡ end_holds E s x
 unfolding own
 end_holds-plain E s x = refl
 
 -- Markers leave a network sound,
-pub sound_marked : {Node : Type 0} {E : Ends Node} (s : Network Node) → Sound E (plain_network s) → ((x : ℕ) → has_wire s.wires x ≡ false → on_line s.lines x ≡ []) → Sound E s
+pub sound_marked : {Node : Type 0} {E : EndsSeen Node} (s : Network Node) → Sound E (plain_network s) → ((x : ℕ) → has_wire s.wires x ≡ false → on_line s.lines x ≡ []) → Sound E s
 sound_marked {E = E} s sound unwired = record {
   wires = record { both_ways = λ x y b. sound.wires.both_ways x y b; links = λ x i k r. sound.wires.links x i k r };
   there = λ x y. subst (λ n. x < n) (length-map s.lines plain) (sound.there x y);
@@ -144,7 +144,7 @@ sound_marked {E = E} s sound unwired = record {
 }
 
 -- and so does leaving them out.
-pub sound_plain : {Node : Type 0} {E : Ends Node} (s : Network Node) → Sound E s → Sound E (plain_network s)
+pub sound_plain : {Node : Type 0} {E : EndsSeen Node} (s : Network Node) → Sound E s → Sound E (plain_network s)
 sound_plain {E = E} s sound = record {
   wires = record { both_ways = λ x y b. sound.wires.both_ways x y b; links = λ x i k r. sound.wires.links x i k r };
   there = λ x y. subst (λ n. x < n) (sym (length-map s.lines plain)) (sound.there x y);

@@ -14,10 +14,10 @@ use Rattle.tp_model.specs.Acts.{Act, Begin, Record, Journal, Close, Trim, happen
 use Rattle.tp_model.specs.Disk.{MayBe, AreWithin, Call, done, within, broken}
 use Rattle.tp_model.specs.Areas.{Areas, AreasHold, Held, next_number}
 use Rattle.tp_model.specs.WriteOrder.{Position, Resting, Body, Ready, Gate, Cleared, Tail, Opening, Opened, Broken, Allows, reached, left}
-use Rattle.tp_model.specs.Runs.{World, Event, Acts, Copies, CopiesTail, Does, Breaks, Trims, Raises, Reads as ReadsMark, Reopens, grown, is_trim, copy_of, reopened, HasCut, Leaves, Step, Run, fresh, IsFormatted, Recovers}
+use Rattle.tp_model.specs.Runs.{World, Event, Acts, Copies, CopiesTail, Does, Breaks, Trims, Raises, Reads as ReadsMark, Reopens, grown, is_trim, copy_of, reopened, HasCut, CrashLeaves, Step, Run, fresh, BeginsFormatted, Recovers}
 use Rattle.tp_law_network.proofs.Reorder.{first_possible, front_possible, same_behind}
-use Rattle.tp_law_network.specs.Invariant.{Inside, Holds}
-use Rattle.tp_law_network.specs.Standing.{Rests}
+use Rattle.tp_law_network.specs.Invariant.{Inside, CutInvariant}
+use Rattle.tp_law_network.specs.Standing.{RestsBetweenGroups}
 use Rattle.tp_law_network.proofs.Moments.{broken_may}
 use Rattle.tp_model.specs.CutOrder.{HasOrder}
 use Rattle.tp_law_network.proofs.Orders.{order_first, order_behind}
@@ -63,8 +63,8 @@ reached_up M A start w Broken a = le_refl w.stored
 
 module _ {Node : Type 0} (M : Machine Node) (four : HasFourLinks M) (never : NeverMarks M) where
   -- From a book without a snapshot, entries alone.
-  walk : (es : List Entry) (w : MarkedNetwork Node) → Holds M w → w.snapshot ≡ None → (now : Network Node) → after M w.live es ≡ Some now
-      → (v : MarkedNetwork Node) × Holds M v × (v.snapshot ≡ None) × (v.live ≡ now) × (v.start ≡ w.start) × (v.entries ≡ w.entries ++ es)
+  walk : (es : List Entry) (w : MarkedNetwork Node) → CutInvariant M w → w.snapshot ≡ None → (now : Network Node) → after M w.live es ≡ Some now
+      → (v : MarkedNetwork Node) × CutInvariant M v × (v.snapshot ≡ None) × (v.live ≡ now) × (v.start ≡ w.start) × (v.entries ≡ w.entries ++ es)
   unfolding after happens
   walk [] w holds idle now is = (w, holds, idle, cc, refl, sym (append-nil w.entries))
   walk (e ∷ es) w holds idle now is =
@@ -78,7 +78,7 @@ module _ {Node : Type 0} (M : Machine Node) (four : HasFourLinks M) (never : Nev
 
     -- the marker argument holds of a book that goes on from what was read
     pub reopened_holds : (first : List Entry) (h : Held Node) (now : Network Node) → after M start first ≡ Some now → after M h.network h.entries ≡ Some now
-        → Holds M (record { start = h.network; entries = h.entries; live = now; snapshot = None; frozen = [] })
+        → CutInvariant M (record { start = h.network; entries = h.entries; live = now; snapshot = None; frozen = [] })
     reopened_holds first h now is replayed =
         let W = walk first (fresh start) (opened_holds M (fresh start) opened) refl now is in
         let B = W.1.base in
@@ -96,7 +96,7 @@ module _ {Node : Type 0} (M : Machine Node) (four : HasFourLinks M) (never : Nev
     pub reads_now : (w : World Node) → Inv M A start w → (bytes : List ℕ) → MayBe w.disk bytes → Reads M A start w.journal w.stored bytes
     reads_now w I bytes may = reads_at M A law start w (plain_network w.net.live) I.net.base.now w.at I.at bytes may
 
-    reopens : (w : World Node) → Inv M A start w → (bytes : List ℕ) (h : Held Node) (now : Network Node) → Leaves M A w.disk bytes h now → Inv M A start (reopened w bytes h now)
+    reopens : (w : World Node) → Inv M A start w → (bytes : List ℕ) (h : Held Node) (now : Network Node) → CrashLeaves M A w.disk bytes h now → Inv M A start (reopened w bytes h now)
     reopens w I bytes h now L =
         subst (λ journal. Inv M A start (record (reopened w bytes h now) { journal = journal })) (sym cut) (
         record {
@@ -181,7 +181,7 @@ module _ {Node : Type 0} (M : Machine Node) (four : HasFourLinks M) (never : Nev
 
     -- ## The flusher
 
-    resting : (w : World Node) → Inv M A start w → w.at ≡ Resting → WithKept M start w (λ h. Rests A h w.disk)
+    resting : (w : World Node) → Inv M A start w → w.at ≡ Resting → WithKept M start w (λ h. RestsBetweenGroups A h w.disk)
     resting w I rests = subst (At M A start w) rests I.at
 
     copies_keeps : (w : World Node) → Inv M A start w → w.at ≡ Resting → Inv M A start (record w { backlog = drop (w.stored - w.base) w.net.entries })
@@ -192,7 +192,7 @@ module _ {Node : Type 0} (M : Machine Node) (four : HasFourLinks M) (never : Nev
       mark = I.mark;
       seen = I.seen;
       at = subst (At M A start (record w { backlog = drop (w.stored - w.base) w.net.entries })) (sym rests)
-          (copy_kept M start w.net.start w.net.entries w.base w.journal w.stored w.backlog (λ h. Rests A h w.disk) (resting w I rests).0 (resting w I rests).1);
+          (copy_kept M start w.net.start w.net.entries w.base w.journal w.stored w.backlog (λ h. RestsBetweenGroups A h w.disk) (resting w I rests).0 (resting w I rests).1);
     }
 
     copies_tail_keeps : (w : World Node) → Inv M A start w → w.at ≡ Resting → (cut : WholeCut) (nodes : List Node) → HasCut w.net cut nodes
@@ -204,7 +204,7 @@ module _ {Node : Type 0} (M : Machine Node) (four : HasFourLinks M) (never : Nev
       mark = I.mark;
       seen = I.seen;
       at = (
-        forget_kept M start w.net.start w.net.entries w.base w.journal w.stored w.backlog (λ h. Rests A h w.disk) (resting w I rests).0 (resting w I rests).1,
+        forget_kept M start w.net.start w.net.entries w.base w.journal w.stored w.backlog (λ h. RestsBetweenGroups A h w.disk) (resting w I rests).0 (resting w I rests).1,
         copies M four A start w I.net I.agree I.order cut nodes has (resting w I rests).0,
         refl,
       );
@@ -248,7 +248,7 @@ module _ {Node : Type 0} (M : Machine Node) (four : HasFourLinks M) (never : Nev
 
         T : (after M (network_in w.net.start cut nodes) (post (process w.net.start.wires (length w.net.start.nodes)) (count_in cut) w.net.entries) ≡ after M start w.journal)
             × HasOrder M start w.journal (network_in w.net.start cut nodes) (post (process w.net.start.wires (length w.net.start.nodes)) (count_in cut) w.net.entries) (w.base + cut.size)
-            × WithKept M start (record w { net = trimmed w.net cut nodes; base = w.base + cut.size }) (λ h. Rests A h w.disk)
+            × WithKept M start (record w { net = trimmed w.net cut nodes; base = w.base + cut.size }) (λ h. RestsBetweenGroups A h w.disk)
         T = trims M four A start w I.net I.agree I.order cut nodes has copy upto a.2 a.4 a.0 a.1 a.3
 
     -- ## Each event
@@ -288,9 +288,9 @@ module _ {Node : Type 0} (M : Machine Node) (four : HasFourLinks M) (never : Nev
 
     -- ## The start
 
-    pub formatted_holds : (w : World Node) → IsFormatted M A start w → Inv M A start w
+    pub formatted_holds : (w : World Node) → BeginsFormatted M A start w → Inv M A start w
     formatted_holds w F = record {
-      net = subst (Holds M) (sym F.net) (opened_holds M (fresh start) F.opened);
+      net = subst (CutInvariant M) (sym F.net) (opened_holds M (fresh start) F.opened);
       agree = ap (λ n. after M n.start n.entries) F.net ∙ ap (after M start) (sym F.none.1);
       order = subst (λ journal. HasOrder M start journal w.net.start w.net.entries w.base) (sym F.none.1)
           (subst (λ n. HasOrder M start [] n.start n.entries w.base) (sym F.net) (subst (HasOrder M start [] start []) (sym F.none.0) (order_first M start)));
@@ -341,13 +341,13 @@ module _ {Node : Type 0} (M : Machine Node) (four : HasFourLinks M) (never : Nev
 
 -- a run from a formatted device keeps the invariant
 pub formatted_run : {Node : Type 0} (M : Machine Node) → HasFourLinks M → NeverMarks M → (A : Areas Node) → AreasHold M A → (start : Network Node) (events : List (Event Node)) (first last : World Node)
-    → IsFormatted M A start first → Run M A first events last → Inv M A start last
+    → BeginsFormatted M A start first → Run M A first events last → Inv M A start last
 formatted_run M four never A law start events first last F run =
     run_keeps M four never A law start F.opened events first last (formatted_holds M four never A law start F.opened first F) run
 
 -- after each run, whatever a crash leaves is recovered
 pub run_recovers : {Node : Type 0} (M : Machine Node) → HasFourLinks M → NeverMarks M → (A : Areas Node) → AreasHold M A → (start : Network Node) (events : List (Event Node)) (first last : World Node)
-    → IsFormatted M A start first → Run M A first events last → (bytes : List ℕ) → MayBe last.disk bytes → Recovers M A start last bytes
+    → BeginsFormatted M A start first → Run M A first events last → (bytes : List ℕ) → MayBe last.disk bytes → Recovers M A start last bytes
 run_recovers M four never A law start events first last F run bytes may =
     recovers M four never A law start F.opened last (formatted_run M four never A law start events first last F run) bytes may
 
@@ -358,7 +358,7 @@ goes_on M A start last bytes may r = (record { may = may; reads = r.reads; is = 
 
 -- at each moment of a run a whole cut holds
 pub snapshots : {Node : Type 0} (M : Machine Node) → HasFourLinks M → NeverMarks M → (A : Areas Node) → AreasHold M A → (start : Network Node) (events : List (Event Node)) (first last : World Node)
-    → IsFormatted M A start first → Run M A first events last → (cut : WholeCut) → whole last.net ≡ Some cut → CutHolds M last.net cut
+    → BeginsFormatted M A start first → Run M A first events last → (cut : WholeCut) → whole last.net ≡ Some cut → CutHolds M last.net cut
 snapshots M four never A law start events first last F run cut is =
     let I = formatted_run M four never A law start events first last F run in
     whole_holds M four last.net I.net cut is

@@ -8,7 +8,7 @@ use Rattle.tp_model.specs.Areas.{Areas, Held}
 use Rattle.tp_model.specs.WriteOrder.{Position, Resting, Body, Ready, Gate, Cleared, Tail, Opening, Opened, Broken}
 use Rattle.tp_model.specs.Runs.{World}
 use Rattle.tp_law_network.proofs.Stays.{HasCounts}
-use Rattle.tp_law_network.specs.Standing.{Rests, Bodied, Readied, Gated, Clearing, Switching}
+use Rattle.tp_law_network.specs.Standing.{RestsBetweenGroups, Bodied, Readied, Gated, Clearing, Switching}
 use Rattle.tp_law_network.proofs.Prefix.{Stands, Kept, Copied, held_of, kept_grows, copied_grows, copied_stays}
 use Rattle.tp_law_network.proofs.Invariant.{Reads, CopiedOf, WithKept, At}
 
@@ -65,12 +65,12 @@ module _ {Node : Type 0} (M : Machine Node) (A : Areas Node) (start : Network No
     -- an entry is journalled
     pub grown_at : (e : Entry) (pos : Position Node) → At M A start w pos
         → At M A start (record w { net = record { start = w.net.start; entries = w.net.entries ++ e ∷ []; live = live; snapshot = snapshot; frozen = frozen }; journal = w.journal ++ e ∷ [] }) pos
-    grown_at e Resting a = grows e (λ h. Rests A h w.disk) a
+    grown_at e Resting a = grows e (λ h. RestsBetweenGroups A h w.disk) a
     grown_at e (Body place es) a = (grows e (λ h. Bodied A h w.disk place es) a.0, a.1)
     grown_at e (Ready place es) a = (grows e (λ h. Readied A h w.disk place es) a.0, a.1)
     grown_at e (Gate place es) a = (grows e (λ h. Gated A h w.disk place es) a.0, a.1)
     grown_at e Cleared a = grows e (λ h. Clearing A h w.disk) a
-    grown_at e (Tail copy upto) a = (grows e (λ h. Rests A h w.disk) a.0, copy_grows e copy upto a.1, a.2)
+    grown_at e (Tail copy upto) a = (grows e (λ h. RestsBetweenGroups A h w.disk) a.0, copy_grows e copy upto a.1, a.2)
     grown_at e (Opening copy upto) a = (grows e (λ h. Switching A h w.disk copy) a.0, copy_grows e copy upto a.1, a.2)
     grown_at e (Opened copy upto) a = (a.0, a.1, copy_grows e copy upto a.2, a.3, a.4)
     grown_at e Broken a = λ left may. reads_grows w.journal w.stored left e (a left may)

@@ -7,7 +7,7 @@ use Rattle.tp_model.specs.Disk.{MayBe, Call, Sync, done, within}
 use Rattle.tp_model.specs.Areas.{Areas, AreasHold, Held, with_more, ArePossible}
 use Rattle.tp_model.specs.WriteOrder.{Position, Resting, Body, Ready, Gate, Cleared, Tail, Opening, Opened, Broken, Allows, putting, syncing, looking, clearing, clear_done, add_body, body_done, add_gate, gate_done, tail_putting, tail_syncing, switching, switch_done, reached, left}
 use Rattle.tp_model.specs.Runs.{World}
-use Rattle.tp_law_network.specs.Standing.{Rests}
+use Rattle.tp_law_network.specs.Standing.{RestsBetweenGroups}
 use Rattle.tp_law_network.proofs.Moments.{synced_may}
 use Rattle.tp_law_network.proofs.Device.{rests_may, put_may, put_done, rests_synced, clear_within, clear_written, clear_may, clear_synced, body_within, body_written, body_may, body_synced, ready_may, gate_within, gate_written, gate_may, gate_synced, switch_within, switch_written, switch_may, switch_synced}
 use Rattle.tp_law_network.proofs.Prefix.{Copied, held_of, kept_stands, group_stands, group_possible, group_kept, copied_stands}
@@ -122,7 +122,7 @@ module _ {Node : Type 0} (M : Machine Node) (A : Areas Node) (law : AreasHold M 
     done_at from to call (body_done es place) a = ((a.0.0, body_synced M A law (kept_held a.0.0) w.disk place es a.0.1), a.1)
     done_at from to call (add_gate es place) a = ((a.0.0, gate_written M A law (kept_held a.0.0) w.disk place es a.0.1), a.1)
     done_at from to call (gate_done es place) a =
-        group_kept M start w.net.start w.net.entries w.base w.journal w.stored w.backlog es a.1.0 a.1.1 a.0.0 (λ h. Rests A h (done Sync w.disk))
+        group_kept M start w.net.start w.net.entries w.base w.journal w.stored w.backlog es a.1.0 a.1.1 a.0.0 (λ h. RestsBetweenGroups A h (done Sync w.disk))
         (gate_synced M A law (kept_held a.0.0) w.disk place es a.0.1 (possible a.0.0 es a.1))
     done_at from to call (tail_putting copy upto at piece inside) a = ((a.0.0, put_done M A law (kept_held a.0.0) w.disk a.0.1 at piece inside), a.1, a.2)
     done_at from to call (tail_syncing copy upto) a = ((a.0.0, rests_synced M A law (kept_held a.0.0) w.disk a.0.1), a.1, a.2)

@@ -11,7 +11,7 @@ use Rattle.tp_model.specs.Order.{after}
 use Rattle.tp_model.specs.Disk.{MayBe, written}
 use Rattle.tp_model.specs.Areas.{AreasHold, Held, with_more, ArePossible, gate_open}
 use Rattle.tp_law_network.proofs.Partial.{bind_some, map_some, cond_some}
-use Rattle.tp_law_network.specs.Small.{byte_at, is_open, begins, current, entries_at, held_at, if_possible, small_verdict, behind, spare_of, open_of, spelt, group_of, other_of, small_areas}
+use Rattle.tp_law_network.specs.Small.{small_byte, is_small_open, begins, current, entries_at, held_at, if_possible, small_verdict, behind, spare_of, open_of, spelt, group_of, other_of, small_areas}
 use Rattle.tp_law_machine.proofs.Faults.{none_or}
 use Rattle.tp_law_network.proofs.Moments.{length-written, get_or-written_outside, get_or-written_inside}
 use Rattle.tp_law_network.proofs.Small.{same_gate, entries_most, entries_same, entries_added, entries_end, places, current_open, current_alone, current_later, current_same, Verdict, verdict_parts, verdict_from}
@@ -48,18 +48,18 @@ module _ {Node : Type 0} (M : Machine Node) (image : ℕ → Network Node) (byte
   module _ (left : List ℕ) (size : length left ≡ length bytes) where
     -- the current area is the same up to that gate
     abbrev HeadStays : Type 0
-    HeadStays = (q : ℕ) → begins V.second ≤ q → q < gate → byte_at left q ≡ byte_at bytes q
+    HeadStays = (q : ℕ) → begins V.second ≤ q → q < gate → small_byte left q ≡ small_byte bytes q
 
     -- the other area's gate is closed, or it was open and the generation is the same
     abbrev OtherStays : Type 0
-    OtherStays = is_open left (begins (not V.second)) ≡ true
-        → (is_open bytes (begins (not V.second)) ≡ true) × (byte_at left (begins (not V.second) + 1) ≡ byte_at bytes (begins (not V.second) + 1))
+    OtherStays = is_small_open left (begins (not V.second)) ≡ true
+        → (is_small_open bytes (begins (not V.second)) ≡ true) × (small_byte left (begins (not V.second) + 1) ≡ small_byte bytes (begins (not V.second) + 1))
 
-    own_open : HeadStays → is_open left (begins V.second) ≡ true
+    own_open : HeadStays → is_small_open left (begins V.second) ≡ true
     own_open head = same_gate bytes left (begins V.second) (head (begins V.second) (le_refl (begins V.second)) (omega arith)) ∙ current_open bytes V.second V.is
 
     current_stays : HeadStays → OtherStays → current left ≡ Some V.second
-    current_stays head other = elim (cases_Bool (is_open left (begins (not V.second)))) [
+    current_stays head other = elim (cases_Bool (is_small_open left (begins (not V.second)))) [
       | inr closed ↦ current_alone left V.second (own_open head) closed
       | inl opened ↦
           current_same bytes left V.second (own_open head ∙ sym (current_open bytes V.second V.is)) (opened ∙ sym (other opened).0)
@@ -68,7 +68,7 @@ module _ {Node : Type 0} (M : Machine Node) (image : ℕ → Network Node) (byte
     ]
 
     -- the same is read
-    keeps : HeadStays → OtherStays → (count < 2 → is_open left gate ≡ false) → small_verdict M image left ≡ Some h
+    keeps : HeadStays → OtherStays → (count < 2 → is_small_open left gate ≡ false) → small_verdict M image left ≡ Some h
     keeps head other closed =
         let entries = entries_same bytes left 2 (begins V.second + 4) (λ q low high. head q (omega arith) high) closed in
         let base = head (begins V.second + 2) (omega arith) (omega arith) in
@@ -83,7 +83,7 @@ module _ {Node : Type 0} (M : Machine Node) (image : ℕ → Network Node) (byte
         })
 
     -- one entry more is read
-    adds : (x : ℕ) → HeadStays → OtherStays → count < 2 → is_open left gate ≡ true → byte_at left (gate + 1) ≡ x → is_open left (gate + 2) ≡ false
+    adds : (x : ℕ) → HeadStays → OtherStays → count < 2 → is_small_open left gate ≡ true → small_byte left (gate + 1) ≡ x → is_small_open left (gate + 2) ≡ false
         → ArePossible M h (HostIn 0 x ∷ []) → small_verdict M image left ≡ Some (with_more h (HostIn 0 x ∷ []))
     adds x head other room opened there closed possible =
         let entries = entries_added bytes left 2 (begins V.second + 4) x (λ q low high. head q (omega arith) high) room opened there closed in
@@ -99,9 +99,9 @@ module _ {Node : Type 0} (M : Machine Node) (image : ℕ → Network Node) (byte
         })
 
     -- the other area is read
-    switches : (k : Held Node) → HeadStays → is_open left (begins (not V.second)) ≡ true
-        → byte_at bytes (begins V.second + 1) < byte_at bytes (begins (not V.second) + 1)
-        → ((q : ℕ) → begins (not V.second) < q → q < begins (not V.second) + 9 → byte_at left q ≡ byte_at bytes q)
+    switches : (k : Held Node) → HeadStays → is_small_open left (begins (not V.second)) ≡ true
+        → small_byte bytes (begins V.second + 1) < small_byte bytes (begins (not V.second) + 1)
+        → ((q : ℕ) → begins (not V.second) < q → q < begins (not V.second) + 9 → small_byte left q ≡ small_byte bytes q)
         → held_at image bytes (begins (not V.second)) ≡ k → (last : Network Node) → after M k.network k.entries ≡ Some last → small_verdict M image left ≡ Some k
     switches k head opened later same held last possible =
         let o = begins (not V.second) in
@@ -127,12 +127,12 @@ module _ {Node : Type 0} (M : Machine Node) (image : ℕ → Network Node) (byte
   abbrev spare_now : ℕ × ℕ
   spare_now = spare_of bytes (current bytes)
 
-  spare_is : spare_now ≡ behind (is_open bytes (begins (not V.second))) (begins (not V.second))
+  spare_is : spare_now ≡ behind (is_small_open bytes (begins (not V.second))) (begins (not V.second))
   spare_is = ap (spare_of bytes) V.is
 
   -- the current area and the other gate lie outside it
   spare_apart : (q : ℕ) → ((begins V.second ≤ q) × (q < begins V.second + 9)) ⊎ (q ≡ begins (not V.second)) → IsOut spare_now q
-  spare_apart q where_it_is = subst (λ range. IsOut range q) (sym spare_is) (go (is_open bytes (begins (not V.second))))
+  spare_apart q where_it_is = subst (λ range. IsOut range q) (sym spare_is) (go (is_small_open bytes (begins (not V.second))))
     where
       low_or_high : (q < begins (not V.second) + 1) ⊎ (begins (not V.second) + 9 ≤ q)
       low_or_high = elim (places V.second) [
@@ -148,11 +148,11 @@ module _ {Node : Type 0} (M : Machine Node) (image : ℕ → Network Node) (byte
       go false = elim low_or_high [ inl low ↦ inl low | inr high ↦ inr (omega arith) ]
 
   -- where the other gate is open it is empty
-  spare_none : is_open bytes (begins (not V.second)) ≡ true → (q : ℕ) → IsOut spare_now q
+  spare_none : is_small_open bytes (begins (not V.second)) ≡ true → (q : ℕ) → IsOut spare_now q
   spare_none opened q = subst (λ range. IsOut range q) (sym (spare_is ∙ ap (λ b. behind b (begins (not V.second))) opened)) (inr (omega arith))
 
   spare_fits : spare_now.0 + spare_now.1 ≤ length bytes
-  spare_fits = subst (λ range. range.0 + range.1 ≤ length bytes) (sym spare_is) (go (is_open bytes (begins (not V.second))))
+  spare_fits = subst (λ range. range.0 + range.1 ≤ length bytes) (sym spare_is) (go (is_small_open bytes (begins (not V.second))))
     where
       go : (b : Bool) → (behind b (begins (not V.second))).0 + (behind b (begins (not V.second))).1 ≤ length bytes
       go true = omega arith
@@ -161,11 +161,11 @@ module _ {Node : Type 0} (M : Machine Node) (image : ℕ → Network Node) (byte
   -- ## Bytes that differ in that range, and in the current area behind its first closed gate
 
   module _ (left : List ℕ) (size : length left ≡ length bytes)
-      (same : (q : ℕ) → IsOut spare_now q → (q ≤ gate) ⊎ (begins V.second + 9 ≤ q) → byte_at left q ≡ byte_at bytes q) where
+      (same : (q : ℕ) → IsOut spare_now q → (q ≤ gate) ⊎ (begins V.second + 9 ≤ q) → small_byte left q ≡ small_byte bytes q) where
     loose_head : HeadStays left size
     loose_head q low high = same q (spare_apart q (inl (low, omega (arith, most)))) (inl (omega arith))
 
-    loose_gate : is_open left (begins (not V.second)) ≡ is_open bytes (begins (not V.second))
+    loose_gate : is_small_open left (begins (not V.second)) ≡ is_small_open bytes (begins (not V.second))
     loose_gate = same_gate bytes left (begins (not V.second)) (same (begins (not V.second)) (spare_apart (begins (not V.second)) (inr refl)) beside)
       where
         beside : (begins (not V.second) ≤ gate) ⊎ (begins V.second + 9 ≤ begins (not V.second))
@@ -177,7 +177,7 @@ module _ {Node : Type 0} (M : Machine Node) (image : ℕ → Network Node) (byte
     loose_other : OtherStays left size
     loose_other opened = (was, same (begins (not V.second) + 1) (spare_none was (begins (not V.second) + 1)) beside)
       where
-        was : is_open bytes (begins (not V.second)) ≡ true
+        was : is_small_open bytes (begins (not V.second)) ≡ true
         was = sym loose_gate ∙ opened
 
         beside : (begins (not V.second) + 1 ≤ gate) ⊎ (begins V.second + 9 ≤ begins (not V.second) + 1)
@@ -186,7 +186,7 @@ module _ {Node : Type 0} (M : Machine Node) (image : ℕ → Network Node) (byte
           | inr last ↦ inl (let a = last.0 in let o = last.1 in omega arith)
         ]
 
-    loose_end : count < 2 → is_open left gate ≡ false
+    loose_end : count < 2 → is_small_open left gate ≡ false
     loose_end room =
         same_gate bytes left gate (same gate (spare_apart gate (inl (omega arith, omega arith))) (inl (le_refl gate)))
         ∙ entries_end bytes 2 (begins V.second + 4) room
@@ -200,12 +200,12 @@ module _ {Node : Type 0} (M : Machine Node) (image : ℕ → Network Node) (byte
   -- ## A group that is there, at any byte of its gate
 
   module _ (left : List ℕ) (size : length left ≡ length bytes) (x : ℕ) (room : count < 2)
-      (same : (q : ℕ) → IsOut (gate, 1) q → byte_at left q ≡ byte_at (written bytes (gate + 1) (x ∷ GATE_CLOSED ∷ [])) q) where
+      (same : (q : ℕ) → IsOut (gate, 1) q → small_byte left q ≡ small_byte (written bytes (gate + 1) (x ∷ GATE_CLOSED ∷ [])) q) where
     fits : gate + 1 + 2 ≤ length bytes
     fits = omega (arith, places V.second, V.size)
 
     -- outside the group
-    group_outside : (q : ℕ) → (q < gate) ⊎ (gate + 3 ≤ q) → byte_at left q ≡ byte_at bytes q
+    group_outside : (q : ℕ) → (q < gate) ⊎ (gate + 3 ≤ q) → small_byte left q ≡ small_byte bytes q
     group_outside q (inl low) = same q (inl low) ∙ get_or-written_outside bytes (gate + 1) (x ∷ GATE_CLOSED ∷ []) fits q (inl (omega arith))
     group_outside q (inr high) = same q (inr (omega arith)) ∙ get_or-written_outside bytes (gate + 1) (x ∷ GATE_CLOSED ∷ []) fits q (inr (omega arith))
 
@@ -224,40 +224,40 @@ module _ {Node : Type 0} (M : Machine Node) (image : ℕ → Network Node) (byte
           | inr last ↦ inl (let a = last.0 in let o = last.1 in omega arith)
         ]
 
-    group_first : byte_at left (gate + 1) ≡ x
+    group_first : small_byte left (gate + 1) ≡ x
     group_first =
         same (gate + 1) (inr (le_refl (gate + 1)))
-        ∙ ap (byte_at (written bytes (gate + 1) (x ∷ GATE_CLOSED ∷ []))) (omega arith)
+        ∙ ap (small_byte (written bytes (gate + 1) (x ∷ GATE_CLOSED ∷ []))) (omega arith)
         ∙ get_or-written_inside bytes (gate + 1) (x ∷ GATE_CLOSED ∷ []) fits 0 (omega arith)
 
-    group_next : is_open left (gate + 2) ≡ false
+    group_next : is_small_open left (gate + 2) ≡ false
     group_next = ap (λ byte. byte == GATE_OPEN) (
         same (gate + 2) (inr (omega arith))
-        ∙ ap (byte_at (written bytes (gate + 1) (x ∷ GATE_CLOSED ∷ []))) (omega arith)
+        ∙ ap (small_byte (written bytes (gate + 1) (x ∷ GATE_CLOSED ∷ []))) (omega arith)
         ∙ get_or-written_inside bytes (gate + 1) (x ∷ GATE_CLOSED ∷ []) fits 1 (omega arith)
         )
 
     group_gate : ArePossible M h (HostIn 0 x ∷ []) → (small_verdict M image left ≡ Some h) ⊎ (small_verdict M image left ≡ Some (with_more h (HostIn 0 x ∷ [])))
-    group_gate possible = elim (cases_Bool (is_open left gate)) [
+    group_gate possible = elim (cases_Bool (is_small_open left gate)) [
       | inr closed ↦ inl (keeps left size group_head group_other (λ _. closed))
       | inl opened ↦ inr (adds left size x group_head group_other room opened group_first group_next possible)
     ]
 
   -- ## The other area, once all of it is there, at any byte of its gate
 
-  module _ (left : List ℕ) (size : length left ≡ length bytes) (k : Held Node) (later : byte_at bytes (begins V.second + 1) < byte_at bytes (begins (not V.second) + 1))
+  module _ (left : List ℕ) (size : length left ≡ length bytes) (k : Held Node) (later : small_byte bytes (begins V.second + 1) < small_byte bytes (begins (not V.second) + 1))
       (held : held_at image bytes (begins (not V.second)) ≡ k) (last : Network Node) (possible : after M k.network k.entries ≡ Some last)
-      (same : (q : ℕ) → IsOut (begins (not V.second), 1) q → byte_at left q ≡ byte_at bytes q) where
+      (same : (q : ℕ) → IsOut (begins (not V.second), 1) q → small_byte left q ≡ small_byte bytes q) where
     switch_head : HeadStays left size
     switch_head q low high = same q (apart V.second q low (omega (arith, most)))
 
-    switch_opened : is_open left (begins (not V.second)) ≡ true → small_verdict M image left ≡ Some k
+    switch_opened : is_small_open left (begins (not V.second)) ≡ true → small_verdict M image left ≡ Some k
     switch_opened opened = switches left size k switch_head opened later (λ q low high. same q (inr (omega arith))) held last possible
 
     switch_either : (small_verdict M image left ≡ Some h) ⊎ (small_verdict M image left ≡ Some k)
-    switch_either = elim (cases_Bool (is_open left (begins (not V.second)))) [
+    switch_either = elim (cases_Bool (is_small_open left (begins (not V.second)))) [
       | inr closed ↦ inl (
-          keeps left size switch_head (λ opened. absurd (both_ways (is_open left (begins (not V.second))) closed opened))
+          keeps left size switch_head (λ opened. absurd (both_ways (is_small_open left (begins (not V.second))) closed opened))
           (λ room. same_gate bytes left gate (same gate (apart V.second gate (omega arith) (omega arith))) ∙ entries_end bytes 2 (begins V.second + 4) room)
           )
       | inl opened ↦ inr (switch_opened opened)
@@ -279,15 +279,15 @@ module _ {Node : Type 0} (M : Machine Node) (image : ℕ → Network Node) (byte
   group_parts es r is =
       spelt_parts (begins V.second + 4) (count M image bytes h V) es r (sym (ap (λ found. found >>= group_of bytes es) V.is) ∙ is)
 
-  open_parts : (at : ℕ) → (current bytes >>= open_of bytes) ≡ Some at → (is_open bytes (begins (not V.second)) ≡ true) × (at ≡ begins (not V.second))
+  open_parts : (at : ℕ) → (current bytes >>= open_of bytes) ≡ Some at → (is_small_open bytes (begins (not V.second)) ≡ true) × (at ≡ begins (not V.second))
   open_parts at is =
-      let split = cond_some (is_open bytes (begins (not V.second))) (Some (begins (not V.second))) at (sym (ap (λ found. found >>= open_of bytes) V.is) ∙ is) in
+      let split = cond_some (is_small_open bytes (begins (not V.second))) (Some (begins (not V.second))) at (sym (ap (λ found. found >>= open_of bytes) V.is) ∙ is) in
       let same : begins (not V.second) ≡ at = let both = split.1 in cc in
       (split.0, sym same)
 
   record Other (at : ℕ) (k : Held Node) : Type 0 where
     place : at ≡ begins (not V.second)
-    later : byte_at bytes (begins V.second + 1) < byte_at bytes (begins (not V.second) + 1)
+    later : small_byte bytes (begins V.second + 1) < small_byte bytes (begins (not V.second) + 1)
     held : held_at image bytes (begins (not V.second)) ≡ k
     last : Network Node
     possible : after M k.network k.entries ≡ Some last
@@ -296,16 +296,16 @@ module _ {Node : Type 0} (M : Machine Node) (image : ℕ → Network Node) (byte
   other_parts at k is =
       let o = begins (not V.second) in
       let there = held_at image bytes o in
-      let old = nat_le (byte_at bytes (o + 1)) (byte_at bytes (begins V.second + 1)) in
-      let split = none_or (is_open bytes o || old) (option_map (λ held. (o, held)) (if_possible M there)) (at, k) (sym (ap (λ found. found >>= other_of M image bytes) V.is) ∙ is) in
-      let tests = or_parts (is_open bytes o) old split.0 in
+      let old = nat_le (small_byte bytes (o + 1)) (small_byte bytes (begins V.second + 1)) in
+      let split = none_or (is_small_open bytes o || old) (option_map (λ held. (o, held)) (if_possible M there)) (at, k) (sym (ap (λ found. found >>= other_of M image bytes) V.is) ∙ is) in
+      let tests = or_parts (is_small_open bytes o) old split.0 in
       let mapped = map_some (λ held. (o, held)) (if_possible M there) (at, k) split.1 in
       let done = bind_some (after M there.network there.entries) (λ last. Some there) mapped.0 mapped.1 in
       let one : there ≡ mapped.0 = let both = done.2 in cc in
       let same : there ≡ k = one ∙ ap (λ pair. pair.1) mapped.2 in
       record {
         place = ap (λ pair. pair.0) (sym mapped.2);
-        later = leb-false (byte_at bytes (o + 1)) (byte_at bytes (begins V.second + 1)) tests.1;
+        later = leb-false (small_byte bytes (o + 1)) (small_byte bytes (begins V.second + 1)) tests.1;
         held = same;
         last = done.0;
         possible = subst (λ held. after M held.network held.entries ≡ Some done.0) same done.1;
@@ -339,8 +339,8 @@ module _ {Node : Type 0} (M : Machine Node) (image : ℕ → Network Node) where
       let size : length there ≡ length bytes = length-written bytes (at + 1) (S.0 ∷ GATE_CLOSED ∷ []) (omega (arith, S.2, places V.second, V.size)) in
       let room : at + length gate_open ≤ length there = omega (arith, S.2, places V.second, V.size, size) in
       let left = written there at gate_open in
-      let opened : byte_at left at ≡ GATE_OPEN = ap (byte_at left) (omega arith) ∙ get_or-written_inside there at gate_open room 0 (omega arith) in
-      let same : (q : ℕ) → IsOut (at, 1) q → byte_at left q ≡ byte_at there q = get_or-written_outside there at gate_open room in
+      let opened : small_byte left at ≡ GATE_OPEN = ap (small_byte left) (omega arith) ∙ get_or-written_inside there at gate_open room 0 (omega arith) in
+      let same : (q : ℕ) → IsOut (at, 1) q → small_byte left q ≡ small_byte there q = get_or-written_outside there at gate_open room in
       let long : length left ≡ length bytes = length-written there at gate_open room ∙ size in
       subst (λ r. small_verdict M image (written (written bytes (r.0 + 1) r.1) r.0 gate_open) ≡ Some (with_more h es)) (sym S.3)
       (subst (λ fs. small_verdict M image left ≡ Some (with_more h fs)) (sym S.1)
@@ -360,10 +360,10 @@ module _ {Node : Type 0} (M : Machine Node) (image : ℕ → Network Node) where
       let V = verdict_parts M image bytes h reads in
       let S = open_parts M image bytes h V at was in
       let o = begins (not V.second) in
-      let same : (q : ℕ) → IsOut (o, 1) q → byte_at left q ≡ byte_at bytes q =
+      let same : (q : ℕ) → IsOut (o, 1) q → small_byte left q ≡ small_byte bytes q =
       λ q out. may.same_outside q (spare_none M image bytes h V S.0 q, (subst (λ place. IsOut (place, 1) q) (sym S.1) out, tt))
       in
-      let area : (q : ℕ) → begins V.second ≤ q → q < begins V.second + 9 → byte_at left q ≡ byte_at bytes q = λ q low high. same q (apart V.second q low high) in
+      let area : (q : ℕ) → begins V.second ≤ q → q < begins V.second + 9 → small_byte left q ≡ small_byte bytes q = λ q low high. same q (apart V.second q low high) in
       let few = entries_most bytes 2 (begins V.second + 4) in
       keeps M image bytes h V left may.same_length
       (λ q low high. area q low (omega arith))
@@ -387,7 +387,7 @@ module _ {Node : Type 0} (M : Machine Node) (image : ℕ → Network Node) where
       let o = begins (not V.second) in
       let room : o + length gate_open ≤ length bytes = omega (arith, places V.second, V.size) in
       let left = written bytes o gate_open in
-      let opened : byte_at left o ≡ GATE_OPEN = ap (byte_at left) (omega arith) ∙ get_or-written_inside bytes o gate_open room 0 (omega arith) in
+      let opened : small_byte left o ≡ GATE_OPEN = ap (small_byte left) (omega arith) ∙ get_or-written_inside bytes o gate_open room 0 (omega arith) in
       subst (λ place. small_verdict M image (written bytes place gate_open) ≡ Some k) (sym S.place)
       (switch_opened M image bytes h V left (length-written bytes o gate_open room) k S.later S.held S.last S.possible
       (get_or-written_outside bytes o gate_open room) (ap (λ byte. byte == GATE_OPEN) opened))

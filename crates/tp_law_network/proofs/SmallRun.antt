@@ -11,7 +11,7 @@ use Rattle.tp_model.specs.Markers.{markers}
 use Rattle.tp_model.specs.Snapshot.{journalled}
 use Rattle.tp_model.specs.Acts.{happens, IsOpened}
 use Rattle.tp_model.specs.WriteOrder.{add_body, body_done, add_gate, gate_done}
-use Rattle.tp_model.specs.Runs.{fresh, IsFormatted}
+use Rattle.tp_model.specs.Runs.{fresh, BeginsFormatted}
 use Rattle.tp_law_network.specs.Small.{entries_at, small_verdict, small_areas}
 use Rattle.tp_law_network.specs.SmallRun.{EachAnswers, Stores, one_port, made_world}
 
@@ -19,7 +19,7 @@ pub each_answers : {Node : Type 0} (M : Machine Node) (image : ℕ → Network N
 unfolding entries_at small_verdict after
 each_answers M image = record { verdict = refl; spare = refl; group = λ x. refl; other = refl; open_other = refl }
 
-pub made_formatted : {Node : Type 0} (M : Machine Node) (image : ℕ → Network Node) → IsOpened M (fresh (image 0)) → IsFormatted M (small_areas M image) (image 0) (made_world image)
+pub made_formatted : {Node : Type 0} (M : Machine Node) (image : ℕ → Network Node) → IsOpened M (fresh (image 0)) → BeginsFormatted M (small_areas M image) (image 0) (made_world image)
 made_formatted M image opened = record {
   reads = (each_answers M image).verdict;
   synced = refl;
@@ -87,7 +87,7 @@ unfolding next acts process takes taken own does of_port sent pushed put
 one_port_takes M x = (_, refl)
 
 -- a device made with it, and a run that stores a byte
-pub one_port_formatted : {Node : Type 0} (M : Machine Node) → IsFormatted M (small_areas M (λ code. one_port)) one_port (made_world (λ code. one_port))
+pub one_port_formatted : {Node : Type 0} (M : Machine Node) → BeginsFormatted M (small_areas M (λ code. one_port)) one_port (made_world (λ code. one_port))
 one_port_formatted M = made_formatted M (λ code. one_port) (one_port_opened M)
 
 pub one_port_stores : {Node : Type 0} (M : Machine Node) (x : ℕ) → Stores M (λ code. one_port) x

@@ -9,7 +9,7 @@ use Rattle.tp_model.specs.Word.{bit}
 use Rattle.tp_model.specs.Network.{Machine, Network, Own, own, receiver, is_wired, has_wire, line_of, back, on_line, for_line}
 use Rattle.tp_model.specs.Entries.{HasFourLinks, process, takes, next}
 use Rattle.tp_model.specs.Order.{after}
-use Rattle.tp_model.specs.Sound.{Ends, datas, acks, owner, own_waits, own_holds, end_waits, end_holds, Wired, Sound, KeepsFlight}
+use Rattle.tp_model.specs.Sound.{EndsSeen, datas, acks, owner, own_waits, own_holds, end_waits, end_holds, Wired, Sound, KeepsFlight}
 use Rattle.tp_law_network.proofs.Lines.{for_line-elsewhere, on_taken, length_taken, on_sent}
 use Rattle.tp_law_network.proofs.Partial.{bind_some}
 use Rattle.tp_law_network.proofs.Local.{Step, step_of, SameShape, step_lines, step_takes, step_sends, step_shape, step_own_same, step_own_other}
@@ -18,21 +18,21 @@ use Rattle.tp_law_network.proofs.Flight.{datas-append, acks-append, Moves, came,
 -- ## The ends and the lines, before and after
 
 -- an end, where the state of its process is known
-pub end_waits_is : {Node : Type 0} (E : Ends Node) (s : Network Node) (N z : ℕ) (x : Own Node) → length s.nodes ≡ N → own s (owner N z) ≡ Some x → end_waits E s z ≡ own_waits E N x z
+pub end_waits_is : {Node : Type 0} (E : EndsSeen Node) (s : Network Node) (N z : ℕ) (x : Own Node) → length s.nodes ≡ N → own s (owner N z) ≡ Some x → end_waits E s z ≡ own_waits E N x z
 end_waits_is E s N z x n o = rw (n, o) refl
 
-pub end_holds_is : {Node : Type 0} (E : Ends Node) (s : Network Node) (N z : ℕ) (x : Own Node) → length s.nodes ≡ N → own s (owner N z) ≡ Some x → end_holds E s z ≡ own_holds E x z
+pub end_holds_is : {Node : Type 0} (E : EndsSeen Node) (s : Network Node) (N z : ℕ) (x : Own Node) → length s.nodes ≡ N → own s (owner N z) ≡ Some x → end_holds E s z ≡ own_holds E x z
 end_holds_is E s N z x n o = rw (n, o) refl
 
 -- an end, where the state of its process is as in another network
-pub end_waits_as : {Node : Type 0} (E : Ends Node) (s t : Network Node) (z : ℕ) → length t.nodes ≡ length s.nodes → own t (owner (length s.nodes) z) ≡ own s (owner (length s.nodes) z) → end_waits E t z ≡ end_waits E s z
+pub end_waits_as : {Node : Type 0} (E : EndsSeen Node) (s t : Network Node) (z : ℕ) → length t.nodes ≡ length s.nodes → own t (owner (length s.nodes) z) ≡ own s (owner (length s.nodes) z) → end_waits E t z ≡ end_waits E s z
 end_waits_as E s t z n o = rw (n, o) refl
 
-pub end_holds_as : {Node : Type 0} (E : Ends Node) (s t : Network Node) (z : ℕ) → length t.nodes ≡ length s.nodes → own t (owner (length s.nodes) z) ≡ own s (owner (length s.nodes) z) → end_holds E t z ≡ end_holds E s z
+pub end_holds_as : {Node : Type 0} (E : EndsSeen Node) (s t : Network Node) (z : ℕ) → length t.nodes ≡ length s.nodes → own t (owner (length s.nodes) z) ≡ own s (owner (length s.nodes) z) → end_holds E t z ≡ end_holds E s z
 end_holds_as E s t z n o = rw (n, o) refl
 
 -- What an entry changes: each line loses a front and gains a back, and what each end does agrees with that.
-pub record Across {Node : Type 0} (E : Ends Node) (s : Network Node) (e : Entry) (t : Network Node) : Type 0 where
+pub record Across {Node : Type 0} (E : EndsSeen Node) (s : Network Node) (e : Entry) (t : Network Node) : Type 0 where
   pub wires : t.wires ≡ s.wires
   pub nodes : length t.nodes ≡ length s.nodes
   pub long : length t.lines ≡ length s.lines
@@ -43,7 +43,7 @@ pub record Across {Node : Type 0} (E : Ends Node) (s : Network Node) (e : Entry)
   pub out : (z : ℕ) → bit (end_waits E t z) + acks (for_line z (arrivals s e)) ≡ bit (end_waits E s z) + datas (for_line z sends)
   pub inn : (z : ℕ) → bit (end_holds E t z) + acks (for_line z sends) ≡ bit (end_holds E s z) + datas (for_line z (arrivals s e))
 
-module _ {Node : Type 0} {M : Machine Node} {E : Ends Node} (four : HasFourLinks M) (keeps : KeepsFlight M E) where
+module _ {Node : Type 0} {M : Machine Node} {E : EndsSeen Node} (four : HasFourLinks M) (keeps : KeepsFlight M E) where
   pub across_step : (s t : Network Node) (e : Entry) → Wired s → Step M s e t → Across E s e t
   across_step s t e wired S = record {
     wires = shape.wires;
@@ -142,7 +142,7 @@ no_bit : (b : Bool) (n : ℕ) → bit b + n ≡ 0 → b ≡ false
 no_bit true n e = absurd (omega arith)
 no_bit false n e = refl
 
-module _ {Node : Type 0} {E : Ends Node} {s t : Network Node} {e : Entry} (sound : Sound E s) (a : Across E s e t) where
+module _ {Node : Type 0} {E : EndsSeen Node} {s t : Network Node} {e : Entry} (sound : Sound E s) (a : Across E s e t) where
   back-across : (x : ℕ) → back t x ≡ back s x
   back-across x = rw (a.wires, a.nodes) refl
 
@@ -186,10 +186,10 @@ module _ {Node : Type 0} {E : Ends Node} {s t : Network Node} {e : Entry} (sound
   }
 
 -- Every entry keeps a sound network sound.
-pub sound_kept : {Node : Type 0} {M : Machine Node} {E : Ends Node} → HasFourLinks M → KeepsFlight M E → (s t : Network Node) (e : Entry) → Sound E s → next M s e ≡ Some t → Sound E t
+pub sound_kept : {Node : Type 0} {M : Machine Node} {E : EndsSeen Node} → HasFourLinks M → KeepsFlight M E → (s t : Network Node) (e : Entry) → Sound E s → next M s e ≡ Some t → Sound E t
 sound_kept four keeps s t e sound h = sound_across sound (across four keeps s t e sound.wires h)
 
-pub sound_after : {Node : Type 0} {M : Machine Node} {E : Ends Node} → HasFourLinks M → KeepsFlight M E → (s t : Network Node) (es : List Entry) → Sound E s → after M s es ≡ Some t → Sound E t
+pub sound_after : {Node : Type 0} {M : Machine Node} {E : EndsSeen Node} → HasFourLinks M → KeepsFlight M E → (s t : Network Node) (es : List Entry) → Sound E s → after M s es ≡ Some t → Sound E t
 unfolding after
 sound_after {E = E} four keeps s t [] sound h = let same : s ≡ t = cc in subst (λ u. Sound E u) same sound
 sound_after {M = M} four keeps s t (e ∷ es) sound h =
@@ -197,7 +197,7 @@ sound_after {M = M} four keeps s t (e ∷ es) sound h =
     sound_after four keeps a.0 t es (sound_kept four keeps s a.0 e sound a.1) a.2
 
 -- At most one Data and one Ack are on a line.
-pub sound_small : {Node : Type 0} {E : Ends Node} {s : Network Node} → Sound E s → (x : ℕ) → (datas (on_line s.lines x) ≤ 1) × (acks (on_line s.lines x) ≤ 1)
+pub sound_small : {Node : Type 0} {E : EndsSeen Node} {s : Network Node} → Sound E s → (x : ℕ) → (datas (on_line s.lines x) ≤ 1) × (acks (on_line s.lines x) ≤ 1)
 sound_small {E = E} {s = s} sound x = go (back s x) refl
   where
     go : (o : Option ℕ) → back s x ≡ o → (datas (on_line s.lines x) ≤ 1) × (acks (on_line s.lines x) ≤ 1)

@@ -7,7 +7,7 @@ use Rattle.tp_model.specs.Entries.{HasFourLinks}
 use Rattle.tp_model.specs.Markers.{NeverMarks}
 use Rattle.tp_model.specs.Acts.{Act, Begin, Record, Journal, Close, Trim, IsOpened}
 use Rattle.tp_model.specs.Areas.{Areas, AreasHold, next_number}
-use Rattle.tp_model.specs.Runs.{World, Event, Acts, Copies, CopiesTail, Does, Breaks, Trims, Raises, Reads as ReadsMark, Reopens, grown, Step, Run, fresh, IsFormatted}
+use Rattle.tp_model.specs.Runs.{World, Event, Acts, Copies, CopiesTail, Does, Breaks, Trims, Raises, Reads as ReadsMark, Reopens, grown, Step, Run, fresh, BeginsFormatted}
 use Rattle.tp_law_network.proofs.Moments.{may_stand}
 use Rattle.tp_law_network.proofs.Prefix.{Stands}
 use Rattle.tp_law_network.proofs.Invariant.{Inv}
@@ -60,6 +60,6 @@ module _ {Node : Type 0} (M : Machine Node) (four : HasFourLinks M) (never : Nev
 
 -- at any two moments of a run
 pub stays : {Node : Type 0} (M : Machine Node) → HasFourLinks M → NeverMarks M → (A : Areas Node) → AreasHold M A → (start : Network Node) (before events : List (Event Node)) (first w last : World Node)
-    → IsFormatted M A start first → Run M A first before w → Run M A w events last → (w.mark ≤ last.mark) × (take w.mark last.journal ≡ take w.mark w.journal)
+    → BeginsFormatted M A start first → Run M A first before w → Run M A w events last → (w.mark ≤ last.mark) × (take w.mark last.journal ≡ take w.mark w.journal)
 stays M four never A law start before events first w last F earlier later =
     run_stays M four never A law start F.opened events w last (formatted_run M four never A law start before first w F earlier) later

@@ -14,7 +14,7 @@ use Rattle.tp_model.specs.Acts.{Act, Begin, Record, Journal, Close, Trim, happen
 use Rattle.tp_model.specs.Runs.{grown, is_trim, HasCut}
 use Rattle.tp_law_network.proofs.Lines.{same_lines, length_sent, on_sent_shut, on_sent_none}
 use Rattle.tp_law_network.proofs.Local.{Step, SameShape, step_of, step_shape}
-use Rattle.tp_law_network.specs.Invariant.{Holds}
+use Rattle.tp_law_network.specs.Invariant.{CutInvariant}
 use Rattle.tp_law_network.proofs.Shape.{out_unwired}
 use Rattle.tp_law_network.proofs.Close.{marker_wired, was_open}
 use Rattle.tp_law_network.proofs.Whole.{WholeParts, whole_parts, whole_from, parts_recorded, all_counts, all_closed_at, running}
@@ -103,7 +103,7 @@ whole_counts w cut is =
     let P = whole_parts w cut is in
     record { snap = P.snap; runs = P.runs; recorded = P.recorded ∙ ap (λ c. Some c.counts) P.is }
 
-module _ {Node : Type 0} (M : Machine Node) (four : HasFourLinks M) (w : MarkedNetwork Node) (H : Holds M w) (cut : WholeCut) (P : WholeParts w cut) where
+module _ {Node : Type 0} (M : Machine Node) (four : HasFourLinks M) (w : MarkedNetwork Node) (H : CutInvariant M w) (cut : WholeCut) (P : WholeParts w cut) where
   -- a line that isn't closed has no wire
   closed_wired : (l : ℕ) → has_wire w.live.wires l ≡ true → is_closed P.snap l ≡ true
   closed_wired l y = all_closed_at (has_wire w.live.wires) (is_closed P.snap) (length w.live.lines) P.shut l (H.base.wired l y) y
@@ -145,7 +145,7 @@ module _ {Node : Type 0} (M : Machine Node) (four : HasFourLinks M) (w : MarkedN
       true≢false (sym (closed_wired line (marker_wired M w H.base line Q.2)) ∙ ap (λ s. is_closed s line) (sym is) ∙ was_open M w H.base line Q.2 Q.0 (running M w H Q.0 Q.1))
 
 -- A whole cut stays as it is until the trim.
-pub whole_stays : {Node : Type 0} (M : Machine Node) → HasFourLinks M → (w v : MarkedNetwork Node) (act : Act) → is_trim act ≡ false → Holds M w → happens M w act ≡ Some v
+pub whole_stays : {Node : Type 0} (M : Machine Node) → HasFourLinks M → (w v : MarkedNetwork Node) (act : Act) → is_trim act ≡ false → CutInvariant M w → happens M w act ≡ Some v
     → (cut : WholeCut) → whole w ≡ Some cut → whole v ≡ Some cut
 unfolding happens
 whole_stays M four w v Begin t H e cut is = absurd (not_idle w.snapshot cut.counts (whole_counts w cut is) (begin_parts w v w.snapshot e).0)
@@ -159,7 +159,7 @@ whole_stays M four w v (Close line) t H e cut is = absurd (none_closes M four w 
 whole_stays M four w v Trim t H e cut is = absurd (true≢false t)
 
 -- and with its images
-pub cut_stays : {Node : Type 0} (M : Machine Node) → HasFourLinks M → (w v : MarkedNetwork Node) (act : Act) → is_trim act ≡ false → Holds M w → happens M w act ≡ Some v
+pub cut_stays : {Node : Type 0} (M : Machine Node) → HasFourLinks M → (w v : MarkedNetwork Node) (act : Act) → is_trim act ≡ false → CutInvariant M w → happens M w act ≡ Some v
     → (cut : WholeCut) (nodes : List Node) → HasCut w cut nodes → HasCut v cut nodes
 cut_stays M four w v act t H e cut nodes C = record {
   is = whole_stays M four w v act t H e cut C.is;

@@ -7,7 +7,7 @@ use Rattle.tp_model.specs.Network.{Machine, Network, on_line}
 use Rattle.tp_model.specs.Entries.{next, HasFourLinks}
 use Rattle.tp_model.specs.Markers.{markers, NeverMarks}
 use Rattle.tp_model.specs.Order.{after}
-use Rattle.tp_model.specs.Sound.{Ends, Sound, KeepsFlight, owner}
+use Rattle.tp_model.specs.Sound.{EndsSeen, Sound, KeepsFlight, owner}
 use Rattle.tp_law_network.proofs.Local.{step_of}
 use Rattle.tp_law_network.proofs.Partial.{bind_some}
 use Rattle.tp_law_network.proofs.Plain.{step_markers}
@@ -38,7 +38,7 @@ markers_after M never four s t (e ∷ es) h l =
     let B = bind_some (next M s e) (λ u. after M u es) t h in
     markers_after M never four B.0 t es B.2 l ∙ step_markers M never s e B.0 four (step_of M s e B.0 B.1) l
 
-module _ {Node : Type 0} (M : Machine Node) (E : Ends Node) (four : HasFourLinks M) (keeps : KeepsFlight M E) (never : NeverMarks M)
+module _ {Node : Type 0} (M : Machine Node) (E : EndsSeen Node) (four : HasFourLinks M) (keeps : KeepsFlight M E) (never : NeverMarks M)
     (s : Network Node) (sound : Sound E s) (unmarked : (l : ℕ) → markers (on_line s.lines l) ≡ 0) (es : List Entry) where
   -- A piece of a network that goes through doesn't overfill a line.
   pub never_overfull : (has : Piece) (u v : Network Node) → Agrees has s u → (k : ℕ) → k ≤ reach (next M) s es → after_by (next_in M has) u (take k es) ≡ Some v → IsOverfull has v → ⊥

@@ -13,8 +13,8 @@ use Rattle.tp_model.specs.Runs.{World, HasCut, copy_of}
 use Rattle.tp_model.specs.CutOrder.{HasOrder}
 use Rattle.tp_law_network.proofs.Choice.{pre-append_outside, post-append_outside}
 use Rattle.tp_law_network.proofs.Reorder.{same_behind}
-use Rattle.tp_law_network.specs.Invariant.{Holds, Inside}
-use Rattle.tp_law_network.specs.Standing.{Rests}
+use Rattle.tp_law_network.specs.Invariant.{CutInvariant, Inside}
+use Rattle.tp_law_network.specs.Standing.{RestsBetweenGroups}
 use Rattle.tp_law_network.proofs.Prefix.{Kept, held_of, in_counts, copied_exact, copied_count}
 use Rattle.tp_law_network.proofs.Orders.{order_behind, order_cut}
 use Rattle.tp_law_network.proofs.RunsActs.{same_counts}
@@ -24,12 +24,12 @@ use Rattle.tp_law_network.proofs.Stays.{HasCounts, whole_counts}
 use Rattle.tp_law_network.proofs.Whole.{all_counts, whole_holds}
 
 -- the counts of a snapshot are of entries that are there
-counts_there : {Node : Type 0} (M : Machine Node) (net : MarkedNetwork Node) (counts : List ℕ) → Holds M net → HasCounts net.snapshot counts
+counts_there : {Node : Type 0} (M : Machine Node) (net : MarkedNetwork Node) (counts : List ℕ) → CutInvariant M net → HasCounts net.snapshot counts
     → (p : ℕ) → in_counts counts p ≤ made (process net.start.wires (length net.start.nodes)) p net.entries
 counts_there M net counts holds H p = (subst (Inside M net) H.runs holds.inside).counted p (in_counts counts p) (all_counts H.snap.counts counts H.recorded p)
 
 module _ {Node : Type 0} (M : Machine Node) (four : HasFourLinks M) where
-  module _ (A : Areas Node) (start : Network Node) (w : World Node) (holds : Holds M w.net) (agree : after M w.net.start w.net.entries ≡ after M start w.journal)
+  module _ (A : Areas Node) (start : Network Node) (w : World Node) (holds : CutInvariant M w.net) (agree : after M w.net.start w.net.entries ≡ after M start w.journal)
       (order : HasOrder M start w.journal w.net.start w.net.entries w.base)
       (cut : WholeCut) (nodes : List Node) (has : HasCut w.net cut nodes) where
     -- the cut and the entries outside it are an order of the journal
@@ -73,7 +73,7 @@ module _ {Node : Type 0} (M : Machine Node) (four : HasFourLinks M) where
     abbrev Goes : Network Node → List Entry → ℕ → List Entry → Type 0
     Goes kept entries base backlog =
         (after M kept entries ≡ after M start w.journal) × HasOrder M start w.journal kept entries base
-        × ((K : Kept M start kept entries base w.journal w.stored backlog) × Rests A (held_of kept K.tail K.durable base) w.disk)
+        × ((K : Kept M start kept entries base w.journal w.stored backlog) × RestsBetweenGroups A (held_of kept K.tail K.durable base) w.disk)
 
     -- The book is trimmed: it starts at the copied cut, and its entries are the copied tail and those since. The device
     -- stands for the cut and the tail already.

@@ -13,7 +13,7 @@ use Rattle.tp_model.specs.Network.{◌>>=◌, Machine, steps, Network, Own, OfNo
 use Rattle.tp_model.specs.Turn.{by_link, by_line, incoming, comes_in, took_all, turned}
 use Rattle.tp_model.specs.Entries.{process, takes, of_node, receives, does, next}
 use Rattle.tp_model.specs.Order.{after}
-use Rattle.tp_law_network.specs.Turns.{run_of, takes_in, entries_of, IsFront}
+use Rattle.tp_law_network.specs.Turns.{run_of, takes_in, entries_of_turn, IsFront}
 use Rattle.tp_law_network.proofs.Lines.{cons_taken, taken_cons, taken-sent, sent-append}
 use Rattle.tp_law_network.proofs.Partial.{bind_some, map_some, cond_some, slice_get-set_same}
 use Rattle.tp_law_network.proofs.Local.{Step, step_of, next_from, own_node, own-node, turn_step, comes_first}
@@ -142,7 +142,7 @@ module _ {Node : Type 0} (M : Machine Node) where
       after_one M u (Run i (suc k)) ∙ run_step u i k a.0 b (slice_get-set_same s.nodes i a.0 n at) few made ∙ ap Some (changed_twice s out i a b)
 
   -- A turn leads where its takes and then its run lead.
-  pub turn_is_entries : (s t : Network Node) (i : ℕ) (links : List Received) (k : ℕ) → next M s (Turn i links k) ≡ Some t → after M s (entries_of s i links k) ≡ Some t
+  pub turn_is_entries : (s t : Network Node) (i : ℕ) (links : List Received) (k : ℕ) → next M s (Turn i links k) ≡ Some t → after M s (entries_of_turn s i links k) ≡ Some t
   unfolding process takes put does
   turn_is_entries s t i links k h = go S.was (S.now, S.sends) S.own_was S.change ∙ ap Some S.makes
     where
@@ -150,13 +150,13 @@ module _ {Node : Type 0} (M : Machine Node) where
       S = step_of M s (Turn i links k) t h
 
       go : (was : Own Node) (c : Own Node × List (ℕ × Token)) → own s i ≡ Some was → does M s.wires (length s.nodes) (Turn i links k) was ≡ Some c
-          → after M s (entries_of s i links k) ≡ Some (put (record s { lines = sent (has_wire s.wires) S.out c.1 }) i c.0)
+          → after M s (entries_of_turn s i links k) ≡ Some (put (record s { lines = sent (has_wire s.wires) S.out c.1 }) i c.0)
       go (OfHost ports) c o d = cc
       go (OfNode n) c o d =
           let T = turn_step M s.wires (length s.nodes) i links k n c d in
           let at = (own_node s i n o).1 in
           let first = takes_then s (length s.nodes) i refl (by_link 0 links) n T.taken_all S.out T.into S.takes_out at T.takes_all in
-          subst (λ q. after M s (entries_of s i links k) ≡ Some (put (record s { lines = sent (has_wire s.wires) S.out q.1 }) i q.0)) T.is
+          subst (λ q. after M s (entries_of_turn s i links k) ≡ Some (put (record s { lines = sent (has_wire s.wires) S.out q.1 }) i q.0)) T.is
           (after_front M s (changed s S.out i T.taken_all) (takes_in (takes s.wires (length s.nodes) (Turn i links k))) (run_of i k) first ∙ run_last s i k S.out T.taken_all T.run n at T.few T.runs)
 
   -- A turn that is possible takes fronts of its lines, as they are before it.
@@ -187,7 +187,7 @@ module _ {Node : Type 0} (M : Machine Node) where
       (Q.0, Q.1)
 
   -- A turn is possible where its takes and then its run are possible one after the other, and its tokens are fronts of their lines already.
-  pub entries_are_turn : (s t : Network Node) (i : ℕ) (links : List Received) (k : ℕ) → IsFront s i links k → after M s (entries_of s i links k) ≡ Some t → next M s (Turn i links k) ≡ Some t
+  pub entries_are_turn : (s t : Network Node) (i : ℕ) (links : List Received) (k : ℕ) → IsFront s i links k → after M s (entries_of_turn s i links k) ≡ Some t → next M s (Turn i links k) ≡ Some t
   unfolding does turned process takes put
   entries_are_turn s t i links k F e =
       let ms = by_link 0 links in

@@ -9,12 +9,12 @@ use Rattle.tp_model.specs.WholeCut.{WholeCut}
 use Rattle.tp_model.specs.Acts.{Act, happens, acted, IsOpened}
 use Rattle.tp_model.specs.Runs.{is_trim, HasCut}
 use Rattle.tp_law_network.proofs.Partial.{bind_some}
-use Rattle.tp_law_network.specs.Invariant.{Holds}
+use Rattle.tp_law_network.specs.Invariant.{CutInvariant}
 use Rattle.tp_law_network.proofs.Happens.{happens_holds, acted_holds, opened_holds}
 use Rattle.tp_law_network.proofs.Stays.{cut_stays}
 
 module _ {Node : Type 0} (M : Machine Node) (four : HasFourLinks M) (never : NeverMarks M) (cut : WholeCut) (nodes : List Node) where
-  cut_stays_through : (v u : MarkedNetwork Node) → Holds M v → HasCut v cut nodes → (more : List Act) → AllByRecursion (λ act. is_trim act ≡ false) more → acted M v more ≡ Some u → HasCut u cut nodes
+  cut_stays_through : (v u : MarkedNetwork Node) → CutInvariant M v → HasCut v cut nodes → (more : List Act) → AllByRecursion (λ act. is_trim act ≡ false) more → acted M v more ≡ Some u → HasCut u cut nodes
   unfolding acted
   cut_stays_through v u H C [] none e = let same : v ≡ u = cc in subst (λ x. HasCut x cut nodes) same C
   cut_stays_through v u H C (act ∷ more) none e =

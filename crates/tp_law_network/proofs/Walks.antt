@@ -12,11 +12,11 @@ use Rattle.tp_model.specs.Order.{after}
 use Rattle.tp_model.specs.Snapshot.{MarkedNetwork}
 use Rattle.tp_model.specs.Acts.{Act, happens, acted}
 use Rattle.tp_model.specs.Disk.{Moment, MayBe}
-use Rattle.tp_model.specs.DiskHistory.{State, SomeMay, Since, moment, LeavesOnly}
+use Rattle.tp_model.specs.DiskHistory.{State, SomeMay, MayHaveLeft, moment, LeavesOnly}
 use Rattle.tp_model.specs.Areas.{Areas, AreasHold, next_number}
-use Rattle.tp_model.specs.Runs.{World, Event, Acts, Reads, Step, Run, IsFormatted, grown, is_trim}
+use Rattle.tp_model.specs.Runs.{World, Event, Acts, Reads, Step, Run, BeginsFormatted, grown, is_trim}
 use Rattle.tp_model.specs.Acknowledged.{is_reopening}
-use Rattle.tp_model.specs.Walks.{Leads, Chained, Walks, RecoversTo}
+use Rattle.tp_model.specs.Walks.{RunLeads, Chained, Walks, RecoversTo}
 use Rattle.tp_law_network.proofs.Partial.{all_append, bind_some}
 use Rattle.tp_law_network.proofs.Runs.{run_recovers}
 use Rattle.tp_law_network.proofs.Stay.{stays}
@@ -29,24 +29,24 @@ module _ {Node : Type 0} (M : Machine Node) (A : Areas Node) where
   run_then w u v [] fs first then = subst (λ x. Run M A x fs v) first then
   run_then w u v (e ∷ es) fs first then = (first.0, first.1, run_then first.0 u v es fs first.2 then)
 
-  pub no_step : (w : World Node) → Leads M A w w
+  pub no_step : (w : World Node) → RunLeads M A w w
   no_step w = record { events = []; run = refl; unopened = tt }
 
-  pub one_step : (w v : World Node) (e : Event Node) → is_reopening e ≡ false → Step M A w e v → Leads M A w v
+  pub one_step : (w v : World Node) (e : Event Node) → is_reopening e ≡ false → Step M A w e v → RunLeads M A w v
   one_step w v e other step = record { events = e ∷ []; run = (v, step, refl); unopened = (other, tt) }
 
-  pub leads_then : (w u v : World Node) → Leads M A w u → Leads M A u v → Leads M A w v
+  pub leads_then : (w u v : World Node) → RunLeads M A w u → RunLeads M A u v → RunLeads M A w v
   leads_then w u v first then = record {
     events = first.events ++ then.events;
     run = run_then w u v first.events then.events first.run then.run;
     unopened = all_append (λ e. is_reopening e ≡ false) first.events then.events first.unopened then.unopened;
   }
 
-  pub chained_from : (w u v : World Node) (us : List (World Node)) → Leads M A w u → Chained M A u us v → Chained M A w us v
+  pub chained_from : (w u v : World Node) (us : List (World Node)) → RunLeads M A w u → Chained M A u us v → Chained M A w us v
   chained_from w u v [] first then = leads_then w u v first then
   chained_from w u v (x ∷ us) first then = (leads_then w u x first then.0, then.1)
 
-  pub chain_leads : (w v : World Node) (us : List (World Node)) → Chained M A w us v → Leads M A w v
+  pub chain_leads : (w v : World Node) (us : List (World Node)) → Chained M A w us v → RunLeads M A w v
   chain_leads w v [] chain = chain
   chain_leads w v (u ∷ us) chain = leads_then w u v chain.0 (chain_leads u v us chain.1)
 
@@ -71,7 +71,7 @@ module _ {Node : Type 0} (M : Machine Node) (A : Areas Node) where
   }
 
   -- a piece that makes no device call
-  pub still_walks : (w v : World Node) (state : State) → Leads M A w v → v.disk ≡ state.now → Walks M A w v state state
+  pub still_walks : (w v : World Node) (state : State) → RunLeads M A w v → v.disk ≡ state.now → Walks M A w v state state
   still_walks w v state leads now = record { worlds = []; chain = leads; past = sym (append-nil state.past); now = now }
 
   -- acts, none of them a trim
@@ -88,7 +88,7 @@ module _ {Node : Type 0} (M : Machine Node) (A : Areas Node) where
   -- ## What crashes leave on the way
 
   some_each : (P : List ℕ → Type 0) (left : List ℕ) (w v : World Node) (us : List (World Node)) → Chained M A w us v
-      → ((u : World Node) → Leads M A w u → Leads M A u v → MayBe u.disk left → P left) → SomeMay (disks us) left → P left
+      → ((u : World Node) → RunLeads M A w u → RunLeads M A u v → MayBe u.disk left → P left) → SomeMay (disks us) left → P left
   some_each P left w v [] chain each some = absurd some
   some_each P left w v (u ∷ us) chain each (inl may) = each u chain.0 (chain_leads u v us chain.1) may
   some_each P left w v (u ∷ us) chain each (inr some) = some_each P left u v us chain.1 (λ x M may. each x (leads_then w u x chain.0 M) may) some
@@ -104,7 +104,7 @@ module _ {Node : Type 0} (M : Machine Node) (A : Areas Node) where
 
   -- what is so of whatever a crash leaves at each world on the way
   pub walks_leave : (P : List ℕ → Type 0) (w v : World Node) (old new : State) → Walks M A w v old new
-      → ((u : World Node) → Leads M A w u → Leads M A u v → (left : List ℕ) → MayBe u.disk left → P left) → LeavesOnly old new P
+      → ((u : World Node) → RunLeads M A w u → RunLeads M A u v → (left : List ℕ) → MayBe u.disk left → P left) → LeavesOnly old new P
   walks_leave P w v old new W each = record {
     later = omega (arith, ap length W.past, length-append old.past (disks W.worlds));
     each = λ left since. among left (at (moment old) left (omega arith) since);
@@ -118,7 +118,7 @@ module _ {Node : Type 0} (M : Machine Node) (A : Areas Node) where
       late left some = some_each P left w v W.worlds W.chain (λ u L K may. each u L K left may) some
 
       -- an old moment, or one since
-      at : (t : ℕ) (left : List ℕ) → t ≤ moment old → Since new t left → SomeMay (drop t old.past) left ⊎ P left
+      at : (t : ℕ) (left : List ℕ) → t ≤ moment old → MayHaveLeft new t left → SomeMay (drop t old.past) left ⊎ P left
       at t left early (inr may) = inr (now left may)
       at t left early (inl some) =
           which (some_split (drop t old.past) (disks W.worlds) left (subst (λ ms. SomeMay ms left) (ap (drop t) W.past ∙ drop-append-le t old.past (disks W.worlds) early) some))
@@ -131,15 +131,15 @@ module _ {Node : Type 0} (M : Machine Node) (A : Areas Node) where
       among left (inl earlier) = absurd (subst (λ ms. SomeMay ms left) (drop-length old.past) earlier)
       among left (inr p) = p
 
-      since_then : (t : ℕ) (left : List ℕ) → SomeMay (drop t old.past) left ⊎ P left → Since old t left ⊎ P left
+      since_then : (t : ℕ) (left : List ℕ) → SomeMay (drop t old.past) left ⊎ P left → MayHaveLeft old t left ⊎ P left
       since_then t left (inl earlier) = inl (inl earlier)
       since_then t left (inr p) = inr p
 
   -- ## From a run that began with a formatted device
 
   module _ (four : HasFourLinks M) (never : NeverMarks M) (law : AreasHold M A) (start : Network Node) (before : List (Event Node)) (first w : World Node)
-      (formatted : IsFormatted M A start first) (run : Run M A first before w) where
-    pub recovers_at : (u v : World Node) → Leads M A w u → Leads M A u v → (left : List ℕ) → MayBe u.disk left → RecoversTo M A start v.journal w.mark left
+      (formatted : BeginsFormatted M A start first) (run : Run M A first before w) where
+    pub recovers_at : (u v : World Node) → RunLeads M A w u → RunLeads M A u v → (left : List ℕ) → MayBe u.disk left → RecoversTo M A start v.journal w.mark left
     recovers_at u v earlier later left may =
         let read : World Node = record u { seen = u.mark ∷ u.seen } in
         let there = run_then first w read before (earlier.events ++ Reads ∷ []) run (run_then w u read earlier.events (Reads ∷ []) earlier.run (read, refl, refl)) in

@@ -17,7 +17,7 @@ use Rattle.tp_law_network.proofs.Lines.{same_lines}
 use Rattle.tp_law_network.proofs.Local.{own_host, own-node}
 use Rattle.tp_law_network.proofs.Choice.{chosen_agree}
 use Rattle.tp_law_network.proofs.Reorder.{reorder_end}
-use Rattle.tp_law_network.specs.Invariant.{in_count, in_cut, early, late, as_recorded, Base, Marking, Inside, Holds}
+use Rattle.tp_law_network.specs.Invariant.{in_count, in_cut, early, late, as_recorded, Base, Marking, Inside, CutInvariant}
 use Rattle.tp_law_network.proofs.Shape.{mid_nodes, mid_lines}
 
 -- ## All are there
@@ -186,7 +186,7 @@ module _ {Node : Type 0} (M : Machine Node) (four : HasFourLinks M) (w : MarkedN
     same = sym (reorder_end M four w.start w.entries (pre (process w.start.wires (length w.start.nodes)) (count_in cut) w.entries ++ post (process w.start.wires (length w.start.nodes)) (count_in cut) w.entries) cut_order);
   }
 
-module _ {Node : Type 0} (M : Machine Node) (w : MarkedNetwork Node) (H : Holds M w) where
+module _ {Node : Type 0} (M : Machine Node) (w : MarkedNetwork Node) (H : CutInvariant M w) where
   -- what holds of the snapshot that runs
   pub running : (snap : Snapshot) → w.snapshot ≡ Some snap → Marking M w.start w.entries w.live w.frozen snap
   running snap runs = subst (λ given. Inside M w given) runs H.inside
@@ -211,7 +211,7 @@ module _ {Node : Type 0} (M : Machine Node) (w : MarkedNetwork Node) (H : Holds 
       )
 
 -- A whole cut is the network after the entries in it, and those may come first.
-pub whole_holds : {Node : Type 0} (M : Machine Node) → HasFourLinks M → (w : MarkedNetwork Node) → Holds M w → (cut : WholeCut) → whole w ≡ Some cut → CutHolds M w cut
+pub whole_holds : {Node : Type 0} (M : Machine Node) → HasFourLinks M → (w : MarkedNetwork Node) → CutInvariant M w → (cut : WholeCut) → whole w ≡ Some cut → CutHolds M w cut
 whole_holds M four w H cut e =
     let P = whole_parts w cut e in
     subst (λ c. CutHolds M w c) P.is (cut_is M four w H.base P.snap (running M w H P.snap P.runs) P.counts P.recorded P.shut)

@@ -5,7 +5,7 @@ use Rattle.tp_model.specs.declared.entry.Entry.{Entry}
 use Rattle.tp_model.specs.Network.{◌>>=◌, Machine, Network, has_wire, on_line, for_line}
 use Rattle.tp_model.specs.Entries.{takes}
 use Rattle.tp_model.specs.Sound.{owner}
-use Rattle.tp_law_network.specs.ByItself.{Alone, by_itself}
+use Rattle.tp_law_network.specs.ByItself.{AloneState, by_itself}
 
 -- the tokens that the entries name on the line, in order
 unfoldable pub named : {Node : Type 0} → Network Node → ℕ → List Entry → List Token
@@ -13,7 +13,7 @@ named s l [] = []
 named s l (e ∷ es) = for_line l (takes s.wires (length s.nodes) e) ++ named s l es
 
 -- what the network has on the line, and behind it what its sender has sent there, if the line has a wire
-abbrev pub arrivals : {Node : Type 0} → Network Node → ℕ → Alone Node → List Token
+abbrev pub arrivals : {Node : Type 0} → Network Node → ℕ → AloneState Node → List Token
 arrivals s l a = on_line s.lines l ++ (if has_wire s.wires l then for_line l a.1 else [])
 
 -- What has come on the line once its sender went through the entries by itself: none where one of the sender's own isn't

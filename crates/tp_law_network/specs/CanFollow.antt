@@ -4,7 +4,7 @@ use Rattle.tp_model.specs.declared.link.Token.{Token}
 use Rattle.tp_model.specs.declared.entry.Entry.{Entry}
 use Rattle.tp_model.specs.Network.{Machine, Network, for_line}
 use Rattle.tp_model.specs.Entries.{process, takes}
-use Rattle.tp_law_network.specs.ByItself.{Alone, by_itself}
+use Rattle.tp_law_network.specs.ByItself.{AloneState, by_itself}
 use Rattle.tp_law_network.specs.Arrivals.{named, came}
 
 -- An entry can follow the entries `xs` where its process can do it by itself, and each token that it takes is the one
@@ -12,7 +12,7 @@ use Rattle.tp_law_network.specs.Arrivals.{named, came}
 -- goes on with this entry's. So each of them was on the line in the network at first, or an earlier entry of the line's sender
 -- sent it, and none is left out.
 pub record CanFollow {Node : Type 0} (M : Machine Node) (s : Network Node) (xs : List Entry) (e : Entry) : Type 0 where
-  pub last : Alone Node
+  pub last : AloneState Node
   pub does : by_itself M s (process s.wires (length s.nodes) e) (xs ++ e ∷ []) ≡ Some last
   pub next : (l : ℕ) → (rest : List Token) × (came M s l xs ≡ Some (named s l xs ++ (for_line l (takes s.wires (length s.nodes) e) ++ rest)))
 

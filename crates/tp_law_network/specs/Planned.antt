@@ -7,20 +7,20 @@ use Rattle.tp_model.specs.WriteOrder.{Position, Resting, Body, Ready, Gate, Clea
 use Rattle.tp_model.specs.Runs.{World, Event, Does}
 
 -- the world after a device call that was done
-abbrev pub moved : {Node : Type 0} → World Node → Call → Position Node → World Node
-moved w call to = record w { disk = done call w.disk; at = to; stored = reached w.at w.stored; backlog = left w.at w.backlog }
+abbrev pub moved_on : {Node : Type 0} → World Node → Call → Position Node → World Node
+moved_on w call to = record w { disk = done call w.disk; at = to; stored = reached w.at w.stored; backlog = left w.at w.backlog }
 
 -- each call is allowed in its turn
 abbrev pub ArePlanned : {Node : Type 0} → Areas Node → World Node → List (Call × Position Node) → Type 0
 ArePlanned A w [] = Unit {0}
-ArePlanned A w (step ∷ plan) = Allows A w.disk w.backlog w.at step.0 step.1 × ArePlanned A (moved w step.0 step.1) plan
+ArePlanned A w (step ∷ plan) = Allows A w.disk w.backlog w.at step.0 step.1 × ArePlanned A (moved_on w step.0 step.1) plan
 
 -- before the last call nothing more counts as stored, and nothing of the backlog is in a group
 abbrev pub AreQuiet : {Node : Type 0} → World Node → List (Call × Position Node) → Type 0
 AreQuiet w [] = Unit {0}
 AreQuiet w (step ∷ []) = Unit {0}
 AreQuiet w (step ∷ next ∷ plan) =
-    (reached w.at w.stored ≡ w.stored) × (left w.at w.backlog ≡ w.backlog) × AreQuiet (moved w step.0 step.1) (next ∷ plan)
+    (reached w.at w.stored ≡ w.stored) × (left w.at w.backlog ≡ w.backlog) × AreQuiet (moved_on w step.0 step.1) (next ∷ plan)
 
 -- the device calls of a plan, the worlds before each of them, the world after all of them, and its events
 abbrev pub calls_of : {Node : Type 0} → List (Call × Position Node) → List Call
@@ -28,11 +28,11 @@ calls_of plan = map (λ step. step.0) plan
 
 abbrev pub worlds_of : {Node : Type 0} → World Node → List (Call × Position Node) → List (World Node)
 worlds_of w [] = []
-worlds_of w (step ∷ plan) = w ∷ worlds_of (moved w step.0 step.1) plan
+worlds_of w (step ∷ plan) = w ∷ worlds_of (moved_on w step.0 step.1) plan
 
 abbrev pub all_moved : {Node : Type 0} → World Node → List (Call × Position Node) → World Node
 all_moved w [] = w
-all_moved w (step ∷ plan) = all_moved (moved w step.0 step.1) plan
+all_moved w (step ∷ plan) = all_moved (moved_on w step.0 step.1) plan
 
 abbrev pub all_does : {Node : Type 0} → List (Call × Position Node) → List (Event Node)
 all_does plan = map (λ step. Does step.0 step.1) plan

@@ -8,7 +8,7 @@ use Rattle.tp_model.specs.declared.limits.TheConstants.{MAX_STEPS}
 use Rattle.tp_model.specs.Network.{Machine, Network, Own, own, taken}
 use Rattle.tp_model.specs.Turn.{by_link, by_line, comes_in, turned}
 use Rattle.tp_model.specs.Entries.{process, takes, does}
-use Rattle.tp_model.specs.Halves.{BookState, with_entry}
+use Rattle.tp_model.specs.Halves.{BookState, with_half}
 use Rattle.tp_law_network.specs.Turns.{run_of}
 use Rattle.tp_model.specs.Acts.{Act, Begin, Record, Journal, Close, Trim}
 
@@ -39,7 +39,7 @@ turn_acts node takes count = map Journal (turn_entries node takes count)
 -- the book's half of it, where the turn sent `tokens`, each with its link
 abbrev pub with_made : {Node : Type 0} → BookState Node → List Entry → List (ℕ × Token) → BookState Node
 with_made b [] sends = b
-with_made b (e ∷ es) sends = with_entry b e b.ports sends
+with_made b (e ∷ es) sends = with_half b e b.ports sends
 
 abbrev pub with_turn : {Node : Type 0} → BookState Node → ℕ → List Received → ℕ → List (ℕ × Token) → BookState Node
 with_turn b node takes count tokens = with_made b (turn_entries node takes count) (map (λ m. (4 * node + m.0, m.1)) tokens)

@@ -13,12 +13,12 @@ use Rattle.tp_model.specs.Order.{after}
 use Rattle.tp_model.specs.Areas.{Areas, Held}
 
 -- the byte at a place
-abbrev pub byte_at : List ℕ → ℕ → ℕ
-byte_at bytes place = get_or bytes place 0
+abbrev pub small_byte : List ℕ → ℕ → ℕ
+small_byte bytes place = get_or bytes place 0
 
 -- a gate is open
-abbrev pub is_open : List ℕ → ℕ → Bool
-is_open bytes place = byte_at bytes place == GATE_OPEN
+abbrev pub is_small_open : List ℕ → ℕ → Bool
+is_small_open bytes place = small_byte bytes place == GATE_OPEN
 
 -- where an area begins
 abbrev pub begins : Bool → ℕ
@@ -34,20 +34,20 @@ current_of false true later = Some true
 current_of false false later = None
 
 abbrev pub current : List ℕ → Option Bool
-current bytes = current_of (is_open bytes 0) (is_open bytes 9) (nat_lt (byte_at bytes 1) (byte_at bytes 10))
+current bytes = current_of (is_small_open bytes 0) (is_small_open bytes 9) (nat_lt (small_byte bytes 1) (small_byte bytes 10))
 
 -- the entries of the groups from a place on, at most as many as are given, up to the first closed gate
 unfoldable pub entries_at : List ℕ → ℕ → ℕ → List Entry
 entries_at bytes zero place = []
 entries_at bytes (suc more) place =
-    if is_open bytes place then HostIn 0 (byte_at bytes (place + 1)) ∷ entries_at bytes more (place + 2) else []
+    if is_small_open bytes place then HostIn 0 (small_byte bytes (place + 1)) ∷ entries_at bytes more (place + 2) else []
 
 -- what the area at a place holds
 abbrev pub held_at : {Node : Type 0} → (ℕ → Network Node) → List ℕ → ℕ → Held Node
 held_at image bytes place = record {
-  network = image (byte_at bytes (place + 3));
+  network = image (small_byte bytes (place + 3));
   entries = entries_at bytes 2 (place + 4);
-  base = byte_at bytes (place + 2);
+  base = small_byte bytes (place + 2);
 }
 
 -- that, where its entries are possible
@@ -66,10 +66,10 @@ behind false place = (place + 1, 8)
 
 abbrev pub spare_of : List ℕ → Option Bool → ℕ × ℕ
 spare_of bytes None = (0, 0)
-spare_of bytes (Some second) = behind (is_open bytes (begins (not second))) (begins (not second))
+spare_of bytes (Some second) = behind (is_small_open bytes (begins (not second))) (begins (not second))
 
 abbrev pub open_of : List ℕ → Bool → Option ℕ
-open_of bytes second = if is_open bytes (begins (not second)) then Some (begins (not second)) else None
+open_of bytes second = if is_small_open bytes (begins (not second)) then Some (begins (not second)) else None
 
 -- a group of one entry, where there is a place for it
 abbrev pub spelt : ℕ → ℕ → List Entry → Option (ℕ × List ℕ)
@@ -82,7 +82,7 @@ group_of bytes es second = spelt (begins second + 4) (length (entries_at bytes 2
 -- the other area as it is once its gate is open, where it is closed and the area's generation is higher
 abbrev pub other_of : {Node : Type 0} → Machine Node → (ℕ → Network Node) → List ℕ → Bool → Option (ℕ × Held Node)
 other_of M image bytes second =
-    if is_open bytes (begins (not second)) || nat_le (byte_at bytes (begins (not second) + 1)) (byte_at bytes (begins second + 1))
+    if is_small_open bytes (begins (not second)) || nat_le (small_byte bytes (begins (not second) + 1)) (small_byte bytes (begins second + 1))
     then None
     else option_map (λ k. (begins (not second), k)) (if_possible M (held_at image bytes (begins (not second))))
 

@@ -19,8 +19,8 @@ first_area = GATE_OPEN ∷ 1 ∷ 0 ∷ 0 ∷ replicate 5 0
 abbrev pub formatted : List ℕ
 formatted = first_area ++ replicate 9 0
 
-abbrev pub copied : List ℕ
-copied = first_area ++ GATE_CLOSED ∷ 2 ∷ 3 ∷ 7 ∷ replicate 5 0
+abbrev pub small_copy : List ℕ
+small_copy = first_area ++ GATE_CLOSED ∷ 2 ∷ 3 ∷ 7 ∷ replicate 5 0
 
 abbrev pub switched_over : List ℕ
 switched_over = first_area ++ GATE_OPEN ∷ 2 ∷ 3 ∷ 7 ∷ replicate 5 0
@@ -29,7 +29,7 @@ pub record EachAnswers {Node : Type 0} (M : Machine Node) (image : ℕ → Netwo
   pub verdict : (small_areas M image).verdict formatted ≡ Some (record { network = image 0; entries = []; base = 0 })
   pub spare : (small_areas M image).spare formatted ≡ (10, 8)
   pub group : (x : ℕ) → (small_areas M image).group formatted (HostIn 0 x ∷ []) ≡ Some (4, x ∷ GATE_CLOSED ∷ [])
-  pub other : (small_areas M image).other copied ≡ Some (9, record { network = image 7; entries = []; base = 3 })
+  pub other : (small_areas M image).other small_copy ≡ Some (9, record { network = image 7; entries = []; base = 3 })
   pub open_other : (small_areas M image).open_other switched_over ≡ Some 0
 
 -- a network of one port that no wire is at

@@ -7,7 +7,7 @@ use Rattle.tp_model.specs.Areas.{Areas, Held, with_more, gate_open, gate_closed,
 use Rattle.tp_model.specs.WriteOrder.{Position, Resting, Body, Ready, Gate, Cleared, Tail, Opening, Opened, Broken}
 
 -- Between groups: what is unsynced lies behind the other area's closed gate.
-pub record Rests {Node : Type 0} (A : Areas Node) (h : Held Node) (disk : Moment) : Type 0 where
+pub record RestsBetweenGroups {Node : Type 0} (A : Areas Node) (h : Held Node) (disk : Moment) : Type 0 where
   pub reads : A.verdict disk.bytes ≡ Some h
   pub loose : AreWithin (A.spare disk.bytes) disk.unsynced
 
@@ -57,14 +57,14 @@ pub record Switching {Node : Type 0} (A : Areas Node) (h : Held Node) (disk : Mo
 
 -- What stands there, at each position, where the device stands for h.
 abbrev pub DeviceAt : {Node : Type 0} → Areas Node → Held Node → Moment → Position Node → Type 0
-DeviceAt A h disk Resting = Rests A h disk
+DeviceAt A h disk Resting = RestsBetweenGroups A h disk
 DeviceAt A h disk (Body place es) = Bodied A h disk place es
 DeviceAt A h disk (Ready place es) = Readied A h disk place es
 DeviceAt A h disk (Gate place es) = Gated A h disk place es
 DeviceAt A h disk Cleared = Clearing A h disk
-DeviceAt A h disk (Tail copy upto) = Rests A h disk
+DeviceAt A h disk (Tail copy upto) = RestsBetweenGroups A h disk
 DeviceAt A h disk (Opening copy upto) = Switching A h disk copy
-DeviceAt A h disk (Opened copy upto) = Rests A h disk
+DeviceAt A h disk (Opened copy upto) = RestsBetweenGroups A h disk
 DeviceAt A h disk Broken = Unit {0}
 
 -- what a crash during the next call may leave to be read, beside what the device stands for

@@ -19,8 +19,8 @@ run_of node zero = []
 run_of node (suc k) = Run node (suc k) ∷ []
 
 -- a turn's takes, links in order, and then its run
-abbrev pub entries_of : {Node : Type 0} → Network Node → ℕ → List Received → ℕ → List Entry
-entries_of s node links count = takes_in (takes s.wires (length s.nodes) (Turn node links count)) ++ run_of node count
+abbrev pub entries_of_turn : {Node : Type 0} → Network Node → ℕ → List Received → ℕ → List Entry
+entries_of_turn s node links count = takes_in (takes s.wires (length s.nodes) (Turn node links count)) ++ run_of node count
 
 -- A turn takes at least one token, each on a line that comes in on its link, and the tokens of each line are a front of it.
 pub record IsFront {Node : Type 0} (s : Network Node) (i : ℕ) (links : List Received) (count : ℕ) : Type 0 where

@@ -18,7 +18,7 @@ ghost use Rattle.tp_model.specs.StoreCalls.{clear_calls, group_calls, put_calls,
 ghost use Rattle.tp_model.specs.Areas.{Areas, AreasHold, Held, next_number};
 ghost use Rattle.tp_model.specs.WriteOrder.{Opened, Resting, Tail};
 ghost use Rattle.tp_model.specs.Walks.{AreWalked, RecoversTo, Walks};
-ghost use Rattle.tp_model.specs.Runs.{World, Event, Reopens, Step, Run, IsFormatted, Recovers, reopened};
+ghost use Rattle.tp_model.specs.Runs.{World, Event, Reopens, Step, Run, BeginsFormatted, Recovers, reopened};
 ghost use Rattle.tp_model.specs.Acknowledged.{IsAcknowledged, IsShown};
 ghost use Rattle.tp_law_network.specs.Small.{small_areas};
 ghost use Rattle.tp_law_network.specs.SmallRun.{EachAnswers, Stores, one_port, made_world};
@@ -28,10 +28,10 @@ ghost use Rattle.tp_law_network.specs.SmallRun.{EachAnswers, Stores, one_port, m
 /// moment, it has at each later one.
 pub fn crashes_hold()
     ensures recovers { (areas : Areas NodeState) → AreasHold t414 areas → (start : Network NodeState) (events : List (Event NodeState)) (first last : World NodeState)
-        → IsFormatted t414 areas start first → Run t414 areas first events last
+        → BeginsFormatted t414 areas start first → Run t414 areas first events last
         → (bytes : List ℕ) → MayBe last.disk bytes → Recovers t414 areas start last bytes }
     ensures stays { (areas : Areas NodeState) → AreasHold t414 areas → (start : Network NodeState) (before events : List (Event NodeState)) (first w last : World NodeState)
-        → IsFormatted t414 areas start first → Run t414 areas first before w → Run t414 areas w events last
+        → BeginsFormatted t414 areas start first → Run t414 areas first before w → Run t414 areas w events last
         → (w.mark ≤ last.mark) × (take w.mark last.journal ≡ take w.mark w.journal) }
     ensures goes_on { (areas : Areas NodeState) (start : Network NodeState) (last : World NodeState) (bytes : List ℕ) → MayBe last.disk bytes → (r : Recovers t414 areas start last bytes)
         → Step t414 areas last (Reopens bytes r.held r.now) (reopened last bytes r.held r.now) }
@@ -49,16 +49,16 @@ pub fn every_run_holds()
     ensures whole { (w v : MarkedNetwork NodeState) → IsOpened t414 w → (acts : List Act) → acted t414 w acts ≡ Some v
         → ((cut : WholeCut) → whole v ≡ Some cut → IsWhole v) × (IsWhole v → (cut : WholeCut) × (whole v ≡ Some cut)) }
     ensures snapshots { (areas : Areas NodeState) → AreasHold t414 areas → (start : Network NodeState) (events : List (Event NodeState)) (first last : World NodeState)
-        → IsFormatted t414 areas start first → Run t414 areas first events last
+        → BeginsFormatted t414 areas start first → Run t414 areas first events last
         → (cut : WholeCut) → whole last.net ≡ Some cut → CutHolds t414 last.net cut }
     ensures recovers { (areas : Areas NodeState) → AreasHold t414 areas → (start : Network NodeState) (events : List (Event NodeState)) (first last : World NodeState)
-        → IsFormatted t414 areas start first → Run t414 areas first events last
+        → BeginsFormatted t414 areas start first → Run t414 areas first events last
         → (bytes : List ℕ) → MayBe last.disk bytes → Recovers t414 areas start last bytes }
     ensures acknowledged { (areas : Areas NodeState) → AreasHold t414 areas → (start : Network NodeState) (before : List (Event NodeState)) (first made last : World NodeState)
-        → IsFormatted t414 areas start first → Run t414 areas first before made → (number : ℕ) → number ≤ length made.journal → IsAcknowledged t414 areas number made last
+        → BeginsFormatted t414 areas start first → Run t414 areas first before made → (number : ℕ) → number ≤ length made.journal → IsAcknowledged t414 areas number made last
         → (bytes : List ℕ) → MayBe last.disk bytes → (r : Recovers t414 areas start last bytes)
         → (number ≤ next_number r.held) × (take number last.journal ≡ take number made.journal) }
-    ensures shown { (areas : Areas NodeState) → AreasHold t414 areas → (start : Network NodeState) (first last : World NodeState) → IsFormatted t414 areas start first
+    ensures shown { (areas : Areas NodeState) → AreasHold t414 areas → (start : Network NodeState) (first last : World NodeState) → BeginsFormatted t414 areas start first
         → (number line port byte : ℕ) → (s : IsShown t414 areas number line port byte first last)
         → (bytes : List ℕ) → MayBe last.disk bytes → (r : Recovers t414 areas start last bytes)
         → (number < next_number r.held) × (take (number + 1) last.journal ≡ take (number + 1) s.reading.journal) }
@@ -69,7 +69,7 @@ pub fn every_run_holds()
 pub fn areas_can_hold()
     ensures hold { (image : ℕ → Network NodeState) → AreasHold t414 (small_areas t414 image) }
     ensures answers { (image : ℕ → Network NodeState) → EachAnswers t414 image }
-    ensures formatted { IsFormatted t414 (small_areas t414 (λ code. one_port)) one_port (made_world (λ code. one_port)) }
+    ensures formatted { BeginsFormatted t414 (small_areas t414 (λ code. one_port)) one_port (made_world (λ code. one_port)) }
     ensures stores { (x : ℕ) → Stores t414 (λ code. one_port) x }
 {}
 
@@ -99,6 +99,6 @@ pub fn walks_recover()
     ensures joined { (areas : Areas NodeState) (w u v : World NodeState) (old mid new : State)
         → Walks t414 areas w u old mid → Walks t414 areas u v mid new → Walks t414 areas w v old new }
     ensures leave { (areas : Areas NodeState) → AreasHold t414 areas → (start : Network NodeState) (before : List (Event NodeState)) (first w v : World NodeState) (old new : State)
-        → IsFormatted t414 areas start first → Run t414 areas first before w → Walks t414 areas w v old new
+        → BeginsFormatted t414 areas start first → Run t414 areas first before w → Walks t414 areas w v old new
         → LeavesOnly old new (RecoversTo t414 areas start v.journal w.mark) }
 {}

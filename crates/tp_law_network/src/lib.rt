@@ -6,17 +6,13 @@ mod all_runs;
 mod by_parts;
 mod whole_cuts;
 
-pub use all_runs::{crashes_hold, every_run_holds, areas_can_hold, store_calls_walk, walks_recover};
-pub use by_parts::{pieces_stop_first, pieces_make_the_network, rows_stop_with_entries, tokens_come_from_senders, another_token_is_refused};
-pub use whole_cuts::{swaps_agree, cuts_hold, whole_cuts_stay, halves_join, reserved_turns_stay, turns_join};
-
 ghost use Rattle.std.specs.Prelude.{◌≡◌, ◌≤◌, ◌+◌, ℕ, List, Some, length, slice_get};
 ghost use Rattle.std.specs.List.{count_by};
 ghost use Rattle.tp_model.specs.declared.link.Token.{Token};
 ghost use Rattle.tp_model.specs.declared.entry.Entry.{Entry};
 ghost use Rattle.tp_model.specs.declared.entry.Entry.TheVariants.{Turn};
 ghost use Rattle.tp_model.specs.declared.link.Received.{Received};
-ghost use Rattle.tp_law_network.specs.Turns.{IsFront, entries_of};
+ghost use Rattle.tp_law_network.specs.Turns.{IsFront, entries_of_turn};
 ghost use Rattle.tp_model.specs.NodeState.{NodeState};
 ghost use Rattle.tp_model.specs.Network.{Network, Port, steps, on_line};
 ghost use Rattle.tp_model.specs.Entries.{next};
@@ -25,6 +21,17 @@ ghost use Rattle.tp_model.specs.Counted.{accepted, came_out, is_input, is_output
 ghost use Rattle.tp_model.specs.Sound.{Sound, datas, acks};
 ghost use Rattle.tp_model.specs.Markers.{markers};
 ghost use Rattle.tp_model.specs.Node.{t414, t414_ends};
+
+pub use all_runs::{
+    areas_can_hold, crashes_hold, every_run_holds, store_calls_walk, walks_recover,
+};
+pub use by_parts::{
+    another_token_is_refused, pieces_make_the_network, pieces_stop_first, rows_stop_with_entries,
+    tokens_come_from_senders,
+};
+pub use whole_cuts::{
+    cuts_hold, halves_join, reserved_turns_stay, swaps_agree, turns_join, whole_cuts_stay,
+};
 
 /// Every entry keeps a sound network sound. In one, at most one Data and one Ack are on a line, beside its Markers.
 pub fn entries_keep_soundness()
@@ -49,7 +56,7 @@ pub fn ports_count_entries()
 /// A turn as one entry is its takes, links in order, and then its run: it leads where they lead, and it is possible just where
 /// they are possible one after the other and its tokens are fronts of their lines already.
 pub fn turns_are_entries()
-    ensures leads { (s t : Network NodeState) (i : ℕ) (takes : List Received) (count : ℕ) → next t414 s (Turn i takes count) ≡ Some t → after t414 s (entries_of s i takes count) ≡ Some t }
-    ensures possible { (s t : Network NodeState) (i : ℕ) (takes : List Received) (count : ℕ) → IsFront s i takes count → after t414 s (entries_of s i takes count) ≡ Some t → next t414 s (Turn i takes count) ≡ Some t }
+    ensures leads { (s t : Network NodeState) (i : ℕ) (takes : List Received) (count : ℕ) → next t414 s (Turn i takes count) ≡ Some t → after t414 s (entries_of_turn s i takes count) ≡ Some t }
+    ensures possible { (s t : Network NodeState) (i : ℕ) (takes : List Received) (count : ℕ) → IsFront s i takes count → after t414 s (entries_of_turn s i takes count) ≡ Some t → next t414 s (Turn i takes count) ≡ Some t }
     ensures fronts { (s t : Network NodeState) (i : ℕ) (takes : List Received) (count : ℕ) → next t414 s (Turn i takes count) ≡ Some t → IsFront s i takes count }
 {}

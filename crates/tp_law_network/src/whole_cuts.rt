@@ -15,7 +15,7 @@ ghost use Rattle.tp_model.specs.Markers.{has_marker, plain_network};
 ghost use Rattle.tp_model.specs.Snapshot.{MarkedNetwork, Snapshot, has_recorded, taker};
 ghost use Rattle.tp_model.specs.WholeCut.{WholeCut, all_some, count_in, whole, IsWhole};
 ghost use Rattle.tp_model.specs.Acts.{Act, Begin, Close, Journal, Record, Trim, acted, happens, IsOpened, CutHolds};
-ghost use Rattle.tp_model.specs.Halves.{BookState, marked, whole_in, with_begin, with_close, with_close_over, with_entry, with_record, with_trim};
+ghost use Rattle.tp_model.specs.Halves.{BookState, marked, whole_in, with_begin, with_close, with_close_over, with_half, with_record, with_trim};
 ghost use Rattle.tp_model.specs.Runs.{HasCut, is_trim};
 ghost use Rattle.tp_law_network.specs.Reserved.{MayBeMade, IsOfOthers, HasTurned, IsNotOf, IsReceived, turn_acts, with_turn};
 ghost use Rattle.tp_model.specs.declared.link.Received.{Received};
@@ -59,12 +59,12 @@ pub fn halves_join()
         → (e : Entry) (n changed : NodeState) (sends : List (ℕ × Token)) (out : List (List Token))
         → slice_get nodes (process b.start.wires (length b.start.nodes) e) ≡ Some n → taken b.lines (takes b.start.wires (length b.start.nodes) e) ≡ Some out
         → does t414 b.start.wires (length nodes) e (OfNode n) ≡ Some (OfNode changed, sends)
-        → happens t414 (marked b nodes frozen) (Journal e) ≡ Some (marked (with_entry b e b.ports sends) (set nodes (process b.start.wires (length b.start.nodes) e) changed) frozen) }
+        → happens t414 (marked b nodes frozen) (Journal e) ≡ Some (marked (with_half b e b.ports sends) (set nodes (process b.start.wires (length b.start.nodes) e) changed) frozen) }
     ensures host { (b : BookState NodeState) (nodes : List NodeState) (frozen : List (Option NodeState)) → length nodes ≡ length b.start.nodes
         → (e : Entry) (ports : List Port) (sends : List (ℕ × Token)) (out : List (List Token))
         → process b.start.wires (length b.start.nodes) e ≡ length nodes → taken b.lines (takes b.start.wires (length b.start.nodes) e) ≡ Some out
         → does t414 b.start.wires (length nodes) e (OfHost b.ports) ≡ Some (OfHost ports, sends)
-        → happens t414 (marked b nodes frozen) (Journal e) ≡ Some (marked (with_entry b e ports sends) nodes frozen) }
+        → happens t414 (marked b nodes frozen) (Journal e) ≡ Some (marked (with_half b e ports sends) nodes frozen) }
     ensures begins { (b : BookState NodeState) (nodes : List NodeState) (frozen : List (Option NodeState)) → length nodes ≡ length b.start.nodes
         → b.snapshot ≡ None → happens t414 (marked b nodes frozen) Begin ≡ Some (marked (with_begin b) nodes (replicate (length nodes) None)) }
     ensures records { (b : BookState NodeState) (nodes : List NodeState) (frozen : List (Option NodeState)) → length nodes ≡ length b.start.nodes

@@ -4,14 +4,14 @@ use Rattle.std.specs.Option.{ForSome}
 use Rattle.std.proofs.lemmas.List.{get_or-set_same, get_or-set_other, length-append, length-take-le, length-drop, take-append-drop, drop-drop}
 use Rattle.std.proofs.Math.Seq.{take-append_seam}
 use Rattle.tp_model.specs.declared.limits.TheConstants.{PAGE_BYTES}
-use Rattle.tp_model.specs.Frames.{Held, Frames, frame, held_owners, held_bytes, owners_of, bytes_of, free_in}
+use Rattle.tp_model.specs.Frames.{HeldFrame, Frames, frame, held_owners, held_bytes, owners_of, bytes_of, free_in}
 use Rattle.tp_model.specs.SharedPages.{private_in}
 use Rattle.tp_mem.specs.Contents.{page_of}
 use Rattle.tp_mem.specs.Copies.{frozen_bytes, frozen_from, shared_of, copied_in, without_copy, IsElsewhere, AreCopies}
 use Rattle.tp_frames.proofs.Frames.{vacancy, free_in-set}
 
 -- a frame with one owner, and another entry in its place
-abbrev pub copy_of : List ℕ → Option Held
+abbrev pub copy_of : List ℕ → Option HeldFrame
 copy_of bytes = Some (record { owners = 1; bytes = bytes })
 
 -- ---- frames elsewhere
@@ -44,13 +44,13 @@ IsElsewhere-fresh frames id (Some here ∷ copies) fresh own =
     ((λ same. let other : owners_of frames id ≡ 1 = ap (λ k. owners_of frames k) same ∙ own.0 in absurd (omega arith)), IsElsewhere-fresh frames id copies fresh own.3)
 
 -- ---- copies outlive a change of another frame
-owners-other : (frames : Frames) (id other : ℕ) (entry : Option Held) → ¬ (id ≡ other) → owners_of (set frames id entry) other ≡ owners_of frames other
+owners-other : (frames : Frames) (id other : ℕ) (entry : Option HeldFrame) → ¬ (id ≡ other) → owners_of (set frames id entry) other ≡ owners_of frames other
 owners-other frames id other entry apart = ap held_owners (get_or-set_other frames id other entry None (λ same. apart (sym same)))
 
-bytes-other : (frames : Frames) (id other : ℕ) (entry : Option Held) → ¬ (id ≡ other) → bytes_of (set frames id entry) other ≡ bytes_of frames other
+bytes-other : (frames : Frames) (id other : ℕ) (entry : Option HeldFrame) → ¬ (id ≡ other) → bytes_of (set frames id entry) other ≡ bytes_of frames other
 bytes-other frames id other entry apart = ap held_bytes (get_or-set_other frames id other entry None (λ same. apart (sym same)))
 
-AreCopies-elsewhere : (frames : Frames) (id : ℕ) (entry : Option Held) (copies : List (Option ℕ)) → IsElsewhere id copies → AreCopies frames copies → AreCopies (set frames id entry) copies
+AreCopies-elsewhere : (frames : Frames) (id : ℕ) (entry : Option HeldFrame) (copies : List (Option ℕ)) → IsElsewhere id copies → AreCopies frames copies → AreCopies (set frames id entry) copies
 AreCopies-elsewhere frames id entry [] apart own = tt
 AreCopies-elsewhere frames id entry (None ∷ copies) apart own = AreCopies-elsewhere frames id entry copies apart own
 AreCopies-elsewhere frames id entry (Some here ∷ copies) apart own =
@@ -66,7 +66,7 @@ AreCopies-at frames (None ∷ copies) (suc i) id own at = AreCopies-at frames co
 AreCopies-at frames (Some here ∷ copies) (suc i) id own at = AreCopies-at frames copies i id own.3 at
 
 -- one of the copies goes
-pub AreCopies-without : (frames : Frames) (copies : List (Option ℕ)) (i id : ℕ) (entry : Option Held) → AreCopies frames copies → get_or copies i None ≡ Some id → AreCopies (set frames id entry) (set copies i None)
+pub AreCopies-without : (frames : Frames) (copies : List (Option ℕ)) (i id : ℕ) (entry : Option HeldFrame) → AreCopies frames copies → get_or copies i None ≡ Some id → AreCopies (set frames id entry) (set copies i None)
 AreCopies-without frames [] i id entry own at = absurd (cc)
 AreCopies-without frames (None ∷ copies) zero id entry own at = absurd (cc)
 AreCopies-without frames (Some here ∷ copies) zero id entry own at =
@@ -137,7 +137,7 @@ owned_within [] id owned = absurd (omega arith)
 owned_within (entry ∷ frames) zero owned = omega arith
 owned_within (entry ∷ frames) (suc id) owned = omega (arith, owned_within frames id owned)
 
-owned_vacancy : (entry : Option Held) → 0 < held_owners entry → vacancy entry ≡ 0
+owned_vacancy : (entry : Option HeldFrame) → 0 < held_owners entry → vacancy entry ≡ 0
 owned_vacancy None owned = absurd (omega arith)
 owned_vacancy (Some held) owned = refl
 
@@ -211,7 +211,7 @@ drop-append : (front rest : List ℕ) (n : ℕ) → drop (length front + n) (fro
 drop-append [] rest n = ap (λ k. drop k rest) (let e : 0 + n ≡ n = omega arith in e)
 drop-append (byte ∷ front) rest n = let e : length (byte ∷ front) + n ≡ suc (length front + n) = omega arith in ap (λ k. drop k (byte ∷ (front ++ rest))) e ∙ drop-append front rest n
 
-frozen_from-elsewhere : (page : ℕ) (live : List ℕ) (copies : List (Option ℕ)) (frames : Frames) (id : ℕ) (entry : Option Held) → IsElsewhere id copies → frozen_from page live copies (set frames id entry) ≡ frozen_from page live copies frames
+frozen_from-elsewhere : (page : ℕ) (live : List ℕ) (copies : List (Option ℕ)) (frames : Frames) (id : ℕ) (entry : Option HeldFrame) → IsElsewhere id copies → frozen_from page live copies (set frames id entry) ≡ frozen_from page live copies frames
 frozen_from-elsewhere page live [] frames id entry apart = refl
 frozen_from-elsewhere page live (None ∷ copies) frames id entry apart = ap (λ rest. page_of live page ++ rest) (frozen_from-elsewhere (page + 1) live copies frames id entry apart)
 frozen_from-elsewhere page live (Some here ∷ copies) frames id entry apart =

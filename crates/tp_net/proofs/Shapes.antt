@@ -17,7 +17,7 @@ use Rattle.tp_model.specs.Results.{◌>>=◌}
 use Rattle.tp_model.specs.Network.{receiver, line_of}
 use Rattle.tp_model.specs.Topology.{is_end, is_page_count, is_topology, is_line, joins_link, leads_back, all_lead_back, end_of}
 use Rattle.tp_model.specs.TopologyWords.{words, has_space_around, is_skipped, is_digit, is_name, is_pages, is_link_digit, named_parts, named_end}
-use Rattle.tp_model.specs.TopologyText.{Said, node_named, port_named, is_known, end_named, same_end, are_ports, has_wire, after_node, after_port, joined, after_ends, after_wire, after_words, after_line, read_lines, other_end, topology_of, finished, nothing_said}
+use Rattle.tp_model.specs.TopologyText.{Said, node_named, port_named, is_known, end_named, same_end, are_ports, end_has_wire, after_node, after_port, wire_joined, after_ends, after_wire, after_words, after_line, read_lines, other_end, topology_of, finished, nothing_said}
 use Rattle.tp_net.proofs.Wired.{Apart, Joined, apart_push, joined_more, joined_push, other_end-back, other_end-there}
 
 -- the numbers are within their limits, and the wires lead from ends that are there to others, none of them twice
@@ -140,16 +140,16 @@ end_there said (name, None) h = port_there said name (port_named said name) refl
 end_there said (name, Some k) h = link_there said name k (node_named said name) refl h
 
 join_good : (said : Said) (number : ℕ) (first second : Option WireEnd) (after : Said) → IsThere said first → IsThere said second
-    → joined said number first second ≡ Ok after → Good said → Good after
+    → wire_joined said number first second ≡ Ok after → Good said → Good after
 join_good said number None second after one two h good = absurd (err_ok (Syntax number) after h)
 join_good said number (Some first) None after one two h good = absurd (err_ok (Syntax number) after h)
 join_good said number (Some first) (Some second) after one two h good =
     let grown : Said = record said { wires = said.wires ++ (first, second) ∷ [] } in
-    let taken = same_end first second || (has_wire said first || has_wire said second) in
+    let taken = same_end first second || (end_has_wire said first || end_has_wire said second) in
     let kinds = not_refused (are_ports first second) (Syntax number) (cond taken (Err TwoWires) (Ok grown)) after h in
     let free = not_refused taken TwoWires (Ok grown) after kinds.1 in
-    let parts = or_parts (same_end first second) (has_wire said first || has_wire said second) free.0 in
-    let ends = or_parts (has_wire said first) (has_wire said second) parts.1 in
+    let parts = or_parts (same_end first second) (end_has_wire said first || end_has_wire said second) free.0 in
+    let ends = or_parts (end_has_wire said first) (end_has_wire said second) parts.1 in
     subst Good (same_Ok grown after free.1)
     (record {
       nodes = good.nodes;
@@ -164,7 +164,7 @@ wire_good : (said : Said) (number : ℕ) (first second : Option (List ℕ × Opt
 wire_good said number None second after one two h good = absurd (err_ok (Syntax number) after h)
 wire_good said number (Some first) None after one two h good = absurd (err_ok (Syntax number) after h)
 wire_good said number (Some first) (Some second) after one two h good =
-    let known = granted (is_known said first.0 && is_known said second.0) UnknownNode (joined said number (end_named said first) (end_named said second)) after h in
+    let known = granted (is_known said first.0 && is_known said second.0) UnknownNode (wire_joined said number (end_named said first) (end_named said second)) after h in
     join_good said number (end_named said first) (end_named said second) after (end_there said first one) (end_there said second two) known.1 good
 
 -- ## A line, and all lines
@@ -251,10 +251,10 @@ joins_from N line (AtPort p) false below h = absurd (false≢true (sym h))
 
 back_from_other : (N H line : ℕ) (ws : List (WireEnd × WireEnd)) (o : Option WireEnd) → Apart ws → Joined N H ws → other_end (end_of N line) ws ≡ o
     → leads_back N H (map (λ l. other_end (end_of N l) ws) (range_with_len 0 (4 * N + H))) line o ≡ true
-back_from_other N H line ws None apart joined h = refl
-back_from_other N H line ws (Some other) apart joined h =
+back_from_other N H line ws None apart wire_joined h = refl
+back_from_other N H line ws (Some other) apart wire_joined h =
     let all = map (λ l. other_end (end_of N l) ws) (range_with_len 0 (4 * N + H)) in
-    let there = other_end-there N H (end_of N line) other ws joined h in
+    let there = other_end-there N H (end_of N line) other ws wire_joined h in
     let back : receiver all (line_of N other) ≡ Some (end_of N line) =
     get_or-map-range_with_len (λ l. other_end (end_of N l) ws) 0 (4 * N + H) (line_of N other) (line_of N other) None (line_of-below N H other there.0) (omega arith)
     ∙ ap (λ end. other_end end ws) (end_of-line_of N H other there.0)
@@ -266,11 +266,11 @@ back_from_other N H line ws (Some other) apart joined h =
 all_back : (N H line count : ℕ) (ws : List (WireEnd × WireEnd)) → Apart ws → Joined N H ws
     → all_lead_back N H (map (λ l. other_end (end_of N l) ws) (range_with_len 0 (4 * N + H))) line (map (λ l. other_end (end_of N l) ws) (range_with_len line count)) ≡ true
 unfolding all_lead_back
-all_back N H line zero ws apart joined = refl
-all_back N H line (suc count) ws apart joined =
+all_back N H line zero ws apart wire_joined = refl
+all_back N H line (suc count) ws apart wire_joined =
     let all = map (λ l. other_end (end_of N l) ws) (range_with_len 0 (4 * N + H)) in
     and_from (leads_back N H all line (other_end (end_of N line) ws)) (all_lead_back N H all (line + 1) (map (λ l. other_end (end_of N l) ws) (range_with_len (line + 1) count)))
-    (back_from_other N H line ws (other_end (end_of N line) ws) apart joined refl) (all_back N H (line + 1) count ws apart joined)
+    (back_from_other N H line ws (other_end (end_of N line) ws) apart wire_joined refl) (all_back N H (line + 1) count ws apart wire_joined)
 
 shape_from : (pages : List ℕ) (ports : ℕ) (wires : List (Option WireEnd)) (N : ℕ) → length pages ≡ N → 1 ≤ N → N ≤ MAX_NODES → 1 ≤ ports → ports ≤ MAX_PORTS
     → list_all is_page_count pages ≡ true → length wires ≡ 4 * N + ports → all_lead_back N ports wires 0 wires ≡ true

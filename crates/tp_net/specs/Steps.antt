@@ -8,8 +8,8 @@ use Rattle.tp_model.specs.declared.topology.NetFault.TheVariants.{Memory}
 use Rattle.tp_model.specs.TopologyText.{Said}
 
 -- each node's name with its pages
-abbrev pub nodes_in : {S : Type 0} → IndexMap (Bor (List ℕ)) ℕ S → List (List ℕ × ℕ)
-nodes_in nodes = map (λ node. (node.0.now, node.1)) nodes.entries
+abbrev pub pages_by_name : {S : Type 0} → IndexMap (Bor (List ℕ)) ℕ S → List (List ℕ × ℕ)
+pages_by_name nodes = map (λ node. (node.0.now, node.1)) nodes.entries
 
 -- each name
 abbrev pub names_in : {S : Type 0} → IndexSet (Bor (List ℕ)) S → List (List ℕ)

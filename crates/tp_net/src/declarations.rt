@@ -2,7 +2,7 @@
 
 ghost use Rattle.std.specs.Prelude.{◌≡◌, ◌<◌, ◌≤◌, ◌+◌, ◌*◌, [], ◌∷◌, ◌++◌, false, true, IfSome, IfErr, IfOk, OnOk, length, map};
 ghost use Rattle.std.specs.Option.{option_map};
-ghost use Rattle.tp_model.specs.TopologyText.{after_ends, after_line, after_node, after_port, after_wire, after_words, are_ports, end_named, finished, has_wire, is_known, joined, node_named, other_end, port_named, same_end, nothing_said, topology_of};
+ghost use Rattle.tp_model.specs.TopologyText.{after_ends, after_line, after_node, after_port, after_wire, after_words, are_ports, end_named, finished, end_has_wire, is_known, wire_joined, node_named, other_end, port_named, same_end, nothing_said, topology_of};
 ghost use Rattle.tp_model.specs.Topology.{end_of, is_topology};
 ghost use Rattle.tp_net.specs.Steps.{IsRead, IsStep};
 
@@ -28,12 +28,12 @@ pub(crate) struct Declarations<'a> {
 impl<'a> Model for Declarations<'a> {
     ghost use Rattle.std.specs.Prelude.{◌≤◌, length};
     ghost use Rattle.tp_model.specs.TopologyText.{Said as Words};
-    ghost use Rattle.tp_net.specs.Steps.{names_in, nodes_in};
+    ghost use Rattle.tp_net.specs.Steps.{names_in, pages_by_name};
     ghost use Rattle.tp_model.specs.declared.limits.TheConstants.{MAX_NODES, MAX_PORTS};
 
     ghost Value = { Words };
 
-    ghost view = { λ names. record { nodes = nodes_in names.nodes; ports = names_in names.ports; wires = names.wires.items } };
+    ghost view = { λ names. record { nodes = pages_by_name names.nodes; ports = names_in names.ports; wires = names.wires.items } };
 
     ghost invariant = { λ names. (length names.nodes.entries ≤ MAX_NODES) × (length names.ports.keys ≤ MAX_PORTS) };
 }
@@ -90,7 +90,7 @@ impl<'a> Declarations<'a> {
 
     /// The end has a wire.
     fn has_wire(&self, end: WireEnd) -> bool
-        ensures { result ≡ has_wire self.now end }
+        ensures { result ≡ end_has_wire self.now end }
     {
         self.wires
             .iter()
@@ -232,7 +232,7 @@ impl<'a> Declarations<'a> {
     }
 
     fn join(&mut self, number: u64, first: WireEnd, second: WireEnd) -> Result<(), NetFault>
-        ensures { IsStep (joined self.old number (Some first) (Some second)) self.new result }
+        ensures { IsStep (wire_joined self.old number (Some first) (Some second)) self.new result }
     {
         if are_ports(first, second) {
             return Err(NetFault::Syntax(number));

@@ -10,7 +10,7 @@ use Rattle.tp_model.specs.Step.{step_of}
 use Rattle.tp_node.specs.declared.run.Why.{Why}
 use Rattle.tp_node.specs.declared.run.Why.TheVariants.{Full, Idle, NoFrame, Halted}
 use Rattle.tp_node.specs.declared.fault.NoFrame.{NoFrame as NoFrameLeft}
-use Rattle.tp_node.specs.NodeContents.{NodeContents, kept_of}
+use Rattle.tp_node.specs.NodeContents.{NodeContents, memory_kept}
 use Rattle.tp_node.specs.RunEnd.{IsWhy}
 use Rattle.tp_node.specs.Takes.{Takes}
 use Rattle.tp_node.specs.FromImage.{ReadsImage}
@@ -25,7 +25,7 @@ takes_err None cause link before now e takes = absurd takes
 takes_err (Some after) cause link before now e takes = takes.0
 
 -- a node that lacks frames is frozen
-pub lacking_frozen : (node : NodeContents) (ranges : List (ℕ × ℕ)) → LacksFrames (kept_of node) ranges → IsSome node.frozen
+pub lacking_frozen : (node : NodeContents) (ranges : List (ℕ × ℕ)) → LacksFrames (memory_kept node) ranges → IsSome node.frozen
 lacking_frozen node ranges lacks = kept_some node.frozen lacks.frozen
   where
     kept_some : (frozen : Option NodeState) → IsSome (option_map (λ (n : NodeState). n.memory) frozen) → IsSome frozen

@@ -12,7 +12,7 @@ use Rattle.tp_model.specs.declared.processor.Cpu.{Cpu}
 use Rattle.tp_model.specs.Network.{steps}
 use Rattle.tp_model.specs.Node.{node_step, t414}
 use Rattle.tp_model.specs.NodeWrites.{node_ranges, kept_behind_steps}
-use Rattle.tp_cpu.specs.Advance.{Moment, led, step_on, advanced}
+use Rattle.tp_cpu.specs.Advance.{CpuMoment, led, step_on, advanced_by}
 use Rattle.tp_mem.proofs.Kept.{frozen-kept_behind}
 use Rattle.tp_node.proofs.OneMore.{one_more, kept_one_more}
 use Rattle.tp_node.proofs.Room.{room, room_step}
@@ -25,13 +25,13 @@ pub record Runs (count : ℕ) (before now : NodeState) (sent : List (ℕ × Toke
   pub frozen : now_kept.frozen ≡ was.frozen
 
 -- a node at a moment of its processor
-abbrev pub node_at : NodeState → Moment → NodeState
+abbrev pub node_at : NodeState → CpuMoment → NodeState
 node_at node m = record node { cpu = m.cpu; memory = m.memory }
 
-led_on : (o : Outcome) (kept : Kept) (to : Moment) → led o kept ≡ Some to → (o ≡ Next to.cpu to.memory) × (to.kept ≡ kept)
+led_on : (o : Outcome) (kept : Kept) (to : CpuMoment) → led o kept ≡ Some to → (o ≡ Next to.cpu to.memory) × (to.kept ≡ kept)
 led_on (Next cpu memory) kept to is =
-    let same : ◌≡◌ {A = Moment} (record { cpu = cpu; memory = memory; kept = kept }) to = cc in
-    (ap (λ (m : Moment). Next m.cpu m.memory) same, ap (λ (m : Moment). m.kept) (sym same))
+    let same : ◌≡◌ {A = CpuMoment} (record { cpu = cpu; memory = memory; kept = kept }) to = cc in
+    (ap (λ (m : CpuMoment). Next m.cpu m.memory) same, ap (λ (m : CpuMoment). m.kept) (sym same))
 led_on (Halts fault) kept to is = absurd (cc)
 led_on Rests kept to is = absurd (cc)
 led_on (Sends request) kept to is = absurd (cc)
@@ -50,15 +50,15 @@ runs_step count begun before now sent token was kept left runs step behind =
       frozen = ap (λ (k : Kept). k.frozen) behind ∙ frozen-kept_behind kept (node_ranges before) ∙ runs.frozen;
     }
 
-step_at : (node : NodeState) (at : Moment) (cpu : Cpu) (memory : List ℕ) → step_of at.cpu at.memory ≡ Next cpu memory → node_step (node_at node at) ≡ Some (record node { cpu = cpu; memory = memory }, [])
+step_at : (node : NodeState) (at : CpuMoment) (cpu : Cpu) (memory : List ℕ) → step_of at.cpu at.memory ≡ Next cpu memory → node_step (node_at node at) ≡ Some (record node { cpu = cpu; memory = memory }, [])
 unfolding node_step
 step_at node at cpu memory leads = rw leads refl
 
-ranges_at : (node : NodeState) (at : Moment) (cpu : Cpu) (memory : List ℕ) → step_of at.cpu at.memory ≡ Next cpu memory → node_ranges (node_at node at) ≡ step_ranges at.cpu at.memory
+ranges_at : (node : NodeState) (at : CpuMoment) (cpu : Cpu) (memory : List ℕ) → step_of at.cpu at.memory ≡ Next cpu memory → node_ranges (node_at node at) ≡ step_ranges at.cpu at.memory
 unfolding node_ranges
 ranges_at node at cpu memory leads = rw leads refl
 
-one_on : (count : ℕ) (begun : NodeState) (sent : List (ℕ × Token)) (was : Kept) (node : NodeState) (at to : Moment)
+one_on : (count : ℕ) (begun : NodeState) (sent : List (ℕ × Token)) (was : Kept) (node : NodeState) (at to : CpuMoment)
     → Runs count begun (node_at node at) sent was at.kept → step_on at ≡ Some to → Runs (count + 1) begun (node_at node to) sent was to.kept
 unfolding step_on
 one_on count begun sent was node at to runs next =
@@ -69,22 +69,22 @@ one_on count begun sent was node at to runs next =
     subst (λ (xs : List (ℕ × Token)). Runs (count + 1) begun (node_at node to) xs was to.kept) (append-nil sent)
     (runs_step count begun (node_at node at) (node_at node to) sent [] was at.kept to.kept runs step behind)
 
-pub runs_on : (more count : ℕ) (begun : NodeState) (sent : List (ℕ × Token)) (was : Kept) (node : NodeState) (kept : Kept) (to : Moment)
-    → Runs count begun node sent was kept → advanced more (record { cpu = node.cpu; memory = node.memory; kept = kept }) ≡ Some to
+pub runs_on : (more count : ℕ) (begun : NodeState) (sent : List (ℕ × Token)) (was : Kept) (node : NodeState) (kept : Kept) (to : CpuMoment)
+    → Runs count begun node sent was kept → advanced_by more (record { cpu = node.cpu; memory = node.memory; kept = kept }) ≡ Some to
     → Runs (count + more) begun (node_at node to) sent was to.kept
 runs_on zero count begun sent was node kept to runs are =
-    let same : ◌≡◌ {A = Moment} (record { cpu = node.cpu; memory = node.memory; kept = kept }) to = cc in
+    let same : ◌≡◌ {A = CpuMoment} (record { cpu = node.cpu; memory = node.memory; kept = kept }) to = cc in
     let number : count ≡ count + zero = omega arith in
-    subst (λ (n : ℕ). Runs n begun (node_at node to) sent was to.kept) number (subst (λ (m : Moment). Runs count begun (node_at node m) sent was m.kept) same runs)
+    subst (λ (n : ℕ). Runs n begun (node_at node to) sent was to.kept) number (subst (λ (m : CpuMoment). Runs count begun (node_at node m) sent was m.kept) same runs)
 runs_on (suc more) count begun sent was node kept to runs are =
-    option_and_then_some step_on (advanced more (record { cpu = node.cpu; memory = node.memory; kept = kept })) to are (λ at before next.
+    option_and_then_some step_on (advanced_by more (record { cpu = node.cpu; memory = node.memory; kept = kept })) to are (λ at before next.
     let number : (count + more) + 1 ≡ count + suc more = omega arith in
     subst (λ (n : ℕ). Runs n begun (node_at node to) sent was to.kept) number
     (one_on (count + more) begun sent was node at to (runs_on more count begun sent was node kept at runs before) next))
 
 -- the first ones
-pub runs_first : (more : ℕ) (begun : NodeState) (sent : List (ℕ × Token)) (kept : Kept) (to : Moment)
-    → sent ≡ [] → room begun ≤ 8 → advanced more (record { cpu = begun.cpu; memory = begun.memory; kept = kept }) ≡ Some to
+pub runs_first : (more : ℕ) (begun : NodeState) (sent : List (ℕ × Token)) (kept : Kept) (to : CpuMoment)
+    → sent ≡ [] → room begun ≤ 8 → advanced_by more (record { cpu = begun.cpu; memory = begun.memory; kept = kept }) ≡ Some to
     → Runs more begun (node_at begun to) sent kept to.kept
 unfolding steps
 runs_first more begun sent kept to none places are =

@@ -16,7 +16,7 @@ use Rattle.tp_model.specs.declared.link.News.{News}
 use Rattle.tp_model.specs.NodeWrites.{place_range, tell_ranges, took_ranges}
 use Rattle.tp_node.specs.declared.fault.NoFrame.{NoFrame}
 use Rattle.tp_node.specs.declared.first.First.{First}
-use Rattle.tp_node.specs.First.{first_stored, put_ranges, put_then}
+use Rattle.tp_node.specs.First.{first_stored, put_ranges, then_put}
 use Rattle.tp_node.specs.Hears.{with_both}
 use Rattle.tp_node.specs.Takes.{Takes}
 
@@ -55,7 +55,7 @@ same_node node cpu memory same_cpu same_memory = rw (same_cpu, same_memory) refl
 -- what a token writes, by its parts
 pub data_ranges : (node : NodeState) (k byte : ℕ) (end new : InEnd) (arrival : Arrival) (first : First) → slice_get node.inputs k ≡ Some end → in_arrived byte end ≡ Some (new, arrival)
     → ((memory : List ℕ) → first_stored first memory ≡ placed arrival.place byte memory) → put_ranges first ≡ place_range arrival.place
-    → took_ranges node k (Data byte) ≡ put_then first node.memory (tell_ranges arrival.news node.cpu)
+    → took_ranges node k (Data byte) ≡ then_put first node.memory (tell_ranges arrival.news node.cpu)
 unfolding took_ranges
 data_ranges node k byte end new arrival first there arrived stored ranges = rw (there, arrived, stored node.memory, ranges) refl
 

@@ -24,8 +24,8 @@ put_ranges Nothing = []
 put_ranges (Byte address byte) = byte_ranges address
 put_ranges (Word address word) = word_range address
 
-abbrev pub put_then : First → List ℕ → (List ℕ → List (ℕ × ℕ)) → List (ℕ × ℕ)
-put_then first memory rest = first_stored first memory >>= λ m. put_ranges first ++ rest m
+abbrev pub then_put : First → List ℕ → (List ℕ → List (ℕ × ℕ)) → List (ℕ × ℕ)
+then_put first memory rest = first_stored first memory >>= λ m. put_ranges first ++ rest m
 
 -- a token for an alternative puts nothing into memory by itself
 abbrev pub GoesWith : First → News → Type 0

@@ -13,17 +13,17 @@ IsDone (Did cpu memory end token) = Unit {0}
 IsDone (Fails fault) = ⊥
 
 -- why nothing was done; `cause` is what has to be so where memory has no frame
-abbrev pub IsUndone : {End : Type 0} → LinkOutcome End → Type 0 → Undone → Type 0
-IsUndone outcome cause (Faulty fault) = outcome ≡ Fails fault
-IsUndone outcome cause NoFrame = IsDone outcome × cause
-IsUndone outcome cause (Asks request) = ⊥
-IsUndone outcome cause (Wants request) = ⊥
+abbrev pub IsLinkUndone : {End : Type 0} → LinkOutcome End → Type 0 → Undone → Type 0
+IsLinkUndone outcome cause (Faulty fault) = outcome ≡ Fails fault
+IsLinkUndone outcome cause NoFrame = IsDone outcome × cause
+IsLinkUndone outcome cause (Asks request) = ⊥
+IsLinkUndone outcome cause (Wants request) = ⊥
 
 -- The processor, the memory and the end are what the outcome says, and the token that leaves is answered; else nothing
 -- has changed, and the answer says why. Where it is want of a frame, frames are wanting for the ranges.
 abbrev pub LinkEnds : {End : Type 0} → LinkOutcome End → List (ℕ × ℕ) → Kept → Cpu → List ℕ → End → Result (Option Token) Undone → Cpu → List ℕ → End → Type 0
 LinkEnds outcome ranges kept before was end (Ok token) after now new = outcome ≡ Did after now new token
-LinkEnds outcome ranges kept before was end (Err undone) after now new = IsUndone outcome (LacksFrames kept ranges) undone × (after ≡ before) × (now ≡ was) × (new ≡ end)
+LinkEnds outcome ranges kept before was end (Err undone) after now new = IsLinkUndone outcome (LacksFrames kept ranges) undone × (after ≡ before) × (now ≡ was) × (new ≡ end)
 
 -- what a call leaves beside the live bytes, by its answer: all is as it was where nothing was done
 abbrev pub kept_done : {A E : Type 0} → Result A E → Kept → List (ℕ × ℕ) → Kept

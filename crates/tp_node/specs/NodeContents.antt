@@ -15,8 +15,8 @@ pub record NodeContents : Type 0 where
   pub spare : ℕ
 
 -- what its memory keeps beside the live bytes
-abbrev pub kept_of : NodeContents → Kept
-kept_of node = record { frozen = option_map (λ kept. kept.memory) node.frozen; shared = node.shared; spare = node.spare }
+abbrev pub memory_kept : NodeContents → Kept
+memory_kept node = record { frozen = option_map (λ kept. kept.memory) node.frozen; shared = node.shared; spare = node.spare }
 
 -- the frozen node, whose head and memory are kept together
 abbrev pub frozen_state : Option Head → Option (List ℕ) → Option NodeState

@@ -16,14 +16,14 @@ is_listening (Some (Inputs t)) = true
 is_listening (Some (Enabled process)) = true
 
 -- a process waits at an end of link k: for the acknowledge of its byte, or for a byte
-abbrev pub waits_at : NodeState → ℕ → Bool
-waits_at node k = waits node k || is_listening (slice_get node.inputs k)
+abbrev pub waits_at_end : NodeState → ℕ → Bool
+waits_at_end node k = waits node k || is_listening (slice_get node.inputs k)
 
 -- A node that has halted stands at the instruction at which it did; else a process waits at one of its links, or none does.
 abbrev pub standing_with : Option Fault → NodeState → Standing
 standing_with (Some fault) node = Halted fault node.cpu.iptr
 standing_with None node =
-    if waits_at node 0 || waits_at node 1 || waits_at node 2 || waits_at node 3 then Waits else Free
+    if waits_at_end node 0 || waits_at_end node 1 || waits_at_end node 2 || waits_at_end node 3 then Waits else Free
 
 abbrev pub standing : NodeState → Standing
 standing node = standing_with node.cpu.halt node

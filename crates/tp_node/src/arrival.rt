@@ -5,15 +5,15 @@ ghost use Rattle.tp_model.specs.Node.{bad_address, wake, tell};
 ghost use Rattle.tp_model.specs.NodeState.{NodeState};
 ghost use Rattle.tp_model.specs.NodeWrites.{wake_ranges, tell_ranges};
 ghost use Rattle.tp_model.specs.SharedPages.{LacksFrames};
-ghost use Rattle.tp_node.specs.First.{GoesWith, first_stored, put_then};
+ghost use Rattle.tp_node.specs.First.{GoesWith, first_stored, then_put};
 ghost use Rattle.tp_node.specs.Hears.{Hears, with_both};
 ghost use Rattle.tp_node.specs.LinkEnds.{kept_done};
 
 use crate::fault::NoFrame;
 use crate::first::First;
+use tp_cpu::{ENABLING, READY, WAITING, queue, queue_write, state_at, workspace};
 use tp_mem::Mem;
 use tp_model::{Cpu, Fault, News};
-use tp_cpu::{ENABLING, READY, WAITING, queue, queue_write, state_at, workspace};
 
 /// A node that runs halts, since a process lies outside memory.
 fn halt_outside(cpu: &mut Cpu)
@@ -28,8 +28,8 @@ fn halt_outside(cpu: &mut Cpu)
 #[tactic(auto, using(crate::proofs::FirstStored::word_behind))]
 fn wake<M: Mem>(cpu: &mut Cpu, mem: &mut M, first: First, descriptor: u32) -> Result<(), NoFrame>
     requires { IsSome (first_stored first (M.bytes mem.old)) }
-    ensures hears { Hears (wake descriptor) (first_stored first (M.bytes mem.old)) (LacksFrames (M.kept mem.old) (put_then first (M.bytes mem.old) (wake_ranges descriptor cpu.old))) cpu.old (M.bytes mem.old) result cpu.new (M.bytes mem.new) }
-    ensures kept { M.kept mem.new ≡ kept_done result (M.kept mem.old) (put_then first (M.bytes mem.old) (wake_ranges descriptor cpu.old)) }
+    ensures hears { Hears (wake descriptor) (first_stored first (M.bytes mem.old)) (LacksFrames (M.kept mem.old) (then_put first (M.bytes mem.old) (wake_ranges descriptor cpu.old))) cpu.old (M.bytes mem.old) result cpu.new (M.bytes mem.new) }
+    ensures kept { M.kept mem.new ≡ kept_done result (M.kept mem.old) (then_put first (M.bytes mem.old) (wake_ranges descriptor cpu.old)) }
 {
     // Memory has whole words: its length says so.
     let _len = mem.len();
@@ -83,8 +83,8 @@ pub(crate) fn tell<M: Mem>(
 ) -> Result<(), NoFrame>
     requires inside { IsSome (first_stored first (M.bytes mem.old)) }
     requires alone { GoesWith first news }
-    ensures hears { Hears (tell news) (first_stored first (M.bytes mem.old)) (LacksFrames (M.kept mem.old) (put_then first (M.bytes mem.old) (tell_ranges news cpu.old))) cpu.old (M.bytes mem.old) result cpu.new (M.bytes mem.new) }
-    ensures kept { M.kept mem.new ≡ kept_done result (M.kept mem.old) (put_then first (M.bytes mem.old) (tell_ranges news cpu.old)) }
+    ensures hears { Hears (tell news) (first_stored first (M.bytes mem.old)) (LacksFrames (M.kept mem.old) (then_put first (M.bytes mem.old) (tell_ranges news cpu.old))) cpu.old (M.bytes mem.old) result cpu.new (M.bytes mem.new) }
+    ensures kept { M.kept mem.new ≡ kept_done result (M.kept mem.old) (then_put first (M.bytes mem.old) (tell_ranges news cpu.old)) }
 {
     match news {
         News::Nobody => first.store(mem, &[]),

@@ -7,8 +7,8 @@ ghost use Rattle.tp_model.specs.EndBytes.{end_bytes, out_end_bytes, in_end_bytes
 
 use crate::image_places::{END_BYTES, LEFT_PLACE, POINTER_PLACE, PROCESS_PLACE};
 use crate::number::u32_at;
-use byteorder::{ByteOrder, LittleEndian};
 use crate::{InEngine, OutEngine};
+use byteorder::{ByteOrder, LittleEndian};
 use tp_model::{InEnd, OutEnd, Transfer};
 
 const NO_TRANSFER: Transfer = Transfer {

@@ -14,8 +14,8 @@ use crate::image_places::{
     LOW_PLACE, OUTPUTS_PLACE, SLICE_PLACE, STATE_PLACE, WPTR_PLACE,
 };
 use crate::number::{u16_at, u32_at};
-use byteorder::{ByteOrder, LittleEndian};
 use crate::{InEngine, OutEngine};
+use byteorder::{ByteOrder, LittleEndian};
 use tp_model::limits::{IMAGE_HEAD_BYTES, IMAGE_VERSION};
 use tp_model::{Cpu, Queue, Regs};
 

@@ -10,14 +10,14 @@ ghost use Rattle.tp_model.specs.NodeWrites.{byte_written, take_up_ranges, enable
 ghost use Rattle.tp_cpu.specs.Ends.{Writes};
 ghost use Rattle.tp_node.specs.LinkEnds.{LinkEnds, kept_done};
 
-use crate::output::LINK_BUSY;
 use crate::InEngine;
-use tp_mem::{Mem, WriteFault};
-use tp_model::{Cpu, Token, Transfer, Wish};
+use crate::output::LINK_BUSY;
 use tp_cpu::{
     BAD_ADDRESS, NONE_CHOSEN, READY, Undone, descriptor_of, drop_b, end, load, note_choice,
     pass_over, saved_at, state_at, store, store_all,
 };
+use tp_mem::{Mem, WriteFault};
+use tp_model::{Cpu, Token, Transfer, Wish};
 
 /// Puts a byte at an address, if there is one, and then writes words.
 fn put<M: Mem>(

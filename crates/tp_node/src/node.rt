@@ -9,9 +9,9 @@ ghost use Rattle.tp_model.specs.SharedPages.{LacksFrames};
 ghost use Rattle.tp_mem.specs.Contents.{page_of};
 ghost use Rattle.tp_node.specs.FromImage.{ReadsImage, HasFrames};
 ghost use Rattle.tp_node.specs.LinkEnds.{kept_done};
-ghost use Rattle.tp_node.specs.NodeContents.{kept_of};
+ghost use Rattle.tp_node.specs.NodeContents.{memory_kept};
 ghost use Rattle.tp_node.specs.RunEnd.{IsWhy};
-ghost use Rattle.tp_node.specs.Standing.{standing, waits_at};
+ghost use Rattle.tp_node.specs.Standing.{standing, waits_at_end};
 ghost use Rattle.tp_node.specs.Takes.{Takes};
 
 use crate::fault::{ImageFault, NoFrame};
@@ -109,7 +109,7 @@ impl Node {
     /// Whether a process waits at a link: for the acknowledge of its byte, or for a byte.
     fn waits_at(&self, link: u8) -> bool
         requires { link < 4 }
-        ensures { result ≡ waits_at self.now.live link }
+        ensures { result ≡ waits_at_end self.now.live link }
     {
         let listens = match self.head.inputs[link as usize].end() {
             InEnd::Idle(_) => false,
@@ -192,9 +192,9 @@ impl Node {
     #[tactic(auto, using(crate::proofs::Keeps::kept_same), unfolding(tp_model::specs::Node::took))]
     pub fn take(&mut self, link: u8, token: Token) -> Result<Option<Token>, NoFrame>
         requires { IsSome (took self.old.live link token) }
-        ensures takes { Takes (took self.old.live link token) (LacksFrames (kept_of self.old) (took_ranges self.old.live link token)) link self.old.live result self.new.live }
+        ensures takes { Takes (took self.old.live link token) (LacksFrames (memory_kept self.old) (took_ranges self.old.live link token)) link self.old.live result self.new.live }
         ensures kept { self.new.frozen ≡ self.old.frozen }
-        ensures shared { kept_of self.new ≡ kept_done result (kept_of self.old) (took_ranges self.old.live link token) }
+        ensures shared { memory_kept self.new ≡ kept_done result (memory_kept self.old) (took_ranges self.old.live link token) }
     {
         match token {
             Token::Data(byte) => take_data(&mut self.head, &mut self.memory, link as usize, byte),
@@ -210,9 +210,9 @@ impl Node {
         requires { out.old.items ≡ [] }
         ensures asked { result.max ≡ max }
         ensures steps { steps t414 result.count self.old.live ≡ Some (self.new.live, out.new.items) }
-        ensures why { IsWhy result.why max result.count (LacksFrames (kept_of self.new) (node_ranges self.new.live)) self.new.live }
+        ensures why { IsWhy result.why max result.count (LacksFrames (memory_kept self.new) (node_ranges self.new.live)) self.new.live }
         ensures kept { self.new.frozen ≡ self.old.frozen }
-        ensures shared { kept_of self.new ≡ kept_behind_steps result.count self.old.live (kept_of self.old) }
+        ensures shared { memory_kept self.new ≡ kept_behind_steps result.count self.old.live (memory_kept self.old) }
     {
         run(&mut self.head, &mut self.memory, max, out)
     }

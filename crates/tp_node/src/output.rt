@@ -12,9 +12,9 @@ ghost use Rattle.tp_node.specs.LinkEnds.{LinkEnds, kept_done};
 ghost use Rattle.tp_node.specs.OutputAfter.{output_after, output_after_ranges};
 
 use crate::OutEngine;
+use tp_cpu::{BAD_ADDRESS, Undone, descriptor_of, end, saved_at, store, store_all};
 use tp_mem::Mem;
 use tp_model::{Cpu, Fault, OutRequest, Token, Transfer};
-use tp_cpu::{BAD_ADDRESS, Undone, descriptor_of, end, saved_at, store, store_all};
 
 /// The byte of an address, as it is behind a first word that is to be stored.
 fn byte_after<M: Mem>(mem: &M, first: Option<(u32, u32)>, address: u32) -> Option<u8>

@@ -10,10 +10,9 @@ ghost use Rattle.tp_node.specs.StateWith.{state_with};
 use crate::head::Head;
 use crate::input::begin_input;
 use crate::output::begin_output;
-use tp_cpu::step;
+use tp_cpu::{Undone, pass, step};
 use tp_mem::Mem;
 use tp_model::{InRequest, OutRequest, StepEnd, Token};
-use tp_cpu::{Undone, pass};
 
 /// How a call that makes a step ends.
 #[derive(Clone, Copy)]

@@ -9,11 +9,11 @@ ghost use Rattle.tp_node.specs.LinkEnds.{kept_done};
 ghost use Rattle.tp_node.specs.StateWith.{state_with};
 ghost use Rattle.tp_node.specs.Takes.{Takes, next_byte};
 
+use crate::OutEngine;
 use crate::arrival::tell;
 use crate::fault::NoFrame;
 use crate::first::First;
 use crate::head::Head;
-use crate::OutEngine;
 use tp_mem::Mem;
 use tp_model::Token;
 

@@ -25,28 +25,28 @@ use Rattle.tp_law_network.specs.Stops.{IsOverfull}
 use Rattle.tp_law_network.proofs.Steps.{Act, acts_from}
 use Rattle.tp_book.specs.Sends.{on_lines}
 use Rattle.tp_book.proofs.Owns.{own_there}
-use Rattle.tp_pieces.specs.Held.{Held, has}
+use Rattle.tp_pieces.specs.Held.{HeldPart, has}
 use Rattle.tp_pieces.specs.Lanes.{Overfills}
-use Rattle.tp_pieces.specs.Behind.{behind, IsStuck, SameProcesses, DoesRest}
+use Rattle.tp_pieces.specs.Behind.{behind_tokens, IsStuck, SameProcesses, DoesRest}
 
 -- ## Any process
 
-behind-own : (piece : Piece) (s : Network NodeState) (e : Entry) → piece (process s.wires (length s.nodes) e) ≡ true → behind piece s e ≡ acts t414 s s.lines e
+behind-own : (piece : Piece) (s : Network NodeState) (e : Entry) → piece (process s.wires (length s.nodes) e) ≡ true → behind_tokens piece s e ≡ acts t414 s s.lines e
 behind-own piece s e mine = ap (λ b. cond b (acts t414 s s.lines e) (Some s)) mine
 
 -- another part's entry
-pub other_rests : (was : Held) (e : Entry) → has was (process was.network.wires (length was.network.nodes) e) ≡ false → DoesRest was e true was
+pub other_rests : (was : HeldPart) (e : Entry) → has was (process was.network.wires (length was.network.nodes) e) ≡ false → DoesRest was e true was
 other_rests was e other = record {
   same = record { first = refl; past = refl };
   goes = ap (λ b. cond b (acts t414 was.network was.network.lines e) (Some was.network)) other;
 }
 
 -- the process that isn't there, or can't do it
-pub nobody : (was now : Held) (e : Entry) → SameProcesses was now → has was (process was.network.wires (length was.network.nodes) e) ≡ true → own was.network (process was.network.wires (length was.network.nodes) e) ≡ None → DoesRest was e false now
+pub nobody : (was now : HeldPart) (e : Entry) → SameProcesses was now → has was (process was.network.wires (length was.network.nodes) e) ≡ true → own was.network (process was.network.wires (length was.network.nodes) e) ≡ None → DoesRest was e false now
 unfolding acts
 nobody was now e same mine none = record { same = same; goes = inl (behind-own (has was) was.network e mine ∙ rw none) }
 
-pub refuses : (was now : Held) (e : Entry) (state : Own NodeState) → SameProcesses was now → has was (process was.network.wires (length was.network.nodes) e) ≡ true → own was.network (process was.network.wires (length was.network.nodes) e) ≡ Some state
+pub refuses : (was now : HeldPart) (e : Entry) (state : Own NodeState) → SameProcesses was now → has was (process was.network.wires (length was.network.nodes) e) ≡ true → own was.network (process was.network.wires (length was.network.nodes) e) ≡ Some state
     → does t414 was.network.wires (length was.network.nodes) e state ≡ None → DoesRest was e false now
 unfolding acts
 refuses was now e state same mine there none = record { same = same; goes = inl (behind-own (has was) was.network e mine ∙ rw (there, none)) }
@@ -70,23 +70,23 @@ overfull piece s e v A mine O = record { line = O.line; its = its; long = subst 
     ]
 
 -- The process does it: the part goes on, or would have a third token on a line.
-pub settled : (was now : Held) (e : Entry) (v : Network NodeState) (could : Bool) (lines : List (List Token)) (A : Act t414 was.network was.network.lines e v) → SameProcesses was now
+pub settled : (was now : HeldPart) (e : Entry) (v : Network NodeState) (could : Bool) (lines : List (List Token)) (A : Act t414 was.network was.network.lines e v) → SameProcesses was now
     → has was (process was.network.wires (length was.network.nodes) e) ≡ true → (lines ≡ sent (has_wire was.network.wires) was.network.lines A.sends → now.network ≡ v)
     → MatchBool could (lines ≡ sent (has_wire was.network.wires) was.network.lines A.sends) (Overfills (has_wire was.network.wires) was.network.lines A.sends) → DoesRest was e could now
 settled was now e v could lines A same mine net sends = record { same = same; goes = go could sends }
   where
-    did : behind (has was) was.network e ≡ Some v
+    did : behind_tokens (has was) was.network e ≡ Some v
     did = behind-own (has was) was.network e mine ∙ acts_from t414 was.network was.network.lines e v A
 
     go : (b : Bool) → MatchBool b (lines ≡ sent (has_wire was.network.wires) was.network.lines A.sends) (Overfills (has_wire was.network.wires) was.network.lines A.sends)
-        → MatchBool b (behind (has was) was.network e ≡ Some now.network) (IsStuck (has was) (behind (has was) was.network e))
+        → MatchBool b (behind_tokens (has was) was.network e ≡ Some now.network) (IsStuck (has was) (behind_tokens (has was) was.network e))
     go true on = did ∙ ap Some (sym (net on))
     go false O = inr (v, did, overfull (has was) was.network e v A mine O)
 
 -- ## A node
 
 -- the node after it, with the lines that it sent
-pub node_settled : (was now : Held) (e : Entry) (could : Bool) (i : ℕ) (node after : NodeState) (tokens : List (ℕ × Token)) (lines : List (List Token)) → SameProcesses was now
+pub node_settled : (was now : HeldPart) (e : Entry) (could : Bool) (i : ℕ) (node after : NodeState) (tokens : List (ℕ × Token)) (lines : List (List Token)) → SameProcesses was now
     → now.network ≡ record was.network { nodes = set was.network.nodes i after; lines = lines } → process was.network.wires (length was.network.nodes) e ≡ i → has was i ≡ true → slice_get was.network.nodes i ≡ Some node
     → does t414 was.network.wires (length was.network.nodes) e (OfNode node) ≡ Some (of_node i (after, tokens))
     → MatchBool could (lines ≡ sent (has_wire was.network.wires) was.network.lines (on_lines i tokens)) (Overfills (has_wire was.network.wires) was.network.lines (on_lines i tokens)) → DoesRest was e could now
@@ -170,14 +170,14 @@ same_item xs i x y first second = cc
 -- ## The host
 
 -- a process behind the nodes is the host, or isn't there
-pub host_cannot : (was now : Held) (e : Entry) → SameProcesses was now → length was.network.nodes ≤ process was.network.wires (length was.network.nodes) e → has was (process was.network.wires (length was.network.nodes) e) ≡ true
+pub host_cannot : (was now : HeldPart) (e : Entry) → SameProcesses was now → length was.network.nodes ≤ process was.network.wires (length was.network.nodes) e → has was (process was.network.wires (length was.network.nodes) e) ≡ true
     → does t414 was.network.wires (length was.network.nodes) e (OfHost was.network.ports) ≡ None → DoesRest was e false now
 host_cannot was now e same past mine none = elim (cases_eq (process was.network.wires (length was.network.nodes) e) (length was.network.nodes)) [
   | inl host ↦ refuses was now e (OfHost was.network.ports) same mine (ap (own was.network) host ∙ own-host was.network) none
   | inr apart ↦ nobody was now e same mine (own-node was.network (process was.network.wires (length was.network.nodes) e) apart ∙ ap (option_map OfNode) (slice_get_past was.network.nodes (process was.network.wires (length was.network.nodes) e) past))
 ]
 
-pub port_settled : (was now : Held) (e : Entry) (could : Bool) (p : ℕ) (after : Port) (sends : List (ℕ × Token)) (lines : List (List Token)) → SameProcesses was now
+pub port_settled : (was now : HeldPart) (e : Entry) (could : Bool) (p : ℕ) (after : Port) (sends : List (ℕ × Token)) (lines : List (List Token)) → SameProcesses was now
     → now.network ≡ record was.network { ports = set was.network.ports p after; lines = lines } → process was.network.wires (length was.network.nodes) e ≡ length was.network.nodes → has was (length was.network.nodes) ≡ true
     → does t414 was.network.wires (length was.network.nodes) e (OfHost was.network.ports) ≡ Some (OfHost (set was.network.ports p after), sends)
     → MatchBool could (lines ≡ sent (has_wire was.network.wires) was.network.lines sends) (Overfills (has_wire was.network.wires) was.network.lines sends) → DoesRest was e could now

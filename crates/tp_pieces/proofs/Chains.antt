@@ -7,16 +7,16 @@ use Rattle.tp_law_network.specs.Piece.{Covers, Piece}
 use Rattle.tp_pieces.specs.Dealt.{first_of}
 use Rattle.tp_pieces.proofs.Dealt.{first_up, first_most}
 use Rattle.tp_pieces.specs.Whose.{whose}
-use Rattle.tp_pieces.specs.Runs.{AreDealt, IsChain, Run, run_at, runs, some_run}
+use Rattle.tp_pieces.specs.Runs.{AreDealt, AreNeighbours, NodeRun, run_at, runs, some_run}
 
 -- ## Any chain
 
-pub chain_up : (first past : ℕ) (rs : List Run) → IsChain first past rs → first ≤ past
+pub chain_up : (first past : ℕ) (rs : List NodeRun) → AreNeighbours first past rs → first ≤ past
 chain_up first past [] C = omega (arith, C)
 chain_up first past (r ∷ rs) C = let rest = chain_up r.1 past rs C.2 in let low = C.0 in let some = C.1 in omega (arith, rest, low, some)
 
 -- each run has a node, and lies within
-pub chain_within : (first past : ℕ) (rs : List Run) (i : ℕ) → IsChain first past rs → i < length rs → (first ≤ (run_at rs i).0) × ((run_at rs i).0 < (run_at rs i).1) × ((run_at rs i).1 ≤ past)
+pub chain_within : (first past : ℕ) (rs : List NodeRun) (i : ℕ) → AreNeighbours first past rs → i < length rs → (first ≤ (run_at rs i).0) × ((run_at rs i).0 < (run_at rs i).1) × ((run_at rs i).1 ≤ past)
 chain_within first past [] i C below = absurd (omega (arith, below))
 chain_within first past (r ∷ rs) zero C below = (let low = C.0 in omega (arith, low), C.1, chain_up r.1 past rs C.2)
 chain_within first past (r ∷ rs) (suc i) C below =
@@ -27,7 +27,7 @@ chain_within first past (r ∷ rs) (suc i) C below =
     (omega (arith, low, some, from), rest.1, rest.2)
 
 -- a number is in one of them
-pub in_chain : (first past : ℕ) (rs : List Run) (p : ℕ) → IsChain first past rs → first ≤ p → p < past → (i : ℕ) × (i < length rs) × ((run_at rs i).0 ≤ p) × (p < (run_at rs i).1)
+pub in_chain : (first past : ℕ) (rs : List NodeRun) (p : ℕ) → AreNeighbours first past rs → first ≤ p → p < past → (i : ℕ) × (i < length rs) × ((run_at rs i).0 ≤ p) × (p < (run_at rs i).1)
 in_chain first past [] p C low high = absurd (omega (arith, C, low, high))
 in_chain first past (r ∷ rs) p C low high = elim (cases_lt p r.1) [
   | inl below ↦ (0, omega arith, (let from = C.0 in omega (arith, from, low)), below)
@@ -35,11 +35,11 @@ in_chain first past (r ∷ rs) p C low high = elim (cases_lt p r.1) [
 ]
 
 -- one run more, if it has a node
-pub chain_more : (first mid past : ℕ) (rs : List Run) → IsChain first mid rs → mid ≤ past → IsChain first past (rs ++ some_run mid past)
+pub chain_more : (first mid past : ℕ) (rs : List NodeRun) → AreNeighbours first mid rs → mid ≤ past → AreNeighbours first past (rs ++ some_run mid past)
 chain_more first mid past (r ∷ rs) C up = (C.0, C.1, chain_more r.1 mid past rs C.2 up)
 chain_more first mid past [] C up = elim (cases_lt mid past) [
-  | inl some ↦ subst (λ b. IsChain first past (cond b ((mid, past) ∷ []) [])) (sym (lt-ltb mid past some)) (sym C, some, refl)
-  | inr none ↦ subst (λ b. IsChain first past (cond b ((mid, past) ∷ []) [])) (sym (le-ltb mid past none)) (let same : first ≡ past = omega (arith, C, up, none) in same)
+  | inl some ↦ subst (λ b. AreNeighbours first past (cond b ((mid, past) ∷ []) [])) (sym (lt-ltb mid past some)) (sym C, some, refl)
+  | inr none ↦ subst (λ b. AreNeighbours first past (cond b ((mid, past) ∷ []) [])) (sym (le-ltb mid past none)) (let same : first ≡ past = omega (arith, C, up, none) in same)
 ]
 
 -- ## The runs of workers
@@ -54,26 +54,26 @@ first_none nodes workers =
     let none : first_of nodes workers 0 ≤ 0 = div-le_of_le-mul workers low in
     omega (arith, none)
 
-chain_upto : (nodes workers w : ℕ) → 0 < workers → IsChain 0 (first_of nodes workers w) (runs nodes workers w)
+chain_upto : (nodes workers w : ℕ) → 0 < workers → AreNeighbours 0 (first_of nodes workers w) (runs nodes workers w)
 unfolding runs
 chain_upto nodes workers zero some = sym (first_none nodes workers)
 chain_upto nodes workers (suc w) some =
     let next : suc w ≡ w + 1 = omega arith in
-    subst (λ k. IsChain 0 (first_of nodes workers k) (runs nodes workers w ++ some_run (first_of nodes workers w) (first_of nodes workers (w + 1)))) (sym next)
+    subst (λ k. AreNeighbours 0 (first_of nodes workers k) (runs nodes workers w ++ some_run (first_of nodes workers w) (first_of nodes workers (w + 1)))) (sym next)
     (chain_more 0 (first_of nodes workers w) (first_of nodes workers (w + 1)) (runs nodes workers w) (chain_upto nodes workers w some) (first_up nodes workers w (w + 1) some (omega arith)))
 
 -- all of them go up to the last node
-pub chain_runs : (nodes workers : ℕ) → 0 < workers → IsChain 0 nodes (runs nodes workers workers)
+pub chain_runs : (nodes workers : ℕ) → 0 < workers → AreNeighbours 0 nodes (runs nodes workers workers)
 chain_runs nodes workers some =
     let most = first_most nodes workers workers (omega arith) in
     let least : nodes ≤ first_of nodes workers workers = le-div nodes (workers * nodes) workers some (omega arith) in
     let same : first_of nodes workers workers ≡ nodes = omega (arith, most, least) in
-    subst (λ past. IsChain 0 past (runs nodes workers workers)) same (chain_upto nodes workers workers some)
+    subst (λ past. AreNeighbours 0 past (runs nodes workers workers)) same (chain_upto nodes workers workers some)
 
 -- ## Pieces that are dealt
 
 -- They have every number among them.
-pub dealt_cover : (nodes : ℕ) (rs : List Run) (count : ℕ) (pieces : ℕ → Piece) → AreDealt nodes rs count pieces → Covers count pieces
+pub dealt_cover : (nodes : ℕ) (rs : List NodeRun) (count : ℕ) (pieces : ℕ → Piece) → AreDealt nodes rs count pieces → Covers count pieces
 dealt_cover nodes rs count pieces D p = elim (cases_lt p nodes) [
   | inl below ↦ (let I = in_chain 0 nodes rs p D.chain (omega arith) below in
       let within = I.1 in
@@ -83,7 +83,7 @@ dealt_cover nodes rs count pieces D p = elim (cases_lt p nodes) [
 ]
 
 -- so are pieces that are the same
-pub dealt_same : (nodes : ℕ) (rs : List Run) (count : ℕ) (pieces others : ℕ → Piece) → AreDealt nodes rs count pieces → ((i : ℕ) → i < count → others i ≡ pieces i) → AreDealt nodes rs count others
+pub dealt_same : (nodes : ℕ) (rs : List NodeRun) (count : ℕ) (pieces others : ℕ → Piece) → AreDealt nodes rs count pieces → ((i : ℕ) → i < count → others i ≡ pieces i) → AreDealt nodes rs count others
 dealt_same nodes rs count pieces others D same = record {
   chain = D.chain;
   many = D.many;

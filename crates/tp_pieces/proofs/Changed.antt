@@ -15,7 +15,7 @@ use Rattle.tp_law_network.proofs.Partial.{slice_get-set_same, slice_get-set_othe
 use Rattle.tp_node.specs.NodeContents.{NodeContents}
 use Rattle.tp_pieces.specs.declared.nodes.NodesPart.TheInside.{Inside}
 use Rattle.tp_pieces.specs.Blank.{among}
-use Rattle.tp_pieces.specs.Held.{Held, has}
+use Rattle.tp_pieces.specs.Held.{HeldPart, has}
 use Rattle.tp_pieces.specs.Lanes.{LanesValue, Overfills, SameLanes}
 use Rattle.tp_pieces.specs.Behind.{SameProcesses, DoesRest}
 use Rattle.tp_pieces.specs.Inside.{AreLive, IsLive, IsNodesInside, nodes_held}
@@ -47,7 +47,7 @@ module _ (n : Inside) (I : IsNodesInside n) where
       never false = refl
 
   -- one of its nodes can't do the entry
-  pub node_cannot : (now : Held) (e : Entry) (i : ℕ) (node : NodeContents) → SameProcesses (nodes_held n) now → process (nodes_held n).network.wires (length (nodes_held n).network.nodes) e ≡ n.before + i → slice_get n.nodes.items i ≡ Some node
+  pub node_cannot : (now : HeldPart) (e : Entry) (i : ℕ) (node : NodeContents) → SameProcesses (nodes_held n) now → process (nodes_held n).network.wires (length (nodes_held n).network.nodes) e ≡ n.before + i → slice_get n.nodes.items i ≡ Some node
       → does t414 n.lanes.wires (length (nodes_held n).network.nodes) e (OfNode node.live) ≡ None → DoesRest (nodes_held n) e false now
   node_cannot now e i node same whose at none =
       refuses (nodes_held n) now e (OfNode node.live) same (ap (has (nodes_held n)) whose ∙ has_own i (slice_get_within n.nodes.items i node at))

@@ -21,7 +21,7 @@ use Rattle.tp_law_network.specs.InPiece.{next_in}
 use Rattle.tp_law_network.proofs.Steps.{act_of}
 use Rattle.tp_pieces.specs.Blocked.{IsBlocked}
 use Rattle.tp_book.specs.Counted.{AreCounted}
-use Rattle.tp_pieces.specs.Counts.{CanCount, most_entries, room_of}
+use Rattle.tp_pieces.specs.Counts.{PortsCanCount, most_entries, room_of}
 
 -- each port can count `n` more
 abbrev pub CanCountMore : ℕ → List Port → Type 0
@@ -54,7 +54,7 @@ pub counts_more : (ports : List Port) (n : ℕ) → suc n ≤ room_of ports → 
 counts_more ports n some p port at = let least = room_each ports p port at in omega (arith, least, some)
 
 -- where there is room, each port can count one more
-pub can_count : (s : Network NodeState) → 0 < room_of s.ports → CanCount s
+pub can_count : (s : Network NodeState) → 0 < room_of s.ports → PortsCanCount s
 can_count s some p port at = let least = room_each s.ports p port at in omega (arith, least, some)
 
 -- Ports that have counted no more than a number can still count up to what is left of it.

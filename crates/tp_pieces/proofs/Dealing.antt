@@ -11,19 +11,19 @@ use Rattle.tp_law_network.proofs.Local.{own-host, own-node}
 use Rattle.tp_law_network.specs.Piece.{Agrees}
 use Rattle.tp_node.specs.NodeContents.{NodeContents}
 use Rattle.tp_pieces.specs.Dealt.{first_of}
-use Rattle.tp_pieces.specs.Whole.{IsWhole}
+use Rattle.tp_pieces.specs.Whole.{AreWhole}
 use Rattle.tp_pieces.specs.declared.apart.Apart.{Apart}
 use Rattle.tp_pieces.specs.declared.host.HostPart.TheInside.{Inside as HostInside}
 use Rattle.tp_pieces.specs.declared.net_part.NetPart.{NetPart}
 use Rattle.tp_pieces.specs.declared.net_part.NetPart.TheVariants.{Nodes, Host}
-use Rattle.tp_pieces.specs.Apart.{CanSplit, whole_of}
+use Rattle.tp_pieces.specs.Apart.{CanSplit, network_apart}
 use Rattle.tp_pieces.specs.Blank.{among, blank_node, blank_port}
 use Rattle.tp_pieces.specs.Counts.{room_of}
 use Rattle.tp_pieces.specs.Dealing.{networks_of, new_part, no_part, pieces_of, run_held, run_part}
-use Rattle.tp_pieces.specs.Held.{Held, has}
+use Rattle.tp_pieces.specs.Held.{HeldPart, has}
 use Rattle.tp_pieces.specs.HostInside.{host_held}
-use Rattle.tp_pieces.specs.Parts.{held_of, net_room}
-use Rattle.tp_pieces.specs.Runs.{AreDealt, Run, run_at, runs, some_run}
+use Rattle.tp_pieces.specs.Parts.{held_part, net_room}
+use Rattle.tp_pieces.specs.Runs.{AreDealt, NodeRun, run_at, runs, some_run}
 use Rattle.tp_pieces.specs.Whose.{whose}
 use Rattle.tp_pieces.proofs.Among.{among_at, length_among}
 use Rattle.tp_pieces.proofs.Chains.{chain_runs, chain_within, dealt_cover, runs_more}
@@ -59,7 +59,7 @@ rest_more nodes rest first count past is ends = ap (drop count) is ∙ drop-drop
 
 -- ## Parts at their places
 
-module _ (u : Network NodeState) (nodes : List NodeContents) (rs : List Run) (host : Held) where
+module _ (u : Network NodeState) (nodes : List NodeContents) (rs : List NodeRun) (host : HeldPart) where
   abbrev all : List NetPart
   all = map (run_part u nodes) rs ++ Host host ∷ []
 
@@ -77,23 +77,23 @@ module _ (u : Network NodeState) (nodes : List NodeContents) (rs : List Run) (ho
 -- ## What a run has
 
 -- how many nodes it has, and where it ends
-pub run_long : (nodes : List NodeContents) (r : Run) → r.0 ≤ r.1 → r.1 ≤ length nodes → length (take (r.1 - r.0) (drop r.0 nodes)) ≡ r.1 - r.0
+pub run_long : (nodes : List NodeContents) (r : NodeRun) → r.0 ≤ r.1 → r.1 ≤ length nodes → length (take (r.1 - r.0) (drop r.0 nodes)) ≡ r.1 - r.0
 run_long nodes r up most = let left = length-drop r.0 nodes in length-take-le (r.1 - r.0) (drop r.0 nodes) (omega (arith, left, up, most))
 
-pub run_has : (u : Network NodeState) (nodes : List NodeContents) (r : Run) → r.0 ≤ r.1 → r.1 ≤ length nodes → has (held_of (run_part u nodes r)) ≡ whose r.0 (Some r.1)
+pub run_has : (u : Network NodeState) (nodes : List NodeContents) (r : NodeRun) → r.0 ≤ r.1 → r.1 ≤ length nodes → has (held_part (run_part u nodes r)) ≡ whose r.0 (Some r.1)
 run_has u nodes r up most =
     let long = run_long nodes r up most in
     let ends : r.0 + length (take (r.1 - r.0) (drop r.0 nodes)) ≡ r.1 = omega (arith, long, up) in
     ap (λ past. whose r.0 (Some past)) ends
 
 -- A run has its nodes as they are in the network.
-module _ (s u : Network NodeState) (nodes : List NodeContents) (r : Run) (wires : u.wires ≡ s.wires) (lines : u.lines ≡ s.lines) (many : length u.nodes ≡ length s.nodes) (ports : length u.ports ≡ length s.ports)
+module _ (s u : Network NodeState) (nodes : List NodeContents) (r : NodeRun) (wires : u.wires ≡ s.wires) (lines : u.lines ≡ s.lines) (many : length u.nodes ≡ length s.nodes) (ports : length u.ports ≡ length s.ports)
     (are : s.nodes ≡ map (λ node. node.live) nodes) (up : r.0 ≤ r.1) (most : r.1 ≤ length nodes) where
   abbrev lives : List NodeState
   lives = map (λ node. node.live) (take (r.1 - r.0) (drop r.0 nodes))
 
   abbrev net : Network NodeState
-  net = (held_of (run_part u nodes r)).network
+  net = (held_part (run_part u nodes r)).network
 
   full : length lives ≡ r.1 - r.0
   full = length-map (take (r.1 - r.0) (drop r.0 nodes)) (λ node. node.live) ∙ run_long nodes r up most
@@ -128,7 +128,7 @@ module _ (s u : Network NodeState) (nodes : List NodeContents) (r : Run) (wires 
       ∙ live_at (p - r.0) (omega (arith, low, high)) ∙ ap (slice_get s.nodes) place)
       ∙ sym (own-node s p (λ e. omega (arith, e, all_nodes, high, most)))
 
-  pub run_agrees : Agrees (has (held_of (run_part u nodes r))) s (held_of (run_part u nodes r)).network
+  pub run_agrees : Agrees (has (held_part (run_part u nodes r))) s (held_part (run_part u nodes r)).network
   run_agrees =
       subst (λ piece. Agrees piece s net) (sym (run_has u nodes r up most))
       (record { wires = wires; nodes = long; ports = length-replicate (length u.ports) blank_port ∙ ports; count = ap length lines; own = owns; lines = λ l _. ap (λ ls. on_line ls l) lines })
@@ -152,19 +152,19 @@ module _ (a : Apart) (host : HostInside) (workers : ℕ) (can : CanSplit a) (som
   abbrev around : Network NodeState
   around = (host_held host).network
 
-  abbrev rs : List Run
+  abbrev rs : List NodeRun
   rs = runs (length a.nodes.items) workers workers
 
   abbrev parts : List NetPart
   parts = map (run_part around a.nodes.items) rs ++ Host (host_held host) ∷ []
 
-  all_long : length (whole_of a).nodes ≡ length a.nodes.items
+  all_long : length (network_apart a).nodes ≡ length a.nodes.items
   all_long = length-map a.nodes.items (λ node. node.live)
 
-  around_long : length around.nodes ≡ length (whole_of a).nodes
+  around_long : length around.nodes ≡ length (network_apart a).nodes
   around_long = length-replicate host.nodes blank_node ∙ many ∙ sym all_long
 
-  around_ports : around.ports ≡ (whole_of a).ports
+  around_ports : around.ports ≡ (network_apart a).ports
   around_ports = ap (map (λ port. port.port)) ports
 
   within : (i : ℕ) → i < length rs → ((run_at rs i).0 ≤ (run_at rs i).1) × ((run_at rs i).1 ≤ length a.nodes.items)
@@ -174,31 +174,31 @@ module _ (a : Apart) (host : HostInside) (workers : ℕ) (can : CanSplit a) (som
   parts_dealt = record {
     chain = chain_runs (length a.nodes.items) workers some;
     many = many_parts around a.nodes.items rs (host_held host);
-    run = λ i below. ap (λ part. has (held_of part)) (at_run around a.nodes.items rs (host_held host) i below)
+    run = λ i below. ap (λ part. has (held_part part)) (at_run around a.nodes.items rs (host_held host) i below)
         ∙ run_has around a.nodes.items (run_at rs i) (within i below).0 (within i below).1;
-    host = ap (λ part. has (held_of part)) (at_host around a.nodes.items rs (host_held host)) ∙ ap (λ n. whose n None) many;
+    host = ap (λ part. has (held_part part)) (at_host around a.nodes.items rs (host_held host)) ∙ ap (λ n. whose n None) many;
   }
 
-  agree_at : (i : ℕ) → i < length parts → Agrees (pieces_of parts i) (whole_of a) (networks_of parts i)
+  agree_at : (i : ℕ) → i < length parts → Agrees (pieces_of parts i) (network_apart a) (networks_of parts i)
   agree_at i below = elim (cases_lt i (length rs)) [
-    | inl run ↦ subst (λ part. Agrees (has (held_of part)) (whole_of a) (held_of part).network) (sym (at_run around a.nodes.items rs (host_held host) i run))
-        (run_agrees (whole_of a) around a.nodes.items (run_at rs i) wires lines around_long (ap length around_ports) refl (within i run).0 (within i run).1)
+    | inl run ↦ subst (λ part. Agrees (has (held_part part)) (network_apart a) (held_part part).network) (sym (at_run around a.nodes.items rs (host_held host) i run))
+        (run_agrees (network_apart a) around a.nodes.items (run_at rs i) wires lines around_long (ap length around_ports) refl (within i run).0 (within i run).1)
     | inr past ↦ (let long = many_parts around a.nodes.items rs (host_held host) in
         let last : i ≡ length rs = omega (arith, long, below, past) in
         let at : slice_index_or parts i no_part ≡ Host (host_held host) = ap (λ k. slice_index_or parts k no_part) last ∙ at_host around a.nodes.items rs (host_held host) in
-        subst (λ part. Agrees (has (held_of part)) (whole_of a) (held_of part).network) (sym at)
-        (subst (λ n. Agrees (whose n None) (whole_of a) around) (all_long ∙ sym many) (host_agrees (whole_of a) around wires lines around_long around_ports)))
+        subst (λ part. Agrees (has (held_part part)) (network_apart a) (held_part part).network) (sym at)
+        (subst (λ n. Agrees (whose n None) (network_apart a) around) (all_long ∙ sym many) (host_agrees (network_apart a) around wires lines around_long around_ports)))
   ]
 
-  pub parts_whole : IsWhole (whole_of a) (length parts) (pieces_of parts) (networks_of parts)
+  pub parts_whole : AreWhole (network_apart a) (length parts) (pieces_of parts) (networks_of parts)
   parts_whole = record { sound = can.sound; unmarked = can.unmarked; covers = dealt_cover (length a.nodes.items) rs (length parts) (pieces_of parts) parts_dealt; agree = agree_at }
 
-  pub parts_room : All (λ part. room_of (whole_of a).ports ≤ net_room part) parts
+  pub parts_room : All (λ part. room_of (network_apart a).ports ≤ net_room part) parts
   parts_room i d below = elim (cases_lt i (length rs)) [
-    | inl run ↦ subst (λ part. room_of (whole_of a).ports ≤ net_room part)
-        (sym (get_or_default parts i d no_part below ∙ at_run around a.nodes.items rs (host_held host) i run)) (let most = room_most (whole_of a).ports in omega (arith, most))
+    | inl run ↦ subst (λ part. room_of (network_apart a).ports ≤ net_room part)
+        (sym (get_or_default parts i d no_part below ∙ at_run around a.nodes.items rs (host_held host) i run)) (let most = room_most (network_apart a).ports in omega (arith, most))
     | inr past ↦ (let long = many_parts around a.nodes.items rs (host_held host) in
         let last : i ≡ length rs = omega (arith, long, below, past) in
         let at : slice_index_or parts i d ≡ Host (host_held host) = get_or_default parts i d no_part below ∙ ap (λ k. slice_index_or parts k no_part) last ∙ at_host around a.nodes.items rs (host_held host) in
-        subst (λ part. room_of (whole_of a).ports ≤ net_room part) (sym at) (let same : room_of (whole_of a).ports ≡ room_of around.ports = ap room_of (sym around_ports) in omega (arith, same)))
+        subst (λ part. room_of (network_apart a).ports ≤ net_room part) (sym at) (let same : room_of (network_apart a).ports ≡ room_of around.ports = ap room_of (sym around_ports) in omega (arith, same)))
   ]

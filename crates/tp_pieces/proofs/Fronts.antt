@@ -10,7 +10,7 @@ use Rattle.tp_model.specs.Network.{◌>>=◌, Network, on_line, is_first, taken}
 use Rattle.tp_model.specs.Turn.{by_line, incoming}
 use Rattle.tp_law_network.proofs.Partial.{bind_some}
 use Rattle.tp_law_network.specs.Piece.{Piece, from_piece, sends}
-use Rattle.tp_pieces.specs.Held.{Held, has}
+use Rattle.tp_pieces.specs.Held.{HeldPart, has}
 use Rattle.tp_pieces.specs.Behind.{without, SameProcesses, TakesTokens}
 use Rattle.tp_pieces.proofs.Halves.{same_all, same_has}
 
@@ -52,7 +52,7 @@ without_both piece s xs ys =
     go (Some left) = refl
 
 -- first some, then others
-pub tokens_then : (was mid now : Held) (xs ys : List (ℕ × Token)) (could : Bool) → TakesTokens was xs true mid → TakesTokens mid ys could now → TakesTokens was (xs ++ ys) could now
+pub tokens_then : (was mid now : HeldPart) (xs ys : List (ℕ × Token)) (could : Bool) → TakesTokens was xs true mid → TakesTokens mid ys could now → TakesTokens was (xs ++ ys) could now
 tokens_then was mid now xs ys could A B = record { same = same_all was mid now A.same B.same; goes = go could B.goes }
   where
     its : without (has was) was.network (xs ++ ys) ≡ without (has mid) mid.network ys
@@ -64,17 +64,17 @@ tokens_then was mid now xs ys could A B = record { same = same_all was mid now A
     go false h = its ∙ h
 
 -- where the first ones aren't in front, nothing is taken
-pub tokens_stop : (was now : Held) (xs ys : List (ℕ × Token)) → TakesTokens was xs false now → TakesTokens was (xs ++ ys) false now
+pub tokens_stop : (was now : HeldPart) (xs ys : List (ℕ × Token)) → TakesTokens was xs false now → TakesTokens was (xs ++ ys) false now
 tokens_stop was now xs ys A = record { same = A.same; goes = without_both (has was) was.network xs ys ∙ ap (λ o. o >>= λ u. without (has was) u ys) A.goes }
 
 -- what is left has the wires and as many nodes
-pub wires_kept : (was now : Held) (ms : List (ℕ × Token)) → TakesTokens was ms true now → now.network.wires ≡ was.network.wires
+pub wires_kept : (was now : HeldPart) (ms : List (ℕ × Token)) → TakesTokens was ms true now → now.network.wires ≡ was.network.wires
 wires_kept was now ms A =
     let L = bind_some (taken was.network.lines (from_piece (has was) (length was.network.nodes) ms)) (λ lines. Some (record was.network { lines = lines })) now.network A.goes in
     let is : record was.network { lines = L.0 } ≡ now.network = cc in
     ap (λ (s : Network NodeState). s.wires) (sym is)
 
-pub nodes_kept : (was now : Held) (ms : List (ℕ × Token)) → TakesTokens was ms true now → length now.network.nodes ≡ length was.network.nodes
+pub nodes_kept : (was now : HeldPart) (ms : List (ℕ × Token)) → TakesTokens was ms true now → length now.network.nodes ≡ length was.network.nodes
 nodes_kept was now ms A =
     let L = bind_some (taken was.network.lines (from_piece (has was) (length was.network.nodes) ms)) (λ lines. Some (record was.network { lines = lines })) now.network A.goes in
     let is : record was.network { lines = L.0 } ≡ now.network = cc in
@@ -83,17 +83,17 @@ nodes_kept was now ms A =
 -- ## One token after the other
 
 -- the next token of a turn, on the line that comes in on its link
-module _ (was now : Held) (node : ℕ) (tokens : List (ℕ × Token)) (i : ℕ) (d : ℕ × Token) (below : i < length tokens) where
+module _ (was now : HeldPart) (node : ℕ) (tokens : List (ℕ × Token)) (i : ℕ) (d : ℕ × Token) (below : i < length tokens) where
   abbrev so_far : List (ℕ × Token) → List (ℕ × Token)
   so_far ms = by_line was.network.wires (length was.network.nodes) node ms
 
   abbrev it : ℕ × Token
   it = get_or tokens i d
 
-  abbrev its_line : Held → ℕ
+  abbrev its_line : HeldPart → ℕ
   its_line h = incoming h.network.wires (length h.network.nodes) node it.0
 
-  module _ (mid : Held) (before : TakesTokens was (so_far (take i tokens)) true mid) (could : Bool) (one : TakesTokens mid ((its_line mid, it.1) ∷ []) could now) where
+  module _ (mid : HeldPart) (before : TakesTokens was (so_far (take i tokens)) true mid) (could : Bool) (one : TakesTokens mid ((its_line mid, it.1) ∷ []) could now) where
     same_line : its_line mid ≡ its_line was
     same_line = ap (λ wires. incoming wires (length mid.network.nodes) node it.0) (wires_kept was mid (so_far (take i tokens)) before)
         ∙ ap (λ N. incoming was.network.wires N node it.0) (nodes_kept was mid (so_far (take i tokens)) before)
@@ -106,7 +106,7 @@ module _ (was now : Held) (node : ℕ) (tokens : List (ℕ × Token)) (i : ℕ) 
         (tokens_then was mid now (so_far (take i tokens)) ((its_line was, it.1) ∷ []) could before (subst (λ l. TakesTokens mid ((l, it.1) ∷ []) could now) same_line one))
 
 -- one that isn't in front
-pub fronts_stop : (was now : Held) (node : ℕ) (tokens : List (ℕ × Token)) (i : ℕ) → TakesTokens was (by_line was.network.wires (length was.network.nodes) node (take i tokens)) false now
+pub fronts_stop : (was now : HeldPart) (node : ℕ) (tokens : List (ℕ × Token)) (i : ℕ) → TakesTokens was (by_line was.network.wires (length was.network.nodes) node (take i tokens)) false now
     → TakesTokens was (by_line was.network.wires (length was.network.nodes) node tokens) false now
 fronts_stop was now node tokens i A =
     let f : ℕ × Token → ℕ × Token = λ m. (incoming was.network.wires (length was.network.nodes) node m.0, m.1) in

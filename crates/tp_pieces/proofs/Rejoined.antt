@@ -17,16 +17,16 @@ use Rattle.tp_pieces.specs.declared.host.HostPart.TheInside.{Inside as HostInsid
 use Rattle.tp_pieces.specs.declared.nodes.NodesPart.TheInside.{Inside as NodesInside}
 use Rattle.tp_pieces.specs.declared.net_part.NetPart.{NetPart}
 use Rattle.tp_pieces.specs.declared.net_part.NetPart.TheVariants.{Nodes, Host}
-use Rattle.tp_pieces.specs.Apart.{whole_of}
+use Rattle.tp_pieces.specs.Apart.{network_apart}
 use Rattle.tp_pieces.specs.Blank.{among, blank_node}
 use Rattle.tp_pieces.specs.Copies.{Copies}
 use Rattle.tp_pieces.specs.Dealing.{AgreeAll, CanJoin, networks_of, no_part, pieces_of}
-use Rattle.tp_pieces.specs.Held.{Held, has}
+use Rattle.tp_pieces.specs.Held.{HeldPart, has}
 use Rattle.tp_pieces.specs.HostInside.{host_held}
 use Rattle.tp_pieces.specs.Inside.{AreLive, IsLive, nodes_held}
 use Rattle.tp_pieces.specs.Joining.{AreBefore, HoldsFrom, Precedes}
-use Rattle.tp_pieces.specs.Parts.{held_of}
-use Rattle.tp_pieces.specs.Runs.{AreDealt, IsChain, Run, run_at}
+use Rattle.tp_pieces.specs.Parts.{held_part}
+use Rattle.tp_pieces.specs.Runs.{AreDealt, AreNeighbours, NodeRun, run_at}
 use Rattle.tp_pieces.specs.Whose.{whose}
 use Rattle.tp_pieces.proofs.Among.{among_at, length_among}
 use Rattle.tp_pieces.proofs.Chains.{chain_within, same_run, no_run}
@@ -161,26 +161,26 @@ module _ (t : Network NodeState) (n : NodesInside) (a now : Apart) (P : Precedes
 -- ## One run after another
 
 -- the first node of the run at a place, or where the last one ends
-abbrev pub start_at : ℕ → List Run → ℕ → ℕ
+abbrev pub start_at : ℕ → List NodeRun → ℕ → ℕ
 start_at past rs i = (get_or rs i (past, past)).0
 
-start_end : (past : ℕ) (rs : List Run) (i : ℕ) → length rs ≤ i → start_at past rs i ≡ past
+start_end : (past : ℕ) (rs : List NodeRun) (i : ℕ) → length rs ≤ i → start_at past rs i ≡ past
 start_end past rs i h = ap (λ r. r.0) (get_or_past rs i (past, past) h)
 
-start_there : (past : ℕ) (rs : List Run) (i : ℕ) → i < length rs → start_at past rs i ≡ (run_at rs i).0
+start_there : (past : ℕ) (rs : List NodeRun) (i : ℕ) → i < length rs → start_at past rs i ≡ (run_at rs i).0
 start_there past [] i below = absurd (omega (arith, below))
 start_there past (r ∷ rs) zero below = refl
 start_there past (r ∷ rs) (suc i) below = start_there past rs i (omega (arith, below))
 
 -- a run ends where the next one begins
-start_next : (first past : ℕ) (rs : List Run) (i : ℕ) → IsChain first past rs → i < length rs → start_at past rs (suc i) ≡ (run_at rs i).1
+start_next : (first past : ℕ) (rs : List NodeRun) (i : ℕ) → AreNeighbours first past rs → i < length rs → start_at past rs (suc i) ≡ (run_at rs i).1
 start_next first past [] i C below = absurd (omega (arith, below))
 start_next first past (r ∷ []) zero C below = sym C.2
 start_next first past (r ∷ q ∷ rs) zero C below = C.2.0
 start_next first past (r ∷ rs) (suc i) C below = start_next r.1 past rs i C.2 (omega (arith, below))
 
 -- the first one begins with the first node
-pub start_first : (first past : ℕ) (rs : List Run) → IsChain first past rs → start_at past rs 0 ≡ first
+pub start_first : (first past : ℕ) (rs : List NodeRun) → AreNeighbours first past rs → start_at past rs 0 ≡ first
 start_first first past [] C = sym C
 start_first first past (r ∷ rs) C = C.0
 
@@ -189,17 +189,17 @@ module _ (t : Network NodeState) (items : List NetPart) (a : Apart) (B : AreBefo
   pub none_yet : HoldsFrom t (start_at (length t.nodes) B.rs (length items)) a
   none_yet = subst (λ k. HoldsFrom t k a) (sym (start_end (length t.nodes) B.rs (length items) (let many = B.many in omega (arith, many)))) B.behind
 
-  abbrev piece_is : ℕ → Held → Type 0
+  abbrev piece_is : ℕ → HeldPart → Type 0
   piece_is i held = has held ≡ whose (run_at B.rs i).0 (Some (run_at B.rs i).1)
 
-  piece_at : (i : ℕ) (part : NetPart) → i < length items → slice_index_or items i no_part ≡ part → piece_is i (held_of part)
-  piece_at i part below at = ap (λ p. has (held_of p)) (sym at) ∙ B.run i (let many = B.many in omega (arith, many, below))
+  piece_at : (i : ℕ) (part : NetPart) → i < length items → slice_index_or items i no_part ≡ part → piece_is i (held_part part)
+  piece_at i part below at = ap (λ p. has (held_part p)) (sym at) ∙ B.run i (let many = B.many in omega (arith, many, below))
 
   -- none of them is the host
-  pub not_host : (i : ℕ) (held : Held) → i < length items → slice_index_or items i no_part ≡ Host held → held.past ≡ None → ⊥
+  pub not_host : (i : ℕ) (held : HeldPart) → i < length items → slice_index_or items i no_part ≡ Host held → held.past ≡ None → ⊥
   not_host i held below at endless = no_run held.first (run_at B.rs i).0 (run_at B.rs i).1 (ap (whose held.first) (sym endless) ∙ piece_at i (Host held) below at)
 
-  module _ (i : ℕ) (held : Held) (past : ℕ) (below : i < length items) (at : slice_index_or items i no_part ≡ Nodes held) (ends : held.past ≡ Some past) where
+  module _ (i : ℕ) (held : HeldPart) (past : ℕ) (below : i < length items) (at : slice_index_or items i no_part ≡ Nodes held) (ends : held.past ≡ Some past) where
     inside : i < length B.rs
     inside = let many = B.many in omega (arith, many, below)
 
@@ -213,7 +213,7 @@ module _ (t : Network NodeState) (items : List NetPart) (a : Apart) (B : AreBefo
       ends = ends;
       few = (let most = (chain_within 0 (length t.nodes) B.rs i B.chain inside).2 in let is = which.1 in omega (arith, most, is));
       behind = subst (λ k. HoldsFrom t k now) (ap (start_at (length t.nodes) B.rs) (let e : i + 1 ≡ suc i = omega arith in e) ∙ start_next 0 (length t.nodes) B.rs i B.chain inside ∙ sym which.1) H;
-      agree = subst (λ part. Agrees (has (held_of part)) t (held_of part).network) at (B.agree i below);
+      agree = subst (λ part. Agrees (has (held_part part)) t (held_part part).network) at (B.agree i below);
     }
 
     pub begins : (now : Apart) → HoldsFrom t held.first now → HoldsFrom t (start_at (length t.nodes) B.rs i) now
@@ -222,7 +222,7 @@ module _ (t : Network NodeState) (items : List NetPart) (a : Apart) (B : AreBefo
 -- ## The whole network
 
 -- all that is there is the network
-pub holds_all : (t : Network NodeState) (a : Apart) → HoldsFrom t 0 a → whole_of a ≡ t
+pub holds_all : (t : Network NodeState) (a : Apart) → HoldsFrom t 0 a → network_apart a ≡ t
 holds_all t a H = λ i. record { wires = H.wires i; nodes = H.nodes i; ports = H.ports i; lines = on i }
   where
     on : a.lines ≡ t.lines
@@ -233,9 +233,9 @@ module _ (items : List NetPart) (C : CanJoin items) (k : ℕ) (long : length ite
   runs_long = let many = C.dealt.many in omega (arith, many, long)
 
   -- the last part isn't a run
-  pub last_is_host : (held : Held) (past : ℕ) → slice_index_or items k no_part ≡ Nodes held → held.past ≡ Some past → ⊥
+  pub last_is_host : (held : HeldPart) (past : ℕ) → slice_index_or items k no_part ≡ Nodes held → held.past ≡ Some past → ⊥
   last_is_host held past at ends =
-      no_run (length C.whole.nodes) held.first past (sym C.dealt.host ∙ ap (pieces_of items) (sym runs_long) ∙ ap (λ p. has (held_of p)) at ∙ ap (whose held.first) ends)
+      no_run (length C.whole.nodes) held.first past (sym C.dealt.host ∙ ap (pieces_of items) (sym runs_long) ∙ ap (λ p. has (held_part p)) at ∙ ap (whose held.first) ends)
 
   -- a network with which each part agrees has as many nodes
   as_many : (t : Network NodeState) → AgreeAll items t → length t.nodes ≡ length C.whole.nodes
@@ -250,10 +250,10 @@ module _ (items : List NetPart) (C : CanJoin items) (k : ℕ) (long : length ite
   pub are_before : (t : Network NodeState) (a : Apart) → AgreeAll items t → HoldsFrom t (length t.nodes) a → AreBefore t (take k items) a
   are_before t a A H = record {
     rs = C.rs;
-    chain = subst (λ n. IsChain 0 n C.rs) (sym (as_many t A)) C.dealt.chain;
+    chain = subst (λ n. AreNeighbours 0 n C.rs) (sym (as_many t A)) C.dealt.chain;
     many = front_long ∙ runs_long;
-    run = λ i below. ap (λ p. has (held_of p)) (read_front i (omega (arith, below, runs_long))) ∙ C.dealt.run i below;
-    agree = λ i below. subst (λ p. Agrees (has (held_of p)) t (held_of p).network) (sym (read_front i (omega (arith, below, front_long)))) (A i (omega (arith, below, front_long, long)));
+    run = λ i below. ap (λ p. has (held_part p)) (read_front i (omega (arith, below, runs_long))) ∙ C.dealt.run i below;
+    agree = λ i below. subst (λ p. Agrees (has (held_part p)) t (held_part p).network) (sym (read_front i (omega (arith, below, front_long)))) (A i (omega (arith, below, front_long, long)));
     behind = H;
   }
 
@@ -277,10 +277,10 @@ module _ (items left rest : List NetPart) (part : NetPart) (so : left ≡ take (
       ∙ take-take (length rest) (length left) items (omega (arith, left_long))
 
 -- The runs before the host are before what is there of each network with which all parts agree.
-pub all_before : (items : List NetPart) → CanJoin items → (rest : List NetPart) (last : NetPart) (host : Held) → items ≡ rest ++ last ∷ [] → last ≡ Host host → (a : Apart)
+pub all_before : (items : List NetPart) → CanJoin items → (rest : List NetPart) (last : NetPart) (host : HeldPart) → items ≡ rest ++ last ∷ [] → last ≡ Host host → (a : Apart)
     → ((t : Network NodeState) → Agrees (has host) t host.network → HoldsFrom t (length t.nodes) a) → (t : Network NodeState) → AgreeAll items t → AreBefore t rest a
 all_before items C rest last host are is a holds t A =
     let long = ap length are ∙ length-append rest (last ∷ []) in
     let at : slice_index_or items (length rest) no_part ≡ Host host = ap (λ ps. slice_index_or ps (length rest) no_part) are ∙ get_or_at rest last [] no_part (length rest) refl ∙ is in
-    let agrees = subst (λ part. Agrees (has (held_of part)) t (held_of part).network) at (A (length rest) (omega (arith, long))) in
+    let agrees = subst (λ part. Agrees (has (held_part part)) t (held_part part).network) at (A (length rest) (omega (arith, long))) in
     subst (λ ps. AreBefore t ps a) (ap (take (length rest)) are ∙ take_at rest (last ∷ []) (length rest) refl) (are_before items C (length rest) long t a A (holds t agrees))

@@ -10,8 +10,8 @@ use Rattle.tp_pieces.specs.declared.apart.Apart.{Apart}
 use Rattle.tp_pieces.specs.Inside.{AreLive}
 
 -- the network that was taken apart
-abbrev pub whole_of : Apart → Network NodeState
-whole_of a = record {
+abbrev pub network_apart : Apart → Network NodeState
+network_apart a = record {
   wires = a.wires.items;
   nodes = map (λ node. node.live) a.nodes.items;
   ports = map (λ port. port.port) a.ports.items;
@@ -21,7 +21,7 @@ whole_of a = record {
 -- It can be split: it is sound and has no Markers; there is a line for each link and each port, and no more nodes and ports than a
 -- network may have; each node has an image and is not frozen.
 pub record CanSplit (a : Apart) : Type 0 where
-  pub sound : Sound t414_ends (whole_of a)
+  pub sound : Sound t414_ends (network_apart a)
   pub unmarked : (line : ℕ) → markers (on_line a.lines line) ≡ 0
   pub wires : length a.wires.items ≡ 4 * length a.nodes.items + length a.ports.items
   pub lines : length a.lines ≡ 4 * length a.nodes.items + length a.ports.items

@@ -4,8 +4,8 @@ use Rattle.tp_model.specs.NodeState.{NodeState}
 use Rattle.tp_model.specs.Network.{Network, Port}
 
 -- each port can count one more byte
-abbrev pub CanCount : Network NodeState → Type 0
-CanCount s = (p : ℕ) (port : Port) → slice_get s.ports p ≡ Some port → port.in_base + 1 < 2 ^ 64
+abbrev pub PortsCanCount : Network NodeState → Type 0
+PortsCanCount s = (p : ℕ) (port : Port) → slice_get s.ports p ≡ Some port → port.in_base + 1 < 2 ^ 64
 
 -- With how many entries a part can go on for its counters. A part without ports counts nothing, and no list of entries is longer.
 abbrev pub most_entries : ℕ

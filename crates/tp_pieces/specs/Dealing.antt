@@ -7,12 +7,12 @@ use Rattle.tp_node.specs.NodeContents.{NodeContents}
 use Rattle.tp_pieces.specs.declared.net_part.NetPart.{NetPart}
 use Rattle.tp_pieces.specs.declared.net_part.NetPart.TheVariants.{Nodes, Host}
 use Rattle.tp_pieces.specs.Blank.{among, blank_port}
-use Rattle.tp_pieces.specs.Held.{Held, has}
-use Rattle.tp_pieces.specs.Parts.{held_of}
-use Rattle.tp_pieces.specs.Runs.{AreDealt, Run, runs}
+use Rattle.tp_pieces.specs.Held.{HeldPart, has}
+use Rattle.tp_pieces.specs.Parts.{held_part}
+use Rattle.tp_pieces.specs.Runs.{AreDealt, NodeRun, runs}
 
 -- nodes from `first` on, as a part of a network: wires and lines are those of the network
-abbrev pub run_held : Network NodeState → ℕ → List NodeContents → Held
+abbrev pub run_held : Network NodeState → ℕ → List NodeContents → HeldPart
 run_held s first nodes = record {
   first = first;
   past = Some (first + length nodes);
@@ -25,7 +25,7 @@ run_held s first nodes = record {
 }
 
 -- the part of a run, out of all nodes
-abbrev pub run_part : Network NodeState → List NodeContents → Run → NetPart
+abbrev pub run_part : Network NodeState → List NodeContents → NodeRun → NetPart
 run_part s nodes run = Nodes (run_held s run.0 (take (run.1 - run.0) (drop run.0 nodes)))
 
 -- the part of a run whose nodes are the first ones of a list, if it has some
@@ -38,10 +38,10 @@ no_part = Host (record { first = 0; past = None; network = record { wires = []; 
 
 -- of each part of a list, which processes it has, and the network with these
 abbrev pub pieces_of : List NetPart → ℕ → Piece
-pieces_of parts i = has (held_of (slice_index_or parts i no_part))
+pieces_of parts i = has (held_part (slice_index_or parts i no_part))
 
 abbrev pub networks_of : List NetPart → ℕ → Network NodeState
-networks_of parts i = (held_of (slice_index_or parts i no_part)).network
+networks_of parts i = (held_part (slice_index_or parts i no_part)).network
 
 -- Each part has its own as t has it.
 abbrev pub AgreeAll : List NetPart → Network NodeState → Type 0
@@ -50,6 +50,6 @@ AgreeAll parts t = (i : ℕ) → i < length parts → Agrees (pieces_of parts i)
 -- They can be joined: their runs and the host are in order, and each has its own as some network has it.
 pub record CanJoin (parts : List NetPart) : Type 0 where
   pub whole : Network NodeState
-  pub rs : List Run
+  pub rs : List NodeRun
   pub dealt : AreDealt (length whole.nodes) rs (length parts) (pieces_of parts)
   pub agree : AgreeAll parts whole

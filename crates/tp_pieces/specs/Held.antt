@@ -7,11 +7,11 @@ use Rattle.tp_pieces.specs.Whose.{whose}
 
 -- The first process that it has, and the first behind it that it hasn't, if there is one; and a network with its processes and
 -- the lines as the part has them. Other nodes and ports are blank there.
-pub record Held : Type 0 where
+pub record HeldPart : Type 0 where
   pub first : ℕ
   pub past : Option ℕ
   pub network : Network NodeState
 
 -- which processes it has
-abbrev pub has : Held → Piece
+abbrev pub has : HeldPart → Piece
 has held = whose held.first held.past

@@ -2,10 +2,10 @@
 use Rattle.std.specs.Prelude.{◌≡◌, ◌≤◌, ◌+◌, ◌*◌, length, map, replicate, None}
 use Rattle.tp_model.specs.declared.limits.TheConstants.{MAX_NODES, MAX_PORTS}
 use Rattle.tp_pieces.specs.Blank.{blank_node}
-use Rattle.tp_pieces.specs.Held.{Held}
+use Rattle.tp_pieces.specs.Held.{HeldPart}
 use Rattle.tp_pieces.specs.declared.host.HostPart.TheInside.{Inside}
 
-abbrev pub host_held : Inside → Held
+abbrev pub host_held : Inside → HeldPart
 host_held h = record {
   first = h.nodes;
   past = None;

@@ -6,7 +6,7 @@ use Rattle.tp_model.specs.Network.{Network}
 use Rattle.tp_law_machine.specs.NodeOfBytes.{IsNodeOfBytes}
 use Rattle.tp_node.specs.NodeContents.{NodeContents}
 use Rattle.tp_pieces.specs.Blank.{among, blank_port}
-use Rattle.tp_pieces.specs.Held.{Held}
+use Rattle.tp_pieces.specs.Held.{HeldPart}
 use Rattle.tp_pieces.specs.Lanes.{LanesValue}
 use Rattle.tp_pieces.specs.declared.nodes.NodesPart.TheInside.{Inside as NodesInside}
 
@@ -19,7 +19,7 @@ network_around before nodes behind ports lanes = record {
   lines = lanes.lines;
 }
 
-abbrev pub nodes_held : NodesInside → Held
+abbrev pub nodes_held : NodesInside → HeldPart
 nodes_held n = record {
   first = n.before;
   past = Some (n.before + length n.nodes.items);

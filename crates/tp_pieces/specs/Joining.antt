@@ -6,9 +6,9 @@ use Rattle.tp_law_network.specs.Piece.{Agrees}
 use Rattle.tp_pieces.specs.declared.apart.Apart.{Apart}
 use Rattle.tp_pieces.specs.declared.net_part.NetPart.{NetPart}
 use Rattle.tp_pieces.specs.Dealing.{AgreeAll, pieces_of}
-use Rattle.tp_pieces.specs.Held.{Held, has}
+use Rattle.tp_pieces.specs.Held.{HeldPart, has}
 use Rattle.tp_pieces.specs.Inside.{AreLive}
-use Rattle.tp_pieces.specs.Runs.{IsChain, Run, run_at}
+use Rattle.tp_pieces.specs.Runs.{AreNeighbours, NodeRun, run_at}
 use Rattle.tp_pieces.specs.Whose.{whose}
 
 -- It is t so far: it has the nodes from `first` on, with the lines from theirs on, and the ports; the lines before these are empty.
@@ -22,7 +22,7 @@ pub record HoldsFrom (t : Network NodeState) (first : ℕ) (a : Apart) : Type 0 
   pub live : AreLive a.nodes.items
 
 -- A run has its own as t has it, and goes right before what is there of t.
-pub record Precedes (t : Network NodeState) (run : Held) (a : Apart) : Type 0 where
+pub record Precedes (t : Network NodeState) (run : HeldPart) (a : Apart) : Type 0 where
   pub past : ℕ
   pub ends : run.past ≡ Some past
   pub few : past ≤ length t.nodes
@@ -31,8 +31,8 @@ pub record Precedes (t : Network NodeState) (run : Held) (a : Apart) : Type 0 wh
 
 -- Runs have all nodes of t, in their order, as t has them; of t the host's is there.
 pub record AreBefore (t : Network NodeState) (runs : List NetPart) (a : Apart) : Type 0 where
-  pub rs : List Run
-  pub chain : IsChain 0 (length t.nodes) rs
+  pub rs : List NodeRun
+  pub chain : AreNeighbours 0 (length t.nodes) rs
   pub many : length runs ≡ length rs
   pub run : (i : ℕ) → i < length rs → pieces_of runs i ≡ whose (run_at rs i).0 (Some (run_at rs i).1)
   pub agree : AgreeAll runs t

@@ -3,12 +3,12 @@ use Rattle.std.specs.Prelude.{ℕ}
 use Rattle.tp_pieces.specs.declared.net_part.NetPart.{NetPart}
 use Rattle.tp_pieces.specs.declared.net_part.NetPart.TheVariants.{Nodes, Host}
 use Rattle.tp_pieces.specs.Counts.{most_entries, room_of}
-use Rattle.tp_pieces.specs.Held.{Held}
+use Rattle.tp_pieces.specs.Held.{HeldPart}
 
 -- what contracts see of it
-abbrev pub held_of : NetPart → Held
-held_of (Nodes held) = held
-held_of (Host held) = held
+abbrev pub held_part : NetPart → HeldPart
+held_part (Nodes held) = held
+held_part (Host held) = held
 
 -- with how many entries it can go on
 abbrev pub net_room : NetPart → ℕ

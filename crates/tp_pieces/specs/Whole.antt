@@ -13,7 +13,7 @@ use Rattle.tp_law_network.specs.Reach.{reach}
 
 -- These parts are the whole of s, which is sound and has no Markers: each process is in at least one of them, and each has
 -- its own as s has it.
-pub record IsWhole (s : Network NodeState) (count : ℕ) (pieces : ℕ → Piece) (parts : ℕ → Network NodeState) : Type 0 where
+pub record AreWhole (s : Network NodeState) (count : ℕ) (pieces : ℕ → Piece) (parts : ℕ → Network NodeState) : Type 0 where
   pub sound : Sound t414_ends s
   pub unmarked : (line : ℕ) → markers (on_line s.lines line) ≡ 0
   pub covers : Covers count pieces

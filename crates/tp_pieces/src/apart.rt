@@ -1,9 +1,9 @@
 //! A network taken apart.
 
+use tp_book::HostPort;
 use tp_model::WireEnd;
 use tp_net::Lines;
 use tp_node::Node;
-use tp_book::HostPort;
 
 /// A network taken apart: its wires, nodes, lines and ports.
 #[derive(Drop)]

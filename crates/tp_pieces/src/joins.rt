@@ -4,7 +4,7 @@ ghost use Rattle.std.specs.Prelude.{◌≡◌, IfOk, length};
 ghost use Rattle.tp_model.specs.NodeState.{NodeState};
 ghost use Rattle.tp_model.specs.Network.{Network};
 ghost use Rattle.tp_law_network.specs.Piece.{Agrees};
-ghost use Rattle.tp_pieces.specs.Apart.{whole_of};
+ghost use Rattle.tp_pieces.specs.Apart.{network_apart};
 ghost use Rattle.tp_pieces.specs.Dealing.{AgreeAll, CanJoin};
 ghost use Rattle.tp_pieces.specs.Held.{has};
 ghost use Rattle.tp_pieces.specs.Inside.{AreLive};
@@ -95,7 +95,7 @@ fn with_runs(apart: Apart, runs: Vec<NetPart>) -> Result<Apart, AllocError>
 /// Joins parts, each of which has its own as one network has it: that network. Memory is refused only where there is none.
 pub fn joined(alloc: Global, parts: Vec<NetPart>) -> Result<Apart, AllocError>
     requires { CanJoin parts.items }
-    ensures is { IfOk result (λ apart. (t : Network NodeState) → AgreeAll parts.items t → whole_of apart ≡ t) }
+    ensures is { IfOk result (λ apart. (t : Network NodeState) → AgreeAll parts.items t → network_apart apart ≡ t) }
     ensures live { IfOk result (λ apart. AreLive apart.nodes.items) }
 {
     let mut parts = parts;

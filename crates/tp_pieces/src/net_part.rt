@@ -1,12 +1,12 @@
 //! A part of either kind.
 
 ghost use Rattle.tp_pieces.specs.Held.{has};
-ghost use Rattle.tp_pieces.specs.Parts.{held_of, net_room};
+ghost use Rattle.tp_pieces.specs.Parts.{held_part, net_room};
 
+use crate::Part;
 use crate::host::HostPart;
 use crate::nodes::NodesPart;
 use tp_model::Entry;
-use crate::Part;
 
 /// A part of a network: some of its nodes, or the host.
 #[derive(Drop)]
@@ -16,9 +16,9 @@ pub enum NetPart {
 }
 
 impl Part for NetPart {
-    ghost has = { λ part. has (held_of part) };
+    ghost has = { λ part. has (held_part part) };
 
-    ghost network = { λ part. (held_of part).network };
+    ghost network = { λ part. (held_part part).network };
 
     ghost room = { net_room };
 

@@ -3,9 +3,9 @@
 ghost use Rattle.std.specs.Prelude.{◌≡◌, ◌<◌, ℕ, IsTrue, length, is_some};
 ghost use Rattle.tp_model.specs.Entries.{port_took, handed_in, confirmed};
 
+use tp_book::HostPort;
 use tp_model::Token;
 use tp_model::limits::MAX_HELD;
-use tp_book::HostPort;
 
 /// Whether a port can take a token: it has room for a byte, or a byte that the acknowledge takes off.
 pub(crate) fn can_take(port: &HostPort, token: Token) -> bool

@@ -1,8 +1,8 @@
 //! A network that is split into parts.
 
 ghost use Rattle.std.specs.Prelude.{◌≡◌, ◌<◌, ◌≤◌, ◌+◌, ◌++◌, All, IfOk, OnOk, drop, length, map, vec_len};
-ghost use Rattle.tp_pieces.specs.Whole.{IsWhole};
-ghost use Rattle.tp_pieces.specs.Apart.{CanSplit, whole_of};
+ghost use Rattle.tp_pieces.specs.Whole.{AreWhole};
+ghost use Rattle.tp_pieces.specs.Apart.{CanSplit, network_apart};
 ghost use Rattle.tp_pieces.specs.Counts.{room_of};
 ghost use Rattle.tp_pieces.specs.Dealing.{networks_of, new_part, pieces_of, run_held, run_part};
 ghost use Rattle.tp_pieces.specs.Inside.{AreLive};
@@ -14,10 +14,10 @@ use crate::host::HostPart;
 use crate::lanes::Lanes;
 use crate::net_part::NetPart;
 use crate::nodes::NodesPart;
+use crate::{Neighbours, neighbours_of};
 use std::alloc::{AllocError, Global};
 use std::mem;
 use tp_node::Node;
-use crate::{Neighbours, neighbours_of};
 
 /// The part of nodes from `first` on. Its wires and lines are copies of the host's.
 fn part_beside(
@@ -91,9 +91,9 @@ fn deal_all(
 pub fn split(alloc: Global, network: Apart, workers: u8) -> Result<Vec<NetPart>, AllocError>
     requires some { 0 < workers }
     requires can { CanSplit network }
-    ensures whole { IfOk result (λ parts. IsWhole (whole_of network) (vec_len parts) (pieces_of parts.items) (networks_of parts.items)) }
+    ensures whole { IfOk result (λ parts. AreWhole (network_apart network) (vec_len parts) (pieces_of parts.items) (networks_of parts.items)) }
     ensures dealt { IfOk result (λ parts. AreDealt (vec_len network.nodes) (runs (vec_len network.nodes) workers workers) (vec_len parts) (pieces_of parts.items)) }
-    ensures room { IfOk result (λ parts. All (λ part. room_of (whole_of network).ports ≤ net_room part) parts.items) }
+    ensures room { IfOk result (λ parts. All (λ part. room_of (network_apart network).ports ≤ net_room part) parts.items) }
 {
     let Apart {
         wires,

@@ -17,12 +17,12 @@ use crate::host::HostPart;
 use crate::lanes::Lanes;
 use crate::nodes::NodesPart;
 use arrayvec::ArrayVec;
+use tp_book::tokens_of;
 use tp_law_machine::carries_byte;
 use tp_model::limits::MAX_STEPS;
 use tp_model::{Received, Token, WireEnd};
 use tp_net::{line_of, link_line};
 use tp_node::{NoFrame, Node};
-use tp_book::tokens_of;
 
 /// What a node sent in a turn.
 #[derive(Drop)]

@@ -3,7 +3,7 @@ use Rattle.std.proofs.Common.{Err, refl}
 use Rattle.tp_model.specs.NodeState.{NodeState}
 use Rattle.tp_model.specs.Network.{Network}
 use Rattle.tp_model.specs.DiskHistory.{State}
-use Rattle.tp_program.specs.Streaming.{IsOfEnds, IsUnopened, IsUnwritten, StreamedOn}
+use Rattle.tp_program.specs.Streaming.{IsOfEnds, IsUnopened, FindsNothingNew, StreamedOn}
 use Rattle.tp_program.specs.declared.streaming.FilesFault.{FilesFault}
 use Rattle.tp_program.specs.declared.streaming.FilesFault.TheVariants.{End, Stop, Stream}
 
@@ -13,7 +13,7 @@ ends_streamed start (End fault) s is = refl
 ends_streamed start (Stop fault) s is = refl
 ends_streamed start (Stream fault) s is = absurd is
 
-pub ends_unwritten : (fault : FilesFault) (s : State) → IsOfEnds fault → IsUnwritten (Err fault) s s
+pub ends_unwritten : (fault : FilesFault) (s : State) → IsOfEnds fault → FindsNothingNew (Err fault) s s
 ends_unwritten (End fault) s is = refl
 ends_unwritten (Stop fault) s is = refl
 ends_unwritten (Stream fault) s is = absurd is

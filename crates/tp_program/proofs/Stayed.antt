@@ -4,14 +4,14 @@ use Rattle.tp_area.specs.Places.{place_at}
 use Rattle.tp_area.proofs.OpenedPlace.{opening_place}
 use Rattle.tp_area.proofs.OtherArea.{own_open}
 use Rattle.tp_area.proofs.Placed.{is_placed, place_lies}
-use Rattle.tp_recover.specs.Copies.{HasStayed, kept_of, start_of}
+use Rattle.tp_recover.specs.Copies.{HasStayed, area_kept, kept_start}
 use Rattle.tp_area.specs.declared.front.AreaFront.{AreaFront}
 use Rattle.tp_model.specs.Bytes.{u64_at}
 use Rattle.tp_model.specs.Node.{t414, t414_ends}
 use Rattle.tp_model.specs.Opening.{Opened, verdict}
 use Rattle.tp_recover.proofs.Areas.{generation_of-content}
 
-pub opened_stays : (bytes : List ℕ) (o : Opened) → verdict bytes ≡ Ok o → HasStayed (kept_of o) bytes
+pub opened_stays : (bytes : List ℕ) (o : Opened) → verdict bytes ≡ Ok o → HasStayed (area_kept o) bytes
 unfolding verdict
 opened_stays bytes o is =
     let placed = is_placed bytes (place_at o) (opening_place t414 t414_ends bytes o is) in
@@ -20,5 +20,5 @@ opened_stays bytes o is =
     let inside = lies.inside in
     let gate = own_open o.head.areas o.second bytes placed.second in
     let number = generation_of-content o.head.areas o.second bytes (omega arith) in
-    ap (λ (b : Bool). let front : AreaFront = record { is_open = b; generation = u64_at bytes (start_of (kept_of o) + 1) } in front) gate
+    ap (λ (b : Bool). let front : AreaFront = record { is_open = b; generation = u64_at bytes (kept_start (area_kept o) + 1) } in front) gate
     ∙ ap (λ (n : ℕ). let front : AreaFront = record { is_open = true; generation = n } in front) (sym number ∙ placed.generation)

@@ -2,7 +2,7 @@
 use Rattle.std.specs.Prelude.{◌≡◌, ℕ, List, [], ◌∷◌, ◌++◌, codes, Ok, Option}
 use Rattle.std.specs.Fmt.{decimal}
 use Rattle.std.specs.Io.KnownBytes.{Appends}
-use Rattle.tp_recover.specs.Copies.{IsCopy, kept_of}
+use Rattle.tp_recover.specs.Copies.{IsCopy, area_kept}
 use Rattle.tp_model.specs.Disk.{Moment}
 use Rattle.tp_model.specs.Opening.{Opened, verdict}
 
@@ -15,7 +15,7 @@ copied_line next = codes "copied next " ++ (decimal next ++ 10 ∷ [])
 pub record IsBackup (source before : List ℕ) (copy : Moment) (next : ℕ) : Type 0 where
   pub opened : Opened
   pub is : verdict source ≡ Ok opened
-  pub copied : IsCopy (kept_of opened) source before copy next
+  pub copied : IsCopy (area_kept opened) source before copy next
 
 -- A text is the line of a copy.
 pub record IsCopiedLine (text : List ℕ) : Type 0 where

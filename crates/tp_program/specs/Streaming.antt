@@ -5,7 +5,7 @@ use Rattle.tp_model.specs.Network.{Network}
 use Rattle.tp_model.specs.DiskHistory.{State}
 use Rattle.tp_recover.specs.Reading.{LeavesNothingNew}
 use Rattle.tp_recover.specs.declared.unopened.Unopened.{Unopened}
-use Rattle.tp_stream.specs.Streamed.{IsUnbegun, Streamed}
+use Rattle.tp_stream.specs.Streamed.{StaysUnstreamed, Streamed}
 use Rattle.tp_stream_files.specs.declared.ending.Ended.{Ended}
 use Rattle.tp_stream_files.specs.declared.ending.Ending.{Ending}
 use Rattle.tp_stream_files.specs.declared.ending.Ending.TheVariants.{Quiet, Turns, Gone as AllGone, Halted, Stopped}
@@ -79,11 +79,11 @@ StreamedOn start (Err (Stop fault)) old new = new ≡ old
 StreamedOn start (Err (Stream fault)) old new = Streamed start (Err fault) old new
 
 -- A stream that was not begun finds nothing on the device that it made.
-abbrev pub IsUnwritten : Result Ended FilesFault → State → State → Type 0
-IsUnwritten (Ok ended) old new = Unit {0}
-IsUnwritten (Err (End fault)) old new = new ≡ old
-IsUnwritten (Err (Stop fault)) old new = new ≡ old
-IsUnwritten (Err (Stream fault)) old new = IsUnbegun {A = Ended} (Err fault) → LeavesNothingNew old new
+abbrev pub FindsNothingNew : Result Ended FilesFault → State → State → Type 0
+FindsNothingNew (Ok ended) old new = Unit {0}
+FindsNothingNew (Err (End fault)) old new = new ≡ old
+FindsNothingNew (Err (Stop fault)) old new = new ≡ old
+FindsNothingNew (Err (Stream fault)) old new = StaysUnstreamed {A = Ended} (Err fault) → LeavesNothingNew old new
 
 -- a fault that comes before the device is read
 abbrev pub IsOfEnds : FilesFault → Type 0

@@ -1,7 +1,7 @@
 //! `tpnet backup`, over any device and any copy.
 
 ghost use Rattle.std.specs.Prelude.{◌≡◌, IfErr, IfOk, IsErr, IsSomeAnd, string_bytes};
-ghost use Rattle.tp_recover.specs.Copies.{Answers, kept_of};
+ghost use Rattle.tp_recover.specs.Copies.{CopyAnswer, area_kept};
 ghost use Rattle.tp_model.specs.Opening.{verdict};
 ghost use Rattle.tp_recover.specs.Reading.{LeavesNothingNew};
 ghost use Rattle.tp_program.specs.Backups.{IsBackup, copied_line};
@@ -9,9 +9,8 @@ ghost use Rattle.tp_program.specs.Backups.{IsBackup, copied_line};
 use std::alloc::{AllocError, Global};
 use std::io;
 use std::io::Write;
-use tp_recover::{CopyFault, copy_opened};
 use tp_disk::Disk;
-use tp_recover::{Opened, Unopened, open};
+use tp_recover::{CopyFault, Opened, Unopened, copy_opened, open};
 use tp_views::{Refusal, refuse, show_on};
 
 /// How often a device is opened that another process writes meanwhile.
@@ -44,7 +43,7 @@ fn copy_or_refuse<D: Disk, K: Disk, E: Write>(
     ensures status { IfErr result (λ status. status ≡ 1) }
     ensures kept { D.keeps → IfOk result (λ found. (D.state source.new).now ≡ (D.state source.old).now) }
     ensures leaves { D.keeps → LeavesNothingNew (D.state source.old) (D.state source.new) }
-    ensures is { D.keeps → K.keeps → IfOk result (Answers (kept_of opened) (D.state source.old).now.bytes (K.state copy.old).now (K.state copy.new).now) }
+    ensures is { D.keeps → K.keeps → IfOk result (CopyAnswer (area_kept opened) (D.state source.old).now.bytes (K.state copy.old).now (K.state copy.new).now) }
 {
     match copy_opened(alloc, source, copy, opened) {
         Ok(found) => Ok(found),

@@ -2,7 +2,7 @@
 
 ghost use Rattle.std.specs.Prelude.{◌≡◌, ◌≤◌, true, false, None, map, IsErr, OnOk};
 ghost use Rattle.std.specs.Io.KnownBytes.{Appends};
-ghost use Rattle.tp_model.specs.Device.{fits};
+ghost use Rattle.tp_model.specs.Device.{fits_device};
 ghost use Rattle.tp_model.specs.DiskHistory.{LeavesOnly};
 ghost use Rattle.tp_model.specs.Format.{start_of};
 ghost use Rattle.tp_model.specs.Head.{areas_of_length, version_for};
@@ -29,10 +29,10 @@ fn make<D: Disk, O: Write>(
 ) -> Result<(), Refusal>
     requires valid { is_topology topology.now ≡ true }
     ensures formatted { D.keeps → OnOk result (Formatted topology.now (map (λ image. image.items) images.now) (areas_of_length (version_for topology.now) area) (D.state disk.old) (D.state disk.new)) }
-    ensures fits { OnOk result (fits (D.size_of disk.old) topology.now (areas_of_length (version_for topology.now) area) ≡ true) }
+    ensures fits { OnOk result (fits_device (D.size_of disk.old) topology.now (areas_of_length (version_for topology.now) area) ≡ true) }
     ensures printed { OnOk result (Appends (O.contents out.old) (O.contents out.new) formatted_text) }
     ensures refused { start_of topology.now (map (λ image. image.items) images.now) ≡ None → (IsErr result) × (disk.new ≡ disk.old) × (O.contents out.new ≡ O.contents out.old) }
-    ensures small { fits (D.size_of disk.old) topology.now (areas_of_length (version_for topology.now) area) ≡ false → (IsErr result) × (disk.new ≡ disk.old) × (O.contents out.new ≡ O.contents out.old) }
+    ensures small { fits_device (D.size_of disk.old) topology.now (areas_of_length (version_for topology.now) area) ≡ false → (IsErr result) × (disk.new ≡ disk.old) × (O.contents out.new ≡ O.contents out.old) }
     ensures front { AppendsFront (O.contents out.old) (O.contents out.new) formatted_text }
     ensures leaves { D.keeps → LeavesOnly (D.state disk.old) (D.state disk.new) (IsOldOrNew topology.now (map (λ image. image.items) images.now) (areas_of_length (version_for topology.now) area) (D.state disk.old)) }
 {
@@ -55,10 +55,10 @@ pub fn format_on<D: Disk, O: Write, E: Write>(
     requires valid { is_topology topology.now ≡ true }
     ensures status { result ≤ 1 }
     ensures formatted { D.keeps → result ≡ 0 → Formatted topology.now (map (λ image. image.items) images.now) (areas_of_length (version_for topology.now) area) (D.state disk.old) (D.state disk.new) }
-    ensures fits { result ≡ 0 → fits (D.size_of disk.old) topology.now (areas_of_length (version_for topology.now) area) ≡ true }
+    ensures fits { result ≡ 0 → fits_device (D.size_of disk.old) topology.now (areas_of_length (version_for topology.now) area) ≡ true }
     ensures printed { result ≡ 0 → Appends (O.contents out.old) (O.contents out.new) formatted_text }
     ensures refused { start_of topology.now (map (λ image. image.items) images.now) ≡ None → (result ≡ 1) × (disk.new ≡ disk.old) × (O.contents out.new ≡ O.contents out.old) }
-    ensures small { fits (D.size_of disk.old) topology.now (areas_of_length (version_for topology.now) area) ≡ false → (result ≡ 1) × (disk.new ≡ disk.old) × (O.contents out.new ≡ O.contents out.old) }
+    ensures small { fits_device (D.size_of disk.old) topology.now (areas_of_length (version_for topology.now) area) ≡ false → (result ≡ 1) × (disk.new ≡ disk.old) × (O.contents out.new ≡ O.contents out.old) }
     ensures front { AppendsFront (O.contents out.old) (O.contents out.new) formatted_text }
     ensures leaves { D.keeps → LeavesOnly (D.state disk.old) (D.state disk.new) (IsOldOrNew topology.now (map (λ image. image.items) images.now) (areas_of_length (version_for topology.now) area) (D.state disk.old)) }
 {

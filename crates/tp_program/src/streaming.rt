@@ -8,8 +8,8 @@ ghost use Rattle.tp_recover.specs.Reading.{LeavesNothingNew};
 ghost use Rattle.tp_recover.specs.declared.unopened.Unopened.{Unopened};
 ghost use Rattle.tp_run.specs.Ran.{History};
 ghost use Rattle.tp_stream.specs.Quiet.{IsAsked};
-ghost use Rattle.tp_stream.specs.Streamed.{IsUnbegun, Streamed as StreamLeft};
-ghost use Rattle.tp_program.specs.Streaming.{IsOfEnds, IsUnopened, IsUnwritten, StreamedOn, end_status, ending_status, fault_status, stream_status, task_of};
+ghost use Rattle.tp_stream.specs.Streamed.{StaysUnstreamed, Streamed as StreamLeft};
+ghost use Rattle.tp_program.specs.Streaming.{IsOfEnds, IsUnopened, FindsNothingNew, StreamedOn, end_status, ending_status, fault_status, stream_status, task_of};
 ghost use Rattle.tp_words.specs.StreamArgs.{IsStreamRun};
 
 use crate::stop_file::{StopFault, StopFile, report_stop, stop_fault};
@@ -169,7 +169,7 @@ fn stream_opened<R: Files + AllocGlobal + Wait, D: Disk + Drop, S: Sink, I: Sour
     ensures size { D.size_of result.0 ≡ D.size_of disk }
     ensures streamed { D.keeps → Began history.formatted history.before (D.state disk).now.bytes
         → StreamLeft history.formatted result.1 (D.state disk) (D.state result.0) }
-    ensures unwritten { D.keeps → IsUnbegun result.1 → LeavesNothingNew (D.state disk) (D.state result.0) }
+    ensures unwritten { D.keeps → StaysUnstreamed result.1 → LeavesNothingNew (D.state disk) (D.state result.0) }
     ensures unopened { D.keeps → IsErr (verdict (D.state disk).now.bytes) → (unopened : Unopened) × (result.1 ≡ Err (StreamFault.Opening unopened)) }
     ensures why { IfOk result.1 (λ ended. IsAsked (task_of asked.now) ended.why) }
 {
@@ -234,7 +234,7 @@ fn stream_files<
     ensures size { D.size_of result.0 ≡ D.size_of disk }
     ensures streamed { D.keeps → Began history.formatted history.before (D.state disk).now.bytes
         → StreamedOn history.formatted result.1 (D.state disk) (D.state result.0) }
-    ensures unwritten { D.keeps → IsUnwritten result.1 (D.state disk) (D.state result.0) }
+    ensures unwritten { D.keeps → FindsNothingNew result.1 (D.state disk) (D.state result.0) }
     ensures unopened { D.keeps → IsErr (verdict (D.state disk).now.bytes) → IsUnopened result.1 }
     ensures why { IfOk result.1 (λ ended. IsAsked (task_of asked.now) ended.why) }
 {
@@ -266,7 +266,7 @@ pub fn stream_on<
     ensures size { D.size_of result.0 ≡ D.size_of disk }
     ensures streamed { D.keeps → Began history.formatted history.before (D.state disk).now.bytes
         → StreamedOn history.formatted result.1.done (D.state disk) (D.state result.0) }
-    ensures unwritten { D.keeps → IsUnwritten result.1.done (D.state disk) (D.state result.0) }
+    ensures unwritten { D.keeps → FindsNothingNew result.1.done (D.state disk) (D.state result.0) }
     ensures unopened { D.keeps → IsErr (verdict (D.state disk).now.bytes) → IsUnopened result.1.done }
     ensures why { IfOk result.1.done (λ ended. IsAsked (task_of asked.now) ended.why) }
 {

@@ -8,8 +8,8 @@ use Rattle.tp_ready.specs.declared.call.Call.{Call}
 use Rattle.tp_ready.specs.declared.call.Claim.{Claim}
 use Rattle.tp_ready.specs.declared.call.Step.{Step}
 use Rattle.tp_ready.specs.declared.view.View.{View}
-use Rattle.tp_ready.specs.Past.{IsDue, after_step, add_if, calls_by, waiting}
-use Rattle.tp_ready.specs.View.{nobody, claimed, sum_below, one_at, AreMine, Saw, Logged}
+use Rattle.tp_ready.specs.Past.{IsDue, after_step, add_if, calls_by, waiting_numbers}
+use Rattle.tp_ready.specs.View.{nobody, claimed, sum_below, one_at, AreMine, HasSeenCalls, Logged}
 use Rattle.tp_ready.proofs.Weights.{sum_by-set, one_at-same, sum_below-one_at, sum_below-one_at-outside}
 
 abbrev pub called : ℕ → Step → Call
@@ -71,14 +71,14 @@ claim_below hands views pass v claim shares at one =
 
 -- ## One more call
 
-saw_set : (log : List Call) (views : List View) (pass : ℕ) (w : View) → Saw log w → ((j : ℕ) (u : View) → j ≢ pass → get_elem? views j ≡ some u → Saw log u) → (j : ℕ) (u : View)
-    → get_elem? (set views pass w) j ≡ some u → Saw log u
+saw_set : (log : List Call) (views : List View) (pass : ℕ) (w : View) → HasSeenCalls log w → ((j : ℕ) (u : View) → j ≢ pass → get_elem? views j ≡ some u → HasSeenCalls log u) → (j : ℕ) (u : View)
+    → get_elem? (set views pass w) j ≡ some u → HasSeenCalls log u
 saw_set log views pass w mine others j u e =
-    ⊎_elim (λ (t : (j ≡ pass) × (w ≡ u)). subst (λ (y : View). Saw log y) t.1 mine) (λ (t : (j ≢ pass) × (get_elem? views j ≡ some u)). others j u t.0 t.1) (at_set views pass j w u e)
+    ⊎_elim (λ (t : (j ≡ pass) × (w ≡ u)). subst (λ (y : View). HasSeenCalls log y) t.1 mine) (λ (t : (j ≢ pass) × (get_elem? views j ≡ some u)). others j u t.0 t.1) (at_set views pass j w u e)
 
-pub saw_append : (log : List Call) (views : List View) (w : View) → ((j : ℕ) (u : View) → get_elem? views j ≡ some u → Saw log u) → Saw log w → (j : ℕ) (u : View) → get_elem? (views ++ w ∷ []) j ≡ some u
-    → Saw log u
-saw_append log views w all new j u e = ⊎_elim (λ (t : get_elem? views j ≡ some u). all j u t) (λ (t : w ≡ u). subst (λ (y : View). Saw log y) t new) (at_snoc views w u j e)
+pub saw_append : (log : List Call) (views : List View) (w : View) → ((j : ℕ) (u : View) → get_elem? views j ≡ some u → HasSeenCalls log u) → HasSeenCalls log w → (j : ℕ) (u : View) → get_elem? (views ++ w ∷ []) j ≡ some u
+    → HasSeenCalls log u
+saw_append log views w all new j u e = ⊎_elim (λ (t : get_elem? views j ≡ some u). all j u t) (λ (t : w ≡ u). subst (λ (y : View). HasSeenCalls log y) t new) (at_snoc views w u j e)
 
 -- a hand makes one more, beside passes that make no numbers or hands
 pub logged_call : (count hands : ℕ) (items : List ℕ) (views : List View) (pass : ℕ) (v w : View) (claim : Claim) (step : Step) (logged : Logged count hands items views) → Shares hands views
@@ -91,14 +91,14 @@ logged_call count hands items views pass v w claim step logged shares at one due
     let own = (subst (λ claims. AreMine log claims) one (logged.saw pass v at).mine).0 in
     let next : Claim = record { who = claim.who; calls = call ∷ claim.calls } in
     let next_mine : AreMine (call ∷ log) (next ∷ []) = (by_own claim.who step log ∙ ap (λ cs. call ∷ cs) own, tt) in
-    let here : Saw (call ∷ log) w =
+    let here : HasSeenCalls (call ∷ log) w =
     record {
       newer = [];
       seen = sym seen;
       mine = subst (λ claims. AreMine (call ∷ log) claims) (sym is) next_mine;
       makes = λ made. absurd (true≢false (sym made ∙ makes));
     } in
-    let there : (j : ℕ) (u : View) → j ≢ pass → get_elem? views j ≡ some u → Saw (call ∷ log) u =
+    let there : (j : ℕ) (u : View) → j ≢ pass → get_elem? views j ≡ some u → HasSeenCalls (call ∷ log) u =
     λ j u other e.
     let saw = logged.saw j u e in
     record {
@@ -125,9 +125,9 @@ pub logged_fork : (count hands : ℕ) (items : List ℕ) (views : List View) (pa
 logged_fork count hands items views pass v l r logged at same same' parts l_makes r_makes =
     let saw = logged.saw pass v at in
     let both = parts saw.mine in
-    let left : Saw logged.log l =
+    let left : HasSeenCalls logged.log l =
     record { newer = saw.newer; seen = saw.seen ∙ ap (λ cs. saw.newer ++ cs) (sym same); mine = both.0; makes = λ made. absurd (true≢false (sym made ∙ l_makes)) } in
-    let right : Saw logged.log r =
+    let right : HasSeenCalls logged.log r =
     record { newer = saw.newer; seen = saw.seen ∙ ap (λ cs. saw.newer ++ cs) (sym same'); mine = both.1; makes = λ made. absurd (true≢false (sym made ∙ r_makes)) } in
     record {
       log = logged.log;
@@ -138,7 +138,7 @@ logged_fork count hands items views pass v l r logged at same same' parts l_make
     }
 
 -- nobody has seen whatever there is
-pub nobody_saw : (log : List Call) → Saw log nobody
+pub nobody_saw : (log : List Call) → HasSeenCalls log nobody
 nobody_saw log = record { newer = log; seen = sym (append-nil log); mine = tt; makes = λ made. absurd (true≢false (sym made)) }
 
 -- one pass is what two were
@@ -147,7 +147,7 @@ pub logged_merge : (count hands : ℕ) (items : List ℕ) (views : List View) (p
 logged_merge count hands items views pass v both other w logged at was same is makes =
     let saw = logged.saw pass v at in
     let theirs = logged.saw other w was in
-    let here : Saw logged.log both =
+    let here : HasSeenCalls logged.log both =
     record {
       newer = saw.newer;
       seen = saw.seen ∙ ap (λ cs. saw.newer ++ cs) (sym same);
@@ -166,18 +166,18 @@ logged_merge count hands items views pass v both other w logged at was same is m
 
 -- another view of a pass that makes them, where nothing was called
 pub logged_making : (count count' hands hands' : ℕ) (items items' : List ℕ) (views : List View) (pass : ℕ) (v w : View) (logged : Logged count hands items views) → get_elem? views pass ≡ some v
-    → v.makes ≡ true → waiting count' [] ≡ items' → AreMine [] w.claims → w.seen ≡ [] → Logged count' hands' items' (set views pass w)
+    → v.makes ≡ true → waiting_numbers count' [] ≡ items' → AreMine [] w.claims → w.seen ≡ [] → Logged count' hands' items' (set views pass w)
 logged_making count count' hands hands' items items' views pass v w logged at makes waits mine seen =
     let none = (logged.saw pass v at).makes makes in
     record {
       log = [];
       waits = waits;
       legal = tt;
-      saw = saw_set [] views pass w (record { newer = []; seen = sym seen; mine = mine; makes = λ _. refl }) (λ j u _ e. subst (λ (log : List Call). Saw log u) none (logged.saw j u e));
+      saw = saw_set [] views pass w (record { newer = []; seen = sym seen; mine = mine; makes = λ _. refl }) (λ j u _ e. subst (λ (log : List Call). HasSeenCalls log u) none (logged.saw j u e));
       known = λ by _. refl;
     }
 
 -- before any call the queue has the numbers that were made
 pub none_called : (count hands : ℕ) (items : List ℕ) (views : List View) (pass : ℕ) (v : View) (logged : Logged count hands items views) → get_elem? views pass ≡ some v → v.makes ≡ true
-    → waiting count [] ≡ items
-none_called count hands items views pass v logged at makes = ap (waiting count) (sym ((logged.saw pass v at).makes makes)) ∙ logged.waits
+    → waiting_numbers count [] ≡ items
+none_called count hands items views pass v logged at makes = ap (waiting_numbers count) (sym ((logged.saw pass v at).makes makes)) ∙ logged.waits

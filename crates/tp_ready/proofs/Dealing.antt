@@ -11,8 +11,8 @@ use Rattle.tp_ready.specs.declared.call.Claim.{Claim}
 use Rattle.tp_ready.specs.declared.call.Step.{Step}
 use Rattle.tp_ready.specs.declared.call.Step.TheVariants.{Took, Put}
 use Rattle.tp_ready.specs.declared.view.View.{View}
-use Rattle.tp_ready.specs.Past.{Did, IsLegal, IsDue, calls_by, first_claims}
-use Rattle.tp_ready.specs.View.{maker, holder, nobody, past_of, claimed, Fits, Alone, AreMine, Saw, Dealt, Logged, one_at, AreDistinct, AreFew}
+use Rattle.tp_ready.specs.Past.{HasCalled, IsLegal, IsDue, calls_by, first_claims}
+use Rattle.tp_ready.specs.View.{maker, holder, nobody, past_of, claimed, HoldsAtMost, AloneKnows, AreMine, HasSeenCalls, Dealt, Logged, one_at, AreDistinct, AreFew}
 use Rattle.tp_ready.proofs.Calling.{Shares, called, by_own, by_other, claim_below, mine_split, nobody_saw, logged_call, logged_fork, logged_merge, logged_making, none_called, saw_append}
 use Rattle.tp_ready.proofs.Weights.{sum_by-set, sum_by-le, sum_by-ones, sum_below-ones, one_at-same, sum_below-one_at-outside, sum_below-one_at}
 
@@ -21,19 +21,19 @@ abbrev weight : (ℕ → ℕ) → View → ℕ
 weight h v = sum_by h v.held
 
 abbrev AllFit : ℕ → ℕ → List View → Type 0
-AllFit count hands views = (pass : ℕ) (v : View) → get_elem? views pass ≡ some v → Fits count hands v
+AllFit count hands views = (pass : ℕ) (v : View) → get_elem? views pass ≡ some v → HoldsAtMost count hands v
 
-AllFit-set : (count hands : ℕ) (views : List View) (pass : ℕ) (w : View) → Fits count hands w → ((j : ℕ) (u : View) → j ≢ pass → get_elem? views j ≡ some u → Fits count hands u)
+AllFit-set : (count hands : ℕ) (views : List View) (pass : ℕ) (w : View) → HoldsAtMost count hands w → ((j : ℕ) (u : View) → j ≢ pass → get_elem? views j ≡ some u → HoldsAtMost count hands u)
     → AllFit count hands (set views pass w)
 AllFit-set count hands views pass w mine others j u e =
-    ⊎_elim (λ (t : (j ≡ pass) × (w ≡ u)). subst (λ (y : View). Fits count hands y) t.1 mine) (λ (t : (j ≢ pass) × (get_elem? views j ≡ some u)). others j u t.0 t.1) (at_set views pass j w u e)
+    ⊎_elim (λ (t : (j ≡ pass) × (w ≡ u)). subst (λ (y : View). HoldsAtMost count hands y) t.1 mine) (λ (t : (j ≢ pass) × (get_elem? views j ≡ some u)). others j u t.0 t.1) (at_set views pass j w u e)
 
-AllFit-append : (count hands : ℕ) (views : List View) (w : View) → AllFit count hands views → Fits count hands w → AllFit count hands (views ++ w ∷ [])
-AllFit-append count hands views w all new j u e = ⊎_elim (λ (t : get_elem? views j ≡ some u). all j u t) (λ (t : w ≡ u). subst (λ (y : View). Fits count hands y) t new) (at_snoc views w u j e)
+AllFit-append : (count hands : ℕ) (views : List View) (w : View) → AllFit count hands views → HoldsAtMost count hands w → AllFit count hands (views ++ w ∷ [])
+AllFit-append count hands views w all new j u e = ⊎_elim (λ (t : get_elem? views j ≡ some u). all j u t) (λ (t : w ≡ u). subst (λ (y : View). HoldsAtMost count hands y) t new) (at_snoc views w u j e)
 
 -- who makes numbers or hands is alone
 abbrev Makers : List View → Type 0
-Makers views = (pass : ℕ) (v : View) → get_elem? views pass ≡ some v → v.makes ≡ true → Alone views pass
+Makers views = (pass : ℕ) (v : View) → get_elem? views pass ≡ some v → v.makes ≡ true → AloneKnows views pass
 
 -- none makes any
 abbrev NoMaker : List View → Type 0
@@ -61,10 +61,10 @@ NoMaker-append views w all new j u e = ⊎_elim (λ (t : get_elem? views j ≡ s
 
 -- a holder fits, where it holds no more than it is hands
 holder_fits : (count hands : ℕ) (claims : List Claim) (held : List ℕ) (seen : List Call) (known counted : ℕ) → known ≡ count → counted ≡ hands → length held ≤ length claims
-    → Fits count hands (holder known counted claims held seen)
+    → HoldsAtMost count hands (holder known counted claims held seen)
 holder_fits count hands claims held seen known counted is are few = ((λ _. (is, are)), few)
 
-nobody_fits : (count hands : ℕ) → Fits count hands nobody
+nobody_fits : (count hands : ℕ) → HoldsAtMost count hands nobody
 nobody_fits count hands = ((λ (t : false ≡ true). absurd (true≢false (sym t))), omega arith)
 
 -- the one hand
@@ -89,7 +89,7 @@ claimed_stays h v w claim next was is same =
 -- what a hand did that made one more call
 did : (count hands : ℕ) (items : List ℕ) (views : List View) (pass : ℕ) (v w : View) (claim : Claim) (step : Step) (logged : Logged count hands items views) → Shares hands views
     → get_elem? views pass ≡ some v → (v.count ≡ count) × (v.hands ≡ hands) → v.claims ≡ claim ∷ [] → IsDue step items → w.claims ≡ next_claim claim step ∷ [] → w.seen ≡ called claim.who step ∷ logged.log
-    → Did v.count v.hands step (past_of v) (past_of w)
+    → HasCalled v.count v.hands step (past_of v) (past_of w)
 did count hands items views pass v w claim step logged shares at counts one due is seen =
     let saw = logged.saw pass v at in
     let call = called claim.who step in
@@ -121,7 +121,7 @@ with_nobody count hands items views logged =
 
 -- the rule after the view of a pass that knows the counts has changed, where what it gains the queue loses
 changed : (items items' : List ℕ) (views : List View) (pass : ℕ) (v w : View) (dealt : Dealt items views) → get_elem? views pass ≡ some v → v.knows ≡ true
-    → ((h : ℕ → ℕ) → sum_by h items' + weight h w ≡ sum_by h items + weight h v) → ((h : ℕ → ℕ) → claimed h w ≡ claimed h v) → w.makes ≡ false → Fits dealt.0 dealt.1 w
+    → ((h : ℕ → ℕ) → sum_by h items' + weight h w ≡ sum_by h items + weight h v) → ((h : ℕ → ℕ) → claimed h w ≡ claimed h v) → w.makes ≡ false → HoldsAtMost dealt.0 dealt.1 w
     → Logged dealt.0 dealt.1 items' (set views pass w) → Dealt items' (set views pass w)
 changed items items' views pass v w dealt at knows same hands makes fits logged = (
   dealt.0,
@@ -147,7 +147,7 @@ in_queue x items views dealt =
     lt_of_not-le (λ (le : dealt.0 ≤ x). absurd (omega (arith, dealt.2 (one_at x), sum_by-cons (one_at x) x items, one_at-same x, sum_below-one_at-outside x dealt.0 le)))
 
 pub takes : (pass : ℕ) (v : View) → v.knows ≡ true → v.held ≡ [] → length v.claims ≡ 1
-    → Pops Dealt pass v (λ x w. (w ≡ holder v.count v.hands w.claims (v.held ++ x ∷ []) w.seen) × (length w.claims ≡ 1) × (x < v.count) × Did v.count v.hands (Took x) (past_of v) (past_of w))
+    → Pops Dealt pass v (λ x w. (w ≡ holder v.count v.hands w.claims (v.held ++ x ∷ []) w.seen) × (length w.claims ≡ 1) × (x < v.count) × HasCalled v.count v.hands (Took x) (past_of v) (past_of w))
 takes pass v knows none one x items views dealt at =
     let mine = the_one v.claims one in
     let claims = next_claim mine.0 (Took x) ∷ [] in
@@ -169,7 +169,7 @@ takes pass v knows none one x items views dealt at =
     )
 
 pub puts_back : (n pass : ℕ) (v : View) (x : ℕ) → v.knows ≡ true → v.held ≡ x ∷ [] → length v.claims ≡ 1
-    → Pushes Dealt n pass v x (λ w. (w ≡ holder v.count v.hands w.claims [] w.seen) × (length w.claims ≡ 1) × Did v.count v.hands (Put x) (past_of v) (past_of w))
+    → Pushes Dealt n pass v x (λ w. (w ≡ holder v.count v.hands w.claims [] w.seen) × (length w.claims ≡ 1) × HasCalled v.count v.hands (Put x) (past_of v) (past_of w))
 puts_back n pass v x knows held one items views room dealt at =
     let mine = the_one v.claims one in
     let claims = next_claim mine.0 (Put x) ∷ [] in
@@ -371,13 +371,13 @@ nothing_dealt = (
   0,
   (λ h. refl),
   (λ h. refl),
-  (λ pass v at. subst (λ (y : View). Fits 0 0 y) (only_one (maker 0 0) pass v at).1 ((λ _. (refl, refl)), omega arith)),
+  (λ pass v at. subst (λ (y : View). HoldsAtMost 0 0 y) (only_one (maker 0 0) pass v at).1 ((λ _. (refl, refl)), omega arith)),
   (λ pass v at makes other y e apart. absurd (apart ((only_one (maker 0 0) other y e).0 ∙ sym (only_one (maker 0 0) pass v at).0))),
   record {
     log = [];
     waits = refl;
     legal = tt;
-    saw = λ pass v at. subst (λ (y : View). Saw [] y) (only_one (maker 0 0) pass v at).1 (record { newer = []; seen = refl; mine = tt; makes = λ _. refl });
+    saw = λ pass v at. subst (λ (y : View). HasSeenCalls [] y) (only_one (maker 0 0) pass v at).1 (record { newer = []; seen = refl; mine = tt; makes = λ _. refl });
     known = λ by _. refl;
   },
 )

@@ -5,27 +5,27 @@ use lib.ListN.{get_elem?}
 use Rattle.atomic_table.specs.Table.{State, Me, Allows, Splits, Joins, keeps}
 use Rattle.atomic_table.proofs.Lists.{at_set, at_snoc}
 use Rattle.tp_ready.specs.declared.mark_view.View.{View}
-use Rattle.tp_ready.specs.MarkView.{raiser, reader, informed, Fits, Marks, Loaded, Audited, Raised}
+use Rattle.tp_ready.specs.MarkView.{raiser, reader, informed, SeatFits, Marks, Loaded, Audited, Raised}
 
 abbrev AllFit : ℕ → List View → Type 0
-AllFit word views = (seat : ℕ) (v : View) → get_elem? views seat ≡ some v → Fits word seat v
+AllFit word views = (seat : ℕ) (v : View) → get_elem? views seat ≡ some v → SeatFits word seat v
 
 abbrev pub Holds : State (Unit {0}) View → Type 0
 Holds s = Marks s.words s.views
 
-AllFit-set : (word : ℕ) (views : List View) (id : ℕ) (w : View) → Fits word id w → ((j : ℕ) (u : View) → j ≢ id → get_elem? views j ≡ some u → Fits word j u) → AllFit word (set views id w)
+AllFit-set : (word : ℕ) (views : List View) (id : ℕ) (w : View) → SeatFits word id w → ((j : ℕ) (u : View) → j ≢ id → get_elem? views j ≡ some u → SeatFits word j u) → AllFit word (set views id w)
 AllFit-set word views id w mine others j u e =
-    ⊎_elim (λ (t : (j ≡ id) × (w ≡ u)). subst (λ (y : ℕ × View). Fits word y.0 y.1) (λ i. (sym t.0 i, t.1 i)) mine) (λ (t : (j ≢ id) × (get_elem? views j ≡ some u)). others j u t.0 t.1)
+    ⊎_elim (λ (t : (j ≡ id) × (w ≡ u)). subst (λ (y : ℕ × View). SeatFits word y.0 y.1) (λ i. (sym t.0 i, t.1 i)) mine) (λ (t : (j ≢ id) × (get_elem? views j ≡ some u)). others j u t.0 t.1)
     (at_set views id j w u e)
 
-AllFit-append : (word : ℕ) (views : List View) (w : View) → AllFit word views → ((j : ℕ) → Fits word j w) → AllFit word (views ++ w ∷ [])
-AllFit-append word views w all new j u e = ⊎_elim (λ (t : get_elem? views j ≡ some u). all j u t) (λ (t : w ≡ u). subst (λ (y : View). Fits word j y) t (new j)) (at_snoc views w u j e)
+AllFit-append : (word : ℕ) (views : List View) (w : View) → AllFit word views → ((j : ℕ) → SeatFits word j w) → AllFit word (views ++ w ∷ [])
+AllFit-append word views w all new j u e = ⊎_elim (λ (t : get_elem? views j ≡ some u). all j u t) (λ (t : w ≡ u). subst (λ (y : View). SeatFits word j y) t (new j)) (at_snoc views w u j e)
 
-reader_fits : (word at : ℕ) → at ≤ word → (j : ℕ) → Fits word j (reader at 0)
+reader_fits : (word at : ℕ) → at ≤ word → (j : ℕ) → SeatFits word j (reader at 0)
 reader_fits word at below j = (below, zero-le, λ (t : false ≡ true). absurd (true≢false (sym t)))
 
-raiser_fits : (first seat : ℕ) (v : View) → get_elem? (raiser first 0 ∷ []) seat ≡ some v → Fits first seat v
-raiser_fits first zero v e = subst (λ (y : View). Fits first 0 y) (some-injective (raiser first 0) v e) (le_refl first, zero-le, λ _. (refl, refl))
+raiser_fits : (first seat : ℕ) (v : View) → get_elem? (raiser first 0 ∷ []) seat ≡ some v → SeatFits first seat v
+raiser_fits first zero v e = subst (λ (y : View). SeatFits first 0 y) (some-injective (raiser first 0) v e) (le_refl first, zero-le, λ _. (refl, refl))
 raiser_fits first (suc seat) v e = absurd (some-ne-none v (sym e))
 
 pub begins : (first : ℕ) → Marks (first ∷ []) (raiser first 0 ∷ [])

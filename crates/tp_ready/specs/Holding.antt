@@ -7,8 +7,8 @@ use Rattle.tp_ready.specs.Past.{Past, nothing}
 use Rattle.tp_ready.specs.View.{past_of}
 
 -- the queue of a pass, with its counts
-abbrev pub numbers_of : Pass ℕ View → Numbers
-numbers_of p = record { queue = p.table_id; count = (view p).count; hands = (view p).hands }
+abbrev pub numbers_held : Pass ℕ View → Numbers
+numbers_held p = record { queue = p.table_id; count = (view p).count; hands = (view p).hands }
 
 -- what the hands of a pass have seen and called
 abbrev pub past_at : Pass ℕ View → Past
@@ -20,5 +20,5 @@ past_in (Some p) = past_at p
 past_in None = nothing
 
 -- the pass holds the numbers, it is one hand, and no slot is out with it
-abbrev pub Holds : List ℕ → Pass ℕ View → Type 0
-Holds held p = ((view p).knows ≡ true) × ((view p).held ≡ held) × (p.me.1 ≡ []) × (length (view p).claims ≡ 1)
+abbrev pub HoldsNumbers : List ℕ → Pass ℕ View → Type 0
+HoldsNumbers held p = ((view p).knows ≡ true) × ((view p).held ≡ held) × (p.me.1 ≡ []) × (length (view p).claims ≡ 1)

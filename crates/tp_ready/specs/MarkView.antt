@@ -15,12 +15,12 @@ abbrev pub informed : View → ℕ → View
 informed v n = record { raises = v.raises; at = v.at; least = max v.least n }
 
 -- What a seat saw and was told, the word has reached. Only the first seat raises, and what it saw is the word.
-abbrev pub Fits : ℕ → ℕ → View → Type 0
-Fits word seat v = (v.at ≤ word) × (v.least ≤ word) × (v.raises ≡ true → (seat ≡ 0) × (v.at ≡ word))
+abbrev pub SeatFits : ℕ → ℕ → View → Type 0
+SeatFits word seat v = (v.at ≤ word) × (v.least ≤ word) × (v.raises ≡ true → (seat ≡ 0) × (v.at ≡ word))
 
 -- There is one word, and each seat's view fits it.
 abbrev pub Marks : List ℕ → List View → Type 0
-Marks words views = (word : ℕ) × (words ≡ word ∷ []) × ((seat : ℕ) (v : View) → get_elem? views seat ≡ some v → Fits word seat v)
+Marks words views = (word : ℕ) × (words ≡ word ∷ []) × ((seat : ℕ) (v : View) → get_elem? views seat ≡ some v → SeatFits word seat v)
 
 -- What was found is at least what was seen and told before, and is what is seen afterwards.
 abbrev pub Loaded : View → ℕ → View → Type 0

@@ -11,19 +11,19 @@ first_numbers zero = []
 first_numbers (suc n) = first_numbers n ++ n ∷ []
 
 -- all but the first
-abbrev pub behind : List ℕ → List ℕ
-behind [] = []
-behind (first ∷ rest) = rest
+abbrev pub but_first : List ℕ → List ℕ
+but_first [] = []
+but_first (first ∷ rest) = rest
 
 -- what waits after a step, the longest waiting first
 abbrev pub after_step : Step → List ℕ → List ℕ
-after_step (Took number) items = behind items
+after_step (Took number) items = but_first items
 after_step (Put number) items = items ++ number ∷ []
 
 -- what waits after these calls, where the numbers below the count waited first, in order
-abbrev pub waiting : ℕ → List Call → List ℕ
-waiting count [] = first_numbers count
-waiting count (call ∷ older) = after_step call.step (waiting count older)
+abbrev pub waiting_numbers : ℕ → List Call → List ℕ
+waiting_numbers count [] = first_numbers count
+waiting_numbers count (call ∷ older) = after_step call.step (waiting_numbers count older)
 
 -- what is taken waits longest
 abbrev pub IsDue : Step → List ℕ → Type 0
@@ -34,7 +34,7 @@ IsDue (Put number) items = Unit {0}
 -- each number that was taken waited longest then
 abbrev pub IsLegal : ℕ → List Call → Type 0
 IsLegal count [] = Unit {0}
-IsLegal count (call ∷ older) = IsDue call.step (waiting count older) × IsLegal count older
+IsLegal count (call ∷ older) = IsDue call.step (waiting_numbers count older) × IsLegal count older
 
 -- with one more, where it is wanted
 abbrev pub add_if : Bool → Call → List Call → List Call
@@ -68,7 +68,7 @@ pub record IsNew (past : Past) : Type 0 where
 
 -- A hand made one more call: this step, behind all that was called before, by whomever. Among that are all calls of its own and what it had
 -- seen; the queue's hands alone made them, and each number that one of them took waited longest then.
-pub record Did (count hands : ℕ) (step : Step) (old new : Past) : Type 0 where
+pub record HasCalled (count hands : ℕ) (step : Step) (old new : Past) : Type 0 where
   pub who : ℕ
   pub calls : List Call
   pub newer : List Call

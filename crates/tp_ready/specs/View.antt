@@ -2,7 +2,7 @@
 use Rattle.std.specs.Prelude.{◌≡◌, ◌≢◌, ℕ, zero, suc, ◌+◌, ◌≤◌, ◌==◌, if◌then◌else◌, true, false, List, [], ◌∷◌, ◌++◌, length, sum_by}
 use mathlib.Core.Option.{some}
 use lib.ListN.{get_elem?}
-use Rattle.tp_ready.specs.Past.{Past, waiting, IsLegal, calls_by, first_claims}
+use Rattle.tp_ready.specs.Past.{Past, waiting_numbers, IsLegal, calls_by, first_claims}
 use Rattle.tp_ready.specs.declared.call.Call.{Call}
 use Rattle.tp_ready.specs.declared.call.Claim.{Claim}
 use Rattle.tp_ready.specs.declared.view.View.{View}
@@ -32,12 +32,12 @@ abbrev pub claimed : (ℕ → ℕ) → View → ℕ
 claimed h v = sum_by (λ (claim : Claim). h claim.who) v.claims
 
 -- A pass that knows the counts has them, and it holds no more numbers than it is hands.
-abbrev pub Fits : ℕ → ℕ → View → Type 0
-Fits count hands v = (v.knows ≡ true → (v.count ≡ count) × (v.hands ≡ hands)) × (length v.held ≤ length v.claims)
+abbrev pub HoldsAtMost : ℕ → ℕ → View → Type 0
+HoldsAtMost count hands v = (v.knows ≡ true → (v.count ≡ count) × (v.hands ≡ hands)) × (length v.held ≤ length v.claims)
 
 -- no other pass knows the counts
-abbrev pub Alone : List View → ℕ → Type 0
-Alone views pass = (other : ℕ) (v : View) → get_elem? views other ≡ some v → other ≢ pass → v.knows ≡ false
+abbrev pub AloneKnows : List View → ℕ → Type 0
+AloneKnows views pass = (other : ℕ) (v : View) → get_elem? views other ≡ some v → other ≢ pass → v.knows ≡ false
 
 -- each hand made the calls that it is said to have made
 abbrev pub AreMine : List Call → List Claim → Type 0
@@ -45,7 +45,7 @@ AreMine log [] = Unit {0}
 AreMine log (claim ∷ claims) = (calls_by claim.who log ≡ claim.calls) × AreMine log claims
 
 -- A pass has seen all calls but the newer ones, and knows all that its hands called. While it makes numbers or hands there is none.
-pub record Saw (log : List Call) (v : View) : Type 0 where
+pub record HasSeenCalls (log : List Call) (v : View) : Type 0 where
   pub newer : List Call
   pub seen : log ≡ newer ++ v.seen
   pub mine : AreMine log v.claims
@@ -55,9 +55,9 @@ pub record Saw (log : List Call) (v : View) : Type 0 where
 -- made them.
 pub record Logged (count hands : ℕ) (items : List ℕ) (views : List View) : Type 0 where
   pub log : List Call
-  pub waits : waiting count log ≡ items
+  pub waits : waiting_numbers count log ≡ items
   pub legal : IsLegal count log
-  pub saw : (pass : ℕ) (v : View) → get_elem? views pass ≡ some v → Saw log v
+  pub saw : (pass : ℕ) (v : View) → get_elem? views pass ≡ some v → HasSeenCalls log v
   pub known : (by : ℕ) → hands ≤ by → calls_by by log ≡ []
 
 -- What is in the queue and what is held are together the numbers below the count, each once, however they are weighed. All passes together
@@ -69,8 +69,8 @@ Dealt items views =
     × (hands : ℕ)
     × ((h : ℕ → ℕ) → sum_by h items + sum_by (λ (v : View). sum_by h v.held) views ≡ sum_below h count)
     × ((h : ℕ → ℕ) → sum_by (claimed h) views ≡ sum_below h hands)
-    × ((pass : ℕ) (v : View) → get_elem? views pass ≡ some v → Fits count hands v)
-    × ((pass : ℕ) (v : View) → get_elem? views pass ≡ some v → v.makes ≡ true → Alone views pass)
+    × ((pass : ℕ) (v : View) → get_elem? views pass ≡ some v → HoldsAtMost count hands v)
+    × ((pass : ℕ) (v : View) → get_elem? views pass ≡ some v → v.makes ≡ true → AloneKnows views pass)
     × Logged count hands items views
 
 -- how a number weighs that counts x alone

@@ -13,11 +13,11 @@ pub struct Hand {
 impl Model for Hand {
     ghost use Rattle.std.specs.Prelude.{[], IfSome, option_map};
     ghost use Rattle.tp_ready.specs.Numbers.{HandValue};
-    ghost use Rattle.tp_ready.specs.Holding.{numbers_of, past_in, Holds};
+    ghost use Rattle.tp_ready.specs.Holding.{numbers_held, past_in, HoldsNumbers};
 
     ghost Value = { HandValue };
 
-    ghost view = { λ h. record { of = option_map numbers_of h.port; past = past_in h.port } };
+    ghost view = { λ h. record { of = option_map numbers_held h.port; past = past_in h.port } };
 
-    ghost invariant = { λ h. IfSome h.port (Holds []) };
+    ghost invariant = { λ h. IfSome h.port (HoldsNumbers []) };
 }

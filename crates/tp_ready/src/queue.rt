@@ -2,7 +2,7 @@
 ghost use Rattle.std.specs.Prelude.{◌≡◌, ◌≢◌, ◌<◌, ◌+◌, [], vec_len, All, IfOk, IfSome, MatchOption, Some, None, ◌∷◌, ◌++◌, option_map, ⊤};
 ghost use Rattle.crossbeam_queue.specs.Passes.{view, IsSamePass, IsPassOf, ruled_capacity};
 ghost use Rattle.tp_ready.specs.Answered.{answer};
-ghost use Rattle.tp_ready.specs.Past.{Did, IsNew};
+ghost use Rattle.tp_ready.specs.Past.{HasCalled, IsNew};
 ghost use Rattle.tp_ready.specs.View.{maker};
 ghost use Rattle.tp_ready.specs.declared.call.Step.TheVariants.{Took, Put};
 
@@ -64,7 +64,7 @@ impl ReadyQueue {
         requires { hand.old.of ≡ Some self.now }
         ensures hand { MatchOption result ((hand.new.of ≡ Some self.now) × (hand.new.past ≡ hand.old.past)) (λ turn. hand.new.of ≡ None) }
         ensures turn { IfSome result (λ turn. (turn.of ≡ self.now) × (turn.number < self.now.count)) }
-        ensures next { IfSome result (λ turn. Did self.now.count self.now.hands (Took turn.number) hand.old.past turn.past) }
+        ensures next { IfSome result (λ turn. HasCalled self.now.count self.now.hands (Took turn.number) hand.old.past turn.past) }
         ensures few { MatchOption result (self.now.count < self.now.hands) (λ turn. ⊤) }
         ensures answer { answers.new ≡ answers.old ++ answer self.now (option_map (λ turn. turn.number) result) ∷ [] }
     {
@@ -89,7 +89,7 @@ impl ReadyQueue {
         requires hand { hand.old.of ≡ None }
         requires turn { turn.of ≡ self.now }
         ensures hand { hand.new.of ≡ Some self.now }
-        ensures last { Did self.now.count self.now.hands (Put turn.number) turn.past hand.new.past }
+        ensures last { HasCalled self.now.count self.now.hands (Put turn.number) turn.past hand.new.past }
     {
         let Turn { number, mut port } = turn;
         let put = self.line.push_as::<PutsBack, R>(rt, &mut port, number);

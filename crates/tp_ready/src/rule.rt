@@ -1,6 +1,6 @@
 //! The rule of the queue, and what each step tells. Its types are for the proofs alone.
 ghost use Rattle.std.specs.Prelude.{◌≡◌, ◌<◌, ◌+◌, [], ◌++◌, ◌∷◌, length, take, drop};
-ghost use Rattle.tp_ready.specs.Past.{Did};
+ghost use Rattle.tp_ready.specs.Past.{HasCalled};
 ghost use Rattle.tp_ready.specs.View.{maker, holder, nobody, past_of, Dealt, AreDistinct, AreFew};
 ghost use Rattle.tp_ready.specs.declared.call.Step.TheVariants.{Took, Put};
 
@@ -36,7 +36,7 @@ impl Lesson<u8, View> for Makes {
 pub struct Takes;
 
 impl Outcome<u8, View> for Takes {
-    ghost then = { λ v x w. (w ≡ holder v.count v.hands w.claims (v.held ++ x ∷ []) w.seen) × (length w.claims ≡ 1) × (x < v.count) × Did v.count v.hands (Took x) (past_of v) (past_of w) };
+    ghost then = { λ v x w. (w ≡ holder v.count v.hands w.claims (v.held ++ x ∷ []) w.seen) × (length w.claims ≡ 1) × (x < v.count) × HasCalled v.count v.hands (Took x) (past_of v) (past_of w) };
 }
 
 impl Lesson<u8, View> for Takes {
@@ -47,7 +47,7 @@ impl Lesson<u8, View> for Takes {
 pub struct PutsBack;
 
 impl Outcome<u8, View> for PutsBack {
-    ghost then = { λ v x w. (w ≡ holder v.count v.hands w.claims [] w.seen) × (length w.claims ≡ 1) × Did v.count v.hands (Put x) (past_of v) (past_of w) };
+    ghost then = { λ v x w. (w ≡ holder v.count v.hands w.claims [] w.seen) × (length w.claims ≡ 1) × HasCalled v.count v.hands (Put x) (past_of v) (past_of w) };
 }
 
 impl Lesson<u8, View> for PutsBack {

@@ -13,13 +13,13 @@ pub struct Turn {
 impl Model for Turn {
     ghost use Rattle.std.specs.Prelude.{◌∷◌, []};
     ghost use Rattle.tp_ready.specs.Numbers.{TurnValue};
-    ghost use Rattle.tp_ready.specs.Holding.{numbers_of, past_at, Holds};
+    ghost use Rattle.tp_ready.specs.Holding.{numbers_held, past_at, HoldsNumbers};
 
     ghost Value = { TurnValue };
 
-    ghost view = { λ t. record { of = numbers_of t.port; number = t.number; past = past_at t.port } };
+    ghost view = { λ t. record { of = numbers_held t.port; number = t.number; past = past_at t.port } };
 
-    ghost invariant = { λ t. Holds (t.number ∷ []) t.port };
+    ghost invariant = { λ t. HoldsNumbers (t.number ∷ []) t.port };
 }
 
 impl Turn {

@@ -16,14 +16,14 @@ use Rattle.tp_model.specs.Network.{Network, Port}
 use Rattle.tp_model.specs.NodeState.{NodeState}
 use Rattle.tp_model.specs.Opening.{base_of, cut_in, lines_place, nodes_place, ports_place}
 use Rattle.tp_model.specs.Results.{◌>>=◌}
-use Rattle.tp_model.specs.Sound.{Ends}
+use Rattle.tp_model.specs.Sound.{EndsSeen}
 use Rattle.tp_model.specs.Topology.{Topology, line_count}
 use Rattle.tp_law_device.proofs.Fronts.{front_shorter, whole_front}
 use Rattle.tp_law_device.proofs.Cuts.{nodes_same}
 use Rattle.tp_area.specs.declared.layout_place.Places.{Places}
 use Rattle.tp_recover.specs.declared.unopened.Unopened.{Unopened}
 use Rattle.tp_recover.specs.Cuts.{records_at, three, wired}
-use Rattle.tp_recover.specs.Reading.{Answers}
+use Rattle.tp_recover.specs.Reading.{ReadAnswer}
 use Rattle.tp_recover.proofs.Passing.{passed}
 use Rattle.tp_area.proofs.Ports.{port_with-take}
 use Rattle.tp_recover.proofs.Records.{lines_in-take, with_first}
@@ -31,18 +31,18 @@ use Rattle.tp_recover.proofs.Records.{lines_in-take, with_first}
 -- ## Where a reading breaks off
 
 pub first_error : {A B C D Y : Type 0} (seen_then : Y → D) (a : Result A OpenFault) (b : Result B OpenFault) (c : Result C OpenFault) (f : A → B → C → D) (error : Unopened) (answer : Result Y Unopened)
-    → Answers (λ (x : A). x) a (Err error) → answer ≡ Err error → Answers seen_then (three a b c f) answer
+    → ReadAnswer (λ (x : A). x) a (Err error) → answer ≡ Err error → ReadAnswer seen_then (three a b c f) answer
 first_error {A} seen_then a b c f error answer read told = passed (λ (x : A). x) seen_then a (λ x. b >>= (λ y. c >>= (λ z. Ok (f x y z)))) error answer read told
 
 pub second_error : {A B C D Y : Type 0} (seen_then : Y → D) (a : Result A OpenFault) (x : A) (b then : Result B OpenFault) (c : Result C OpenFault) (f : A → B → C → D) (error : Unopened) (answer : Result Y Unopened)
-    → a ≡ Ok x → then ≡ b → Answers (λ (x : B). x) then (Err error) → answer ≡ Err error → Answers seen_then (three a b c f) answer
+    → a ≡ Ok x → then ≡ b → ReadAnswer (λ (x : B). x) then (Err error) → answer ≡ Err error → ReadAnswer seen_then (three a b c f) answer
 second_error {A} {B} seen_then a x b then c f error answer is same read told =
-    rw is (passed (λ (x : B). x) seen_then b (λ y. c >>= (λ z. Ok (f x y z))) error answer (subst (λ r. Answers (λ (x : B). x) r (Err error)) same read) told)
+    rw is (passed (λ (x : B). x) seen_then b (λ y. c >>= (λ z. Ok (f x y z))) error answer (subst (λ r. ReadAnswer (λ (x : B). x) r (Err error)) same read) told)
 
 pub third_error : {A B C D Y : Type 0} (seen_then : Y → D) (a : Result A OpenFault) (x : A) (b : Result B OpenFault) (y : B) (c then : Result C OpenFault) (f : A → B → C → D) (error : Unopened) (answer : Result Y Unopened)
-    → a ≡ Ok x → b ≡ Ok y → then ≡ c → Answers (λ (x : C). x) then (Err error) → answer ≡ Err error → Answers seen_then (three a b c f) answer
+    → a ≡ Ok x → b ≡ Ok y → then ≡ c → ReadAnswer (λ (x : C). x) then (Err error) → answer ≡ Err error → ReadAnswer seen_then (three a b c f) answer
 third_error {A} {B} {C} seen_then a x b y c then f error answer is then_is same read told =
-    rw (is, then_is) (passed (λ (x : C). x) seen_then c (λ z. Ok (f x y z)) error answer (subst (λ r. Answers (λ (x : C). x) r (Err error)) same read) told)
+    rw (is, then_is) (passed (λ (x : C). x) seen_then c (λ z. Ok (f x y z)) error answer (subst (λ r. ReadAnswer (λ (x : C). x) r (Err error)) same read) told)
 
 pub all_read : {A B C D : Type 0} (a : Result A OpenFault) (x : A) (b : Result B OpenFault) (y : B) (c : Result C OpenFault) (z : C) (f : A → B → C → D)
     → a ≡ Ok x → b ≡ Ok y → c ≡ Ok z → three a b c f ≡ Ok (f x y z)
@@ -87,14 +87,14 @@ three_then (Ok x) (Err fault) c f g = refl
 three_then (Err fault) b c f g = refl
 
 -- the test of a network, once its records were read
-abbrev pub tested : Ends NodeState → ℕ → ℕ → Network NodeState → Result (Network NodeState) OpenFault
+abbrev pub tested : EndsSeen NodeState → ℕ → ℕ → Network NodeState → Result (Network NodeState) OpenFault
 tested E at count s = flights_in E s at 0 count >>= (λ sound. Ok s)
 
-abbrev whole_cut : Ends NodeState → ℕ → ℕ → List (Option WireEnd) → Result (List NodeState) OpenFault → Result (List (List Token)) OpenFault → Result (List Port) OpenFault → Result (Network NodeState) OpenFault
+abbrev whole_cut : EndsSeen NodeState → ℕ → ℕ → List (Option WireEnd) → Result (List NodeState) OpenFault → Result (List (List Token)) OpenFault → Result (List Port) OpenFault → Result (Network NodeState) OpenFault
 whole_cut E at count wires nodes lines ports = nodes >>= (λ x. lines >>= (λ y. ports >>= (λ z. tested E at count (wired wires x y z))))
 
 -- the records of a content, by their places on the device
-pub cut_in-records : (E : Ends NodeState) (t : Topology) (areas : TwoAreas) (second : Bool) (base ports : ℕ) (pages : List ℕ) (wires : List (Option WireEnd)) (places : Places) (xs : List ℕ)
+pub cut_in-records : (E : EndsSeen NodeState) (t : Topology) (areas : TwoAreas) (second : Bool) (base ports : ℕ) (pages : List ℕ) (wires : List (Option WireEnd)) (places : Places) (xs : List ℕ)
     → cut_length t + 46 ≤ areas.length → length t.wires ≡ line_count t → pages ≡ t.pages → wires ≡ t.wires → ports ≡ t.ports
     → base ≡ base_of (content_of areas second xs)
     → places.nodes ≡ area_start areas second + 1 + nodes_place → places.lines ≡ area_start areas second + 1 + lines_place t → places.ports ≡ area_start areas second + 1 + ports_place t
@@ -129,15 +129,15 @@ cut_in-records E t areas second base ports pages wires places xs room lines p w 
 
 -- ## The test of what was read
 
-pub cut_ok : (E : Ends NodeState) (at count : ℕ) (s : Network NodeState) (given records : Result (Network NodeState) OpenFault)
+pub cut_ok : (E : EndsSeen NodeState) (at count : ℕ) (s : Network NodeState) (given records : Result (Network NodeState) OpenFault)
     → given ≡ (records >>= tested E at count) → records ≡ Ok s → (sound : Unit {0}) → flights_in E s at 0 count ≡ Ok sound → given ≡ Ok s
 cut_ok E at count s given records is read sound told = is ∙ ap (λ r. r >>= tested E at count) read ∙ ap (λ r. r >>= (λ u. Ok s)) told
 
-pub cut_fault : (E : Ends NodeState) (at count : ℕ) (s : Network NodeState) (given records : Result (Network NodeState) OpenFault) (fault : OpenFault)
+pub cut_fault : (E : EndsSeen NodeState) (at count : ℕ) (s : Network NodeState) (given records : Result (Network NodeState) OpenFault) (fault : OpenFault)
     → given ≡ (records >>= tested E at count) → records ≡ Ok s → flights_in E s at 0 count ≡ Err fault → given ≡ Err fault
 cut_fault E at count s given records fault is read found = is ∙ ap (λ r. r >>= tested E at count) read ∙ ap (λ r. r >>= (λ u. Ok s)) found
 
-pub cut_error : {Y : Type 0} (seen_then : Y → Network NodeState) (E : Ends NodeState) (at count : ℕ) (given records : Result (Network NodeState) OpenFault) (error : Unopened) (answer : Result Y Unopened)
-    → given ≡ (records >>= tested E at count) → Answers (λ (s : Network NodeState). s) records (Err error) → answer ≡ Err error → Answers seen_then given answer
+pub cut_error : {Y : Type 0} (seen_then : Y → Network NodeState) (E : EndsSeen NodeState) (at count : ℕ) (given records : Result (Network NodeState) OpenFault) (error : Unopened) (answer : Result Y Unopened)
+    → given ≡ (records >>= tested E at count) → ReadAnswer (λ (s : Network NodeState). s) records (Err error) → answer ≡ Err error → ReadAnswer seen_then given answer
 cut_error seen_then E at count given records error answer is read told =
-    subst (λ g. Answers seen_then g answer) (sym is) (passed (λ (s : Network NodeState). s) seen_then records (tested E at count) error answer read told)
+    subst (λ g. ReadAnswer seen_then g answer) (sym is) (passed (λ (s : Network NodeState). s) seen_then records (tested E at count) error answer read told)

@@ -9,7 +9,7 @@ use Rattle.tp_model.specs.NodeState.{NodeState}
 use Rattle.tp_model.specs.Node.{t414_ends}
 use Rattle.tp_model.specs.Image.{page_count, node_of}
 use Rattle.tp_model.specs.Network.{Port, Network}
-use Rattle.tp_model.specs.Sound.{Ends}
+use Rattle.tp_model.specs.Sound.{EndsSeen}
 use Rattle.tp_model.specs.Topology.{Topology, node_count, is_topology}
 use Rattle.tp_model.specs.Journal.{image_length}
 use Rattle.tp_model.specs.CutImage.{is_port_of, node_with, or_damaged, nodes_in}
@@ -65,15 +65,15 @@ port_keeps base port h =
       held = record { pending = leb-true (length port.pending) MAX_HELD few.0; outputs = leb-true (length port.outputs) MAX_HELD few.1 };
     }
 
-cut_ports : (E : Ends NodeState) (t : Topology) (base : ℕ) (s : Network NodeState) → IsCut E t base s → EachPort (PortKeeps base) s.ports
+cut_ports : (E : EndsSeen NodeState) (t : Topology) (base : ℕ) (s : Network NodeState) → IsCut E t base s → EachPort (PortKeeps base) s.ports
 cut_ports E t base s C p port at = port_keeps base port (all_at (λ x. is_port_of base x ≡ true) s.ports p port C.ports at)
 
 -- What a port of a cut has counted is no more than there are entries in it.
-pub cut_counted : (E : Ends NodeState) (t : Topology) (base : ℕ) (s : Network NodeState) → IsCut E t base s → AreCounted base s.ports
+pub cut_counted : (E : EndsSeen NodeState) (t : Topology) (base : ℕ) (s : Network NodeState) → IsCut E t base s → AreCounted base s.ports
 cut_counted E t base s C p port at = (cut_ports E t base s C p port at).counted
 
 -- It holds no more than it has room for.
-pub cut_held : (E : Ends NodeState) (t : Topology) (base : ℕ) (s : Network NodeState) → IsCut E t base s → EachPort IsHeld s.ports
+pub cut_held : (E : EndsSeen NodeState) (t : Topology) (base : ℕ) (s : Network NodeState) → IsCut E t base s → EachPort IsHeld s.ports
 cut_held E t base s C p port at = (cut_ports E t base s C p port at).held
 
 -- ## A cut that was read
@@ -91,14 +91,14 @@ images_long at (pages ∷ more) xs nodes some is =
       | inr whole ↦ omega (arith, whole, length-take long xs)
     ]
 
-read_long : (E : Ends NodeState) (t : Topology) (at : ℕ) (content : List ℕ) (s : Network NodeState) → 1 ≤ node_count t → cut_in E t at content ≡ Ok s → 20 ≤ length content
+read_long : (E : EndsSeen NodeState) (t : Topology) (at : ℕ) (content : List ℕ) (s : Network NodeState) → 1 ≤ node_count t → cut_in E t at content ≡ Ok s → 20 ≤ length content
 unfolding cut_in
 read_long E t at content s some is =
     let first = bind_ok (nodes_in (at + nodes_place) t.pages (drop nodes_place content)) _ s is in
     omega (arith, images_long (at + nodes_place) t.pages (drop nodes_place content) first.0 some first.1, length-drop nodes_place content)
 
 -- The network that is read as a cut, where the fields in front of it are right.
-pub read_is_cut : (E : Ends NodeState) (t : Topology) (at : ℕ) (content : List ℕ) (form : Form) (s : Network NodeState) → is_topology t ≡ true → AreBytes content
+pub read_is_cut : (E : EndsSeen NodeState) (t : Topology) (at : ℕ) (content : List ℕ) (form : Form) (s : Network NodeState) → is_topology t ≡ true → AreBytes content
     → form_of content ≡ Some form → has_front t content ≡ true → cut_in E t at content ≡ Ok s → IsCut E t (base_of content) s
 read_is_cut E t at content form s topology bytes form_is front is =
     let shape = has_shape t topology in

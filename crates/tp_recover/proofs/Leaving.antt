@@ -1,7 +1,7 @@
 -- What a crash may leave since a reading began: nothing that one before it couldn't.
 use Rattle.std.proofs.Common.{◌≡◌, Result, OnOk, OnErr, inr}
 use Rattle.tp_model.specs.Disk.{MayBe, Read, Sync, done}
-use Rattle.tp_model.specs.DiskHistory.{State, Goes, Fails}
+use Rattle.tp_model.specs.DiskHistory.{State, MomentPassed, Fails}
 use Rattle.tp_disk.proofs.Calls.{started, and_then, weaker, call_leaves}
 use Rattle.tp_recover.specs.Reading.{LeavesNothingNew}
 
@@ -15,9 +15,9 @@ then_leaves s t u one two =
     and_then s t u (MayBe s.now) one (weaker t u (MayBe t.now) (MayBe s.now) (λ left may. one.each left (inr may)) two)
 
 -- a read, done or failed
-pub read_leaves : {E : Type 0} (r : Result Unit E) (s t : State) → Goes s t → OnOk r (t.now ≡ done Read s.now) → OnErr r (Fails Read s t) → LeavesNothingNew s t
+pub read_leaves : {E : Type 0} (r : Result Unit E) (s t : State) → MomentPassed s t → OnOk r (t.now ≡ done Read s.now) → OnErr r (Fails Read s t) → LeavesNothingNew s t
 read_leaves r s t goes was failed = call_leaves r Read s t tt goes was failed
 
 -- and so a sync
-pub sync_leaves : {E : Type 0} (r : Result Unit E) (s t : State) → Goes s t → OnOk r (t.now ≡ done Sync s.now) → OnErr r (Fails Sync s t) → LeavesNothingNew s t
+pub sync_leaves : {E : Type 0} (r : Result Unit E) (s t : State) → MomentPassed s t → OnOk r (t.now ≡ done Sync s.now) → OnErr r (Fails Sync s t) → LeavesNothingNew s t
 sync_leaves r s t goes was failed = call_leaves r Sync s t tt goes was failed

@@ -15,8 +15,8 @@ use Rattle.tp_node.specs.declared.fault.ImageFault.TheVariants.{BadImage}
 use Rattle.tp_node.specs.FromImage.{ReadsImage}
 use Rattle.tp_node.specs.NodeContents.{NodeContents}
 use Rattle.tp_recover.specs.declared.unopened.Unopened.{Unopened}
-use Rattle.tp_recover.specs.Nodes.{AreThawed}
-use Rattle.tp_recover.specs.Reading.{Answers}
+use Rattle.tp_recover.specs.Nodes.{AreAllThawed}
+use Rattle.tp_recover.specs.Reading.{ReadAnswer}
 use Rattle.tp_recover.proofs.Records.{behind, with_first, step_read, step_error}
 
 -- ## One image
@@ -81,13 +81,13 @@ nodes_in-step at place next i pages old now items new node lt so_far kept read p
 
 pub nodes_in-error : {A C : Type 0} (seen : A → NodeState) (seen_then : C → List NodeState) (at place i : ℕ) (pages : List ℕ) (old now : Moment) (items : List NodeState) (error : Unopened) (answer : Result C Unopened) → i < length pages
     → nodes_in at pages (drop at old.bytes) ≡ behind items (nodes_in place (drop i pages) (drop place old.bytes))
-    → now ≡ old → Answers seen (or_damaged place (node_with (get_or pages i 0) (drop place now.bytes))) (Err error) → answer ≡ Err error
-    → Answers seen_then (nodes_in at pages (drop at old.bytes)) answer
+    → now ≡ old → ReadAnswer seen (or_damaged place (node_with (get_or pages i 0) (drop place now.bytes))) (Err error) → answer ≡ Err error
+    → ReadAnswer seen_then (nodes_in at pages (drop at old.bytes)) answer
 nodes_in-error seen seen_then at place i pages old now items error answer lt so_far kept read is =
     step_error seen seen_then items (nodes_in at pages (drop at old.bytes)) (or_damaged place (node_with (get_or pages i 0) (drop place old.bytes)))
     (nodes_in (place + image_length (get_or pages i 0)) (drop (i + 1) pages) (drop (place + image_length (get_or pages i 0)) old.bytes)) error answer
     (so_far ∙ ap (behind items) (nodes_left place i pages old.bytes lt))
-    (subst (λ m. Answers seen (or_damaged place (node_with (get_or pages i 0) (drop place m.bytes))) (Err error)) kept read) is
+    (subst (λ m. ReadAnswer seen (or_damaged place (node_with (get_or pages i 0) (drop place m.bytes))) (Err error)) kept read) is
 
 pub nodes_in-end : (at place i : ℕ) (pages xs : List ℕ) (items : List NodeState) → length pages ≤ i
     → nodes_in at pages (drop at xs) ≡ behind items (nodes_in place (drop i pages) (drop place xs)) → nodes_in at pages (drop at xs) ≡ Ok items
@@ -104,6 +104,6 @@ pub place_inside : (at place i : ℕ) (pages : List ℕ) → i < length pages �
 place_inside at place i pages lt is = omega (arith, sum_by_more_le image_length pages i 0 lt)
 
 -- one more that isn't frozen
-pub thawed_push : (nodes : List NodeContents) (node : NodeContents) → AreThawed nodes → node.frozen ≡ None → AreThawed (nodes ++ node ∷ [])
+pub thawed_push : (nodes : List NodeContents) (node : NodeContents) → AreAllThawed nodes → node.frozen ≡ None → AreAllThawed (nodes ++ node ∷ [])
 thawed_push [] node are is = (is, tt)
 thawed_push (first ∷ nodes) node are is = (are.0, thawed_push nodes node are.1 is)

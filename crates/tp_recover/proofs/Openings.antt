@@ -18,7 +18,7 @@ use Rattle.tp_recover.specs.declared.start.Start.{Start}
 use Rattle.tp_recover.specs.declared.unopened.Unopened.{Unopened}
 use Rattle.tp_recover.specs.AfterGroups.{after_groups}
 use Rattle.tp_area.specs.Fronts.{cut_front, front_given}
-use Rattle.tp_recover.specs.Reading.{Answers, found}
+use Rattle.tp_recover.specs.Reading.{ReadAnswer, found}
 use Rattle.tp_recover.specs.Starts.{Read, read_as, read_of, read_in, IsStart, groups_of, opened_with, opened_after}
 use Rattle.tp_recover.proofs.Passing.{passed}
 
@@ -66,9 +66,9 @@ content_at head second m = content_of head.areas second m.bytes
 
 -- what isn't read is the answer of all
 pub area_unread : {A : Type 0} (seen : A → Opened) (head : Head) (second : Bool) (content : List ℕ) (error : Unopened) (answer : Result A Unopened)
-    → Answers read_of (read_in head second content) (Err error) → answer ≡ Err error → Answers seen (area_in t414 t414_ends head second content) answer
+    → ReadAnswer read_of (read_in head second content) (Err error) → answer ≡ Err error → ReadAnswer seen (area_in t414 t414_ends head second content) answer
 area_unread seen head second content error answer read told =
-    subst (λ given. Answers seen given answer) (sym (area_in-read head second content)) (passed read_of seen (read_in head second content) (opened_after head second content) error answer read told)
+    subst (λ given. ReadAnswer seen given answer) (sym (area_in-read head second content)) (passed read_of seen (read_in head second content) (opened_after head second content) error answer read told)
 
 area_read : (head : Head) (second : Bool) (content : List ℕ) (start : Start) → IsStart head start → read_in head second content ≡ Ok (read_of start)
     → area_in t414 t414_ends head second content ≡ (after_groups start.replay (groups_of head second content) >>= (λ both. Ok (opened_with head second (read_of start) both)))
@@ -78,12 +78,12 @@ area_read head second content start S read =
 
 pub area_broken : {A B : Type 0} (seen : A → Opened) (seen_first : B → Replay NodeState × ℕ) (head : Head) (second : Bool) (old now : Moment) (start : Start) (error : Unopened) (answer : Result A Unopened)
     → IsStart head start → read_in head second (content_of head.areas second old.bytes) ≡ Ok (read_of start) → now ≡ old
-    → Answers seen_first (after_groups start.replay (groups_of head second (content_of head.areas second now.bytes))) (Err error) → answer ≡ Err error
-    → Answers seen (area_in t414 t414_ends head second (content_of head.areas second old.bytes)) answer
+    → ReadAnswer seen_first (after_groups start.replay (groups_of head second (content_of head.areas second now.bytes))) (Err error) → answer ≡ Err error
+    → ReadAnswer seen (area_in t414 t414_ends head second (content_of head.areas second old.bytes)) answer
 area_broken {A} {B} seen seen_first head second old now start error answer S read same groups told =
-    subst (λ given. Answers seen given answer) (sym (area_read head second (content_at head second old) start S read))
+    subst (λ given. ReadAnswer seen given answer) (sym (area_read head second (content_at head second old) start S read))
     (passed seen_first seen (after_groups start.replay (groups_of head second (content_at head second old))) (λ both. Ok (opened_with head second (read_of start) both)) error answer
-    (subst (λ m. Answers seen_first (after_groups start.replay (groups_of head second (content_at head second m))) (Err error)) same groups) told)
+    (subst (λ m. ReadAnswer seen_first (after_groups start.replay (groups_of head second (content_at head second m))) (Err error)) same groups) told)
 
 pub area_whole : (head : Head) (second : Bool) (old now : Moment) (start : Start) (last : Replay NodeState) (end : ℕ)
     → IsStart head start → read_in head second (content_of head.areas second old.bytes) ≡ Ok (read_of start) → now ≡ old
@@ -107,23 +107,23 @@ unfolding verdict opening
 verdict-head bytes = refl
 
 pub head_unread : {A B : Type 0} (seen : A → Opened) (seen_first : B → Head) (bytes : List ℕ) (error : Unopened) (answer : Result A Unopened)
-    → Answers seen_first (head_of bytes) (Err error) → answer ≡ Err error → Answers seen (verdict bytes) answer
+    → ReadAnswer seen_first (head_of bytes) (Err error) → answer ≡ Err error → ReadAnswer seen (verdict bytes) answer
 head_unread seen seen_first bytes error answer read told =
-    subst (λ given. Answers seen given answer) (sym (verdict-head bytes)) (passed seen_first seen (head_of bytes) (with_head bytes) error answer read told)
+    subst (λ given. ReadAnswer seen given answer) (sym (verdict-head bytes)) (passed seen_first seen (head_of bytes) (with_head bytes) error answer read told)
 
 verdict-choice : (bytes : List ℕ) (head : Head) → head_of bytes ≡ Ok head → verdict bytes ≡ (chosen_area head.areas bytes >>= area_of bytes head)
 verdict-choice bytes head is = verdict-head bytes ∙ ap (λ r. r >>= with_head bytes) is
 
 pub choice_unread : {A B : Type 0} (seen : A → Opened) (seen_first : B → Bool) (head : Head) (old now : Moment) (error : Unopened) (answer : Result A Unopened)
-    → head_of old.bytes ≡ Ok head → now ≡ old → Answers seen_first (chosen_area head.areas now.bytes) (Err error) → answer ≡ Err error → Answers seen (verdict old.bytes) answer
+    → head_of old.bytes ≡ Ok head → now ≡ old → ReadAnswer seen_first (chosen_area head.areas now.bytes) (Err error) → answer ≡ Err error → ReadAnswer seen (verdict old.bytes) answer
 choice_unread {A} {B} seen seen_first head old now error answer is same read told =
-    subst (λ given. Answers seen given answer) (sym (verdict-choice old.bytes head is))
-    (passed seen_first seen (chosen_area head.areas old.bytes) (area_of old.bytes head) error answer (subst (λ m. Answers seen_first (chosen_area head.areas m.bytes) (Err error)) same read) told)
+    subst (λ given. ReadAnswer seen given answer) (sym (verdict-choice old.bytes head is))
+    (passed seen_first seen (chosen_area head.areas old.bytes) (area_of old.bytes head) error answer (subst (λ m. ReadAnswer seen_first (chosen_area head.areas m.bytes) (Err error)) same read) told)
 
 pub area_answered : {A : Type 0} (seen : A → Opened) (head : Head) (second : Bool) (old then now : Moment) (answer : Result A Unopened)
     → head_of old.bytes ≡ Ok head → then ≡ old → chosen_area head.areas then.bytes ≡ Ok second → now ≡ old
-    → Answers seen (area_in t414 t414_ends head second (content_of head.areas second now.bytes)) answer → Answers seen (verdict old.bytes) answer
+    → ReadAnswer seen (area_in t414 t414_ends head second (content_of head.areas second now.bytes)) answer → ReadAnswer seen (verdict old.bytes) answer
 area_answered {A} seen head second old then now answer is same chosen last read =
-    subst (λ given. Answers seen given answer)
+    subst (λ given. ReadAnswer seen given answer)
     (sym (verdict-choice old.bytes head is ∙ ap (λ r. r >>= area_of old.bytes head) (ap (λ m. chosen_area head.areas m.bytes) (sym same) ∙ chosen)))
-    (subst (λ m. Answers seen (area_of m.bytes head second) answer) last read)
+    (subst (λ m. ReadAnswer seen (area_of m.bytes head second) answer) last read)

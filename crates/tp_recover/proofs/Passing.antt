@@ -5,14 +5,14 @@ use Rattle.tp_model.specs.declared.opening.OpenFault.{OpenFault}
 use Rattle.tp_model.specs.Results.{◌>>=◌}
 use Rattle.tp_recover.specs.declared.unopened.Unopened.{Unopened}
 use Rattle.tp_recover.specs.declared.unopened.Unopened.TheVariants.{Fault, ReadFailed, Memory}
-use Rattle.tp_recover.specs.Reading.{Answers, IsKept, found, has_read}
+use Rattle.tp_recover.specs.Reading.{ReadAnswer, LeavesAlone, found, has_read}
 use Rattle.tp_model.specs.Disk.{Moment}
 use Rattle.tp_model.specs.DiskHistory.{Counts}
 
 -- an error of the first is the answer of both
 pub passed : {A B C D : Type 0} (seen : A → B) (seen_then : C → D) (given : Result B OpenFault) (f : B → Result D OpenFault)
     (error : Unopened) (answer : Result C Unopened)
-    → Answers seen given (Err error) → answer ≡ Err error → Answers seen_then (given >>= f) answer
+    → ReadAnswer seen given (Err error) → answer ≡ Err error → ReadAnswer seen_then (given >>= f) answer
 passed seen seen_then given f (Fault fault) answer has is =
     rw is (ap (λ g. g >>= f) has)
 passed seen seen_then given f ReadFailed answer has is = rw is tt
@@ -20,11 +20,11 @@ passed seen seen_then given f Memory answer has is = rw is tt
 
 -- what the definition gives is told as it is
 pub told_value : {A B : Type 0} (seen : A → B) (given : Result B OpenFault) (x : A) (answer : Result A Unopened)
-    → given ≡ Ok (seen x) → answer ≡ Ok x → Answers seen given answer
+    → given ≡ Ok (seen x) → answer ≡ Ok x → ReadAnswer seen given answer
 told_value seen given x answer is told = rw told is
 
 pub told_fault : {A B : Type 0} (seen : A → B) (given : Result B OpenFault) (fault : OpenFault) (answer : Result A Unopened)
-    → given ≡ Err fault → answer ≡ Err (Fault fault) → Answers seen given answer
+    → given ≡ Err fault → answer ≡ Err (Fault fault) → ReadAnswer seen given answer
 told_fault seen given fault answer is told = rw told is
 
 pub found_is : {A : Type 0} (x y : A) → found x ≡ Ok y → x ≡ y
@@ -32,7 +32,7 @@ found_is x y is = cc
 
 -- ## A reading, and then what takes no call
 
-pub still_kept : {A : Type 0} (answer : Result A Unopened) (old new : Moment) → new ≡ old → IsKept answer old new
+pub still_kept : {A : Type 0} (answer : Result A Unopened) (old new : Moment) → new ≡ old → LeavesAlone answer old new
 still_kept (Ok x) old new is = is
 still_kept (Err (Fault fault)) old new is = is
 still_kept (Err ReadFailed) old new is = tt

@@ -7,7 +7,7 @@ use Rattle.tp_model.specs.CutImage.{port_with, ports_in, or_damaged}
 use Rattle.tp_model.specs.Disk.{Moment}
 use Rattle.tp_model.specs.Results.{◌>>=◌}
 use Rattle.tp_recover.specs.declared.unopened.Unopened.{Unopened}
-use Rattle.tp_recover.specs.Reading.{Answers}
+use Rattle.tp_recover.specs.Reading.{ReadAnswer}
 use Rattle.tp_recover.proofs.Records.{behind, with_first, step_read, step_error}
 use Rattle.tp_model.specs.Network.{Port}
 use Rattle.tp_area.proofs.Ports.{port_with-take}
@@ -50,13 +50,13 @@ ports_in-step base at i count old now items new port lt so_far kept read push =
 
 pub ports_in-error : {A C : Type 0} (seen : A → Port) (seen_then : C → List Port) (base at i count : ℕ) (old now : Moment) (items : List Port) (error : Unopened) (answer : Result C Unopened) → i < count
     → ports_in base at count (drop at old.bytes) ≡ behind items (ports_in base (at + PORT_BYTES * i) (count - i) (drop (at + PORT_BYTES * i) old.bytes))
-    → now ≡ old → Answers seen (or_damaged (at + PORT_BYTES * i) (port_with base (drop (at + PORT_BYTES * i) now.bytes))) (Err error) → answer ≡ Err error
-    → Answers seen_then (ports_in base at count (drop at old.bytes)) answer
+    → now ≡ old → ReadAnswer seen (or_damaged (at + PORT_BYTES * i) (port_with base (drop (at + PORT_BYTES * i) now.bytes))) (Err error) → answer ≡ Err error
+    → ReadAnswer seen_then (ports_in base at count (drop at old.bytes)) answer
 ports_in-error seen seen_then base at i count old now items error answer lt so_far kept read is =
     step_error seen seen_then items (ports_in base at count (drop at old.bytes)) (or_damaged (at + PORT_BYTES * i) (port_with base (drop (at + PORT_BYTES * i) old.bytes)))
     (ports_in base (at + PORT_BYTES * (i + 1)) (count - (i + 1)) (drop (at + PORT_BYTES * (i + 1)) old.bytes)) error answer
     (so_far ∙ ap (behind items) (ports_left base at i count old.bytes lt))
-    (subst (λ m. Answers seen (or_damaged (at + PORT_BYTES * i) (port_with base (drop (at + PORT_BYTES * i) m.bytes))) (Err error)) kept read) is
+    (subst (λ m. ReadAnswer seen (or_damaged (at + PORT_BYTES * i) (port_with base (drop (at + PORT_BYTES * i) m.bytes))) (Err error)) kept read) is
 
 pub ports_in-end : (base at i count : ℕ) (xs : List ℕ) (items : List Port) → count ≤ i
     → ports_in base at count (drop at xs) ≡ behind items (ports_in base (at + PORT_BYTES * i) (count - i) (drop (at + PORT_BYTES * i) xs))

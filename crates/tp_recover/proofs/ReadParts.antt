@@ -12,7 +12,7 @@ use Rattle.tp_model.specs.Image.{page_count, node_of, IsNode}
 use Rattle.tp_model.specs.Journal.{image_length}
 use Rattle.tp_model.specs.Network.{Port}
 use Rattle.tp_model.specs.NodeState.{NodeState}
-use Rattle.tp_model.specs.Sound.{Ends}
+use Rattle.tp_model.specs.Sound.{EndsSeen}
 use Rattle.tp_model.specs.Spelling.{are_lines, IsCut}
 use Rattle.tp_model.specs.Topology.{Topology, line_count}
 use Rattle.tp_law_network.proofs.InPlace.{flights_found}
@@ -72,7 +72,7 @@ have_images [] all = tt
 have_images (node ∷ nodes) all = (all.0.image, have_images nodes all.1)
 
 -- Parts that passed the tests are a cut.
-pub parts_cut : (E : Ends NodeState) (t : Topology) (base at : ℕ) (nodes : List NodeState) (lines : List (List Token)) (ports : List Port) → HaveImages t.pages nodes → are_lines t.wires lines ≡ true
+pub parts_cut : (E : EndsSeen NodeState) (t : Topology) (base at : ℕ) (nodes : List NodeState) (lines : List (List Token)) (ports : List Port) → HaveImages t.pages nodes → are_lines t.wires lines ≡ true
     → length ports ≡ t.ports → ArePorts base ports → flights_in E (wired t.wires nodes lines ports) at 0 (line_count t) ≡ Ok tt → base < NUMBER_LIMIT
     → IsCut E t base (wired t.wires nodes lines ports)
 parts_cut E t base at nodes lines ports imaged tokens count reached flights few = record {

@@ -14,7 +14,7 @@ use Rattle.tp_law_device.proofs.Cuts.{line_same, lines_same}
 use Rattle.tp_area.specs.declared.line.LineTokens.{LineTokens}
 use Rattle.tp_area.specs.Lines.{tokens_on}
 use Rattle.tp_recover.specs.declared.unopened.Unopened.{Unopened}
-use Rattle.tp_recover.specs.Reading.{Answers}
+use Rattle.tp_recover.specs.Reading.{ReadAnswer}
 use Rattle.tp_recover.proofs.Passing.{passed}
 use Rattle.tp_model.specs.CutImage.{line_with, lines_in, or_damaged}
 
@@ -46,9 +46,9 @@ step_read xs new x given here left is read push =
 
 pub step_error : {A B C : Type 0} (seen : A → B) (seen_then : C → List B) (xs : List B) (given : Result (List B) OpenFault) (here : Result B OpenFault) (left : Result (List B) OpenFault)
     (error : Unopened) (answer : Result C Unopened)
-    → given ≡ behind xs (here >>= (λ first. with_first first left)) → Answers seen here (Err error) → answer ≡ Err error → Answers seen_then given answer
+    → given ≡ behind xs (here >>= (λ first. with_first first left)) → ReadAnswer seen here (Err error) → answer ≡ Err error → ReadAnswer seen_then given answer
 step_error seen seen_then xs given here left error answer is read told =
-    subst (λ g. Answers seen_then g answer) (sym (is ∙ bind-behind xs here (λ first. with_first first left)))
+    subst (λ g. ReadAnswer seen_then g answer) (sym (is ∙ bind-behind xs here (λ first. with_first first left)))
     (passed seen seen_then here (λ x. behind xs (with_first x left)) error answer read told)
 
 -- ## Lines

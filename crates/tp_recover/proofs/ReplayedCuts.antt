@@ -29,9 +29,9 @@ use Rattle.tp_law_device.proofs.Replays.{entry_found}
 use Rattle.tp_book.specs.declared.port_parts.PortParts.{PortParts}
 use Rattle.tp_book.specs.declared.state.NetState.{NetState}
 use Rattle.tp_book.specs.Counted.{AreCounted}
-use Rattle.tp_book.specs.PortParts.{port_of}
+use Rattle.tp_book.specs.PortParts.{port_made}
 use Rattle.tp_book.specs.Kept.{AreInRange}
-use Rattle.tp_book.specs.Opened.{cut_of, now_of, IsOpened}
+use Rattle.tp_book.specs.Opened.{cut_of, now_of, IsWellOpen}
 use Rattle.tp_replay.specs.Flat.{IsFlat}
 use Rattle.tp_replay.specs.History.{IsHistory}
 use Rattle.tp_replay.proofs.Counted.{counted_next}
@@ -106,14 +106,14 @@ replayed_holds form t base s rows r topology C bytes is = replayed_rows (replay_
 -- ## A state that opening leaves
 
 -- the ports' parts hold as much as the ports
-pub parts_held : (parts : List PortParts) → EachPort IsHeld (map port_of parts) → (k : ℕ) (d : PortParts) → k < length parts → IsHeld (port_of (get_or parts k d))
+pub parts_held : (parts : List PortParts) → EachPort IsHeld (map port_made parts) → (k : ℕ) (d : PortParts) → k < length parts → IsHeld (port_made (get_or parts k d))
 parts_held parts held k d below =
-    held k (port_of (get_or parts k d)) (slice_get-map port_of parts k ∙ ap (option_map port_of) (slice_get-get_or parts k d below))
+    held k (port_made (get_or parts k d)) (slice_get-map port_made parts k ∙ ap (option_map port_made) (slice_get-get_or parts k d below))
 
 -- A state of the parts is what opening leaves: the cut, the network that the replay led to, and the entries with their numbers.
 pub replayed_opened : (form : Form) (t : Topology) (base : ℕ) (s : Network NodeState) (rows : List (ℕ × List ℕ)) (r : Replay NodeState) (o : NetState) → is_topology t ≡ true → IsCut t414_ends t base s
     → AllByRecursion IsNodeOfBytes s.nodes → after_rows t414 (replay_from form s base) rows ≡ Ok r → cut_of o ≡ s → now_of o ≡ r.now → o.kept.items ≡ r.kept → o.base ≡ base → o.form ≡ form → o.next ≡ r.next
-    → o.generation < NUMBER_LIMIT → map (λ image. node_of image.items) o.net.images.items ≡ map (λ node. Some node) (now_of o).nodes → IsOpened o
+    → o.generation < NUMBER_LIMIT → map (λ image. node_of image.items) o.net.images.items ≡ map (λ node. Some node) (now_of o).nodes → IsWellOpen o
 replayed_opened form t base s rows r o topology C bytes is cut now kept base_is form_is next_is age images =
     let R = replayed_holds form t base s rows r topology C bytes is in
     let history : IsHistory t414 form s base r = history_of t414 form s base r rows is in

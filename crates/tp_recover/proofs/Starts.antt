@@ -17,10 +17,10 @@ use Rattle.tp_model.specs.Opening.{base_of, cut_in, front_in}
 use Rattle.tp_model.specs.CutImage.{is_line_of}
 use Rattle.tp_model.specs.Spelling.{has_record, are_lines}
 use Rattle.tp_book.specs.declared.port_parts.PortParts.{PortParts}
-use Rattle.tp_book.specs.PortParts.{port_of}
+use Rattle.tp_book.specs.PortParts.{port_made}
 use Rattle.tp_book.specs.Ports.{PortValue, opened_port}
 use Rattle.tp_node.specs.NodeContents.{NodeContents}
-use Rattle.tp_replay.specs.Flat.{network_of}
+use Rattle.tp_replay.specs.Flat.{network_flat}
 use Rattle.tp_book.proofs.OpenedPorts.{opened_ports}
 use Rattle.tp_area.specs.declared.front.CutFront.{CutFront}
 use Rattle.tp_area.specs.Fronts.{cut_front, front_given}
@@ -28,9 +28,9 @@ use Rattle.tp_law_device.proofs.Faults.{bind_ok}
 use Rattle.tp_recover.specs.declared.cut.Cut.{Cut}
 use Rattle.tp_recover.specs.declared.start.Start.{Start}
 use Rattle.tp_recover.specs.declared.unopened.Unopened.{Unopened}
-use Rattle.tp_recover.specs.Cuts.{cut_network}
-use Rattle.tp_recover.specs.Nodes.{AreThawed}
-use Rattle.tp_recover.specs.Reading.{Answers}
+use Rattle.tp_recover.specs.Cuts.{network_of_cut}
+use Rattle.tp_recover.specs.Nodes.{AreAllThawed}
+use Rattle.tp_recover.specs.Reading.{ReadAnswer}
 use Rattle.tp_recover.specs.Starts.{read_as, read_in, read_of}
 use Rattle.tp_recover.proofs.HeldPorts.{EachPort, IsHeld}
 use Rattle.tp_recover.proofs.Passing.{passed}
@@ -65,24 +65,24 @@ line_few (wire ∷ wires) (line ∷ lines) h (suc k) d low =
 pub lines_few : (wires : List (Option WireEnd)) (lines : List (Vec Token Global)) → are_lines wires (map (λ line. line.items) lines) ≡ true → All (λ line. vec_len line ≤ 3) lines
 lines_few wires lines h k d low = omega (arith, line_few wires lines h k d low, (get_or lines k d).ok.0)
 
-pub pending_few : (parts : List PortParts) → EachPort IsHeld (map port_of parts) → All (λ port. vec_len port.pending ≤ MAX_HELD) parts
+pub pending_few : (parts : List PortParts) → EachPort IsHeld (map port_made parts) → All (λ port. vec_len port.pending ≤ MAX_HELD) parts
 pending_few parts held k d below = let part = parts_held parts held k d below in omega (arith, part.pending, (get_or parts k d).pending.ok.0)
 
-pub outputs_few : (parts : List PortParts) → EachPort IsHeld (map port_of parts) → All (λ port. vec_len port.outputs ≤ MAX_HELD) parts
+pub outputs_few : (parts : List PortParts) → EachPort IsHeld (map port_made parts) → All (λ port. vec_len port.outputs ≤ MAX_HELD) parts
 outputs_few parts held k d below = let part = parts_held parts held k d below in omega (arith, part.outputs, (get_or parts k d).outputs.ok.0)
 
 -- ## The network
 
-pub thawed_at : (nodes : List NodeContents) → AreThawed nodes → (i : ℕ) (node : NodeContents) → slice_get nodes i ≡ Some node → node.frozen ≡ None
+pub thawed_at : (nodes : List NodeContents) → AreAllThawed nodes → (i : ℕ) (node : NodeContents) → slice_get nodes i ≡ Some node → node.frozen ≡ None
 thawed_at [] all i node at = cc
 thawed_at (first ∷ nodes) all zero node at = let same : first ≡ node = cc in subst (λ n. n.frozen ≡ None) same all.0
 thawed_at (first ∷ nodes) all (suc i) node at = thawed_at nodes all.1 i node at
 
 -- The network that is made of a cut is the cut's.
 pub network_again : (cut : Cut) (wires these : List (Option WireEnd)) (lines : List (List Token)) (ports : List PortValue) → these ≡ wires → lines ≡ map (λ line. line.items) cut.lines.items
-    → ports ≡ map (λ port. opened_port (port_of port)) cut.ports.items → network_of these cut.nodes.items lines ports ≡ cut_network wires cut
+    → ports ≡ map (λ port. opened_port (port_made port)) cut.ports.items → network_flat these cut.nodes.items lines ports ≡ network_of_cut wires cut
 network_again cut wires these lines ports w l p =
-    let q : map (λ (v : PortValue). v.port) ports ≡ map port_of cut.ports.items = ap (map (λ (v : PortValue). v.port)) p ∙ opened_ports cut.ports.items in
+    let q : map (λ (v : PortValue). v.port) ports ≡ map port_made cut.ports.items = ap (map (λ (v : PortValue). v.port)) p ∙ opened_ports cut.ports.items in
     λ i. record { wires = w i; nodes = map (λ node. node.live) cut.nodes.items; ports = q i; lines = l i }
 
 -- ## A cut that can't be read
@@ -98,16 +98,16 @@ given_base t at content front is =
 pub cut_unread : (head : Head) (second : Bool) (now old : Moment) (front : CutFront) (error : Unopened) (answer : Result Start Unopened) → now ≡ old
     → front_given head.topology (area_start head.areas second) (content_of head.areas second old.bytes) ≡ Ok front
     → (front.base ≡ base_of (content_of head.areas second now.bytes)
-    → Answers (cut_network head.topology.wires) (cut_in t414_ends head.topology (area_start head.areas second + 1) (content_of head.areas second now.bytes)) (Err error))
-    → answer ≡ Err error → Answers read_of (read_in head second (content_of head.areas second old.bytes)) answer
+    → ReadAnswer (network_of_cut head.topology.wires) (cut_in t414_ends head.topology (area_start head.areas second + 1) (content_of head.areas second now.bytes)) (Err error))
+    → answer ≡ Err error → ReadAnswer read_of (read_in head second (content_of head.areas second old.bytes)) answer
 cut_unread head second now old front error answer same given read told =
     let content = content_of head.areas second old.bytes in
     let cut = cut_in t414_ends head.topology (area_start head.areas second + 1) content in
-    let unread : Answers (cut_network head.topology.wires) cut (Err error) =
+    let unread : ReadAnswer (network_of_cut head.topology.wires) cut (Err error) =
     subst
     (λ (m : Moment).
     front.base ≡ base_of (content_of head.areas second m.bytes)
-    → Answers (cut_network head.topology.wires) (cut_in t414_ends head.topology (area_start head.areas second + 1) (content_of head.areas second m.bytes)) (Err error))
+    → ReadAnswer (network_of_cut head.topology.wires) (cut_in t414_ends head.topology (area_start head.areas second + 1) (content_of head.areas second m.bytes)) (Err error))
     same read (given_base head.topology (area_start head.areas second) content front given) in
-    subst (λ front_is. Answers read_of (front_is >>= (λ front. cut >>= (λ cut. Ok (read_as front cut)))) answer) (sym given)
-    (passed (cut_network head.topology.wires) read_of cut (λ cut. Ok (read_as front cut)) error answer unread told)
+    subst (λ front_is. ReadAnswer read_of (front_is >>= (λ front. cut >>= (λ cut. Ok (read_as front cut)))) answer) (sym given)
+    (passed (network_of_cut head.topology.wires) read_of cut (λ cut. Ok (read_as front cut)) error answer unread told)

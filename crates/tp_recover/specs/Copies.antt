@@ -8,8 +8,8 @@ use Rattle.tp_model.specs.Opening.{Opened, next_of, verdict}
 use Rattle.tp_model.specs.declared.limits.TheConstants.{GATE_CLOSED, GATE_OPEN}
 
 -- what of an opened device is copied
-abbrev pub kept_of : Opened → Kept
-kept_of o = record { areas = o.head.areas; second = o.second; generation = o.generation; form = o.form; end = o.end; next = next_of o }
+abbrev pub area_kept : Opened → Kept
+area_kept o = record { areas = o.head.areas; second = o.second; generation = o.generation; form = o.form; end = o.end; next = next_of o }
 
 -- bytes with a range of others over them, at the same place
 abbrev pub with_range : ℕ → ℕ → List ℕ → List ℕ → List ℕ
@@ -20,11 +20,11 @@ abbrev pub with_gate : ℕ → ℕ → List ℕ → List ℕ
 with_gate at gate old = written old at (gate ∷ [])
 
 -- Where the area that is copied begins, and where the other one does.
-abbrev pub start_of : Kept → ℕ
-start_of kept = area_start kept.areas kept.second
+abbrev pub kept_start : Kept → ℕ
+kept_start kept = area_start kept.areas kept.second
 
-abbrev pub other_start : Kept → ℕ
-other_start kept = area_start kept.areas (not kept.second)
+abbrev pub other_kept_start : Kept → ℕ
+other_kept_start kept = area_start kept.areas (not kept.second)
 
 -- Bytes of a copy before its area's gate is opened, made over others: both areas' gates are closed, the open area stands there from behind its
 -- gate on up to the closed gate behind its groups, and so does the head.
@@ -32,45 +32,45 @@ abbrev pub closed_copy : Kept → List ℕ → List ℕ → List ℕ
 closed_copy kept source old =
     with_range 0 kept.areas.first source
     (with_gate kept.end GATE_CLOSED
-    (with_range (start_of kept + 1) (kept.end - (start_of kept + 1)) source
-    (with_gate (other_start kept) GATE_CLOSED
-    (with_gate (start_of kept) GATE_CLOSED old))))
+    (with_range (kept_start kept + 1) (kept.end - (kept_start kept + 1)) source
+    (with_gate (other_kept_start kept) GATE_CLOSED
+    (with_gate (kept_start kept) GATE_CLOSED old))))
 
 -- the bytes of a copy
-abbrev pub copied : Kept → List ℕ → List ℕ → List ℕ
-copied kept source old = with_gate (start_of kept) GATE_OPEN (closed_copy kept source old)
+abbrev pub kept_copy : Kept → List ℕ → List ℕ → List ℕ
+kept_copy kept source old = with_gate (kept_start kept) GATE_OPEN (closed_copy kept source old)
 
 -- The bytes open to what is copied so.
-pub record OpensTo (bytes : List ℕ) (kept : Kept) : Type 0 where
+pub record OpensAsKept (bytes : List ℕ) (kept : Kept) : Type 0 where
   pub opened : Opened
   pub is : verdict bytes ≡ Ok opened
-  pub same : kept ≡ kept_of opened
+  pub same : kept ≡ area_kept opened
 
 -- So do those of a moment, and behind it all of them are synced.
 pub record OpensAs (kept : Kept) (old new : Moment) : Type 0 where
-  pub opens : OpensTo old.bytes kept
+  pub opens : OpensAsKept old.bytes kept
   pub synced : new ≡ done Sync old
 
 -- The area's gate was opened, and what the copy then has opens so, and is synced.
 pub record IsFinished (kept : Kept) (old new : Moment) : Type 0 where
-  pub bytes : new.bytes ≡ with_gate (start_of kept) GATE_OPEN old.bytes
+  pub bytes : new.bytes ≡ with_gate (kept_start kept) GATE_OPEN old.bytes
   pub synced : new.unsynced ≡ []
-  pub opens : OpensTo new.bytes kept
+  pub opens : OpensAsKept new.bytes kept
 
 -- The area that is copied has its gate open and its generation.
 abbrev pub HasStayed : Kept → List ℕ → Type 0
-HasStayed kept source = area_front (start_of kept) source ≡ record { is_open = true; generation = kept.generation }
+HasStayed kept source = area_front (kept_start kept) source ≡ record { is_open = true; generation = kept.generation }
 
 -- A copy: the area that was copied stayed as it was opened, the copy has the device's bytes where they count, opens to what the device opened to,
 -- and all of it is synced.
 pub record IsCopy (kept : Kept) (source old : List ℕ) (new : Moment) (next : ℕ) : Type 0 where
   pub number : next ≡ kept.next
   pub stays : HasStayed kept source
-  pub bytes : new.bytes ≡ copied kept source old
-  pub opens : OpensTo new.bytes kept
+  pub bytes : new.bytes ≡ kept_copy kept source old
+  pub opens : OpensAsKept new.bytes kept
   pub synced : new.unsynced ≡ []
 
 -- The answer: a copy, or that the area was written anew. Then the gates of what was to be the copy are closed.
-abbrev pub Answers : Kept → List ℕ → Moment → Moment → Option ℕ → Type 0
-Answers kept source old new (Some next) = IsCopy kept source old.bytes new next
-Answers kept source old new None = (HasStayed kept source → ⊥) × (new.bytes ≡ closed_copy kept source old.bytes)
+abbrev pub CopyAnswer : Kept → List ℕ → Moment → Moment → Option ℕ → Type 0
+CopyAnswer kept source old new (Some next) = IsCopy kept source old.bytes new next
+CopyAnswer kept source old new None = (HasStayed kept source → ⊥) × (new.bytes ≡ closed_copy kept source old.bytes)

@@ -7,18 +7,18 @@ use Rattle.tp_model.specs.CutImage.{nodes_in, lines_in, ports_in}
 use Rattle.tp_model.specs.Network.{Network, Port}
 use Rattle.tp_model.specs.NodeState.{NodeState}
 use Rattle.tp_model.specs.Results.{◌>>=◌}
-use Rattle.tp_book.specs.PortParts.{port_of}
+use Rattle.tp_book.specs.PortParts.{port_made}
 use Rattle.tp_recover.specs.declared.cut.Cut.{Cut}
 use Rattle.tp_area.specs.declared.layout_place.Places.{Places}
-use Rattle.tp_recover.specs.Nodes.{live}
+use Rattle.tp_recover.specs.Nodes.{live_node}
 
 -- a network with `wires`
 abbrev pub wired : List (Option WireEnd) → List NodeState → List (List Token) → List Port → Network NodeState
 wired wires nodes lines ports = record { wires = wires; nodes = nodes; ports = ports; lines = lines }
 
 -- the network of a cut, with `wires`
-abbrev pub cut_network : List (Option WireEnd) → Cut → Network NodeState
-cut_network wires cut = wired wires (map live cut.nodes.items) (map (λ line. line.items) cut.lines.items) (map port_of cut.ports.items)
+abbrev pub network_of_cut : List (Option WireEnd) → Cut → Network NodeState
+network_of_cut wires cut = wired wires (map live_node cut.nodes.items) (map (λ line. line.items) cut.lines.items) (map port_made cut.ports.items)
 
 -- three parts, one after the other
 abbrev pub three : {A B C D : Type 0} → Result A OpenFault → Result B OpenFault → Result C OpenFault → (A → B → C → D) → Result D OpenFault

@@ -6,13 +6,13 @@ use Rattle.tp_model.specs.NodeState.{NodeState}
 use Rattle.tp_law_machine.specs.NodeOfBytes.{IsNodeOfBytes}
 use Rattle.tp_node.specs.NodeContents.{NodeContents}
 
-abbrev pub live : NodeContents → NodeState
-live node = node.live
+abbrev pub live_node : NodeContents → NodeState
+live_node node = node.live
 
 -- none of them is frozen
-abbrev pub AreThawed : List NodeContents → Type 0
-AreThawed [] = Unit {0}
-AreThawed (node ∷ nodes) = (node.frozen ≡ None) × AreThawed nodes
+abbrev pub AreAllThawed : List NodeContents → Type 0
+AreAllThawed [] = Unit {0}
+AreAllThawed (node ∷ nodes) = (node.frozen ≡ None) × AreAllThawed nodes
 
 -- it has an image, and `pages` pages
 pub record HasImage (pages : ℕ) (node : NodeState) : Type 0 where

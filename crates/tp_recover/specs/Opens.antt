@@ -27,7 +27,7 @@ opened_of o = record {
 -- What is true of whatever was opened, also on a device that doesn't keep the model: the cut is one of the head's topology,
 -- its nodes were read of bytes, its generation is one, entries lead from it to what was replayed, and the closed gate behind them
 -- stands within the open area, behind its head.
-pub record IsInside (o : Inside) : Type 0 where
+pub record IsWellOpened (o : Inside) : Type 0 where
   pub cut : IsCut t414_ends o.head.topology o.base o.cut.network
   pub nodes : AllByRecursion IsNodeOfBytes o.cut.network.nodes
   pub age : o.generation < NUMBER_LIMIT

@@ -14,22 +14,22 @@ has_read (Err ReadFailed) = false
 has_read (Err Memory) = true
 
 -- where no call failed, what a read gives and what is unsynced are as before
-abbrev pub IsKept : {A : Type 0} → Result A Unopened → Moment → Moment → Type 0
-IsKept (Ok x) old new = new ≡ old
-IsKept (Err (Fault fault)) old new = new ≡ old
-IsKept (Err ReadFailed) old new = Unit {0}
-IsKept (Err Memory) old new = new ≡ old
+abbrev pub LeavesAlone : {A : Type 0} → Result A Unopened → Moment → Moment → Type 0
+LeavesAlone (Ok x) old new = new ≡ old
+LeavesAlone (Err (Fault fault)) old new = new ≡ old
+LeavesAlone (Err ReadFailed) old new = Unit {0}
+LeavesAlone (Err Memory) old new = new ≡ old
 
 -- A crash at any moment from the first state to the second one leaves what a crash just before might have left.
 abbrev pub LeavesNothingNew : State → State → Type 0
 LeavesNothingNew old new = LeavesOnly old new (MayBe old.now)
 
 -- The answer is what the definition gives: its value, seen so, or its fault. Else the device failed or memory was wanting.
-abbrev pub Answers : {A B : Type 0} → (A → B) → Result B OpenFault → Result A Unopened → Type 0
-Answers view given (Ok x) = given ≡ Ok (view x)
-Answers view given (Err (Fault fault)) = given ≡ Err fault
-Answers view given (Err ReadFailed) = Unit {0}
-Answers view given (Err Memory) = Unit {0}
+abbrev pub ReadAnswer : {A B : Type 0} → (A → B) → Result B OpenFault → Result A Unopened → Type 0
+ReadAnswer view given (Ok x) = given ≡ Ok (view x)
+ReadAnswer view given (Err (Fault fault)) = given ≡ Err fault
+ReadAnswer view given (Err ReadFailed) = Unit {0}
+ReadAnswer view given (Err Memory) = Unit {0}
 
 -- a value that stands there whatever the bytes are
 abbrev pub found : {A : Type 0} → A → Result A OpenFault

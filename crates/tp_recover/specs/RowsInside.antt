@@ -7,8 +7,8 @@ use Rattle.tp_model.specs.EntryBytes.{is_in_range}
 use Rattle.tp_recover.specs.declared.rows.Rows.TheInside.{Inside}
 use Rattle.tp_recover.specs.RowsRead.{Rows}
 
-abbrev pub rows_of : Inside → Rows
-rows_of r = record { form = r.form; kept = r.kept.items; places = r.places.items; base = r.base; next = r.next; least = r.least }
+abbrev pub rows_inside : Inside → Rows
+rows_inside r = record { form = r.form; kept = r.kept.items; places = r.places.items; base = r.base; next = r.next; least = r.least }
 
 -- The next number counts all entries and is one; each entry is in the range of its bytes, and has a place.
 pub record IsRows (r : Inside) : Type 0 where

@@ -4,13 +4,13 @@ ghost use Rattle.std.specs.Prelude.{◌≡◌, ◌+◌, ◌*◌, ◌^◌, ◌<�
 ghost use Rattle.tp_model.specs.DiskHistory.{Counts};
 ghost use Rattle.tp_model.specs.Device.{areas_end};
 ghost use Rattle.tp_model.specs.Opening.{choice, chosen_area};
-ghost use Rattle.tp_recover.specs.Reading.{has_read, found, Answers, IsKept, LeavesNothingNew, TakesNone};
+ghost use Rattle.tp_recover.specs.Reading.{has_read, found, ReadAnswer, LeavesAlone, LeavesNothingNew, TakesNone};
 ghost use Rattle.tp_area.specs.Fronts.{area_front};
 
 use crate::device::read_array;
 use crate::unopened::Unopened;
-use tp_disk::Disk;
 use tp_area::{AREA_FRONT_BYTES, AreaFront, area_front, area_start};
+use tp_disk::Disk;
 use tp_model::{OpenFault, TwoAreas};
 
 /// Reads the front of the area that begins at `start`.
@@ -18,9 +18,9 @@ fn read_area_front<D: Disk>(disk: &mut D, start: u64) -> Result<AreaFront, Unope
     requires { start + 9 ≤ D.size_of disk.old }
     ensures takes_none { TakesNone result }
     ensures counts { Counts (has_read result) (D.size_of disk.old) (D.size_of disk.new) (D.failures_of disk.old) (D.failures_of disk.new) }
-    ensures kept { D.keeps → IsKept result (D.state disk.old).now (D.state disk.new).now }
+    ensures kept { D.keeps → LeavesAlone result (D.state disk.old).now (D.state disk.new).now }
     ensures leaves { D.keeps → LeavesNothingNew (D.state disk.old) (D.state disk.new) }
-    ensures is { D.keeps → Answers (λ front. front) (found (area_front start (D.state disk.old).now.bytes)) result }
+    ensures is { D.keeps → ReadAnswer (λ front. front) (found (area_front start (D.state disk.old).now.bytes)) result }
 {
     let bytes: [u8; AREA_FRONT_BYTES] = read_array(disk, start)?;
     Ok(area_front(&bytes))
@@ -47,9 +47,9 @@ pub fn read_choice<D: Disk>(disk: &mut D, areas: TwoAreas) -> Result<bool, Unope
     requires counted { areas.first + areas.length < 2 ^ 64 }
     ensures takes_none { TakesNone result }
     ensures counts { Counts (has_read result) (D.size_of disk.old) (D.size_of disk.new) (D.failures_of disk.old) (D.failures_of disk.new) }
-    ensures kept { D.keeps → IsKept result (D.state disk.old).now (D.state disk.new).now }
+    ensures kept { D.keeps → LeavesAlone result (D.state disk.old).now (D.state disk.new).now }
     ensures leaves { D.keeps → LeavesNothingNew (D.state disk.old) (D.state disk.new) }
-    ensures is { D.keeps → Answers (λ second. second) (chosen_area areas (D.state disk.old).now.bytes) result }
+    ensures is { D.keeps → ReadAnswer (λ second. second) (chosen_area areas (D.state disk.old).now.bytes) result }
 {
     let first = read_area_front(disk, area_start(areas, false))?;
     let start = area_start(areas, true);

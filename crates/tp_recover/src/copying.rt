@@ -16,7 +16,7 @@
 //! the other one since, whose gate and generation aren't found in the end as opening read them.
 
 ghost use Rattle.std.specs.Prelude.{◌≡◌, ◌+◌, ◌^◌, ◌≤◌, ◌<◌, ◌↔◌, IfOk, IsTrue, OnOk};
-ghost use Rattle.tp_recover.specs.Copies.{Answers, HasStayed, IsFinished, OpensAs, closed_copy, kept_of};
+ghost use Rattle.tp_recover.specs.Copies.{CopyAnswer, HasStayed, IsFinished, OpensAs, closed_copy, area_kept};
 ghost use Rattle.tp_area.specs.Fronts.{area_front};
 ghost use Rattle.tp_area.specs.declared.front.TheConstants.{AREA_FRONT_BYTES};
 ghost use Rattle.tp_model.specs.Device.{area_start, areas_end};
@@ -26,11 +26,11 @@ ghost use Rattle.tp_recover.specs.Reading.{LeavesNothingNew};
 use crate::fault::CopyFault;
 use crate::kept::{Kept, is_kept, kept_of, lie_in};
 use crate::pieces::{copy_range, put_bytes};
-use std::alloc::Global;
-use tp_disk::Disk;
-use tp_area::{AREA_FRONT_BYTES, AreaFront, area_front, area_start};
-use tp_model::limits::{GATE_CLOSED, GATE_OPEN};
 use crate::{Opened, Unopened, open};
+use std::alloc::Global;
+use tp_area::{AREA_FRONT_BYTES, AreaFront, area_front, area_start};
+use tp_disk::Disk;
+use tp_model::limits::{GATE_CLOSED, GATE_OPEN};
 
 /// Writes all of a copy but its area's open gate.
 fn make_closed<D: Disk, K: Disk>(source: &mut D, copy: &mut K, kept: Kept) -> Result<(), CopyFault>
@@ -114,7 +114,7 @@ fn copy_kept<D: Disk, K: Disk>(
     requires inside { kept.end < area_start kept.areas kept.second + kept.areas.length }
     ensures kept { D.keeps → IfOk result (λ found. (D.state source.new).now ≡ (D.state source.old).now) }
     ensures leaves { D.keeps → LeavesNothingNew (D.state source.old) (D.state source.new) }
-    ensures is { D.keeps → K.keeps → IfOk result (Answers kept (D.state source.old).now.bytes (K.state copy.old).now (K.state copy.new).now) }
+    ensures is { D.keeps → K.keeps → IfOk result (CopyAnswer kept (D.state source.old).now.bytes (K.state copy.old).now (K.state copy.new).now) }
 {
     if !lie_in(kept.areas, source.size()) {
         return Err(CopyFault::ReadFailed);
@@ -143,7 +143,7 @@ pub fn copy_opened<D: Disk, K: Disk>(
 ) -> Result<Option<u64>, CopyFault>
     ensures kept { D.keeps → IfOk result (λ found. (D.state source.new).now ≡ (D.state source.old).now) }
     ensures leaves { D.keeps → LeavesNothingNew (D.state source.old) (D.state source.new) }
-    ensures is { D.keeps → K.keeps → IfOk result (Answers (kept_of opened) (D.state source.old).now.bytes (K.state copy.old).now (K.state copy.new).now) }
+    ensures is { D.keeps → K.keeps → IfOk result (CopyAnswer (area_kept opened) (D.state source.old).now.bytes (K.state copy.old).now (K.state copy.new).now) }
 {
     let kept = kept_of(&opened);
     drop(opened);

@@ -12,12 +12,12 @@ ghost use Rattle.tp_model.specs.Opening.{base_of, cut_in};
 ghost use Rattle.tp_model.specs.Spelling.{are_lines, IsCut};
 ghost use Rattle.tp_model.specs.Topology.{line_count};
 ghost use Rattle.tp_model.specs.declared.limits.TheConstants.{NUMBER_LIMIT};
-ghost use Rattle.tp_book.specs.PortParts.{port_of};
-ghost use Rattle.tp_recover.specs.Cuts.{cut_network, records_at};
+ghost use Rattle.tp_book.specs.PortParts.{port_made};
+ghost use Rattle.tp_recover.specs.Cuts.{network_of_cut, records_at};
 ghost use Rattle.tp_area.specs.Lines.{tokens_on};
-ghost use Rattle.tp_recover.specs.Nodes.{live, AreThawed, HaveImages};
+ghost use Rattle.tp_recover.specs.Nodes.{live_node, AreAllThawed, HaveImages};
 ghost use Rattle.tp_recover.specs.Ports.{ArePorts};
-ghost use Rattle.tp_recover.specs.Reading.{has_read, Answers, IsKept, LeavesNothingNew};
+ghost use Rattle.tp_recover.specs.Reading.{has_read, ReadAnswer, LeavesAlone, LeavesNothingNew};
 
 use crate::flights::{CutParts, flights};
 use crate::line::read_lines;
@@ -26,13 +26,13 @@ use crate::places::places_in;
 use crate::port::read_ports;
 use crate::unopened::Unopened;
 use std::alloc::{AllocError, Global};
-use tp_disk::Disk;
 use tp_area::{Head, LineTokens, Places};
+use tp_book::PortParts;
+use tp_disk::Disk;
 use tp_model::limits::{LINE_BYTES, MAX_NODES, MAX_PORTS, PORT_BYTES};
 use tp_model::{OpenFault, Token, WireEnd};
 use tp_net::MAX_LINES;
 use tp_node::Node;
-use tp_book::PortParts;
 
 /// A network as a snapshot cut it: its nodes, the tokens on each line, and its ports.
 #[derive(Drop)]
@@ -84,15 +84,15 @@ fn read_records<D: Disk>(
     requires inside { places.ports + PORT_BYTES * ports ≤ D.size_of disk.old }
     requires counted { places.ports + PORT_BYTES * ports < 2 ^ 64 }
     ensures counts { Counts (has_read result) (D.size_of disk.old) (D.size_of disk.new) (D.failures_of disk.old) (D.failures_of disk.new) }
-    ensures kept { D.keeps → IsKept result (D.state disk.old).now (D.state disk.new).now }
+    ensures kept { D.keeps → LeavesAlone result (D.state disk.old).now (D.state disk.new).now }
     ensures leaves { D.keeps → LeavesNothingNew (D.state disk.old) (D.state disk.new) }
     ensures nodes { IfOk result (λ cut. length cut.nodes.items ≡ length pages.now) }
     ensures ports { IfOk result (λ cut. length cut.ports.items ≡ ports) }
-    ensures thawed { IfOk result (λ cut. AreThawed cut.nodes.items) }
-    ensures images { IfOk result (λ cut. HaveImages pages.now (map live cut.nodes.items)) }
+    ensures thawed { IfOk result (λ cut. AreAllThawed cut.nodes.items) }
+    ensures images { IfOk result (λ cut. HaveImages pages.now (map live_node cut.nodes.items)) }
     ensures lines { IfOk result (λ cut. are_lines wires.now (map (λ line. line.items) cut.lines.items) ≡ true) }
-    ensures reached { IfOk result (λ cut. ArePorts base (map port_of cut.ports.items)) }
-    ensures is { D.keeps → Answers (cut_network wires.now) (records_at pages.now wires.now ports base places (D.state disk.old).now.bytes) result }
+    ensures reached { IfOk result (λ cut. ArePorts base (map port_made cut.ports.items)) }
+    ensures is { D.keeps → ReadAnswer (network_of_cut wires.now) (records_at pages.now wires.now ports base places (D.state disk.old).now.bytes) result }
 {
     let nodes = read_nodes(alloc, disk, places.nodes, pages)?;
     let found = read_lines(alloc, disk, places.lines, wires)?;
@@ -113,7 +113,7 @@ fn check_flights(wires: &[Option<WireEnd>], cut: &Cut, at: u64) -> Result<(), Op
     requires few_ports { length cut.now.ports.items ≤ MAX_PORTS }
     requires wired { length wires.now ≡ 4 * length cut.now.nodes.items + length cut.now.ports.items }
     requires fits { at + LINE_BYTES * length wires.now < 2 ^ 64 }
-    ensures { result ≡ flights_in t414_ends (cut_network wires.now cut.now) at 0 (length wires.now) }
+    ensures { result ≡ flights_in t414_ends (network_of_cut wires.now cut.now) at 0 (length wires.now) }
 {
     let parts = CutParts {
         wires,
@@ -136,16 +136,16 @@ pub fn read_cut<D: Disk>(
 ) -> Result<Cut, Unopened>
     requires { areas_end head.now.areas ≤ D.size_of disk.old }
     ensures counts { Counts (has_read result) (D.size_of disk.old) (D.size_of disk.new) (D.failures_of disk.old) (D.failures_of disk.new) }
-    ensures kept { D.keeps → IsKept result (D.state disk.old).now (D.state disk.new).now }
+    ensures kept { D.keeps → LeavesAlone result (D.state disk.old).now (D.state disk.new).now }
     ensures leaves { D.keeps → LeavesNothingNew (D.state disk.old) (D.state disk.new) }
     ensures nodes { IfOk result (λ cut. length cut.nodes.items ≡ length head.now.topology.pages) }
     ensures ports { IfOk result (λ cut. length cut.ports.items ≡ head.now.topology.ports) }
-    ensures sound { IfOk result (λ cut. (at : ℕ) × (flights_in t414_ends (cut_network head.now.topology.wires cut) at 0 (line_count head.now.topology) ≡ Ok tt)) }
-    ensures cut { base < NUMBER_LIMIT → IfOk result (λ cut. IsCut t414_ends head.now.topology base (cut_network head.now.topology.wires cut)) }
-    ensures images { IfOk result (λ cut. AllByRecursion IsNodeOfBytes (map live cut.nodes.items)) }
-    ensures thawed { IfOk result (λ cut. AreThawed cut.nodes.items) }
+    ensures sound { IfOk result (λ cut. (at : ℕ) × (flights_in t414_ends (network_of_cut head.now.topology.wires cut) at 0 (line_count head.now.topology) ≡ Ok tt)) }
+    ensures cut { base < NUMBER_LIMIT → IfOk result (λ cut. IsCut t414_ends head.now.topology base (network_of_cut head.now.topology.wires cut)) }
+    ensures images { IfOk result (λ cut. AllByRecursion IsNodeOfBytes (map live_node cut.nodes.items)) }
+    ensures thawed { IfOk result (λ cut. AreAllThawed cut.nodes.items) }
     ensures is { D.keeps → base ≡ base_of (content_of head.now.areas second (D.state disk.old).now.bytes)
-        → Answers (cut_network head.now.topology.wires) (cut_in t414_ends head.now.topology (area_start head.now.areas second + 1) (content_of head.now.areas second (D.state disk.old).now.bytes)) result }
+        → ReadAnswer (network_of_cut head.now.topology.wires) (cut_in t414_ends head.now.topology (area_start head.now.areas second + 1) (content_of head.now.areas second (D.state disk.old).now.bytes)) result }
 {
     let topology = head.topology();
     let places = places_in(head, second);

@@ -2,7 +2,7 @@
 
 ghost use Rattle.std.specs.Prelude.{◌≡◌, ◌+◌, ◌≤◌, length, take, drop, IfOk, OnOk};
 ghost use Rattle.tp_model.specs.DiskHistory.{Counts};
-ghost use Rattle.tp_recover.specs.Reading.{has_read, found, Answers, IsKept, LeavesNothingNew, TakesNone};
+ghost use Rattle.tp_recover.specs.Reading.{has_read, found, ReadAnswer, LeavesAlone, LeavesNothingNew, TakesNone};
 
 use crate::unopened::Unopened;
 use std::alloc::Global;
@@ -16,9 +16,9 @@ pub(crate) fn read_array<D: Disk, const N: usize>(
     requires { at + N ≤ D.size_of disk.old }
     ensures takes_none { TakesNone result }
     ensures counts { Counts (has_read result) (D.size_of disk.old) (D.size_of disk.new) (D.failures_of disk.old) (D.failures_of disk.new) }
-    ensures kept { D.keeps → IsKept result (D.state disk.old).now (D.state disk.new).now }
+    ensures kept { D.keeps → LeavesAlone result (D.state disk.old).now (D.state disk.new).now }
     ensures leaves { D.keeps → LeavesNothingNew (D.state disk.old) (D.state disk.new) }
-    ensures bytes { D.keeps → Answers (λ bytes. bytes) (found (take N (drop at (D.state disk.old).now.bytes))) result }
+    ensures bytes { D.keeps → ReadAnswer (λ bytes. bytes) (found (take N (drop at (D.state disk.old).now.bytes))) result }
 {
     let mut bytes = [0; N];
     match disk.read(at, &mut bytes) {
@@ -36,10 +36,10 @@ pub(crate) fn read_over<D: Disk>(
 ) -> Result<(), Unopened>
     requires { at + count ≤ D.size_of disk.old }
     ensures counts { Counts (has_read result) (D.size_of disk.old) (D.size_of disk.new) (D.failures_of disk.old) (D.failures_of disk.new) }
-    ensures kept { D.keeps → IsKept result (D.state disk.old).now (D.state disk.new).now }
+    ensures kept { D.keeps → LeavesAlone result (D.state disk.old).now (D.state disk.new).now }
     ensures leaves { D.keeps → LeavesNothingNew (D.state disk.old) (D.state disk.new) }
     ensures len { OnOk result (length bytes.new.items ≡ count) }
-    ensures bytes { D.keeps → Answers (λ done. bytes.new.items) (found (take count (drop at (D.state disk.old).now.bytes))) result }
+    ensures bytes { D.keeps → ReadAnswer (λ done. bytes.new.items) (found (take count (drop at (D.state disk.old).now.bytes))) result }
 {
     if bytes.resize(count, 0).is_err() {
         return Err(Unopened::Memory);
@@ -59,10 +59,10 @@ pub(crate) fn read_bytes<D: Disk>(
 ) -> Result<Vec<u8>, Unopened>
     requires { at + count ≤ D.size_of disk.old }
     ensures counts { Counts (has_read result) (D.size_of disk.old) (D.size_of disk.new) (D.failures_of disk.old) (D.failures_of disk.new) }
-    ensures kept { D.keeps → IsKept result (D.state disk.old).now (D.state disk.new).now }
+    ensures kept { D.keeps → LeavesAlone result (D.state disk.old).now (D.state disk.new).now }
     ensures leaves { D.keeps → LeavesNothingNew (D.state disk.old) (D.state disk.new) }
     ensures len { IfOk result (λ bytes. length bytes.items ≡ count) }
-    ensures bytes { D.keeps → Answers (λ bytes. bytes.items) (found (take count (drop at (D.state disk.old).now.bytes))) result }
+    ensures bytes { D.keeps → ReadAnswer (λ bytes. bytes.items) (found (take count (drop at (D.state disk.old).now.bytes))) result }
 {
     let mut bytes = Vec::new(alloc);
     match read_over(disk, at, count, &mut bytes) {

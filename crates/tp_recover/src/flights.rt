@@ -5,13 +5,13 @@ ghost use Rattle.tp_model.specs.Network.{back, on_line};
 ghost use Rattle.tp_model.specs.Node.{t414_ends};
 ghost use Rattle.tp_model.specs.Sound.{datas, acks, end_waits, end_holds};
 ghost use Rattle.tp_model.specs.Flight.{is_in_one_place, flights_in};
-ghost use Rattle.tp_recover.specs.Parts.{network_in};
+ghost use Rattle.tp_recover.specs.Parts.{network_of_parts};
 
+use tp_book::PortParts;
 use tp_model::limits::{LINE_BYTES, MAX_NODES, MAX_PORTS};
 use tp_model::{OpenFault, Token, WireEnd};
 use tp_net::port_line;
 use tp_node::Node;
-use tp_book::PortParts;
 
 /// How many of the tokens are Data.
 fn datas(tokens: &[Token]) -> usize
@@ -52,7 +52,7 @@ pub(crate) struct CutParts<'a> {
 fn end_waits(parts: CutParts<'_>, line: usize) -> bool
     requires few { length parts.nodes.now ≤ MAX_NODES }
     requires there { line < 4 * length parts.nodes.now + length parts.ports.now }
-    ensures { result ≡ end_waits t414_ends (network_in parts.entry) line }
+    ensures { result ≡ end_waits t414_ends (network_of_parts parts.entry) line }
 {
     let links = port_line(parts.nodes.len(), 0);
     if line < links {
@@ -65,7 +65,7 @@ fn end_waits(parts: CutParts<'_>, line: usize) -> bool
 /// Whether the end that sends a line holds a byte that came in.
 fn end_holds(parts: CutParts<'_>, line: usize) -> bool
     requires few { length parts.nodes.now ≤ MAX_NODES }
-    ensures { result ≡ end_holds t414_ends (network_in parts.entry) line }
+    ensures { result ≡ end_holds t414_ends (network_of_parts parts.entry) line }
 {
     let links = port_line(parts.nodes.len(), 0);
     if line < links {
@@ -77,7 +77,7 @@ fn end_holds(parts: CutParts<'_>, line: usize) -> bool
 
 /// The tokens on a line.
 fn on_line<'a>(parts: CutParts<'a>, line: usize) -> &'a [Token]
-    ensures { result.now ≡ on_line (network_in parts.entry).lines line }
+    ensures { result.now ≡ on_line (network_of_parts parts.entry).lines line }
 {
     match parts.lines.get(line) {
         Some(tokens) => tokens.as_slice(),
@@ -88,7 +88,7 @@ fn on_line<'a>(parts: CutParts<'a>, line: usize) -> &'a [Token]
 /// The line that comes back on the wire of line `line`.
 fn back(parts: CutParts<'_>, line: usize) -> Option<usize>
     requires { length parts.nodes.now ≤ MAX_NODES }
-    ensures { result ≡ back (network_in parts.entry) line }
+    ensures { result ≡ back (network_of_parts parts.entry) line }
 {
     tp_net::back(parts.wires, parts.nodes.len(), line)
 }
@@ -98,7 +98,7 @@ fn is_in_one_place(parts: CutParts<'_>, line: usize) -> bool
     requires few { length parts.nodes.now ≤ MAX_NODES }
     requires wired { length parts.wires.now ≡ 4 * length parts.nodes.now + length parts.ports.now }
     requires there { line < length parts.wires.now }
-    ensures { result ≡ is_in_one_place t414_ends (network_in parts.entry) line (back (network_in parts.entry) line) }
+    ensures { result ≡ is_in_one_place t414_ends (network_of_parts parts.entry) line (back (network_of_parts parts.entry) line) }
 {
     let Some(other) = back(parts, line) else {
         return !end_holds(parts, line);
@@ -115,7 +115,7 @@ pub(crate) fn flights(parts: CutParts<'_>, at: u64) -> Result<(), OpenFault>
     requires few_ports { length parts.ports.now ≤ MAX_PORTS }
     requires wired { length parts.wires.now ≡ 4 * length parts.nodes.now + length parts.ports.now }
     requires fits { at + LINE_BYTES * length parts.wires.now < 2 ^ 64 }
-    ensures { result ≡ flights_in t414_ends (network_in parts.entry) at 0 (length parts.entry.wires.now) }
+    ensures { result ≡ flights_in t414_ends (network_of_parts parts.entry) at 0 (length parts.entry.wires.now) }
 {
     for line in 0..parts.wires.len() {
         if !is_in_one_place(parts, line) {

@@ -4,12 +4,12 @@ ghost use Rattle.std.specs.Prelude.{◌≡◌, ◌+◌, ◌*◌, ◌≤◌, ◌<
 ghost use Rattle.tp_model.specs.Device.{area_start, areas_end, content_of};
 ghost use Rattle.tp_model.specs.DiskHistory.{Counts};
 ghost use Rattle.tp_area.specs.Fronts.{front_given};
-ghost use Rattle.tp_recover.specs.Reading.{has_read, Answers, IsKept, LeavesNothingNew, TakesNone};
+ghost use Rattle.tp_recover.specs.Reading.{has_read, ReadAnswer, LeavesAlone, LeavesNothingNew, TakesNone};
 
 use crate::device::read_array;
 use crate::unopened::Unopened;
-use tp_disk::Disk;
 use tp_area::{CutFront, FIELDS_BYTES, Head, area_start, cut_front, cut_length};
+use tp_disk::Disk;
 use tp_model::limits::NUMBER_LIMIT;
 
 /// Reads the fields in front of an area's node images.
@@ -17,11 +17,11 @@ pub fn read_front<D: Disk>(disk: &mut D, head: &Head, second: bool) -> Result<Cu
     requires { areas_end head.now.areas ≤ D.size_of disk.old }
     ensures takes_none { TakesNone result }
     ensures counts { Counts (has_read result) (D.size_of disk.old) (D.size_of disk.new) (D.failures_of disk.old) (D.failures_of disk.new) }
-    ensures kept { D.keeps → IsKept result (D.state disk.old).now (D.state disk.new).now }
+    ensures kept { D.keeps → LeavesAlone result (D.state disk.old).now (D.state disk.new).now }
     ensures leaves { D.keeps → LeavesNothingNew (D.state disk.old) (D.state disk.new) }
     ensures few { IfOk result (λ front. front.base < NUMBER_LIMIT) }
     ensures age { IfOk result (λ front. front.generation < NUMBER_LIMIT) }
-    ensures is { D.keeps → Answers (λ front. front) (front_given head.now.topology (area_start head.now.areas second) (content_of head.now.areas second (D.state disk.old).now.bytes)) result }
+    ensures is { D.keeps → ReadAnswer (λ front. front) (front_given head.now.topology (area_start head.now.areas second) (content_of head.now.areas second (D.state disk.old).now.bytes)) result }
 {
     let wanted = cut_length(head.topology());
     let start = area_start(head.areas(), second);

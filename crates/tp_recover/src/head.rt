@@ -6,12 +6,12 @@ ghost use Rattle.tp_model.specs.Device.{areas_end};
 ghost use Rattle.tp_model.specs.Head.{head_length, head_of};
 ghost use Rattle.tp_model.specs.DiskHistory.{Counts};
 ghost use Rattle.tp_model.specs.declared.head.HeadVersion.TheVariants.{Wide};
-ghost use Rattle.tp_recover.specs.Reading.{has_read, Answers, IsKept, LeavesNothingNew, TakesNone};
+ghost use Rattle.tp_recover.specs.Reading.{has_read, ReadAnswer, LeavesAlone, LeavesNothingNew, TakesNone};
 
 use crate::device::read_array;
 use crate::unopened::Unopened;
-use tp_disk::Disk;
 use tp_area::{Head, head_in, head_version};
+use tp_disk::Disk;
 use tp_model::limits::{NARROW_HEAD_BYTES, WIDE_HEAD_BYTES};
 use tp_model::{HeadVersion, OpenFault};
 
@@ -21,7 +21,7 @@ fn decoded(version: HeadVersion, bytes: &[u8], len: u64) -> Result<Head, Unopene
     ensures takes_none { TakesNone result }
     ensures read { has_read result ≡ true }
     ensures inside { IfOk result (λ head. areas_end head.areas ≤ len) }
-    ensures is { Answers (λ head. head) (head_in version len bytes.now) result }
+    ensures is { ReadAnswer (λ head. head) (head_in version len bytes.now) result }
 {
     match head_in(version, bytes, len) {
         Ok(head) => Ok(head),
@@ -35,10 +35,10 @@ fn read_wide<D: Disk>(disk: &mut D, len: u64) -> Result<Head, Unopened>
     requires some { NARROW_HEAD_BYTES ≤ len }
     ensures takes_none { TakesNone result }
     ensures counts { Counts (has_read result) (D.size_of disk.old) (D.size_of disk.new) (D.failures_of disk.old) (D.failures_of disk.new) }
-    ensures kept { D.keeps → IsKept result (D.state disk.old).now (D.state disk.new).now }
+    ensures kept { D.keeps → LeavesAlone result (D.state disk.old).now (D.state disk.new).now }
     ensures leaves { D.keeps → LeavesNothingNew (D.state disk.old) (D.state disk.new) }
     ensures inside { IfOk result (λ head. areas_end head.areas ≤ len) }
-    ensures is { D.keeps → version_in (take NARROW_HEAD_BYTES (D.state disk.old).now.bytes) ≡ Ok Wide → Answers (λ head. head) (head_of (D.state disk.old).now.bytes) result }
+    ensures is { D.keeps → version_in (take NARROW_HEAD_BYTES (D.state disk.old).now.bytes) ≡ Ok Wide → ReadAnswer (λ head. head) (head_of (D.state disk.old).now.bytes) result }
 {
     if len < WIDE_HEAD_BYTES as u64 {
         return Err(Unopened::Fault(OpenFault::Damaged(0)));
@@ -51,11 +51,11 @@ fn read_wide<D: Disk>(disk: &mut D, len: u64) -> Result<Head, Unopened>
 pub fn read_head<D: Disk>(disk: &mut D) -> Result<Head, Unopened>
     ensures takes_none { TakesNone result }
     ensures counts { Counts (has_read result) (D.size_of disk.old) (D.size_of disk.new) (D.failures_of disk.old) (D.failures_of disk.new) }
-    ensures kept { D.keeps → IsKept result (D.state disk.old).now (D.state disk.new).now }
+    ensures kept { D.keeps → LeavesAlone result (D.state disk.old).now (D.state disk.new).now }
     ensures leaves { D.keeps → LeavesNothingNew (D.state disk.old) (D.state disk.new) }
     ensures inside { IfOk result (λ head. areas_end head.areas ≤ D.size_of disk.old) }
     ensures counted { IfOk result (λ head. D.size_of disk.old < 2 ^ 64) }
-    ensures is { D.keeps → Answers (λ head. head) (head_of (D.state disk.old).now.bytes) result }
+    ensures is { D.keeps → ReadAnswer (λ head. head) (head_of (D.state disk.old).now.bytes) result }
 {
     let len = disk.size();
     if len < NARROW_HEAD_BYTES as u64 {

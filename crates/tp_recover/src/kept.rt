@@ -1,12 +1,12 @@
 //! What of a device is copied.
 
 ghost use Rattle.std.specs.Prelude.{◌≡◌, ◌+◌, ◌≤◌, ◌<◌, IsTrue, ◌↔◌};
-ghost use Rattle.tp_recover.specs.Copies.{kept_of};
+ghost use Rattle.tp_recover.specs.Copies.{area_kept};
 ghost use Rattle.tp_model.specs.Device.{area_start, areas_end};
 ghost use Rattle.tp_model.specs.declared.limits.TheConstants.{AREA_HEAD_BYTES};
 
-use tp_model::{Form, TwoAreas};
 use crate::Opened;
+use tp_model::{Form, TwoAreas};
 
 /// What of an opened device is copied: where the areas are, whether the second one is open, its generation and its form, where the closed
 /// gate behind its groups stands, and the number of the next entry.
@@ -44,7 +44,7 @@ pub(crate) fn is_kept(one: Kept, other: Kept) -> bool
 
 /// What of an opened device is copied.
 pub(crate) fn kept_of(opened: &Opened) -> Kept
-    ensures value { result ≡ kept_of opened.now }
+    ensures value { result ≡ area_kept opened.now }
     ensures behind { area_start result.areas result.second + AREA_HEAD_BYTES ≤ result.end }
     ensures inside { result.end < area_start result.areas result.second + result.areas.length }
 {

@@ -7,13 +7,13 @@ ghost use Rattle.tp_model.specs.Spelling.{are_lines};
 ghost use Rattle.tp_model.specs.declared.opening.OpenFault.{OpenFault};
 ghost use Rattle.tp_recover.specs.declared.unopened.Unopened.{Unopened};
 ghost use Rattle.tp_area.specs.Lines.{tokens_on};
-ghost use Rattle.tp_recover.specs.Reading.{has_read, Answers, IsKept, LeavesNothingNew};
+ghost use Rattle.tp_recover.specs.Reading.{has_read, ReadAnswer, LeavesAlone, LeavesNothingNew};
 
 use crate::device::read_bytes;
 use crate::unopened::Unopened;
 use std::alloc::Global;
-use tp_disk::Disk;
 use tp_area::{LineTokens, line_in};
+use tp_disk::Disk;
 use tp_model::limits::LINE_BYTES;
 use tp_model::{OpenFault, WireEnd};
 use tp_net::MAX_LINES;
@@ -29,7 +29,7 @@ pub(crate) fn lines_in(
     requires there { at + LINE_BYTES * length wires.now < 2 ^ 64 }
     ensures read { has_read result ≡ true }
     ensures lines { IfOk result (λ lines. are_lines wires.now (map tokens_on lines.items) ≡ true) }
-    ensures is { Answers (λ lines. map tokens_on lines.items) (lines_in at wires.now bytes.now) result }
+    ensures is { ReadAnswer (λ lines. map tokens_on lines.items) (lines_in at wires.now bytes.now) result }
 {
     let mut lines = Vec::new(alloc);
     let mut rest = bytes;
@@ -65,10 +65,10 @@ pub(crate) fn read_lines<D: Disk>(
     requires inside { at + LINE_BYTES * length wires.now ≤ D.size_of disk.old }
     requires counted { at + LINE_BYTES * length wires.now < 2 ^ 64 }
     ensures counts { Counts (has_read result) (D.size_of disk.old) (D.size_of disk.new) (D.failures_of disk.old) (D.failures_of disk.new) }
-    ensures kept { D.keeps → IsKept result (D.state disk.old).now (D.state disk.new).now }
+    ensures kept { D.keeps → LeavesAlone result (D.state disk.old).now (D.state disk.new).now }
     ensures leaves { D.keeps → LeavesNothingNew (D.state disk.old) (D.state disk.new) }
     ensures lines { IfOk result (λ lines. are_lines wires.now (map tokens_on lines.items) ≡ true) }
-    ensures is { D.keeps → Answers (λ lines. map tokens_on lines.items) (lines_in at wires.now (drop at (D.state disk.old).now.bytes)) result }
+    ensures is { D.keeps → ReadAnswer (λ lines. map tokens_on lines.items) (lines_in at wires.now (drop at (D.state disk.old).now.bytes)) result }
 {
     let bytes = read_bytes(alloc, disk, at, LINE_BYTES * wires.len())?;
     lines_in(alloc, at, wires, &bytes)

@@ -4,14 +4,14 @@ ghost use Rattle.std.specs.Prelude.{◌≡◌, ◌+◌, ◌≤◌, ◌<◌, ◌^
 ghost use Rattle.tp_model.specs.CutImage.{node_with, nodes_in, or_damaged};
 ghost use Rattle.tp_model.specs.DiskHistory.{Counts};
 ghost use Rattle.tp_model.specs.Journal.{image_length};
-ghost use Rattle.tp_recover.specs.Nodes.{live, AreThawed, HasImage, HaveImages};
-ghost use Rattle.tp_recover.specs.Reading.{has_read, Answers, IsKept, LeavesNothingNew};
+ghost use Rattle.tp_recover.specs.Nodes.{live_node, AreAllThawed, HasImage, HaveImages};
+ghost use Rattle.tp_recover.specs.Reading.{has_read, ReadAnswer, LeavesAlone, LeavesNothingNew};
 
 use crate::device::read_over;
 use crate::unopened::Unopened;
 use std::alloc::Global;
-use tp_disk::Disk;
 use tp_area::image_length;
+use tp_disk::Disk;
 use tp_model::OpenFault;
 use tp_node::{ImageFault, Node};
 
@@ -22,7 +22,7 @@ fn node_in(alloc: Global, at: u64, pages: u16, bytes: &[u8]) -> Result<Node, Uno
     ensures read { has_read result ≡ true }
     ensures thawed { IfOk result (λ node. node.frozen ≡ None) }
     ensures image { IfOk result (λ node. HasImage pages node.live) }
-    ensures is { Answers live (or_damaged at (node_with pages bytes.now)) result }
+    ensures is { ReadAnswer live_node (or_damaged at (node_with pages bytes.now)) result }
 {
     match Node::from_image(alloc, bytes, 0) {
         Ok(node) => Ok(node),
@@ -41,11 +41,11 @@ fn read_node<D: Disk>(
 ) -> Result<Node, Unopened>
     requires { at + image_length pages ≤ D.size_of disk.old }
     ensures counts { Counts (has_read result) (D.size_of disk.old) (D.size_of disk.new) (D.failures_of disk.old) (D.failures_of disk.new) }
-    ensures kept { D.keeps → IsKept result (D.state disk.old).now (D.state disk.new).now }
+    ensures kept { D.keeps → LeavesAlone result (D.state disk.old).now (D.state disk.new).now }
     ensures leaves { D.keeps → LeavesNothingNew (D.state disk.old) (D.state disk.new) }
     ensures thawed { IfOk result (λ node. node.frozen ≡ None) }
     ensures image { IfOk result (λ node. HasImage pages node.live) }
-    ensures is { D.keeps → Answers live (or_damaged at (node_with pages (drop at (D.state disk.old).now.bytes))) result }
+    ensures is { D.keeps → ReadAnswer live_node (or_damaged at (node_with pages (drop at (D.state disk.old).now.bytes))) result }
 {
     match read_over(disk, at, image_length(pages), buffer) {
         Ok(()) => node_in(alloc, at, pages, buffer),
@@ -63,12 +63,12 @@ pub(crate) fn read_nodes<D: Disk>(
     requires inside { at + sum_by image_length pages.now ≤ D.size_of disk.old }
     requires counted { at + sum_by image_length pages.now < 2 ^ 64 }
     ensures counts { Counts (has_read result) (D.size_of disk.old) (D.size_of disk.new) (D.failures_of disk.old) (D.failures_of disk.new) }
-    ensures kept { D.keeps → IsKept result (D.state disk.old).now (D.state disk.new).now }
+    ensures kept { D.keeps → LeavesAlone result (D.state disk.old).now (D.state disk.new).now }
     ensures leaves { D.keeps → LeavesNothingNew (D.state disk.old) (D.state disk.new) }
     ensures len { IfOk result (λ nodes. length nodes.items ≡ length pages.now) }
-    ensures thawed { IfOk result (λ nodes. AreThawed nodes.items) }
-    ensures images { IfOk result (λ nodes. HaveImages pages.now (map live nodes.items)) }
-    ensures is { D.keeps → Answers (λ nodes. map live nodes.items) (nodes_in at pages.now (drop at (D.state disk.old).now.bytes)) result }
+    ensures thawed { IfOk result (λ nodes. AreAllThawed nodes.items) }
+    ensures images { IfOk result (λ nodes. HaveImages pages.now (map live_node nodes.items)) }
+    ensures is { D.keeps → ReadAnswer (λ nodes. map live_node nodes.items) (nodes_in at pages.now (drop at (D.state disk.old).now.bytes)) result }
 {
     let mut nodes = Vec::new(alloc);
     let mut buffer = Vec::new(alloc);

@@ -6,7 +6,7 @@ ghost use Rattle.tp_model.specs.Disk.{Sync, done};
 ghost use Rattle.tp_model.specs.DiskHistory.{Counts};
 ghost use Rattle.tp_model.specs.Node.{t414, t414_ends};
 ghost use Rattle.tp_model.specs.Opening.{area_in, verdict};
-ghost use Rattle.tp_recover.specs.Reading.{has_read, Answers, IsKept, LeavesNothingNew};
+ghost use Rattle.tp_recover.specs.Reading.{has_read, ReadAnswer, LeavesAlone, LeavesNothingNew};
 
 use crate::opening::{Opened, read_chosen};
 use crate::played::play_rows;
@@ -15,9 +15,9 @@ use crate::taken::{Taken, read_taken};
 use crate::unopened::Unopened;
 use std::alloc::Global;
 use std::thread::Threads;
+use tp_area::Head;
 use tp_disk::Disk;
 use tp_gate::Gate;
-use tp_area::Head;
 
 /// Opens the device with `head`, as `open_area` does, by the pieces of its network. Its second area is taken where `second` holds,
 /// else its first.
@@ -33,10 +33,10 @@ fn open_apart<D: Disk, R: Threads + Sync, G: Gate + Sync>(
     requires some { 0 < workers }
     requires inside { areas_end head.areas ≤ D.size_of disk.old }
     ensures counts { Counts (has_read result) (D.size_of disk.old) (D.size_of disk.new) (D.failures_of disk.old) (D.failures_of disk.new) }
-    ensures kept { D.keeps → IsKept result (D.state disk.old).now (D.state disk.new).now }
+    ensures kept { D.keeps → LeavesAlone result (D.state disk.old).now (D.state disk.new).now }
     ensures leaves { D.keeps → LeavesNothingNew (D.state disk.old) (D.state disk.new) }
     ensures head { IfOk result (λ opened. opened.head ≡ head) }
-    ensures is { D.keeps → Answers (λ opened. opened) (area_in t414 t414_ends head second (content_of head.areas second (D.state disk.old).now.bytes)) result }
+    ensures is { D.keeps → ReadAnswer (λ opened. opened) (area_in t414 t414_ends head second (content_of head.areas second (D.state disk.old).now.bytes)) result }
 {
     let Taken { start, rows, end } = read_taken(alloc, disk, &head, second)?;
     let Start { front, cut, replay } = start;
@@ -70,11 +70,11 @@ pub fn open_parallel<D: Disk, R: Threads + Sync, G: Gate + Sync>(
 ) -> Result<Opened, Unopened>
     requires { (1 ≤ workers) × (workers ≤ 64) }
     ensures counts { Counts (has_read result) (D.size_of disk.old) (D.size_of disk.new) (D.failures_of disk.old) (D.failures_of disk.new) }
-    ensures kept { D.keeps → IsKept result (done Sync (D.state disk.old).now) (D.state disk.new).now }
+    ensures kept { D.keeps → LeavesAlone result (done Sync (D.state disk.old).now) (D.state disk.new).now }
     ensures leaves { D.keeps → LeavesNothingNew (D.state disk.old) (D.state disk.new) }
     ensures whole { IfOk result (λ opened. areas_end opened.head.areas ≤ D.size_of disk.old) }
     ensures counted { IfOk result (λ opened. D.size_of disk.old < 2 ^ 64) }
-    ensures is { D.keeps → Answers (λ opened. opened) (verdict (D.state disk.old).now.bytes) result }
+    ensures is { D.keeps → ReadAnswer (λ opened. opened) (verdict (D.state disk.old).now.bytes) result }
 {
     let (head, second) = read_chosen(disk)?;
     open_apart(alloc, disk, head, second, workers, gate, rt)

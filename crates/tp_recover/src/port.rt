@@ -1,21 +1,21 @@
 //! The ports of a cut.
 
 ghost use Rattle.std.specs.Prelude.{◌≡◌, true, ◌*◌, ◌+◌, ◌≤◌, ◌<◌, ◌^◌, IfOk, map, length, drop};
-ghost use Rattle.tp_book.specs.PortParts.{port_of};
-ghost use Rattle.tp_area.specs.Ports.{port_of as record_of};
+ghost use Rattle.tp_book.specs.PortParts.{port_made};
+ghost use Rattle.tp_area.specs.Ports.{port_said as record_of};
 ghost use Rattle.tp_model.specs.CutImage.{is_port_of, or_damaged, port_with, ports_in};
 ghost use Rattle.tp_model.specs.DiskHistory.{Counts};
 ghost use Rattle.tp_recover.specs.Ports.{ArePorts};
-ghost use Rattle.tp_recover.specs.Reading.{has_read, Answers, IsKept, LeavesNothingNew};
+ghost use Rattle.tp_recover.specs.Reading.{has_read, ReadAnswer, LeavesAlone, LeavesNothingNew};
 
 use crate::device::read_bytes;
 use crate::unopened::Unopened;
 use std::alloc::{AllocError, Global};
-use tp_disk::Disk;
 use tp_area::{PortRecord, port_in};
+use tp_book::PortParts;
+use tp_disk::Disk;
 use tp_model::OpenFault;
 use tp_model::limits::PORT_BYTES;
-use tp_book::PortParts;
 
 /// A copy of bytes.
 fn copied(alloc: Global, bytes: &[u8]) -> Result<Vec<u8>, AllocError>
@@ -28,7 +28,7 @@ fn copied(alloc: Global, bytes: &[u8]) -> Result<Vec<u8>, AllocError>
 
 /// The parts of the port that a record says.
 fn parts_of(alloc: Global, port: PortRecord<'_>) -> Result<PortParts, AllocError>
-    ensures { IfOk result (λ parts. port_of parts ≡ record_of port.entry) }
+    ensures { IfOk result (λ parts. port_made parts ≡ record_of port.entry) }
 {
     Ok(PortParts {
         pending: copied(alloc, port.pending)?,
@@ -47,10 +47,10 @@ fn read_port<D: Disk>(
 ) -> Result<PortParts, Unopened>
     requires { at + PORT_BYTES ≤ D.size_of disk.old }
     ensures counts { Counts (has_read result) (D.size_of disk.old) (D.size_of disk.new) (D.failures_of disk.old) (D.failures_of disk.new) }
-    ensures kept { D.keeps → IsKept result (D.state disk.old).now (D.state disk.new).now }
+    ensures kept { D.keeps → LeavesAlone result (D.state disk.old).now (D.state disk.new).now }
     ensures leaves { D.keeps → LeavesNothingNew (D.state disk.old) (D.state disk.new) }
-    ensures port { IfOk result (λ port. is_port_of base (port_of port) ≡ true) }
-    ensures is { D.keeps → Answers port_of (or_damaged at (port_with base (drop at (D.state disk.old).now.bytes))) result }
+    ensures port { IfOk result (λ port. is_port_of base (port_made port) ≡ true) }
+    ensures is { D.keeps → ReadAnswer port_made (or_damaged at (port_with base (drop at (D.state disk.old).now.bytes))) result }
 {
     let bytes = read_bytes(alloc, disk, at, PORT_BYTES)?;
     let Some(port) = port_in(base, &bytes) else {
@@ -73,11 +73,11 @@ pub(crate) fn read_ports<D: Disk>(
     requires inside { at + PORT_BYTES * count ≤ D.size_of disk.old }
     requires counted { at + PORT_BYTES * count < 2 ^ 64 }
     ensures counts { Counts (has_read result) (D.size_of disk.old) (D.size_of disk.new) (D.failures_of disk.old) (D.failures_of disk.new) }
-    ensures kept { D.keeps → IsKept result (D.state disk.old).now (D.state disk.new).now }
+    ensures kept { D.keeps → LeavesAlone result (D.state disk.old).now (D.state disk.new).now }
     ensures leaves { D.keeps → LeavesNothingNew (D.state disk.old) (D.state disk.new) }
     ensures len { IfOk result (λ ports. length ports.items ≡ count) }
-    ensures ports { IfOk result (λ ports. ArePorts base (map port_of ports.items)) }
-    ensures is { D.keeps → Answers (λ ports. map port_of ports.items) (ports_in base at count (drop at (D.state disk.old).now.bytes)) result }
+    ensures ports { IfOk result (λ ports. ArePorts base (map port_made ports.items)) }
+    ensures is { D.keeps → ReadAnswer (λ ports. map port_made ports.items) (ports_in base at count (drop at (D.state disk.old).now.bytes)) result }
 {
     let mut ports = Vec::new(alloc);
     for port in 0..count {

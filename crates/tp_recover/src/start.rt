@@ -1,14 +1,14 @@
 //! The network of a cut, before the entries behind it are replayed.
 
 ghost use Rattle.std.specs.Prelude.{◌≡◌, ◌+◌, ◌*◌, ◌≤◌, All, IfOk, vec_len};
-ghost use Rattle.tp_book.specs.PortParts.{port_of};
+ghost use Rattle.tp_book.specs.PortParts.{port_made};
 ghost use Rattle.tp_model.specs.Device.{areas_end, content_of};
 ghost use Rattle.tp_model.specs.DiskHistory.{Counts};
 ghost use Rattle.tp_model.specs.declared.limits.TheConstants.{MAX_HELD};
 ghost use Rattle.tp_net.specs.declared.line.TheConstants.{LINE_TOKENS};
-ghost use Rattle.tp_recover.specs.Cuts.{cut_network};
-ghost use Rattle.tp_recover.specs.Nodes.{AreThawed};
-ghost use Rattle.tp_recover.specs.Reading.{has_read, Answers, IsKept, LeavesNothingNew};
+ghost use Rattle.tp_recover.specs.Cuts.{network_of_cut};
+ghost use Rattle.tp_recover.specs.Nodes.{AreAllThawed};
+ghost use Rattle.tp_recover.specs.Reading.{has_read, ReadAnswer, LeavesAlone, LeavesNothingNew};
 ghost use Rattle.tp_recover.specs.Starts.{read_in, read_of, IsStart};
 ghost use Rattle.tp_replay.specs.Flat.{IsFlat};
 
@@ -16,11 +16,10 @@ use crate::cut::{Cut, read_cut};
 use crate::front::read_front;
 use crate::unopened::Unopened;
 use std::alloc::{AllocError, Global};
-use tp_book::CutNetwork;
-use tp_disk::Disk;
 use tp_area::{CutFront, Head};
+use tp_book::{CutNetwork, lines_with, ports_with};
+use tp_disk::Disk;
 use tp_model::WireEnd;
-use tp_book::{lines_with, ports_with};
 use tp_replay::{FlatNetwork, Replay};
 
 /// An area before its groups are replayed: the fields in front of its cut, the cut as contracts see it, and the network.
@@ -37,12 +36,12 @@ fn flat_network(
     wires: &[Option<WireEnd>],
     cut: Cut,
 ) -> Result<FlatNetwork, AllocError>
-    requires flat { IsFlat (cut_network wires.now cut) }
-    requires thawed { AreThawed cut.nodes.items }
+    requires flat { IsFlat (network_of_cut wires.now cut) }
+    requires thawed { AreAllThawed cut.nodes.items }
     requires few { All (λ line. vec_len line ≤ LINE_TOKENS) cut.lines.items }
     requires pending { All (λ port. vec_len port.pending ≤ MAX_HELD) cut.ports.items }
     requires outputs { All (λ port. vec_len port.outputs ≤ MAX_HELD) cut.ports.items }
-    ensures { IfOk result (λ network. network ≡ cut_network wires.now cut) }
+    ensures { IfOk result (λ network. network ≡ network_of_cut wires.now cut) }
 {
     let lines = lines_with(alloc, &cut.lines)?;
     let ports = ports_with(alloc, &cut.ports)?;
@@ -66,10 +65,10 @@ pub(crate) fn read_start<D: Disk>(
 ) -> Result<Start, Unopened>
     requires { areas_end head.now.areas ≤ D.size_of disk.old }
     ensures counts { Counts (has_read result) (D.size_of disk.old) (D.size_of disk.new) (D.failures_of disk.old) (D.failures_of disk.new) }
-    ensures kept { D.keeps → IsKept result (D.state disk.old).now (D.state disk.new).now }
+    ensures kept { D.keeps → LeavesAlone result (D.state disk.old).now (D.state disk.new).now }
     ensures leaves { D.keeps → LeavesNothingNew (D.state disk.old) (D.state disk.new) }
     ensures start { IfOk result (IsStart head.now) }
-    ensures is { D.keeps → Answers read_of (read_in head.now second (content_of head.now.areas second (D.state disk.old).now.bytes)) result }
+    ensures is { D.keeps → ReadAnswer read_of (read_in head.now second (content_of head.now.areas second (D.state disk.old).now.bytes)) result }
 {
     let front = read_front(disk, head, second)?;
     let cut = read_cut(alloc, disk, head, second, front.base)?;

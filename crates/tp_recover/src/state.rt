@@ -1,14 +1,14 @@
 //! The state that a book is opened from.
 
 ghost use Rattle.std.specs.Prelude.{◌≡◌, if◌then◌else◌, Some, IfOk};
-ghost use Rattle.tp_book.specs.Opened.{cut_of, now_of, IsOpened};
+ghost use Rattle.tp_book.specs.Opened.{cut_of, now_of, IsWellOpen};
 ghost use Rattle.tp_model.specs.Journal.{room};
 ghost use Rattle.tp_model.specs.Opening.{next_of};
 
 use crate::opening::Opened;
 use std::alloc::{AllocError, Global};
-use tp_book::NetState;
 use tp_area::journal_room;
+use tp_book::NetState;
 
 impl Opened {
     /// The bytes that groups may fill in an area, to which a book's journal is bound.
@@ -22,7 +22,7 @@ impl Opened {
     ///
     /// It can be opened whatever the device was, also where it doesn't keep the model.
     pub fn into_state(self, alloc: Global) -> Result<NetState, AllocError>
-        ensures opened { IfOk result (λ state. IsOpened state) }
+        ensures opened { IfOk result (λ state. IsWellOpen state) }
         ensures cut { IfOk result (λ state. cut_of state ≡ self.cut) }
         ensures now { IfOk result (λ state. now_of state ≡ self.now) }
         ensures base { IfOk result (λ state. state.base ≡ self.base) }

@@ -7,7 +7,7 @@ ghost use Rattle.tp_model.specs.Disk.{Sync, done};
 ghost use Rattle.tp_model.specs.DiskHistory.{Counts};
 ghost use Rattle.tp_model.specs.Opening.{verdict};
 ghost use Rattle.tp_model.specs.declared.limits.TheConstants.{AREA_HEAD_BYTES};
-ghost use Rattle.tp_recover.specs.Reading.{Answers, LeavesNothingNew};
+ghost use Rattle.tp_recover.specs.Reading.{ReadAnswer, LeavesNothingNew};
 ghost use Rattle.tp_recover.specs.declared.unopened.Unopened.TheVariants.{ReadFailed};
 
 use crate::opening::{Opened, open};
@@ -59,7 +59,7 @@ pub fn open_store<D: Disk + Drop>(
     ensures failed { result ≡ Err ReadFailed → (after : D) × Counts false (D.size_of disk) (D.size_of after) (D.failures_of disk) (D.failures_of after) }
     ensures kept { D.keeps → IfOk result (λ both. (D.state both.1.disk).now ≡ done Sync (D.state disk).now) }
     ensures leaves { D.keeps → IfOk result (λ both. LeavesNothingNew (D.state disk) (D.state both.1.disk)) }
-    ensures is { D.keeps → Answers (λ both. both.0) (verdict (D.state disk).now.bytes) result }
+    ensures is { D.keeps → ReadAnswer (λ both. both.0) (verdict (D.state disk).now.bytes) result }
     ensures place { IfOk result (λ both. both.1.place ≡ place_at both.0) }
     ensures unbroken { IfOk result (λ both. both.1.broken ≡ false) }
 {

@@ -3,16 +3,16 @@
 ghost use Rattle.std.specs.Prelude.{◌≤◌, IfOk};
 ghost use Rattle.tp_model.specs.Device.{areas_end, content_of};
 ghost use Rattle.tp_model.specs.DiskHistory.{Counts};
-ghost use Rattle.tp_recover.specs.Reading.{has_read, Answers, IsKept, LeavesNothingNew};
-ghost use Rattle.tp_recover.specs.Taken.{taken_in, taken_of, IsTaken};
+ghost use Rattle.tp_recover.specs.Reading.{has_read, ReadAnswer, LeavesAlone, LeavesNothingNew};
+ghost use Rattle.tp_recover.specs.Taken.{taken_area, taken_of, IsTaken};
 
 use crate::ahead::read_rows;
 use crate::rows::Rows;
 use crate::start::{Start, read_start};
 use crate::unopened::Unopened;
 use std::alloc::Global;
-use tp_disk::Disk;
 use tp_area::Head;
+use tp_disk::Disk;
 use tp_model::OpenFault;
 
 /// An area before its entries are replayed: what stands in front of its groups, the entries that are readable, and the place of the
@@ -33,10 +33,10 @@ pub(crate) fn read_taken<D: Disk>(
 ) -> Result<Taken, Unopened>
     requires { areas_end head.now.areas ≤ D.size_of disk.old }
     ensures counts { Counts (has_read result) (D.size_of disk.old) (D.size_of disk.new) (D.failures_of disk.old) (D.failures_of disk.new) }
-    ensures kept { D.keeps → IsKept result (D.state disk.old).now (D.state disk.new).now }
+    ensures kept { D.keeps → LeavesAlone result (D.state disk.old).now (D.state disk.new).now }
     ensures leaves { D.keeps → LeavesNothingNew (D.state disk.old) (D.state disk.new) }
     ensures taken { IfOk result (IsTaken head.now second) }
-    ensures is { D.keeps → Answers taken_of (taken_in head.now second (content_of head.now.areas second (D.state disk.old).now.bytes)) result }
+    ensures is { D.keeps → ReadAnswer taken_of (taken_area head.now second (content_of head.now.areas second (D.state disk.old).now.bytes)) result }
 {
     let start = read_start(alloc, disk, head, second)?;
     let (rows, end) = read_rows(

@@ -3,7 +3,7 @@
 ghost use Rattle.std.specs.Prelude.{◌≡◌, ◌+◌, ◌^◌, ◌<◌, ◌≤◌, ℕ, List, IsTrue, OnOk, is_ok, length, take, drop};
 ghost use Rattle.tp_model.specs.DiskHistory.{Counts};
 ghost use Rattle.tp_recover.specs.Reading.{LeavesNothingNew};
-ghost use Rattle.tp_recover.specs.Windows.{Has, IsOf};
+ghost use Rattle.tp_recover.specs.Windows.{HasBytes, IsOf};
 
 use tp_disk::{DeviceFailed, Disk};
 
@@ -34,7 +34,7 @@ impl Window {
     /// Whether it has `count` bytes from a place on.
     fn has(&self, at: u64, count: usize) -> bool
         requires { at + count < 2 ^ 64 }
-        ensures { IsTrue result → Has self.now at count }
+        ensures { IsTrue result → HasBytes self.now at count }
     {
         self.from <= at && at - self.from + count as u64 <= self.count as u64
     }
@@ -57,7 +57,7 @@ impl Window {
         ensures kept { D.keeps → OnOk result ((D.state disk.new).now ≡ (D.state disk.old).now) }
         ensures leaves { D.keeps → LeavesNothingNew (D.state disk.old) (D.state disk.new) }
         ensures fits { self.new.count ≤ WINDOW_BYTES }
-        ensures has { OnOk result (Has self.new at count) }
+        ensures has { OnOk result (HasBytes self.new at count) }
         ensures is { D.keeps → OnOk result (IsOf self.new (D.state disk.new).now.bytes) }
     {
         if self.has(at, count) {
@@ -72,7 +72,7 @@ impl Window {
     /// `count` bytes from a place on.
     pub(crate) fn bytes_at(&self, at: u64, count: usize) -> &[u8]
         requires fits { self.now.count ≤ WINDOW_BYTES }
-        requires has { Has self.now at count }
+        requires has { HasBytes self.now at count }
         ensures len { length result.now ≡ count }
         ensures is { (bytes : List ℕ) → IsOf self.now bytes → result.now ≡ take count (drop at bytes) }
     {

@@ -28,7 +28,7 @@ use Rattle.tp_law_machine.proofs.LinkLaws.{has_four_links, keeps_flight, never_m
 use Rattle.tp_law_machine.proofs.Nodes.{node_steps, node_took}
 use Rattle.tp_book.specs.Room.{HasRoom}
 use Rattle.tp_book.proofs.Sending.{room_before}
-use Rattle.tp_replay.specs.Flat.{IsFlat, TakesByte}
+use Rattle.tp_replay.specs.Flat.{IsFlat, EntryTakesByte}
 
 -- ## The node whose entry it is
 
@@ -70,7 +70,7 @@ all_stay (m ∷ ms) n r node low e =
     let is : ◌≡◌ {A = NodeState × List (ℕ × Token)} (R.0.0, F.0.1 ++ R.0.1) r = cc in
     subst (λ x. IsNodeOfBytes x.0) is (all_stay ms F.0.0 R.0 (node_took n m.0 m.1 F.0 node low.0 F.1).0 low.1 R.1)
 
-does_stays : (s : Network NodeState) (e : Entry) (was : Own NodeState) (r : Own NodeState × List (ℕ × Token)) → Stays was → TakesByte e → does t414 s.wires (length s.nodes) e was ≡ Some r → Stays r.0
+does_stays : (s : Network NodeState) (e : Entry) (was : Own NodeState) (r : Own NodeState × List (ℕ × Token)) → Stays was → EntryTakesByte e → does t414 s.wires (length s.nodes) e was ≡ Some r → Stays r.0
 unfolding does
 does_stays s (Run i k) (OfNode n) r node low e =
     let C = cond_some (nat_lt 0 k && nat_le k MAX_STEPS) (option_map (of_node i) (steps t414 k n)) r e in
@@ -101,10 +101,10 @@ module _ (s : Network NodeState) (F : IsFlat s) (e : Entry) (t : Network NodeSta
   shape : SameShape s t
   shape = step_shape t414 has_four_links s e t S
 
-  now_stays : TakesByte e → Stays S.now
+  now_stays : EntryTakesByte e → Stays S.now
   now_stays low = does_stays s e S.was (S.now, S.sends) (own_stays s F (process s.wires (length s.nodes) e) S.was S.own_was) low S.change
 
-  nodes_step : TakesByte e → (i : ℕ) (n : NodeState) → slice_get t.nodes i ≡ Some n → IsNodeOfBytes n
+  nodes_step : EntryTakesByte e → (i : ℕ) (n : NodeState) → slice_get t.nodes i ≡ Some n → IsNodeOfBytes n
   nodes_step low i n at =
       let below : i < length t.nodes = slice_get_within t.nodes i n at in
       let here : own t i ≡ Some (OfNode n) = own-node t i (λ same. omega arith) ∙ ap (option_map OfNode) at in
@@ -123,7 +123,7 @@ module _ (s : Network NodeState) (F : IsFlat s) (e : Entry) (t : Network NodeSta
   marked_step : (line : ℕ) → markers (on_line t.lines line) ≤ 1
   marked_step line = subst (λ n. n ≤ 1) (sym (markers_step line)) (F.marked line)
 
-  pub flat_step : TakesByte e → IsFlat t
+  pub flat_step : EntryTakesByte e → IsFlat t
   flat_step low = record {
     sound = sound_step;
     shaped = record {
@@ -144,7 +144,7 @@ module _ (s : Network NodeState) (F : IsFlat s) (e : Entry) (t : Network NodeSta
       (λ l. subst (λ ls. length (on_line ls l) ≤ 3) (step_lines t414 has_four_links s e t S) (omega (arith, line_room sound_step l, marked_step l)))
 
 -- Every entry keeps it.
-pub flat_next : (s : Network NodeState) (e : Entry) (t : Network NodeState) → IsFlat s → TakesByte e → next t414 s e ≡ Some t → IsFlat t
+pub flat_next : (s : Network NodeState) (e : Entry) (t : Network NodeState) → IsFlat s → EntryTakesByte e → next t414 s e ≡ Some t → IsFlat t
 flat_next s e t F low h = flat_step s F e t (step_of t414 s e t h) low
 
 -- It takes no Marker and sends none.

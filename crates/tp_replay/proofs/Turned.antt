@@ -28,7 +28,7 @@ use Rattle.tp_book.specs.Room.{HasRoom}
 use Rattle.tp_book.proofs.Sending.{all_known}
 use Rattle.tp_replay.specs.declared.network.FlatNetwork.TheInside.{Inside}
 use Rattle.tp_replay.specs.Answers.{TurnedUpTo}
-use Rattle.tp_replay.specs.Inside.{state_of, IsInside}
+use Rattle.tp_replay.specs.Inside.{replay_state, IsInside}
 use Rattle.tp_replay.proofs.Applied.{there_is, node_count, room, node_inside, node_next}
 use Rattle.tp_replay.proofs.Impossible.{steps_fewer, turn_short}
 use Rattle.tp_replay.proofs.Steps.{Made, node_after, turn_takes}
@@ -61,9 +61,9 @@ front_there s i links count below turn stands =
 
 -- ## The fields behind it
 
-module _ (n : Inside) (I : IsInside n) (i : ℕ) (links : List Received) (most : ℕ) (F : IsFront (state_of n) i links most) where
+module _ (n : Inside) (I : IsInside n) (i : ℕ) (links : List Received) (most : ℕ) (F : IsFront (replay_state n) i links most) where
   pub node_there : i < length n.nodes.items
-  node_there = omega (arith, node_count n I, slice_get_within (state_of n).nodes i F.node F.there)
+  node_there = omega (arith, node_count n I, slice_get_within (replay_state n).nodes i F.node F.there)
 
   -- the tokens are taken off
   pub off_lines : IsSome (taken n.lines (by_line n.wires.items (length n.nodes.items) i (by_link 0 links)))
@@ -77,14 +77,14 @@ module _ (n : Inside) (I : IsInside n) (i : ℕ) (links : List Received) (most :
       cc
 
   module _ (low : CarryBytes (by_link 0 links)) (node : NodeContents) (there : slice_get n.nodes.items i ≡ Some node) where
-    at : slice_get (state_of n).nodes i ≡ Some node.live
+    at : slice_get (replay_state n).nodes i ≡ Some node.live
     at = slice_get-map (λ node. node.live) n.nodes.items i ∙ ap (option_map (λ node. node.live)) there
 
     mine : F.node ≡ node.live
     mine = let same : Some F.node ≡ Some node.live = sym F.there ∙ at in cc
 
-    below : i < length (state_of n).nodes
-    below = slice_get_within (state_of n).nodes i node.live at
+    below : i < length (replay_state n).nodes
+    below = slice_get_within (replay_state n).nodes i node.live at
 
     first_line : 4 * i + 4 ≤ length n.wires.items
     first_line = omega (arith, I.flat.shaped.wires, below)
@@ -94,19 +94,19 @@ module _ (n : Inside) (I : IsInside n) (i : ℕ) (links : List Received) (most :
 
     pub node_can : IsSome (took_all t414 (by_link 0 links) node.live)
     unfolding takes
-    node_can = all_taken (state_of n) I.flat (length (state_of n).nodes) i refl (by_link 0 links) node.live F.out F.into F.front at low (unmarked_links 0 links)
+    node_can = all_taken (replay_state n) I.flat (length (replay_state n).nodes) i refl (by_link 0 links) node.live F.out F.into F.front at low (unmarked_links 0 links)
 
     module _ (mid : NodeState) (answers : List (ℕ × Token)) (took : took_all t414 (by_link 0 links) node.live ≡ Some (mid, answers))
         (new : NodeContents) (kept : new.frozen ≡ node.frozen) (count : ℕ) (tokens : List (ℕ × Token)) (ran : steps t414 count mid ≡ Some (new.live, tokens)) (few : count ≤ most) where
-      step : Made (state_of n) (Turn i links count) F.out (on_lines i (answers ++ tokens)) (node_after (state_of n) F.out i new.live (answers ++ tokens))
-      step = turn_takes (state_of n) i links most count mid new.live answers tokens F (few_steps count few) (ap (took_all t414 (by_link 0 links)) mine ∙ took) ran
+      step : Made (replay_state n) (Turn i links count) F.out (on_lines i (answers ++ tokens)) (node_after (replay_state n) F.out i new.live (answers ++ tokens))
+      step = turn_takes (replay_state n) i links most count mid new.live answers tokens F (few_steps count few) (ap (took_all t414 (by_link 0 links)) mine ∙ took) ran
 
       parts : on_lines i (answers ++ tokens) ≡ on_lines i answers ++ on_lines i tokens
       parts = map-append (λ (m : ℕ × Token). (4 * i + m.0, m.1)) answers tokens
 
       rooms : HasRoom (has_wire n.wires.items) F.out (on_lines i answers) × HasRoom (has_wire n.wires.items) (sent (has_wire n.wires.items) F.out (on_lines i answers)) (on_lines i tokens)
       rooms = room_parts (has_wire n.wires.items) F.out (on_lines i answers) (on_lines i tokens)
-          (subst (HasRoom (has_wire n.wires.items) F.out) parts (room n I (Turn i links count) F.out (on_lines i (answers ++ tokens)) (node_after (state_of n) F.out i new.live (answers ++ tokens)) step))
+          (subst (HasRoom (has_wire n.wires.items) F.out) parts (room n I (Turn i links count) F.out (on_lines i (answers ++ tokens)) (node_after (replay_state n) F.out i new.live (answers ++ tokens)) step))
 
       pub answers_room : (out : List (List Token)) → F.out ≡ out → HasRoom (has_wire n.wires.items) out (on_lines i answers)
       answers_room out same = subst (λ lines. HasRoom (has_wire n.wires.items) lines (on_lines i answers)) same rooms.0
@@ -130,9 +130,9 @@ module _ (n : Inside) (I : IsInside n) (i : ℕ) (links : List Received) (most :
         turned_inside = node_inside n I (Turn i links count) F.out i node new there kept (answers ++ tokens) step lines both low
 
         -- The steps are all that it can make.
-        pub turned_upto : (count < most → node_step new.live ≡ None) → TurnedUpTo (state_of n) i links most count (state_of (record n { nodes = with_item n.nodes i new; lines = lines }))
+        pub turned_upto : (count < most → node_step new.live ≡ None) → TurnedUpTo (replay_state n) i links most count (replay_state (record n { nodes = with_item n.nodes i new; lines = lines }))
         turned_upto all = record {
           few = few;
           is = node_next n I (Turn i links count) F.out i node new there kept (answers ++ tokens) step lines both;
-          all = λ fewer. turn_short (state_of n) i links most node.live (mid, answers) at took (steps_fewer t414 count most mid (new.live, tokens) ran (all fewer) fewer);
+          all = λ fewer. turn_short (replay_state n) i links most node.live (mid, answers) at took (steps_fewer t414 count most mid (new.live, tokens) ran (all fewer) fewer);
         }

@@ -11,11 +11,11 @@ use Rattle.tp_model.specs.Entries.{next}
 use Rattle.tp_replay.specs.declared.fault.NotPossible.{NotPossible}
 
 -- The network after it, exactly where it is possible.
-abbrev pub Applies : Option (Network NodeState) → Result (Unit {0}) NotPossible → Network NodeState → Type 0
-Applies (Some after) (Ok done) now = now ≡ after
-Applies (Some after) (Err fault) now = ⊥
-Applies None (Ok done) now = ⊥
-Applies None (Err fault) now = Unit {0}
+abbrev pub AppliesEntry : Option (Network NodeState) → Result (Unit {0}) NotPossible → Network NodeState → Type 0
+AppliesEntry (Some after) (Ok done) now = now ≡ after
+AppliesEntry (Some after) (Err fault) now = ⊥
+AppliesEntry None (Ok done) now = ⊥
+AppliesEntry None (Err fault) now = Unit {0}
 
 -- The node made fewer steps than the `count` that it can't all make.
 pub record RanShort (s : Network NodeState) (node count : ℕ) (now : Network NodeState) : Type 0 where
@@ -30,12 +30,12 @@ pub record TurnCutShort (s : Network NodeState) (node : ℕ) (takes : List Recei
   pub is : next t414 s (Turn node takes made) ≡ Some now
 
 -- What an entry leaves that isn't possible: the network as it was, or a run or the steps of a turn are cut short.
-abbrev pub Leaves : Network NodeState → Entry → Network NodeState → Type 0
-Leaves s (Run node count) now = (now ≡ s) ⊎ RanShort s node count now
-Leaves s (Take line token) now = now ≡ s
-Leaves s (HostIn port byte) now = now ≡ s
-Leaves s (Confirm port upto) now = now ≡ s
-Leaves s (Turn node takes count) now = (now ≡ s) ⊎ TurnCutShort s node takes count now
+abbrev pub LeavesShort : Network NodeState → Entry → Network NodeState → Type 0
+LeavesShort s (Run node count) now = (now ≡ s) ⊎ RanShort s node count now
+LeavesShort s (Take line token) now = now ≡ s
+LeavesShort s (HostIn port byte) now = now ≡ s
+LeavesShort s (Confirm port upto) now = now ≡ s
+LeavesShort s (Turn node takes count) now = (now ≡ s) ⊎ TurnCutShort s node takes count now
 
 -- A node ran for at most `most` steps: `count` were made, fewer than that only where the node has no step then. Without a step
 -- the network is as it was.

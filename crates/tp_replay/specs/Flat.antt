@@ -16,7 +16,7 @@ use Rattle.tp_node.specs.NodeContents.{NodeContents}
 use Rattle.tp_book.specs.Ports.{PortValue}
 
 -- A line for each link and each port, and no more nodes and ports than a network may have.
-pub record IsShaped (s : Network NodeState) : Type 0 where
+pub record HasFlatShape (s : Network NodeState) : Type 0 where
   pub wires : length s.wires ≡ 4 * length s.nodes + length s.ports
   pub lines : length s.lines ≡ 4 * length s.nodes + length s.ports
   pub few_nodes : length s.nodes ≤ MAX_NODES
@@ -25,21 +25,21 @@ pub record IsShaped (s : Network NodeState) : Type 0 where
 -- It is sound and shaped, no line has two Markers, and each node has an image.
 pub record IsFlat (s : Network NodeState) : Type 0 where
   pub sound : Sound t414_ends s
-  pub shaped : IsShaped s
+  pub shaped : HasFlatShape s
   pub marked : (line : ℕ) → markers (on_line s.lines line) ≤ 1
   pub nodes : (i : ℕ) (node : NodeState) → slice_get s.nodes i ≡ Some node → IsNodeOfBytes node
 
 -- what an entry takes carries a byte
-abbrev pub TakesByte : Entry → Type 0
-TakesByte (Run node count) = Unit {0}
-TakesByte (Take line token) = CarriesByte token
-TakesByte (HostIn port byte) = Unit {0}
-TakesByte (Confirm port upto) = Unit {0}
-TakesByte (Turn node takes count) = CarryBytes (by_link 0 takes)
+abbrev pub EntryTakesByte : Entry → Type 0
+EntryTakesByte (Run node count) = Unit {0}
+EntryTakesByte (Take line token) = CarriesByte token
+EntryTakesByte (HostIn port byte) = Unit {0}
+EntryTakesByte (Confirm port upto) = Unit {0}
+EntryTakesByte (Turn node takes count) = CarryBytes (by_link 0 takes)
 
 -- the network of the nodes and ports, with the wires and lines
-abbrev pub network_of : List (Option WireEnd) → List NodeContents → List (List Token) → List PortValue → Network NodeState
-network_of wires nodes lines ports = record {
+abbrev pub network_flat : List (Option WireEnd) → List NodeContents → List (List Token) → List PortValue → Network NodeState
+network_flat wires nodes lines ports = record {
   wires = wires;
   nodes = map (λ node. node.live) nodes;
   ports = map (λ port. port.port) ports;

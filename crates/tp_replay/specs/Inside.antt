@@ -2,12 +2,12 @@
 use Rattle.tp_model.specs.NodeState.{NodeState}
 use Rattle.tp_model.specs.Network.{Network}
 use Rattle.tp_replay.specs.declared.network.FlatNetwork.TheInside.{Inside}
-use Rattle.tp_replay.specs.Flat.{IsFlat, AreThawed, network_of}
+use Rattle.tp_replay.specs.Flat.{IsFlat, AreThawed, network_flat}
 
-abbrev pub state_of : Inside → Network NodeState
-state_of n = network_of n.wires.items n.nodes.items n.lines n.ports.items
+abbrev pub replay_state : Inside → Network NodeState
+replay_state n = network_flat n.wires.items n.nodes.items n.lines n.ports.items
 
 -- What is true of every flat network.
 pub record IsInside (n : Inside) : Type 0 where
-  pub flat : IsFlat (state_of n)
+  pub flat : IsFlat (replay_state n)
   pub thawed : AreThawed n.nodes.items

@@ -3,7 +3,7 @@ use Rattle.std.specs.Prelude.{◌≡◌, map}
 use Rattle.tp_model.specs.NodeState.{NodeState}
 use Rattle.tp_model.specs.Image.{image}
 use Rattle.tp_model.specs.Network.{Network}
-use Rattle.tp_book.specs.PortParts.{port_of}
+use Rattle.tp_book.specs.PortParts.{port_made}
 use Rattle.tp_book.specs.declared.parts.NetParts.{NetParts}
 
 -- The parts are the network's, each node as its image.
@@ -11,4 +11,4 @@ pub record ArePartsOf (parts : NetParts) (s : Network NodeState) : Type 0 where
   pub wires : parts.wires.items ≡ s.wires
   pub images : map (λ bytes. bytes.items) parts.images.items ≡ map image s.nodes
   pub lines : map (λ line. line.items) parts.lines.items ≡ s.lines
-  pub ports : map port_of parts.ports.items ≡ s.ports
+  pub ports : map port_made parts.ports.items ≡ s.ports

@@ -6,9 +6,9 @@ ghost use Rattle.tp_model.specs.Markers.{is_marker};
 ghost use Rattle.tp_model.specs.Network.{is_first};
 ghost use Rattle.tp_model.specs.declared.link.Token.{Token};
 
+use tp_book::HostPort;
 use tp_model::Token;
 use tp_model::limits::MAX_HELD;
-use tp_book::HostPort;
 
 /// Whether a token stands in front of a line and is no Marker.
 pub(crate) fn stands_in_front(front: Option<Token>, token: Token) -> bool

@@ -4,7 +4,7 @@ ghost use Rattle.std.specs.Prelude.{◌≡◌, OnErr};
 ghost use Rattle.tp_model.specs.declared.entry.Entry.TheVariants.{HostIn, Confirm};
 ghost use Rattle.tp_model.specs.Entries.{next};
 ghost use Rattle.tp_model.specs.Node.{t414};
-ghost use Rattle.tp_replay.specs.Answers.{Applies};
+ghost use Rattle.tp_replay.specs.Answers.{AppliesEntry};
 
 use crate::fault::NotPossible;
 use crate::front::{can_confirm, has_room};
@@ -14,7 +14,7 @@ use tp_book::send_some;
 impl FlatNetwork {
     /// The host hands a byte to a port.
     pub(crate) fn hand_in(&mut self, port: u8, byte: u8) -> Result<(), NotPossible>
-        ensures applies { Applies (next t414 self.old (HostIn port byte)) result self.new }
+        ensures applies { AppliesEntry (next t414 self.old (HostIn port byte)) result self.new }
         ensures err { OnErr result (self.new ≡ self.old) }
     {
         let i = port as usize;
@@ -32,7 +32,7 @@ impl FlatNetwork {
 
     /// The host confirms a port's output up to a position.
     pub(crate) fn confirm(&mut self, port: u8, upto: u64) -> Result<(), NotPossible>
-        ensures applies { Applies (next t414 self.old (Confirm port upto)) result self.new }
+        ensures applies { AppliesEntry (next t414 self.old (Confirm port upto)) result self.new }
         ensures err { OnErr result (self.new ≡ self.old) }
     {
         let i = port as usize;

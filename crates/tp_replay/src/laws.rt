@@ -15,14 +15,14 @@ ghost use Rattle.tp_model.specs.Sound.{Wired, Sound};
 ghost use Rattle.tp_book.specs.Counted.{AreCounted};
 ghost use Rattle.tp_model.specs.declared.opening.OpenFault.{OpenFault};
 ghost use Rattle.tp_model.specs.Replay.{Replay, after_rows, replay_from};
-ghost use Rattle.tp_replay.specs.Flat.{IsFlat, TakesByte};
+ghost use Rattle.tp_replay.specs.Flat.{IsFlat, EntryTakesByte};
 ghost use Rattle.tp_replay.specs.History.{IsHistory};
 
 /// Every entry keeps a flat network flat, where what it takes carries a byte, and takes and sends no Marker. There a node can
 /// take what stands in front of a line that goes to it, unless that is a Marker. What ports have counted stays no more than
 /// there are entries.
 pub fn entries_keep_flat()
-    ensures kept { (s t : Network NodeState) (e : Entry) → IsFlat s → TakesByte e → next t414 s e ≡ Some t → IsFlat t }
+    ensures kept { (s t : Network NodeState) (e : Entry) → IsFlat s → EntryTakesByte e → next t414 s e ≡ Some t → IsFlat t }
     ensures marks { (s t : Network NodeState) (e : Entry) → IsFlat s → next t414 s e ≡ Some t → (line : ℕ) → markers (on_line t.lines line) ≡ markers (on_line s.lines line) }
     ensures fronts { (s : Network NodeState) → IsFlat s → (line i k : ℕ) (node : NodeState) (token : Token) → receiver s.wires line ≡ Some (Link i k) → slice_get s.nodes i ≡ Some node
         → is_marker token ≡ false → is_first (on_line s.lines line) token ≡ true → IsSome (took node k token) }

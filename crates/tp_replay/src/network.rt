@@ -2,13 +2,13 @@
 
 ghost use Rattle.std.specs.Prelude.{◌≡◌, ◌≤◌, ◌<◌, ◌+◌, ◌*◌, length, map, slice_get};
 ghost use Rattle.tp_model.specs.Network.{on_line};
-ghost use Rattle.tp_replay.specs.Flat.{IsFlat, AreThawed, network_of};
+ghost use Rattle.tp_replay.specs.Flat.{IsFlat, AreThawed, network_flat};
 
 use std::marker::Model;
+use tp_book::HostPort;
 use tp_model::{Token, WireEnd};
 use tp_net::{Lines, port_line};
 use tp_node::Node;
-use tp_book::HostPort;
 
 /// A network in one thread: its wires, nodes, lines and ports. No node is frozen.
 #[derive(Drop)]
@@ -25,9 +25,9 @@ impl Model for FlatNetwork {
 
     ghost Value = { Network NodeState };
 
-    ghost use Rattle.tp_replay.specs.Inside.{state_of, IsInside};
+    ghost use Rattle.tp_replay.specs.Inside.{replay_state, IsInside};
 
-    ghost view = { state_of };
+    ghost view = { replay_state };
 
     ghost invariant = { IsInside };
 }
@@ -40,9 +40,9 @@ impl FlatNetwork {
         lines: Lines,
         ports: Vec<HostPort>,
     ) -> FlatNetwork
-        requires flat { IsFlat (network_of wires.items nodes.items lines ports.items) }
+        requires flat { IsFlat (network_flat wires.items nodes.items lines ports.items) }
         requires thawed { AreThawed nodes.items }
-        ensures { result ≡ network_of wires.items nodes.items lines ports.items }
+        ensures { result ≡ network_flat wires.items nodes.items lines ports.items }
     {
         FlatNetwork {
             wires,
@@ -54,7 +54,7 @@ impl FlatNetwork {
 
     /// The wires, the nodes, the lines and the ports.
     pub fn into_fields(self) -> (Vec<Option<WireEnd>>, Vec<Node>, Lines, Vec<HostPort>)
-        ensures is { network_of result.0.items result.1.items result.2 result.3.items ≡ self }
+        ensures is { network_flat result.0.items result.1.items result.2 result.3.items ≡ self }
         ensures flat { IsFlat self }
         ensures thawed { AreThawed result.1.items }
     {

@@ -3,16 +3,15 @@
 ghost use Rattle.std.specs.Prelude.{◌≡◌, ◌<◌, IfOk, Some, length, map};
 ghost use Rattle.tp_model.specs.Image.{node_of};
 ghost use Rattle.tp_model.specs.Network.{on_line};
-ghost use Rattle.tp_book.specs.Parts.{network_of};
+ghost use Rattle.tp_book.specs.Parts.{network_made};
 ghost use Rattle.tp_replay.specs.PartsOf.{ArePartsOf};
 
 use crate::image::images_of;
 use crate::network::FlatNetwork;
 use std::alloc::{AllocError, Global};
-use tp_book::NetParts;
+use tp_book::{NetParts, all_parts};
 use tp_model::Token;
 use tp_net::Lines;
-use tp_book::all_parts;
 
 /// The tokens on a line.
 fn tokens_on(alloc: Global, lines: &Lines, line: usize) -> Result<Vec<Token>, AllocError>
@@ -44,7 +43,7 @@ impl FlatNetwork {
     pub fn parts(&mut self, alloc: Global) -> Result<NetParts, AllocError>
         ensures parts { IfOk result (λ parts. ArePartsOf parts self.old) }
         ensures spelt { IfOk result (λ parts. map (λ image. node_of image.items) parts.images.items ≡ map Some self.old.nodes) }
-        ensures again { IfOk result (λ parts. network_of parts ≡ self.old) }
+        ensures again { IfOk result (λ parts. network_made parts ≡ self.old) }
         ensures same { self.new ≡ self.old }
     {
         Ok(NetParts {

@@ -9,10 +9,10 @@ ghost use Rattle.tp_replay.specs.Stands.{link_stands, starts_with};
 
 use crate::front::stands_in_front;
 use arrayvec::ArrayVec;
+use tp_book::incoming;
 use tp_model::{Received, Token, WireEnd};
 use tp_net::{Lines, receiver};
 use tp_node::{NoFrame, Node};
-use tp_book::incoming;
 
 /// Whether an end is this link of this node.
 fn is_link(end: Option<WireEnd>, node: usize, link: usize) -> bool

@@ -5,14 +5,14 @@ ghost use Rattle.tp_model.specs.declared.limits.TheConstants.{MAX_STEPS};
 ghost use Rattle.tp_model.specs.declared.entry.Entry.TheVariants.{Run};
 ghost use Rattle.tp_model.specs.Entries.{next};
 ghost use Rattle.tp_model.specs.Node.{t414};
-ghost use Rattle.tp_replay.specs.Answers.{Applies, Leaves, RanUpTo};
+ghost use Rattle.tp_replay.specs.Answers.{AppliesEntry, LeavesShort, RanUpTo};
 
 use crate::fault::NotPossible;
 use crate::network::FlatNetwork;
 use arrayvec::ArrayVec;
+use tp_book::send_all;
 use tp_model::limits::MAX_STEPS;
 use tp_net::link_line;
-use tp_book::send_all;
 
 impl FlatNetwork {
     /// Runs a node for at most `most` steps; for fewer only where it has no step then. Answers how many it made.
@@ -30,8 +30,8 @@ impl FlatNetwork {
 
     /// Has `node` make `count` steps. Where it can't, it has made as many as it can.
     pub(crate) fn run(&mut self, node: u8, count: u16) -> Result<(), NotPossible>
-        ensures applies { Applies (next t414 self.old (Run node count)) result self.new }
-        ensures err { OnErr result (Leaves self.old (Run node count) self.new) }
+        ensures applies { AppliesEntry (next t414 self.old (Run node count)) result self.new }
+        ensures err { OnErr result (LeavesShort self.old (Run node count) self.new) }
     {
         if node as usize >= self.nodes.len() {
             return Err(NotPossible);

@@ -8,23 +8,23 @@ ghost use Rattle.tp_model.specs.Entries.{next};
 ghost use Rattle.tp_model.specs.Markers.{is_marker};
 ghost use Rattle.tp_model.specs.Network.{is_first, on_line, receiver};
 ghost use Rattle.tp_model.specs.Node.{t414};
-ghost use Rattle.tp_replay.specs.Answers.{Applies};
+ghost use Rattle.tp_replay.specs.Answers.{AppliesEntry};
 ghost use Rattle.tp_replay.specs.Flat.{CanCount};
 
 use crate::fault::NotPossible;
 use crate::front::{can_take, stands_in_front};
 use crate::network::FlatNetwork;
+use tp_book::send_some;
 use tp_law_machine::carries_byte;
 use tp_model::{Token, WireEnd};
 use tp_net::link_line;
 use tp_node::NoFrame;
-use tp_book::send_some;
 
 impl FlatNetwork {
     /// The receiver of a line takes the token in front.
     pub(crate) fn take(&mut self, line: u16, token: Token) -> Result<(), NotPossible>
         requires counted { CanCount self.old }
-        ensures applies { Applies (next t414 self.old (Take line token)) result self.new }
+        ensures applies { AppliesEntry (next t414 self.old (Take line token)) result self.new }
         ensures err { OnErr result (self.new ≡ self.old) }
     {
         let at = line as usize;
@@ -69,7 +69,7 @@ impl FlatNetwork {
         requires goes { receiver self.old.wires line ≡ Some (Port port) }
         requires front { is_first (on_line self.old.lines line) token ≡ true }
         requires byte { (byte : ℕ) → token ≡ Data byte → byte < 256 }
-        ensures applies { Applies (next t414 self.old (Take line token)) result self.new }
+        ensures applies { AppliesEntry (next t414 self.old (Take line token)) result self.new }
         ensures err { OnErr result (self.new ≡ self.old) }
     {
         let i = port as usize;

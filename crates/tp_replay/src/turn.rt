@@ -7,16 +7,16 @@ ghost use Rattle.tp_model.specs.Entries.{next};
 ghost use Rattle.tp_model.specs.Node.{t414};
 ghost use Rattle.tp_model.specs.Turn.{by_link};
 ghost use Rattle.tp_law_network.specs.Turns.{IsFront};
-ghost use Rattle.tp_replay.specs.Answers.{Applies, Leaves, TurnedUpTo};
+ghost use Rattle.tp_replay.specs.Answers.{AppliesEntry, LeavesShort, TurnedUpTo};
 
 use crate::fault::NotPossible;
 use crate::network::FlatNetwork;
 use crate::received::{are_there, take_all, take_off};
 use arrayvec::ArrayVec;
+use tp_book::{send_all, tokens_of};
 use tp_model::Received;
 use tp_model::limits::MAX_STEPS;
 use tp_net::link_line;
-use tp_book::{send_all, tokens_of};
 
 impl FlatNetwork {
     /// Has `node` take what came in on its links, and then make `count` steps. Where it can't make them, it has taken the tokens and
@@ -27,8 +27,8 @@ impl FlatNetwork {
         takes: &[Received; 4],
         count: u16,
     ) -> Result<(), NotPossible>
-        ensures applies { Applies (next t414 self.old (Turn node takes.now count)) result self.new }
-        ensures err { OnErr result (Leaves self.old (Turn node takes.now count) self.new) }
+        ensures applies { AppliesEntry (next t414 self.old (Turn node takes.now count)) result self.new }
+        ensures err { OnErr result (LeavesShort self.old (Turn node takes.now count) self.new) }
     {
         let i = node as usize;
         if i >= self.nodes.len() {

@@ -16,7 +16,7 @@ use Rattle.tp_flush.proofs.Follows.{read_alone, read_first, stored_follows, walk
 use Rattle.tp_run.specs.declared.compacting.Compaction.{Compaction}
 use Rattle.tp_run.specs.declared.compacting.CompactFault.{CompactFault}
 use Rattle.tp_run.specs.declared.compacting.CompactFault.TheVariants.{Opening, NoGeneration, DeviceFailed, NotWhole, Memory}
-use Rattle.tp_run.specs.Compacted.{Compacted, IsBegun, IsUnbegun}
+use Rattle.tp_run.specs.Compacted.{Compacted, ComesOpened, StaysUnopened}
 
 -- a device that was opened, and whose flusher walked on from there
 pub walked_compacted : (start : Network NodeState) (before : World NodeState) (opened : Opened) (old new : Flushing) (result : Result Compaction CompactFault) → Began start before old.state.now.bytes
@@ -45,7 +45,7 @@ opened_compacted start result old read new L same R = record {
 }
 
 -- what was begun isn't answered as what wasn't
-pub begun_compacted : (r : Result Compaction CompactFault) → IfErr r IsBegun → IsUnbegun r → ⊥
+pub begun_compacted : (r : Result Compaction CompactFault) → IfErr r ComesOpened → StaysUnopened r → ⊥
 begun_compacted (Ok done) begun unbegun = unbegun
 begun_compacted (Err (Opening unopened)) begun unbegun = begun
 begun_compacted (Err NoGeneration) begun unbegun = unbegun

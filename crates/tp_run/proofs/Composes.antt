@@ -11,10 +11,10 @@ use Rattle.tp_model.specs.Order.{after}
 use Rattle.tp_model.specs.Areas.{Held, next_number}
 use Rattle.tp_model.specs.Opening.{Opened, next_of, verdict}
 use Rattle.tp_model.specs.DeviceAreas.{device_areas}
-use Rattle.tp_model.specs.Runs.{World, IsFormatted}
+use Rattle.tp_model.specs.Runs.{World, BeginsFormatted}
 use Rattle.tp_law_network.proofs.Reorder.{after_front}
 use Rattle.tp_flush.proofs.Follows.{held_is, now_is, number_is}
-use Rattle.tp_run.specs.Composed.{AreLinked, Composed, Has, Link}
+use Rattle.tp_run.specs.Composed.{AreChained, Composed, HasAcknowledged, Link}
 
 -- ## One list, and then another from the same place on
 
@@ -66,8 +66,8 @@ after_joined start now n m xs ys up there then one other =
 -- ## Over a list of processes
 
 -- what stands in one journal stands in another that has the same from a number on, where each process opened no less
-has_on : (start : Network NodeState) (one other : List Entry) (n : ℕ) → ((k : ℕ) → n ≤ k → slice_get one k ≡ slice_get other k) → (was : List ℕ) (links : List Link) (linked : AreLinked start was links)
-    → ((o : Opened) → verdict was ≡ Ok o → n ≤ next_of o) → Has start other was links linked → Has start one was links linked
+has_on : (start : Network NodeState) (one other : List Entry) (n : ℕ) → ((k : ℕ) → n ≤ k → slice_get one k ≡ slice_get other k) → (was : List ℕ) (links : List Link) (linked : AreChained start was links)
+    → ((o : Opened) → verdict was ≡ Ok o → n ≤ next_of o) → HasAcknowledged start other was links linked → HasAcknowledged start one was links linked
 has_on start one other n same was [] linked up has = tt
 has_on start one other n same was (link ∷ links) linked up has =
     let F = linked.0 in
@@ -77,7 +77,7 @@ has_on start one other n same was (link ∷ links) linked up has =
           (λ o is. let at = (now_is start link.journal link.acknowledged link.left o is F.recovers).0 in let keeps = F.keeps in omega (arith, at, keeps, low)) has.1,
     )
 
-pub compose : (start : Network NodeState) (was : List ℕ) (link : Link) (links : List Link) (linked : AreLinked start was (link ∷ links)) → Composed start was (link ∷ links) linked
+pub compose : (start : Network NodeState) (was : List ℕ) (link : Link) (links : List Link) (linked : AreChained start was (link ∷ links)) → Composed start was (link ∷ links) linked
 compose start was link [] linked =
     let F = linked.0 in
     let r = F.recovers in record {
@@ -137,5 +137,5 @@ compose start was link (next ∷ links) linked =
 
 -- ## From a device that was formatted
 
-pub formatted_first : (start : Network NodeState) (w : World NodeState) → IsFormatted t414 device_areas start w → (o : Opened) → verdict w.disk.bytes ≡ Ok o → next_of o ≡ 0
+pub formatted_first : (start : Network NodeState) (w : World NodeState) → BeginsFormatted t414 device_areas start w → (o : Opened) → verdict w.disk.bytes ≡ Ok o → next_of o ≡ 0
 formatted_first start w F o is = sym (number_is o) ∙ ap (λ (h : Held NodeState). next_number h) (sym (held_is w.disk.bytes o (record { network = start; entries = []; base = 0 }) is F.reads))

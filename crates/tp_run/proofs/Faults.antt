@@ -3,10 +3,10 @@ use Rattle.std.proofs.Common.{Result, Ok, Err, ℕ}
 use Rattle.std.specs.Prelude.{IfErr}
 use Rattle.tp_run.specs.declared.fault.RunFault.{RunFault}
 use Rattle.tp_run.specs.declared.fault.RunFault.TheVariants.{Opening, Spare, Port, OfferRefused, FlushFailed, OutputFailed, ConfirmRefused, LastFlushFailed, Unaccounted, Memory}
-use Rattle.tp_run.specs.Faults.{IsBegun, IsLate, IsSilent, IsUnbegun}
+use Rattle.tp_run.specs.Faults.{ComesBegun, IsLate, IsSilent, IsUnbegun}
 
 -- a run that was begun isn't answered as one that wasn't
-pub begun_written : (r : Result ℕ RunFault) → IfErr r IsBegun → IsUnbegun r → ⊥
+pub begun_written : (r : Result ℕ RunFault) → IfErr r ComesBegun → IsUnbegun r → ⊥
 begun_written (Ok next) begun unbegun = unbegun
 begun_written (Err (Opening unopened)) begun unbegun = begun
 begun_written (Err Spare) begun unbegun = begun

@@ -11,7 +11,7 @@ use Rattle.tp_book.specs.declared.state.NetState.{NetState}
 use Rattle.tp_book.specs.Opened.{now_of, opened_book}
 use Rattle.tp_ready.specs.Seen.{RaiserValue}
 use Rattle.tp_shared.specs.Parted.{PartsValue}
-use Rattle.tp_flush.specs.Made.{StandsFor}
+use Rattle.tp_flush.specs.Made.{IsMadeOf}
 use Rattle.tp_flush.proofs.Made.{next_is}
 use Rattle.tp_run.specs.Outset.{outset_in, outset_of, outset_with}
 
@@ -26,7 +26,7 @@ outset_is s o room port now base kept =
     ∙ ap (λ (n : Network NodeState). outset_with port (next_of o) (get_or n.ports port fresh)) now
 
 -- their network is of the kept cut's shape
-pub shape_is : (o other : Opened) (parts : PartsValue) (raiser : RaiserValue) → other ≡ o → StandsFor o parts raiser → IsCut t414_ends o.head.topology o.base o.cut
+pub shape_is : (o other : Opened) (parts : PartsValue) (raiser : RaiserValue) → other ≡ o → IsMadeOf o parts raiser → IsCut t414_ends o.head.topology o.base o.cut
     → (parts.book.state.start.wires ≡ other.cut.wires) × (length parts.book.state.start.nodes ≡ length other.cut.nodes) × (length parts.book.state.ports ≡ length other.cut.ports)
 shape_is o other parts raiser same S cut = (
   ap (λ (n : MarkedNetwork NodeState). n.start.wires) S.book ∙ ap (λ (x : Opened). x.cut.wires) (sym same),

@@ -18,7 +18,7 @@ use Rattle.tp_shared.specs.Receipted.{AreBelow}
 use Rattle.tp_flush.specs.Known.{Began}
 use Rattle.tp_flush.specs.Flushing.{Flushing, Walked}
 use Rattle.tp_flush.specs.Follows.{Follows}
-use Rattle.tp_flush.specs.Settled.{RecoversWith, Stand}
+use Rattle.tp_flush.specs.Settled.{RecoversWith, SlipsStand}
 use Rattle.tp_flush.proofs.Follows.{read_alone, read_first, stored_follows, walked_either, walked_follows}
 use Rattle.tp_run.specs.declared.fault.RunFault.{RunFault}
 use Rattle.tp_run.specs.declared.job.Job.{Job}
@@ -35,7 +35,7 @@ if_both (Err e) P Q R turn p q = p
 abbrev pub SlipsAreRecovered : Type 0
 SlipsAreRecovered =
     (start : Network NodeState) (journal : List Entry) (least : ℕ) (slips : List (ℕ × Entry)) (bytes : List ℕ)
-    → RecoversTo t414 device_areas start journal least bytes → AreBelow least slips → Stand journal slips → RecoversWith start journal least slips bytes
+    → RecoversTo t414 device_areas start journal least bytes → AreBelow least slips → SlipsStand journal slips → RecoversWith start journal least slips bytes
 
 -- a device that was opened, and whose flusher walked on from there until it was settled with
 pub served_ran : SlipsAreRecovered → (start : Network NodeState) (before : World NodeState) (opened : Opened) (job : Job) (input : List ℕ) (was now : Option (List ℕ)) (old new : Flushing) (result : Result ℕ RunFault)

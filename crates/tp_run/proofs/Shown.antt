@@ -16,41 +16,41 @@ use Rattle.tp_model.specs.Runs.{World}
 use Rattle.tp_model.specs.Walks.{RecoversTo}
 use Rattle.tp_disk.proofs.Calls.{weaker}
 use Rattle.tp_law_network.proofs.Walks.{chain_leads}
-use Rattle.tp_book.specs.Book.{BookValue, next_number, world_of}
+use Rattle.tp_book.specs.Book.{BookValue, next_in_book, world_of}
 use Rattle.tp_book.specs.Calls.{marks_of}
 use Rattle.tp_book.specs.Host.{after_confirm, port_in, shown_from, shown_of, shown_upto_of, with_confirmed}
 use Rattle.tp_book.specs.Acts.{confirm_entries}
 use Rattle.tp_shared.specs.Receipted.{Receipted}
 use Rattle.tp_work.specs.Receipts.{IsFor}
-use Rattle.tp_flush.specs.Ahead.{IsAhead}
+use Rattle.tp_flush.specs.Ahead.{IsAheadOf}
 use Rattle.tp_flush.specs.Known.{Reached}
 use Rattle.tp_flush.specs.Flushing.{Flushing, Walked}
 use Rattle.tp_flush.proofs.Kept.{reached_then}
 use Rattle.tp_flush.proofs.Turns.{walked_nowhere, walked_recovers, walked_stays}
 use Rattle.tp_run.specs.declared.fault.RunFault.{RunFault}
-use Rattle.tp_run.specs.Output.{AppendsFront, AreOutputs, AreShown, IsForOutput, Printed, PrintedOf, ShowsAll, confirms}
+use Rattle.tp_run.specs.Output.{OutputsFront, AreOutputs, AreShownBytes, IsForOutput, Printed, PrintedOf, ShowsAll, confirms}
 use Rattle.tp_run.specs.Shown.{AreShownIn, MayPrint, MayShow}
 use Rattle.tp_flush.proofs.Recovers.{recovers_less}
 use Rattle.tp_run.proofs.Slips.{confirms_shown}
 
 -- ## In the book
 
-next_confirmed : (b : BookValue) (port upto : ℕ) → next_number (after_confirm b port upto) ≡ next_number b + length (confirm_entries b port upto)
+next_confirmed : (b : BookValue) (port upto : ℕ) → next_in_book (after_confirm b port upto) ≡ next_in_book b + length (confirm_entries b port upto)
 next_confirmed b port upto = by_test (nat_le upto (port_in b port).out_base)
   where
-    by_test : (test : Bool) → next_number (cond test b (with_confirmed b port upto)) ≡ next_number b + length (cond test [] (Confirm port upto ∷ []))
+    by_test : (test : Bool) → next_in_book (cond test b (with_confirmed b port upto)) ≡ next_in_book b + length (cond test [] (Confirm port upto ∷ []))
     by_test true = omega arith
     by_test false = let long = length-append b.state.entries (Confirm port upto ∷ []) in omega (arith, long)
 
 -- the receipt of what was printed and confirmed under the lock
 pub printed_is : (b new : BookValue) (port mark : ℕ) (was now : Option (List ℕ)) (bytes : List ℕ) (r : Result Receipted RunFault) → length (marks_of b port) ≡ length (port_in b port).outputs
     → bytes ≡ shown_from b port mark (port_in b port).out_base → Appends was now bytes → IfOk r (λ receipt. new ≡ after_confirm b port (shown_upto_of b port mark))
-    → IfOk r (λ receipt. receipt.number ≡ next_number new) → IfOk r (IsFor (confirm_entries b port (shown_upto_of b port mark)))
-    → IfOk r (IsForOutput port (port_in b port).out_base (AreShown b port mark) was now)
+    → IfOk r (λ receipt. receipt.number ≡ next_in_book new) → IfOk r (IsFor (confirm_entries b port (shown_upto_of b port mark)))
+    → IfOk r (IsForOutput port (port_in b port).out_base (AreShownBytes b port mark) was now)
 printed_is b new port mark was now bytes (Ok receipt) each shown appended after number F =
     let upto = shown_upto_of b port mark in
     let same : confirm_entries b port upto ≡ confirms port (port_in b port).out_base bytes = confirms_shown b port mark each ∙ ap (confirms port (port_in b port).out_base) (sym shown) in
-    let next = ap next_number after in
+    let next = ap next_in_book after in
     let more = next_confirmed b port upto in
     let behind = F.number in
     record {
@@ -82,16 +82,16 @@ output_like port from One Other was now (Ok receipt) like O =
     record { printed = O.printed; appended = O.appended; confirmed = O.confirmed; are = like O.confirmed.first O.printed O.are }
 output_like port from One Other was now (Err e) like O = tt
 
-pub are_outputs : (b : BookValue) (port mark : ℕ) → shown_of b port mark ≡ length (port_in b port).outputs → (number : ℕ) (bytes : List ℕ) → AreShown b port mark number bytes → AreOutputs b port number bytes
+pub are_outputs : (b : BookValue) (port mark : ℕ) → shown_of b port mark ≡ length (port_in b port).outputs → (number : ℕ) (bytes : List ℕ) → AreShownBytes b port mark number bytes → AreOutputs b port number bytes
 are_outputs b port mark all number bytes A = (A.0, sym (A.1 ∙ all_shown b port mark all))
 
-front_of : {A : Type 0} (was now : Option (List ℕ)) (bytes outputs : List ℕ) (r : Result A RunFault) → bytes ≡ outputs → Printed was now bytes r → AppendsFront was now outputs
+front_of : {A : Type 0} (was now : Option (List ℕ)) (bytes outputs : List ℕ) (r : Result A RunFault) → bytes ≡ outputs → Printed was now bytes r → OutputsFront was now outputs
 front_of was now bytes outputs (Ok x) same all = (length outputs, subst (Appends was now) (same ∙ sym (take_all (length outputs) outputs (omega arith))) all)
 front_of was now bytes outputs (Err fault) same (inl all) = (length outputs, subst (Appends was now) (same ∙ sym (take_all (length outputs) outputs (omega arith))) all)
-front_of was now bytes outputs (Err fault) same (inr part) = subst (AppendsFront was now) same part.1
+front_of was now bytes outputs (Err fault) same (inr part) = subst (OutputsFront was now) same part.1
 
 pub printed_of : {A : Type 0} (b : BookValue) (port mark confirmed : ℕ) (was now : Option (List ℕ)) (r : Result A RunFault) → (port_in b port).out_base ≡ confirmed
-    → shown_of b port mark ≡ length (port_in b port).outputs → next_number b ≤ mark → Printed was now (shown_from b port mark (port_in b port).out_base) r
+    → shown_of b port mark ≡ length (port_in b port).outputs → next_in_book b ≤ mark → Printed was now (shown_from b port mark (port_in b port).out_base) r
     → PrintedOf b port mark confirmed was now
 printed_of b port mark confirmed was now r base all stored printed =
     inr (record { base = base; all = all; stored = stored }, front_of was now (shown_from b port mark (port_in b port).out_base) (port_in b port).outputs r (all_shown b port mark all) printed)
@@ -103,8 +103,8 @@ nothing_in [] e = refl
 nothing_in (x ∷ xs) e = absurd (omega (arith, e))
 
 -- where a mark is above all of a book, the journal that the flusher knows is all of it
-shows_book : (start : Network NodeState) (w : World NodeState) (b : BookValue) (port mark confirmed number : ℕ) → IsAhead start w b → ShowsAll b port mark confirmed → mark ≡ w.mark
-    → number ≡ next_number b → AreShownIn start w port confirmed number (port_in b port).outputs
+shows_book : (start : Network NodeState) (w : World NodeState) (b : BookValue) (port mark confirmed number : ℕ) → IsAheadOf start w b → ShowsAll b port mark confirmed → mark ≡ w.mark
+    → number ≡ next_in_book b → AreShownIn start w port confirmed number (port_in b port).outputs
 shows_book start w b port mark confirmed number A S at is =
     let many = A.many in
     let long = length-append w.journal A.more in
@@ -117,20 +117,20 @@ shows_book start w b port mark confirmed number A S at is =
       record { state = plain_network (world_of b).live; leads = ap (after t414 start) front ∙ A.leads; base = S.base; are = refl },
     )
 
-pub outputs_shown : (start : Network NodeState) (w : World NodeState) (b : BookValue) (port mark confirmed : ℕ) → IsAhead start w b → ShowsAll b port mark confirmed → mark ≡ w.mark
+pub outputs_shown : (start : Network NodeState) (w : World NodeState) (b : BookValue) (port mark confirmed : ℕ) → IsAheadOf start w b → ShowsAll b port mark confirmed → mark ≡ w.mark
     → (number : ℕ) (bytes : List ℕ) → AreOutputs b port number bytes → AreShownIn start w port confirmed number bytes
 outputs_shown start w b port mark confirmed A S at number bytes O = subst (AreShownIn start w port confirmed number) O.1 (shows_book start w b port mark confirmed number A S at O.0)
 
-pub may_show : (start : Network NodeState) (w : World NodeState) (b : BookValue) (port mark confirmed : ℕ) (was now : Option (List ℕ)) → IsAhead start w b → mark ≡ w.mark
+pub may_show : (start : Network NodeState) (w : World NodeState) (b : BookValue) (port mark confirmed : ℕ) (was now : Option (List ℕ)) → IsAheadOf start w b → mark ≡ w.mark
     → PrintedOf b port mark confirmed was now → MayShow start w.journal w.mark port confirmed was now
 may_show start w b port mark confirmed was now A at (inl same) = inl same
 may_show start w b port mark confirmed was now A at (inr (S, F)) =
-    let there = shows_book start w b port mark confirmed (next_number b) A S at refl in
-    inr (record { number = next_number b; few = there.0; outputs = (port_in b port).outputs; shows = there.1; count = F.0; appended = F.1 })
+    let there = shows_book start w b port mark confirmed (next_in_book b) A S at refl in
+    inr (record { number = next_in_book b; few = there.0; outputs = (port_in b port).outputs; shows = there.1; count = F.0; appended = F.1 })
 
 -- the same of a receipt
 pub output_shown : (keeps began : Type 0) (start : Network NodeState) (w : World NodeState) (b : BookValue) (port mark confirmed : ℕ) (was now : Option (List ℕ)) (r : Result Receipted RunFault)
-    → (keeps → began → IsAhead start w b) → mark ≡ w.mark → IfOk r (λ receipt. ShowsAll b port mark confirmed) → IfOk r (IsForOutput port confirmed (AreOutputs b port) was now)
+    → (keeps → began → IsAheadOf start w b) → mark ≡ w.mark → IfOk r (λ receipt. ShowsAll b port mark confirmed) → IfOk r (IsForOutput port confirmed (AreOutputs b port) was now)
     → IfOk r (IsForOutput port confirmed (λ number bytes. keeps → began → AreShownIn start w port confirmed number bytes) was now)
 output_shown keeps began start w b port mark confirmed was now (Ok receipt) ahead at all O = record {
   printed = O.printed;

@@ -9,12 +9,12 @@ use Rattle.tp_model.specs.declared.entry.Entry.{Entry}
 use Rattle.tp_model.specs.declared.entry.Entry.TheVariants.{Confirm, HostIn}
 use Rattle.tp_model.specs.NodeState.{NodeState}
 use Rattle.tp_model.specs.Network.{Network}
-use Rattle.tp_book.specs.Book.{BookValue, next_number}
-use Rattle.tp_book.specs.Host.{accepted_of, after_input, port_in, shown_from, shown_of, shown_upto_of}
+use Rattle.tp_book.specs.Book.{BookValue, next_in_book}
+use Rattle.tp_book.specs.Host.{accepted_of, after_inputs, port_in, shown_from, shown_of, shown_upto_of}
 use Rattle.tp_book.specs.Calls.{marks_of}
 use Rattle.tp_book.specs.Acts.{confirm_entries}
 use Rattle.tp_shared.specs.Receipted.{AreBelow, Receipted}
-use Rattle.tp_flush.specs.Settled.{Stand}
+use Rattle.tp_flush.specs.Settled.{SlipsStand}
 use Rattle.tp_flush.proofs.Settling.{below_more}
 use Rattle.tp_work.specs.Receipts.{IsFor}
 use Rattle.tp_run.specs.Accounted.{Accounted}
@@ -24,7 +24,7 @@ use Rattle.tp_run.specs.Input.{IsForInput, rest_at, rest_of}
 use Rattle.tp_run.specs.Outset.{StandsIn}
 use Rattle.tp_run.specs.Output.{IsForOutput, confirms}
 use Rattle.tp_run.specs.Ran.{Settled, output_slips}
-use Rattle.tp_run.specs.Shown.{Shows}
+use Rattle.tp_run.specs.Shown.{LeadsToOutputs}
 
 both : {A : Type 0} (P : A → Type 0) (xs ys : List A) → AllByRecursion P xs → AllByRecursion P ys → AllByRecursion P (xs ++ ys)
 both P [] ys one other = other
@@ -56,16 +56,16 @@ confirms_shown b port mark each =
 
 -- ## What is handed in
 
-next_after : (b : BookValue) (port : ℕ) (bytes : List ℕ) → next_number (after_input b port bytes) ≡ next_number b + length (map (HostIn port) bytes)
+next_after : (b : BookValue) (port : ℕ) (bytes : List ℕ) → next_in_book (after_inputs b port bytes) ≡ next_in_book b + length (map (HostIn port) bytes)
 next_after b port bytes = let long = length-append b.state.entries (map (HostIn port) bytes) in omega (arith, long)
 
 input_offered : (b new : BookValue) (outset : Outset) (input : List ℕ) (receipt : Receipted) → StandsIn outset b
-    → new ≡ after_input b outset.port (rest_of b outset.port input) → receipt.number ≡ next_number new → IsFor (map (HostIn outset.port) (rest_of b outset.port input)) receipt
+    → new ≡ after_inputs b outset.port (rest_of b outset.port input) → receipt.number ≡ next_in_book new → IsFor (map (HostIn outset.port) (rest_of b outset.port input)) receipt
     → IsForInput outset input receipt
 input_offered b new outset input receipt S after number F =
     let bytes = rest_of b outset.port input in
     let rest : bytes ≡ rest_at outset input = ap (λ n. take n (drop (accepted_of (port_in b outset.port)) input)) S.2 ∙ ap (λ n. take outset.room (drop n input)) S.1 in
-    let next = ap next_number after in
+    let next = ap next_in_book after in
     let many = next_after b outset.port bytes in
     let behind = F.number in
     let there = S.0 in
@@ -78,7 +78,7 @@ input_offered b new outset input receipt S after number F =
 
 -- the receipt of the rest of the input, where the port stands as it did
 pub offered_at : {E : Type 0} (b new : BookValue) (outset : Outset) (input : List ℕ) (r : Result Receipted E) → StandsIn outset b
-    → IfOk r (λ receipt. new ≡ after_input b outset.port (rest_of b outset.port input)) → IfOk r (λ receipt. receipt.number ≡ next_number new)
+    → IfOk r (λ receipt. new ≡ after_inputs b outset.port (rest_of b outset.port input)) → IfOk r (λ receipt. receipt.number ≡ next_in_book new)
     → IfOk r (IsFor (map (HostIn outset.port) (rest_of b outset.port input))) → IfOk r (IsForInput outset input)
 offered_at b new outset input (Ok receipt) S after number F = input_offered b new outset input receipt S after number F
 offered_at b new outset input (Err e) S after number F = tt
@@ -87,8 +87,8 @@ offered_at b new outset input (Err e) S after number F = tt
 
 -- two receipts, and one is for what was printed; with what workers made they are all
 pub both_settled : (start network : Network NodeState) (job : Job) (outset : Outset) (Are : ℕ → List ℕ → Type 0) (was now : Option (List ℕ)) (journal : List Entry) (next : ℕ) (offered confirmed : Receipted)
-    → (O : IsForOutput outset.port outset.confirmed Are was now confirmed) → Shows start journal O.confirmed.first outset.port outset.confirmed O.printed → offered.number ≤ next → confirmed.number ≤ next → AreBelow offered.number offered.seat
-    → AreBelow confirmed.number confirmed.seat → Stand journal offered.seat → Stand journal confirmed.seat → Accounted network job journal outset.next next (offered.seat ++ confirmed.seat)
+    → (O : IsForOutput outset.port outset.confirmed Are was now confirmed) → LeadsToOutputs start journal O.confirmed.first outset.port outset.confirmed O.printed → offered.number ≤ next → confirmed.number ≤ next → AreBelow offered.number offered.seat
+    → AreBelow confirmed.number confirmed.seat → SlipsStand journal offered.seat → SlipsStand journal confirmed.seat → Accounted network job journal outset.next next (offered.seat ++ confirmed.seat)
     → Settled start network job outset offered.seat was now journal next
 both_settled start network job outset Are was now journal next offered confirmed O shows first second handed told one other accounted =
     let F = O.confirmed in record {
@@ -98,7 +98,7 @@ both_settled start network job outset Are was now journal next offered confirmed
       below =
           both (λ slip. slip.0 < next) offered.seat (output_slips outset F.first O.printed) (below_more offered.number next offered.seat first handed)
           (subst (AreBelow next) F.slips (below_more confirmed.number next confirmed.seat second told));
-      stand = both _ offered.seat (output_slips outset F.first O.printed) one (subst (Stand journal) F.slips other);
+      stand = both _ offered.seat (output_slips outset F.first O.printed) one (subst (SlipsStand journal) F.slips other);
       shows = shows;
       accounted = subst (λ slips. Accounted network job journal outset.next next (offered.seat ++ slips)) F.slips accounted;
     }

@@ -15,32 +15,32 @@ use Rattle.tp_run.specs.declared.compacting.CompactFault.{CompactFault}
 use Rattle.tp_run.specs.declared.compacting.CompactFault.TheVariants.{Opening, NoGeneration, DeviceFailed, NotWhole, Memory}
 
 -- how many entries the journal of an area takes behind a cut
-abbrev pub entries_of : Topology → ℕ → ℕ
-entries_of t area = capacity (journal_of t area)
+abbrev pub room_behind : Topology → ℕ → ℕ
+room_behind t area = capacity (journal_of t area)
 
 -- the device isn't written
-abbrev pub IsUnbegun : {A : Type 0} → Result A CompactFault → Type 0
-IsUnbegun (Ok x) = ⊥
-IsUnbegun (Err (Opening unopened)) = Unit {0}
-IsUnbegun (Err NoGeneration) = ⊥
-IsUnbegun (Err DeviceFailed) = ⊥
-IsUnbegun (Err NotWhole) = ⊥
-IsUnbegun (Err Memory) = ⊥
+abbrev pub StaysUnopened : {A : Type 0} → Result A CompactFault → Type 0
+StaysUnopened (Ok x) = ⊥
+StaysUnopened (Err (Opening unopened)) = Unit {0}
+StaysUnopened (Err NoGeneration) = ⊥
+StaysUnopened (Err DeviceFailed) = ⊥
+StaysUnopened (Err NotWhole) = ⊥
+StaysUnopened (Err Memory) = ⊥
 
 -- a fault that comes once the device was opened
-abbrev pub IsBegun : CompactFault → Type 0
-IsBegun (Opening unopened) = ⊥
-IsBegun NoGeneration = Unit {0}
-IsBegun DeviceFailed = Unit {0}
-IsBegun NotWhole = Unit {0}
-IsBegun Memory = Unit {0}
+abbrev pub ComesOpened : CompactFault → Type 0
+ComesOpened (Opening unopened) = ⊥
+ComesOpened NoGeneration = Unit {0}
+ComesOpened DeviceFailed = Unit {0}
+ComesOpened NotWhole = Unit {0}
+ComesOpened Memory = Unit {0}
 
 -- The device opened, its generation is one more, and its journal takes no more entries than fit into its areas.
-pub record Grown (verdict : Result Opened OpenFault) (done : Compaction) : Type 0 where
+pub record GrewByOne (verdict : Result Opened OpenFault) (done : Compaction) : Type 0 where
   pub opened : Opened
   pub is : verdict ≡ Ok opened
   pub generation : done.generation ≡ opened.generation + 1
-  pub room : done.room ≤ entries_of opened.head.topology opened.head.areas.length
+  pub room : done.room ≤ room_behind opened.head.topology opened.head.areas.length
 
 -- A crash at any moment leaves what one just before might have left, or what opens to where a prefix of the journal leads, with all that
 -- the device had as it was opened: that is the journal's beginning, and the next number is no less than it was. Once it was done, the

@@ -15,9 +15,9 @@ pub record Link : Type 0 where
 
 -- Each process opens what the one before it left, the first one `was`; and what it leaves follows what it opened. It may begin with that,
 -- since the clause of the one before says so.
-abbrev pub AreLinked : Network NodeState → List ℕ → List Link → Type 0
-AreLinked start was [] = Unit {0}
-AreLinked start was (link ∷ links) = Follows start link.journal link.acknowledged was link.left × AreLinked start link.left links
+abbrev pub AreChained : Network NodeState → List ℕ → List Link → Type 0
+AreChained start was [] = Unit {0}
+AreChained start was (link ∷ links) = Follows start link.journal link.acknowledged was link.left × AreChained start link.left links
 
 -- what the last one left
 abbrev pub last_left : List ℕ → List Link → List ℕ
@@ -25,14 +25,14 @@ last_left was [] = was
 last_left was (link ∷ links) = last_left link.left links
 
 -- In the journal stands, for each process, each entry since its opening that is acknowledged, under its number.
-abbrev pub Has : (start : Network NodeState) → List Entry → (was : List ℕ) → (links : List Link) → AreLinked start was links → Type 0
-Has start journal was [] linked = Unit {0}
-Has start journal was (link ∷ links) linked =
+abbrev pub HasAcknowledged : (start : Network NodeState) → List Entry → (was : List ℕ) → (links : List Link) → AreChained start was links → Type 0
+HasAcknowledged start journal was [] linked = Unit {0}
+HasAcknowledged start journal was (link ∷ links) linked =
     ((number : ℕ) → next_of linked.0.opened ≤ number → number < link.acknowledged → slice_get journal number ≡ slice_get link.journal number)
-    × Has start journal link.left links linked.1
+    × HasAcknowledged start journal link.left links linked.1
 
 -- What the last one left follows what the first one opened, by one journal for all, which has each acknowledged entry of each.
-pub record Composed (start : Network NodeState) (was : List ℕ) (links : List Link) (linked : AreLinked start was links) : Type 0 where
+pub record Composed (start : Network NodeState) (was : List ℕ) (links : List Link) (linked : AreChained start was links) : Type 0 where
   pub journal : List Entry
   pub follows : Follows start journal 0 was (last_left was links)
-  pub has : Has start journal was links linked
+  pub has : HasAcknowledged start journal was links linked

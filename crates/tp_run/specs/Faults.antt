@@ -49,14 +49,14 @@ IsLate Unaccounted = Unit {0}
 IsLate Memory = Unit {0}
 
 -- a fault of a run whose device opened, and which can be made as it is asked
-abbrev pub IsBegun : RunFault → Type 0
-IsBegun (Opening unopened) = ⊥
-IsBegun Spare = ⊥
-IsBegun Port = ⊥
-IsBegun OfferRefused = Unit {0}
-IsBegun FlushFailed = Unit {0}
-IsBegun OutputFailed = Unit {0}
-IsBegun ConfirmRefused = Unit {0}
-IsBegun LastFlushFailed = Unit {0}
-IsBegun Unaccounted = Unit {0}
-IsBegun Memory = Unit {0}
+abbrev pub ComesBegun : RunFault → Type 0
+ComesBegun (Opening unopened) = ⊥
+ComesBegun Spare = ⊥
+ComesBegun Port = ⊥
+ComesBegun OfferRefused = Unit {0}
+ComesBegun FlushFailed = Unit {0}
+ComesBegun OutputFailed = Unit {0}
+ComesBegun ConfirmRefused = Unit {0}
+ComesBegun LastFlushFailed = Unit {0}
+ComesBegun Unaccounted = Unit {0}
+ComesBegun Memory = Unit {0}

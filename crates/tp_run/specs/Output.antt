@@ -3,7 +3,7 @@ use Rattle.std.specs.Prelude.{◌≡◌, ◌≤◌, ◌⊎◌, ℕ, ◌+◌, Lis
 use Rattle.std.specs.Io.KnownBytes.{Appends}
 use Rattle.tp_model.specs.declared.entry.Entry.{Entry}
 use Rattle.tp_model.specs.declared.entry.Entry.TheVariants.{Confirm}
-use Rattle.tp_book.specs.Book.{BookValue, next_number}
+use Rattle.tp_book.specs.Book.{BookValue, next_in_book}
 use Rattle.tp_book.specs.Host.{port_in, shown_from, shown_of}
 use Rattle.tp_work.specs.Receipts.{IsFor}
 use Rattle.tp_shared.specs.Receipted.{Receipted}
@@ -11,13 +11,13 @@ use Rattle.tp_run.specs.declared.fault.RunFault.{RunFault}
 use Rattle.tp_run.specs.declared.fault.RunFault.TheVariants.{OutputFailed}
 
 -- a front of the bytes was appended
-abbrev pub AppendsFront : Option (List ℕ) → Option (List ℕ) → List ℕ → Type 0
-AppendsFront was now bytes = (n : ℕ) × Appends was now (take n bytes)
+abbrev pub OutputsFront : Option (List ℕ) → Option (List ℕ) → List ℕ → Type 0
+OutputsFront was now bytes = (n : ℕ) × Appends was now (take n bytes)
 
 -- all of them were, but where the output can't be written a front of them
 abbrev pub Printed : {A : Type 0} → Option (List ℕ) → Option (List ℕ) → List ℕ → Result A RunFault → Type 0
 Printed was now bytes (Ok x) = Appends was now bytes
-Printed was now bytes (Err fault) = Appends was now bytes ⊎ ((fault ≡ OutputFailed) × AppendsFront was now bytes)
+Printed was now bytes (Err fault) = Appends was now bytes ⊎ ((fault ≡ OutputFailed) × OutputsFront was now bytes)
 
 -- the entry that confirms a port's outputs, whose first has the position `from`; none where there is no output
 abbrev pub confirms : ℕ → ℕ → List ℕ → List Entry
@@ -33,19 +33,19 @@ pub record IsForOutput (port from : ℕ) (Are : ℕ → List ℕ → Type 0) (wa
   pub are : Are confirmed.first printed
 
 -- The bytes are those outputs of a port in a book that a mark shows, and the number is that of its next entry.
-abbrev pub AreShown : BookValue → ℕ → ℕ → ℕ → List ℕ → Type 0
-AreShown b port mark number bytes = (number ≡ next_number b) × (bytes ≡ shown_from b port mark (port_in b port).out_base)
+abbrev pub AreShownBytes : BookValue → ℕ → ℕ → ℕ → List ℕ → Type 0
+AreShownBytes b port mark number bytes = (number ≡ next_in_book b) × (bytes ≡ shown_from b port mark (port_in b port).out_base)
 
 -- The bytes are all outputs of a port in a book, and the number is that of its next entry.
 abbrev pub AreOutputs : BookValue → ℕ → ℕ → List ℕ → Type 0
-AreOutputs b port number bytes = (number ≡ next_number b) × ((port_in b port).outputs ≡ bytes)
+AreOutputs b port number bytes = (number ≡ next_in_book b) × ((port_in b port).outputs ≡ bytes)
 
 -- A mark shows all outputs of a port in a book, and no entry of the book is at or above it. As many outputs are confirmed.
 pub record ShowsAll (b : BookValue) (port mark confirmed : ℕ) : Type 0 where
   pub base : (port_in b port).out_base ≡ confirmed
   pub all : shown_of b port mark ≡ length (port_in b port).outputs
-  pub stored : next_number b ≤ mark
+  pub stored : next_in_book b ≤ mark
 
 -- Nothing was appended; or a mark shows all outputs of a port in a book, and a front of them was.
 abbrev pub PrintedOf : BookValue → ℕ → ℕ → ℕ → Option (List ℕ) → Option (List ℕ) → Type 0
-PrintedOf b port mark confirmed was now = (now ≡ was) ⊎ (ShowsAll b port mark confirmed × AppendsFront was now (port_in b port).outputs)
+PrintedOf b port mark confirmed was now = (now ≡ was) ⊎ (ShowsAll b port mark confirmed × OutputsFront was now (port_in b port).outputs)

@@ -2,14 +2,14 @@
 use Rattle.std.specs.Prelude.{◌≡◌, ℕ}
 use Rattle.tp_model.specs.Network.{Port}
 use Rattle.tp_model.specs.Opening.{Opened, next_of}
-use Rattle.tp_book.specs.Book.{BookValue, next_number}
+use Rattle.tp_book.specs.Book.{BookValue, next_in_book}
 use Rattle.tp_book.specs.Host.{accepted_of, port_in, room_of}
-use Rattle.tp_run.specs.Shown.{port_of}
+use Rattle.tp_run.specs.Shown.{port_or_new}
 use Rattle.tp_run.specs.declared.outset.Outset.{Outset}
 
 -- a port of what was opened
-abbrev pub port_at : Opened → ℕ → Port
-port_at o port = port_of o.now port
+abbrev pub port_opened : Opened → ℕ → Port
+port_opened o port = port_or_new o.now port
 
 -- where a port that is so stands, when the next entry gets this number
 abbrev pub outset_with : ℕ → ℕ → Port → Outset
@@ -17,13 +17,13 @@ outset_with port next there = record { port = port; next = next; accepted = acce
 
 -- in a book
 abbrev pub outset_of : BookValue → ℕ → Outset
-outset_of b port = outset_with port (next_number b) (port_in b port)
+outset_of b port = outset_with port (next_in_book b) (port_in b port)
 
 -- The port stands so in a book, as to the next entry and its input.
 abbrev pub StandsIn : Outset → BookValue → Type 0
 StandsIn outset b =
-    (next_number b ≡ outset.next) × (accepted_of (port_in b outset.port) ≡ outset.accepted) × (room_of (port_in b outset.port) ≡ outset.room)
+    (next_in_book b ≡ outset.next) × (accepted_of (port_in b outset.port) ≡ outset.accepted) × (room_of (port_in b outset.port) ≡ outset.room)
 
 -- in what was opened
 abbrev pub outset_in : Opened → ℕ → Outset
-outset_in o port = outset_with port (next_of o) (port_at o port)
+outset_in o port = outset_with port (next_of o) (port_opened o port)

@@ -14,7 +14,7 @@ use Rattle.tp_model.specs.Walks.{RecoversTo}
 use Rattle.tp_shared.specs.Receipted.{AreBelow}
 use Rattle.tp_flush.specs.Follows.{Follows}
 pub use Rattle.tp_flush.specs.History.{History}
-use Rattle.tp_flush.specs.Settled.{RecoversWith, Stand}
+use Rattle.tp_flush.specs.Settled.{RecoversWith, SlipsStand}
 use Rattle.tp_run.specs.Accounted.{Accounted}
 use Rattle.tp_run.specs.declared.fault.RunFault.{RunFault}
 use Rattle.tp_run.specs.declared.job.Job.{Job}
@@ -22,7 +22,7 @@ use Rattle.tp_run.specs.declared.outset.Outset.{Outset}
 use Rattle.tp_run.specs.Input.{input_slips}
 use Rattle.tp_run.specs.Outset.{outset_in}
 use Rattle.tp_run.specs.Output.{confirms}
-use Rattle.tp_run.specs.Shown.{Shows}
+use Rattle.tp_run.specs.Shown.{LeadsToOutputs}
 
 -- the entry that confirms what a run printed, under this number; none where nothing was printed
 abbrev pub output_slips : Outset → ℕ → List ℕ → List (ℕ × Entry)
@@ -37,8 +37,8 @@ pub record Settled (start network : Network NodeState) (job : Job) (outset : Out
   pub appended : Appends was now printed
   pub number : ℕ
   pub below : AreBelow next (handed ++ output_slips outset number printed)
-  pub stand : Stand journal (handed ++ output_slips outset number printed)
-  pub shows : Shows start journal number outset.port outset.confirmed printed
+  pub stand : SlipsStand journal (handed ++ output_slips outset number printed)
+  pub shows : LeadsToOutputs start journal number outset.port outset.confirmed printed
   pub accounted : Accounted network job journal outset.next next (handed ++ output_slips outset number printed)
 
 -- What was handed in and printed by a run that was done is in the journal. The device opened, and its port stood somewhere. Behind
@@ -57,7 +57,7 @@ pub record Carried (start : Network NodeState) (journal : List Entry) (job : Job
   pub stored :
       (left : List ℕ) → MayBe new.now left
       → RecoversWith start journal next (input_slips (outset_in opened job.port) input ++ output_slips (outset_in opened job.port) number printed) left
-  pub shows : Shows start journal number job.port (outset_in opened job.port).confirmed printed
+  pub shows : LeadsToOutputs start journal number job.port (outset_in opened job.port).confirmed printed
   pub accounted :
       Accounted opened.cut job journal (next_of opened) next
       (input_slips (outset_in opened job.port) input ++ output_slips (outset_in opened job.port) number printed)
@@ -70,7 +70,7 @@ pub record IsPrinted (start : Network NodeState) (journal : List Entry) (port : 
   pub reads : verdict old.now.bytes ≡ Ok opened
   pub number : ℕ
   pub outputs : List ℕ
-  pub shows : Shows start journal number port (outset_in opened port).confirmed outputs
+  pub shows : LeadsToOutputs start journal number port (outset_in opened port).confirmed outputs
   pub count : ℕ
   pub appended : Appends was now (take count outputs)
   pub there : State

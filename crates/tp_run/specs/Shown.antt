@@ -13,19 +13,19 @@ use Rattle.tp_model.specs.Walks.{RecoversTo}
 use Rattle.tp_flush.specs.Flushing.{Flushing}
 
 -- a port of a network; where there is none, one at which nothing has happened
-abbrev pub port_of : Network NodeState → ℕ → Port
-port_of s port = get_or s.ports port (record { pending = []; in_base = 0; outputs = []; out_base = 0 })
+abbrev pub port_or_new : Network NodeState → ℕ → Port
+port_or_new s port = get_or s.ports port (record { pending = []; in_base = 0; outputs = []; out_base = 0 })
 
 -- The first `number` entries of a journal lead to a network in which a port has just `outputs` behind those confirmed.
-pub record Shows (start : Network NodeState) (journal : List Entry) (number port confirmed : ℕ) (outputs : List ℕ) : Type 0 where
+pub record LeadsToOutputs (start : Network NodeState) (journal : List Entry) (number port confirmed : ℕ) (outputs : List ℕ) : Type 0 where
   pub state : Network NodeState
   pub leads : after t414 start (take number journal) ≡ Some state
-  pub base : (port_of state port).out_base ≡ confirmed
-  pub are : (port_of state port).outputs ≡ outputs
+  pub base : (port_or_new state port).out_base ≡ confirmed
+  pub are : (port_or_new state port).outputs ≡ outputs
 
 -- so do those of a world, all of them below its mark
 abbrev pub AreShownIn : Network NodeState → World NodeState → ℕ → ℕ → ℕ → List ℕ → Type 0
-AreShownIn start w port confirmed number outputs = (number ≤ w.mark) × Shows start w.journal number port confirmed outputs
+AreShownIn start w port confirmed number outputs = (number ≤ w.mark) × LeadsToOutputs start w.journal number port confirmed outputs
 
 -- What was appended to an output is a front of a port's outputs behind those confirmed, where the first entries of the journal lead;
 -- there are at most `least` of those entries.
@@ -33,7 +33,7 @@ pub record HasShown (start : Network NodeState) (journal : List Entry) (least po
   pub number : ℕ
   pub few : number ≤ least
   pub outputs : List ℕ
-  pub shows : Shows start journal number port confirmed outputs
+  pub shows : LeadsToOutputs start journal number port confirmed outputs
   pub count : ℕ
   pub appended : Appends was now (take count outputs)
 
@@ -46,7 +46,7 @@ MayShow start journal least port confirmed was now = (now ≡ was) ⊎ HasShown 
 pub record HasPrinted (start : Network NodeState) (old new : Flushing) (port confirmed : ℕ) (was now : Option (List ℕ)) : Type 0 where
   pub number : ℕ
   pub outputs : List ℕ
-  pub shows : Shows start new.world.journal number port confirmed outputs
+  pub shows : LeadsToOutputs start new.world.journal number port confirmed outputs
   pub count : ℕ
   pub appended : Appends was now (take count outputs)
   pub there : State

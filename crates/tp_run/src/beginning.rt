@@ -7,8 +7,8 @@ ghost use Rattle.tp_flush.specs.Due.{is_due};
 ghost use Rattle.tp_run.specs.Every.{every_of, missing_in};
 
 use std::alloc::Global;
-use tp_book::Refusal;
 use tp_area::JournalRoom;
+use tp_book::Refusal;
 use tp_net::Topology;
 use tp_shared::{Locked, Naming};
 

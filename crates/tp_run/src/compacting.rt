@@ -14,8 +14,8 @@ ghost use Rattle.tp_model.specs.Opening.{verdict};
 ghost use Rattle.tp_model.specs.Spelling.{IsCut};
 ghost use Rattle.tp_recover.specs.Reading.{LeavesNothingNew};
 ghost use Rattle.tp_recover.specs.declared.unopened.Unopened.{Unopened};
-ghost use Rattle.tp_run.specs.Compacted.{Compacted, Grown, IsBegun, IsUnbegun, entries_of};
-ghost use Rattle.tp_flush.specs.Made.{StandsFor};
+ghost use Rattle.tp_run.specs.Compacted.{Compacted, GrewByOne, ComesOpened, StaysUnopened, room_behind};
+ghost use Rattle.tp_flush.specs.Made.{IsMadeOf};
 ghost use Rattle.tp_run.specs.Ran.{History};
 ghost use Rattle.tp_shared.specs.Named.{Names};
 
@@ -25,13 +25,12 @@ use std::marker::Brand;
 use std::snapshot::Snapshot;
 use std::sync::Wait;
 use thiserror::Error;
-use tp_area::Store;
+use tp_area::{JournalRoom, Store};
 use tp_book::Refusal;
 use tp_disk::Disk;
 use tp_flush::{FlushFault, Flusher, topology_of};
-use tp_area::JournalRoom;
-use tp_ready::Raiser;
 use tp_net::Topology;
+use tp_ready::Raiser;
 use tp_recover::{Opened, Unopened, open};
 use tp_shared::{Naming, Parts, Shared};
 
@@ -75,7 +74,7 @@ fn left_in<J: Naming, R: Wait>(rt: &R, shared: &Shared<J>, journal: JournalRoom)
 
 /// The fault of a snapshot that doesn't begin; none where one runs.
 fn fault_of(refusal: Refusal) -> Option<CompactFault>
-    ensures { IfSome result IsBegun }
+    ensures { IfSome result ComesOpened }
 {
     match refusal {
         Refusal::SnapshotRunning => None,
@@ -94,7 +93,7 @@ fn begin<J: Naming, D: Disk, R: Wait>(
     shared: &Shared<J>,
     flusher: &Flusher<J, D>,
 ) -> Option<CompactFault>
-    ensures { IfSome result IsBegun }
+    ensures { IfSome result ComesOpened }
 {
     match flusher.snapshot(rt, alloc, shared).answer() {
         Ok(()) => None,
@@ -113,7 +112,7 @@ fn record_all<J: Naming, R: Wait>(rt: &R, shared: &Shared<J>) {
 
 /// The fault of a flusher's turn.
 fn fault_in(fault: FlushFault) -> CompactFault
-    ensures { IsBegun result }
+    ensures { ComesOpened result }
 {
     match fault {
         FlushFault::Memory => CompactFault::Memory,
@@ -136,7 +135,7 @@ fn switch_all<J: Naming, D: Disk, R: Wait>(
     ensures stored { IfOk result (λ done. done.next ≤ flusher.new.world.mark) }
     ensures switched { IfOk result (λ done. done.generation ≡ flusher.old.place.generation + 1) }
     ensures room { IfOk result (λ done. done.room ≤ capacity journal) }
-    ensures begun { IfErr result IsBegun }
+    ensures begun { IfErr result ComesOpened }
 {
     flusher.known();
     if let Some(fault) = begin(rt, alloc, shared, flusher) {
@@ -168,7 +167,7 @@ fn compact_parts<J: Naming, D: Disk, R: Wait>(
     store: Store<D>,
 ) -> (D, Result<Compaction, CompactFault>)
     requires names { Names J.roll J.first J.start J.node J.mark J.flusher J.sights J.room parts }
-    requires stands { StandsFor opened.value parts raiser }
+    requires stands { IsMadeOf opened.value parts raiser }
     requires bound { parts.book.room ≡ Some (room opened.value.head.topology opened.value.head.areas.length) }
     requires cut { IsCut t414_ends opened.value.head.topology opened.value.base opened.value.cut }
     requires bytes { AllByRecursion IsNodeOfBytes opened.value.cut.nodes }
@@ -181,8 +180,8 @@ fn compact_parts<J: Naming, D: Disk, R: Wait>(
     ensures size { D.size_of result.0 ≡ D.size_of store.disk }
     ensures kept { D.keeps → Began J.formatted J.before (D.state store.disk).now.bytes → Compacted J.formatted result.1 (D.state store.disk) (D.state result.0) }
     ensures switched { IfOk result.1 (λ done. done.generation ≡ store.place.generation + 1) }
-    ensures room { IfOk result.1 (λ done. done.room ≤ entries_of topology store.place.areas.length) }
-    ensures begun { IfErr result.1 IsBegun }
+    ensures room { IfOk result.1 (λ done. done.room ≤ room_behind topology store.place.areas.length) }
+    ensures begun { IfErr result.1 ComesOpened }
 {
     let (shared, key) = Shared::<J>::start(parts);
     let journal = JournalRoom::of(&topology, store.place.areas.length);
@@ -207,8 +206,8 @@ pub fn compact<D: Disk, R: Wait>(
     ghost history: { History }
     ensures size { D.size_of result.0 ≡ D.size_of disk }
     ensures kept { D.keeps → Began history.formatted history.before (D.state disk).now.bytes → Compacted history.formatted result.1 (D.state disk) (D.state result.0) }
-    ensures grown { D.keeps → IfOk result.1 (Grown (verdict (D.state disk).now.bytes)) }
-    ensures unwritten { D.keeps → IsUnbegun result.1 → LeavesNothingNew (D.state disk) (D.state result.0) }
+    ensures grown { D.keeps → IfOk result.1 (GrewByOne (verdict (D.state disk).now.bytes)) }
+    ensures unwritten { D.keeps → StaysUnopened result.1 → LeavesNothingNew (D.state disk) (D.state result.0) }
     ensures unopened { D.keeps → IsErr (verdict (D.state disk).now.bytes) → (unopened : Unopened) × (result.1 ≡ Err (CompactFault.Opening unopened)) }
 {
     let mut disk = disk;

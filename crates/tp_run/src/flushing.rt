@@ -3,7 +3,7 @@
 ghost use Rattle.std.specs.Prelude.{◌≡◌, ◌≤◌, IfOk, IfErr};
 ghost use Rattle.tp_flush.specs.Known.{Began};
 ghost use Rattle.tp_flush.specs.Flushing.{IsSameProcess, Walked};
-ghost use Rattle.tp_run.specs.Faults.{IsBegun, IsFlushFault};
+ghost use Rattle.tp_run.specs.Faults.{ComesBegun, IsFlushFault};
 
 use crate::fault::RunFault;
 use crate::watch::Watch;
@@ -59,11 +59,11 @@ fn flush<J: Naming, D: Disk, R: Wait>(
     flusher: &mut Flusher<J, D>,
     fault: RunFault,
 ) -> Result<(), RunFault>
-    requires { IsBegun fault }
+    requires { ComesBegun fault }
     ensures walks { D.keeps → Began J.formatted J.before flusher.old.opened → Walked flusher.old flusher.new }
     ensures process { IsSameProcess flusher.old flusher.new }
     ensures refused { IfErr result (IsFlushFault fault) }
-    ensures begun { IfErr result IsBegun }
+    ensures begun { IfErr result ComesBegun }
 {
     match flusher.turn(rt, alloc, shared) {
         Ok(_) => Ok(()),
@@ -84,12 +84,12 @@ pub(crate) fn flush_upto<J: Naming, D: Disk, R: Wait>(
     number: u64,
     fault: RunFault,
 ) -> Result<u64, RunFault>
-    requires { IsBegun fault }
+    requires { ComesBegun fault }
     ensures walks { D.keeps → Began J.formatted J.before flusher.old.opened → Walked flusher.old flusher.new }
     ensures process { IsSameProcess flusher.old flusher.new }
     ensures stored { IfOk result (λ mark. (mark ≡ flusher.new.world.mark) × (number ≤ mark)) }
     ensures refused { IfErr result (IsFlushFault fault) }
-    ensures begun { IfErr result IsBegun }
+    ensures begun { IfErr result ComesBegun }
 {
     flush(rt, alloc, shared, flusher, fault)?;
     let mark = flusher.mark();

@@ -1,17 +1,17 @@
 //! The input that a run hands in.
 
 ghost use Rattle.std.specs.Prelude.{◌≡◌, ◌<◌, length, map, take, drop, IfOk, IfErr, OnErr};
-ghost use Rattle.tp_book.specs.Book.{next_number};
-ghost use Rattle.tp_book.specs.Host.{after_input};
+ghost use Rattle.tp_book.specs.Book.{next_in_book};
+ghost use Rattle.tp_book.specs.Host.{after_inputs};
 ghost use Rattle.tp_work.specs.Receipts.{IsFor};
 ghost use Rattle.tp_model.specs.declared.entry.Entry.TheVariants.{HostIn};
 ghost use Rattle.tp_run.specs.Input.{IsForInput, rest_of};
-ghost use Rattle.tp_run.specs.Faults.{IsBegun};
+ghost use Rattle.tp_run.specs.Faults.{ComesBegun};
 
 use crate::fault::RunFault;
 use crate::outset::Outset;
-use tp_work::{OfferFault, offer};
 use tp_shared::{Locked, Naming, Receipt};
+use tp_work::{OfferFault, offer};
 
 // At most `room` bytes from the position `from` on.
 fn front_from(input: &[u8], from: u64, room: usize) -> &[u8]
@@ -33,10 +33,10 @@ pub(crate) fn offer_rest<J: Naming>(
     input: &[u8],
 ) -> Result<Receipt<J>, RunFault>
     requires there { port < length held.old.book.state.ports }
-    ensures book { IfOk result (λ receipt. held.new.book ≡ after_input held.old.book port (rest_of held.old.book port input.now)) }
-    ensures number { IfOk result (λ receipt. receipt.number ≡ next_number held.new.book) }
+    ensures book { IfOk result (λ receipt. held.new.book ≡ after_inputs held.old.book port (rest_of held.old.book port input.now)) }
+    ensures number { IfOk result (λ receipt. receipt.number ≡ next_in_book held.new.book) }
     ensures receipt { IfOk result (IsFor (map (HostIn port) (rest_of held.old.book port input.now))) }
-    ensures begun { IfErr result IsBegun }
+    ensures begun { IfErr result ComesBegun }
     ensures err { OnErr result (held.new ≡ held.old) }
 {
     held.known();
@@ -63,7 +63,7 @@ pub(crate) fn offer_at<J: Naming>(
 ) -> Result<Receipt<J>, RunFault>
     requires there { outset.port < length held.old.book.state.ports }
     ensures receipt { IfOk result (IsForInput outset input.now) }
-    ensures begun { IfErr result IsBegun }
+    ensures begun { IfErr result ComesBegun }
     ensures err { OnErr result (held.new ≡ held.old) }
 {
     outset.stands_in(held.book())?;

@@ -2,7 +2,7 @@
 
 ghost use Rattle.std.specs.Prelude.{◌≡◌, ◌<◌, IfOk, Some};
 ghost use Rattle.tp_model.specs.Journal.{room};
-ghost use Rattle.tp_flush.specs.Made.{StandsFor};
+ghost use Rattle.tp_flush.specs.Made.{IsMadeOf};
 ghost use Rattle.tp_run.specs.Made.{fault_by, has_pages, job_fault};
 ghost use Rattle.tp_run.specs.Outset.{outset_in};
 
@@ -11,8 +11,8 @@ use crate::job::Job;
 use crate::outset::Outset;
 use std::alloc::{AllocError, Global};
 use tp_book::{Book, opened_books_begin};
-use tp_ready::{Mark, Raiser};
 use tp_net::Topology;
+use tp_ready::{Mark, Raiser};
 use tp_recover::Opened;
 use tp_shared::Parts;
 use tp_work::nodes_of;
@@ -52,7 +52,7 @@ pub(crate) fn parts_of(
     port: u8,
 ) -> Result<(Parts, Raiser, Outset), AllocError>
     requires { port < opened.head.topology.ports }
-    ensures parts { IfOk result (λ made. StandsFor opened made.0 made.1) }
+    ensures parts { IfOk result (λ made. IsMadeOf opened made.0 made.1) }
     ensures bound { IfOk result (λ made. made.0.book.room ≡ Some (room opened.head.topology opened.head.areas.length)) }
     ensures outset { IfOk result (λ made. made.2 ≡ outset_in opened port) }
 {

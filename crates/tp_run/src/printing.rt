@@ -2,25 +2,25 @@
 
 ghost use Rattle.std.specs.Prelude.{◌≡◌, ◌<◌, ◌≤◌, length, IfOk, IfErr, OnOk, OnErr};
 ghost use Rattle.std.specs.Io.KnownBytes.{Appends};
-ghost use Rattle.tp_book.specs.Book.{next_number};
+ghost use Rattle.tp_book.specs.Book.{next_in_book};
 ghost use Rattle.tp_book.specs.Host.{after_confirm, port_in, shown_from, shown_of, shown_upto_of};
 ghost use Rattle.tp_book.specs.Acts.{confirm_entries};
 ghost use Rattle.tp_work.specs.Receipts.{IsFor};
-ghost use Rattle.tp_run.specs.Faults.{IsBegun, IsLate};
-ghost use Rattle.tp_run.specs.Output.{AppendsFront, AreOutputs, AreShown, IsForOutput, Printed, PrintedOf, ShowsAll};
+ghost use Rattle.tp_run.specs.Faults.{ComesBegun, IsLate};
+ghost use Rattle.tp_run.specs.Output.{OutputsFront, AreOutputs, AreShownBytes, IsForOutput, Printed, PrintedOf, ShowsAll};
 
 use crate::fault::RunFault;
 use crate::outset::Outset;
 use std::io::{ErrorKind, Write};
 use tp_book::Book;
-use tp_work::{ConfirmFault, confirm};
 use tp_shared::{Locked, Naming, Receipt};
+use tp_work::{ConfirmFault, confirm};
 
 /// Writes bytes as they are. A front of them stands on the output, whatever is answered.
 pub(crate) fn put<O: Write>(out: &mut O, bytes: &[u8]) -> Result<(), RunFault>
     ensures written { OnOk result (Appends (O.contents out.old) (O.contents out.new) bytes.now) }
     ensures refused { IfErr result (λ fault. fault ≡ RunFault.OutputFailed) }
-    ensures front { AppendsFront (O.contents out.old) (O.contents out.new) bytes.now }
+    ensures front { OutputsFront (O.contents out.old) (O.contents out.new) bytes.now }
 {
     let mut written = 0;
     for _ in 0..u64::MAX {
@@ -45,10 +45,10 @@ fn confirm_shown<J: Naming>(
 ) -> Result<Receipt<J>, RunFault>
     requires there { port < length held.old.book.state.ports }
     ensures book { IfOk result (λ receipt. held.new.book ≡ after_confirm held.old.book port (shown_upto_of held.old.book port mark)) }
-    ensures number { IfOk result (λ receipt. receipt.number ≡ next_number held.new.book) }
+    ensures number { IfOk result (λ receipt. receipt.number ≡ next_in_book held.new.book) }
     ensures receipt { IfOk result (IsFor (confirm_entries held.old.book port (shown_upto_of held.old.book port mark))) }
     ensures late { IfErr result IsLate }
-    ensures begun { IfErr result IsBegun }
+    ensures begun { IfErr result ComesBegun }
     ensures err { OnErr result (held.new ≡ held.old) }
 {
     let upto = held.book().shown_upto(port, mark);
@@ -72,10 +72,10 @@ pub(crate) fn print_shown<J: Naming, O: Write>(
     requires there { port < length held.old.book.state.ports }
     ensures printed { Printed (O.contents out.old) (O.contents out.new) (shown_from held.old.book port mark (port_in held.old.book port).out_base) result }
     ensures book { IfOk result (λ receipt. held.new.book ≡ after_confirm held.old.book port (shown_upto_of held.old.book port mark)) }
-    ensures number { IfOk result (λ receipt. receipt.number ≡ next_number held.new.book) }
-    ensures receipt { IfOk result (IsForOutput port (port_in held.old.book port).out_base (AreShown held.old.book port mark) (O.contents out.old) (O.contents out.new)) }
+    ensures number { IfOk result (λ receipt. receipt.number ≡ next_in_book held.new.book) }
+    ensures receipt { IfOk result (IsForOutput port (port_in held.old.book port).out_base (AreShownBytes held.old.book port mark) (O.contents out.old) (O.contents out.new)) }
     ensures late { IfErr result IsLate }
-    ensures begun { IfErr result IsBegun }
+    ensures begun { IfErr result ComesBegun }
     ensures err { OnErr result (held.new ≡ held.old) }
 {
     let from = held.book().out_base(port);
@@ -87,7 +87,7 @@ pub(crate) fn print_shown<J: Naming, O: Write>(
 fn is_all_shown(book: &Book, port: u8, mark: u64) -> Result<(), RunFault>
     requires { port < length book.now.state.ports }
     ensures all { IfOk result (λ done. shown_of book.now port mark ≡ length (port_in book.now port).outputs) }
-    ensures stored { IfOk result (λ done. next_number book.now ≤ mark) }
+    ensures stored { IfOk result (λ done. next_in_book book.now ≤ mark) }
     ensures refused { IfErr result (λ fault. fault ≡ RunFault.OutputFailed) }
 {
     let shown = book.shown_upto(port, mark) - book.out_base(port);
@@ -110,7 +110,7 @@ pub(crate) fn print_from<J: Naming, O: Write>(
     ensures all { IfOk result (λ receipt. ShowsAll held.old.book outset.port mark outset.confirmed) }
     ensures printed { PrintedOf held.old.book outset.port mark outset.confirmed (O.contents out.old) (O.contents out.new) }
     ensures late { IfErr result IsLate }
-    ensures begun { IfErr result IsBegun }
+    ensures begun { IfErr result ComesBegun }
     ensures err { OnErr result (held.new ≡ held.old) }
 {
     outset.is_confirmed_in(held.book())?;

@@ -12,8 +12,8 @@ ghost use Rattle.tp_model.specs.Opening.{verdict};
 ghost use Rattle.tp_model.specs.Spelling.{IsCut};
 ghost use Rattle.tp_model.specs.declared.limits.TheConstants.{MAX_STEPS};
 ghost use Rattle.tp_recover.specs.Reading.{LeavesNothingNew};
-ghost use Rattle.tp_run.specs.Faults.{IsBegun, IsSilent, IsUnbegun};
-ghost use Rattle.tp_flush.specs.Made.{StandsFor};
+ghost use Rattle.tp_run.specs.Faults.{ComesBegun, IsSilent, IsUnbegun};
+ghost use Rattle.tp_flush.specs.Made.{IsMadeOf};
 ghost use Rattle.tp_run.specs.Outset.{outset_in};
 ghost use Rattle.tp_run.specs.Ran.{History, Ran};
 ghost use Rattle.tp_recover.specs.declared.unopened.Unopened.{Unopened};
@@ -35,8 +35,8 @@ use std::thread::Threads;
 use tp_area::Store;
 use tp_disk::Disk;
 use tp_flush::{Flusher, stored_slips_are_recovered, topology_of};
-use tp_ready::Raiser;
 use tp_net::Topology;
+use tp_ready::Raiser;
 use tp_recover::{Opened, open};
 use tp_shared::{Naming, NoGate, Parts};
 use tp_work::Net;
@@ -59,7 +59,7 @@ fn run_parts<J: Naming + Send + Sync, D: Disk + Send + Drop, O: Write, R: Thread
     requires quantum { (0 < job.quantum) × (job.quantum ≤ MAX_STEPS) }
     requires port { job.port < opened.value.head.topology.ports }
     requires names { Names J.roll J.first J.start J.node J.mark J.flusher J.sights J.room parts }
-    requires stands { StandsFor opened.value parts raiser }
+    requires stands { IsMadeOf opened.value parts raiser }
     requires bound { parts.book.room ≡ Some (room opened.value.head.topology opened.value.head.areas.length) }
     requires cut { IsCut t414_ends opened.value.head.topology opened.value.base opened.value.cut }
     requires bytes { AllByRecursion IsNodeOfBytes opened.value.cut.nodes }
@@ -75,7 +75,7 @@ fn run_parts<J: Naming + Send + Sync, D: Disk + Send + Drop, O: Write, R: Thread
     ensures ran { D.keeps → Began J.formatted J.before (D.state store.disk).now.bytes
         → Ran J.formatted job input.now (O.contents out.old) (O.contents out.new) result.1 (D.state store.disk) (D.state result.0) }
     ensures silent { IsSilent result.1 → O.contents out.new ≡ O.contents out.old }
-    ensures begun { IfErr result.1 IsBegun }
+    ensures begun { IfErr result.1 ComesBegun }
 {
     let Ok((net, seats, key)) = Net::<J, NoGate>::start(
         rt,

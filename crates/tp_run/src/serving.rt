@@ -4,9 +4,9 @@ ghost use Rattle.std.specs.Prelude.{◌≡◌, ◌<◌, ◌≤◌, ◌++◌, [],
 ghost use Rattle.tp_shared.specs.Receipted.{AreBelow};
 ghost use Rattle.tp_flush.specs.Known.{Began};
 ghost use Rattle.tp_flush.specs.Flushing.{IsSameProcess, Walked};
-ghost use Rattle.tp_flush.specs.Settled.{Stand};
+ghost use Rattle.tp_flush.specs.Settled.{SlipsStand};
 ghost use Rattle.tp_flush.specs.All.{AreAll};
-ghost use Rattle.tp_run.specs.Faults.{IsBegun, IsLate, IsSilent};
+ghost use Rattle.tp_run.specs.Faults.{ComesBegun, IsLate, IsSilent};
 ghost use Rattle.tp_run.specs.Input.{IsForInput, input_slips};
 ghost use Rattle.tp_run.specs.Output.{IsForOutput};
 ghost use Rattle.tp_run.specs.Ran.{Settled};
@@ -40,7 +40,7 @@ fn offer<J: Naming, R: Wait>(
 ) -> Result<Receipt<J>, RunFault>
     requires { outset.port < length J.start.ports }
     ensures receipt { IfOk result (IsForInput outset input.now) }
-    ensures begun { IfErr result IsBegun }
+    ensures begun { IfErr result ComesBegun }
 {
     let mut held = shared.book().lock(rt);
     held.known();
@@ -65,7 +65,7 @@ fn print_settled<J: Naming, D: Disk, O: Write>(
     ensures shown { D.keeps → Began J.formatted J.before flusher.old.opened
         → MayShow J.formatted flusher.old.world.journal flusher.old.world.mark outset.port outset.confirmed (O.contents out.old) (O.contents out.new) }
     ensures late { IfErr result IsLate }
-    ensures begun { IfErr result IsBegun }
+    ensures begun { IfErr result ComesBegun }
     ensures err { OnErr result (held.new ≡ held.old) }
 {
     flusher.settle_book(held);
@@ -90,7 +90,7 @@ fn print<J: Naming, D: Disk, O: Write, R: Wait>(
     ensures shown { D.keeps → Began J.formatted J.before flusher.old.opened
         → MayShow J.formatted flusher.old.world.journal flusher.old.world.mark outset.port outset.confirmed (O.contents out.old) (O.contents out.new) }
     ensures late { IfErr result IsLate }
-    ensures begun { IfErr result IsBegun }
+    ensures begun { IfErr result ComesBegun }
 {
     let mut held = shared.book().lock(rt);
     held.known();
@@ -154,12 +154,12 @@ fn settle<J: Naming, D: Disk, R: Wait>(
     requires first { first ≡ J.first }
     ensures same { flusher.new ≡ flusher.old }
     ensures below { AreBelow offered.number offered.seat × AreBelow confirmed.number confirmed.seat }
-    ensures stand { D.keeps → Began J.formatted J.before flusher.old.opened → Stand flusher.old.world.journal offered.seat × Stand flusher.old.world.journal confirmed.seat }
+    ensures stand { D.keeps → Began J.formatted J.before flusher.old.opened → SlipsStand flusher.old.world.journal offered.seat × SlipsStand flusher.old.world.journal confirmed.seat }
     ensures next { IfOk result (λ answer. answer ≡ next) }
     ensures all { D.keeps → Began J.formatted J.before flusher.old.opened
         → IfOk result (λ answer. AreAll J.first answer flusher.old.world.journal (flat_map (λ seat. seat.slips) seats.items ++ offered.seat ++ confirmed.seat)) }
     ensures late { IfErr result IsLate }
-    ensures begun { IfErr result IsBegun }
+    ensures begun { IfErr result ComesBegun }
 {
     let mut offered = offered;
     let mut confirmed = confirmed;
@@ -195,7 +195,7 @@ fn finish<J: Naming, D: Disk, O: Write, R: Wait>(
     ensures shown { D.keeps → Began J.formatted J.before flusher.old.opened
         → MayPrint J.formatted flusher.old flusher.new outset.port outset.confirmed (O.contents out.old) (O.contents out.new) }
     ensures silent { IsSilent result → O.contents out.new ≡ O.contents out.old }
-    ensures begun { IfErr result IsBegun }
+    ensures begun { IfErr result ComesBegun }
 {
     flusher.known();
     let number = offered.number();
@@ -247,7 +247,7 @@ pub(crate) fn serve<
     ensures shown { D.keeps → Began J.formatted J.before flusher.opened
         → MayPrint J.formatted flusher result.0 outset.port outset.confirmed (O.contents out.old) (O.contents out.new) }
     ensures silent { IsSilent result.1 → O.contents out.new ≡ O.contents out.old }
-    ensures begun { IfErr result.1 IsBegun }
+    ensures begun { IfErr result.1 ComesBegun }
 {
     flusher.known();
     let shared = net.shared();

@@ -7,7 +7,7 @@ use Rattle.std.proofs.lemmas.List.{take_more}
 use Rattle.std.proofs.lemmas.Option.{get_or_from_slice_get, slice_get_within}
 use Rattle.tp_book.proofs.Stood.{no_act}
 use Rattle.tp_shared.specs.CopiedTail.{has_copy}
-use Rattle.tp_shared.specs.Told.{Since}
+use Rattle.tp_shared.specs.Told.{ToldSince}
 use Rattle.tp_shared.specs.declared.seal.NodeSeal.{NodeSeal}
 use Rattle.tp_shared.specs.declared.told.Told.{Told}
 
@@ -35,5 +35,5 @@ thawed_all [] e = tt
 thawed_all (s ∷ ss) e = let P = and_parts (not s.frozen) (list_all (λ s. not s.frozen) ss) e in (unset s.frozen P.0, thawed_all ss P.1)
 
 -- whatever is told of pages
-pub since_flag : (t : Told) (flag : Bool) → Since (record t { thawed = flag }) t
+pub since_flag : (t : Told) (flag : Bool) → ToldSince (record t { thawed = flag }) t
 since_flag t flag = record { acts = []; none = tt; net = no_act t.net; base = refl; journal = refl; numbered = refl; form = refl }

@@ -9,7 +9,7 @@ use Rattle.tp_model.specs.Acts.{Act, happens, acted}
 use Rattle.tp_model.specs.Runs.{is_trim, HasCut}
 use Rattle.tp_law_machine.proofs.LinkLaws.{has_four_links, never_marks}
 use Rattle.tp_law_network.proofs.Partial.{bind_some}
-use Rattle.tp_law_network.specs.Invariant.{Holds}
+use Rattle.tp_law_network.specs.Invariant.{CutInvariant}
 use Rattle.tp_law_network.proofs.Happens.{happens_holds}
 use Rattle.tp_law_network.proofs.Stays.{cut_stays}
 use Rattle.tp_law_network.proofs.Whole.{whole_parts, parts_recorded}
@@ -17,7 +17,7 @@ use Rattle.tp_book.specs.Needs.{has_recorded_in}
 
 module _ (cut : WholeCut) (nodes : List NodeState) where
   -- a whole cut stays through acts
-  pub stays_whole : (v u : MarkedNetwork NodeState) → Holds t414 v → HasCut v cut nodes → (more : List Act) → AllByRecursion (λ act. is_trim act ≡ false) more → acted t414 v more ≡ Some u → HasCut u cut nodes
+  pub stays_whole : (v u : MarkedNetwork NodeState) → CutInvariant t414 v → HasCut v cut nodes → (more : List Act) → AllByRecursion (λ act. is_trim act ≡ false) more → acted t414 v more ≡ Some u → HasCut u cut nodes
   unfolding acted
   stays_whole v u H C [] none e = let same : v ≡ u = cc in subst (λ x. HasCut x cut nodes) same C
   stays_whole v u H C (act ∷ more) none e =

@@ -11,7 +11,7 @@ use Rattle.tp_model.specs.Snapshot.{Snapshot, MarkedNetwork, has_recorded}
 use Rattle.tp_model.specs.FrozenAs.{IsFrozenAs}
 use Rattle.tp_law_machine.proofs.LinkLaws.{has_four_links}
 use Rattle.tp_law_network.proofs.Local.{own-node}
-use Rattle.tp_law_network.specs.Invariant.{Holds, as_recorded}
+use Rattle.tp_law_network.specs.Invariant.{CutInvariant, as_recorded}
 use Rattle.tp_law_network.proofs.Shape.{mid_nodes}
 use Rattle.tp_law_network.proofs.Whole.{running}
 use Rattle.tp_book.specs.Needs.{has_recorded_in}
@@ -29,7 +29,7 @@ at_some [] i n e = cc
 at_some (x ∷ xs) zero n e = ap Some e
 at_some (x ∷ xs) (suc i) n e = at_some xs i n e
 
-module _ (w : MarkedNetwork NodeState) (H : Holds t414 w) (i : ℕ) (below : i < length w.live.nodes) where
+module _ (w : MarkedNetwork NodeState) (H : CutInvariant t414 w) (i : ℕ) (below : i < length w.live.nodes) where
   -- a node that has recorded has an image
   image_there : (snap : Snapshot) → w.snapshot ≡ Some snap → has_recorded snap i ≡ true → (n : NodeState) × (get_or w.frozen i None ≡ Some n)
   image_there snap runs recorded =
@@ -46,7 +46,7 @@ module _ (w : MarkedNetwork NodeState) (H : Holds t414 w) (i : ℕ) (below : i <
       )
 
 -- what is kept of a node that has recorded is its image
-pub kept_frozen : (b : BookValue) (i : ℕ) (node : NodeState) → Holds t414 (world_of b) → i < length (agreed b.state) → has_recorded_in b.state.snapshot i ≡ true
+pub kept_frozen : (b : BookValue) (i : ℕ) (node : NodeState) → CutInvariant t414 (world_of b) → i < length (agreed b.state) → has_recorded_in b.state.snapshot i ≡ true
     → ((there : NodeState) → get_or b.frozen i None ≡ Some there → node ≡ there) → IsFrozenAs (world_of b) i node
 kept_frozen b i node H below recorded kept =
     let R = running_in b.state.snapshot i recorded in

@@ -21,20 +21,20 @@ use Rattle.tp_book.specs.Calls.{with_run, without_run}
 use Rattle.tp_book.specs.Refusals.{else_if, is_journal_full, reserve_refusal, IsAnswer}
 use Rattle.tp_turn.specs.declared.opened.Opened.{Opened}
 use Rattle.tp_turn.specs.declared.opened.Opened.TheVariants.{Apart, Whole}
-use Rattle.tp_turn.specs.Moments.{Moment, entries_in, Added}
-use Rattle.tp_turn.specs.Fronts.{IsStop, OnWire}
+use Rattle.tp_turn.specs.Moments.{TurnMoment, entries_among, Added}
+use Rattle.tp_turn.specs.Fronts.{EndsTurn, OnWire}
 use Rattle.tp_turn.specs.Opened.{IsOpenedIn, OpensIn, opened_acts, opened_entries}
 use Rattle.tp_turn.specs.Stages.{Breaks}
 use Rattle.tp_turn.proofs.MarkActs.{breaks_whole_listed, breaks_whole_untrimmed, closes_listed, closes_untrimmed, opened_listed, opened_untrimmed}
 use Rattle.tp_turn.proofs.Opening.{opens_form, whole_refused}
-use Rattle.tp_shared.specs.Agreement.{Agreement, answered_with, at_rest, takes_of}
+use Rattle.tp_shared.specs.Agreement.{Agreement, answered_with, at_rest, takes_opened}
 use Rattle.tp_shared.specs.BookActs.{Grown, NodeActed}
-use Rattle.tp_shared.specs.Entries.{IsTurnRefusal, OpenedEntries, Takes, TakesOf}
+use Rattle.tp_shared.specs.Entries.{IsTurnRefusal, OpenedEntries, AreTakes, TakesOf}
 use Rattle.tp_shared.proofs.Untrimmed.{untrimmed, taken, settles_turn, breaks_turn}
 
 -- ## Whose entries
 
-takes_like : (s t : Network NodeState) (number : ℕ) (es : List Entry) → t.wires ≡ s.wires → length t.nodes ≡ length s.nodes → Takes t number es → Takes s number es
+takes_like : (s t : Network NodeState) (number : ℕ) (es : List Entry) → t.wires ≡ s.wires → length t.nodes ≡ length s.nodes → AreTakes t number es → AreTakes s number es
 takes_like s t number [] w n all = tt
 takes_like s t number (Run i k ∷ es) w n all = (all.0, takes_like s t number es w n all.1)
 takes_like s t number (Take line token ∷ es) w n all = (sym (process_same s t w n (Take line token)) ∙ all.0, takes_like s t number es w n all.1)
@@ -59,7 +59,7 @@ grown_like One Other b new like G = record {
   acts = G.acts;
   none = G.none;
   did = G.did;
-  are = like (entries_in G.acts) G.are;
+  are = like (entries_among G.acts) G.are;
   start = G.start;
   entries_are = G.entries_are;
   numbers = G.numbers;
@@ -77,7 +77,7 @@ acted_like One Other number a b new like A = record { grown = grown_like One Oth
 
 -- ## Acts of a node
 
-module _ (Are : List Entry → Type 0) (number : ℕ) (acts : List Act) (b mid : BookValue) (node : NodeState) (A : Added number node acts b mid) (none : AllByRecursion (λ act. is_trim act ≡ false) acts) (are : Are (entries_in acts)) where
+module _ (Are : List Entry → Type 0) (number : ℕ) (acts : List Act) (b mid : BookValue) (node : NodeState) (A : Added number node acts b mid) (none : AllByRecursion (λ act. is_trim act ≡ false) acts) (are : Are (entries_among acts)) where
   grown : Grown Are b mid
   grown = record {
     acts = acts;
@@ -153,7 +153,7 @@ opened_there (Ok (Apart taken)) b number n O = (n.live, O.there)
 opened_there (Ok (Whole taken)) b number n O = (O.before.live, O.is.there)
 opened_there (Err e) b number n O = (n.live, O.there)
 
-pub acted_opens : (form : Form) (number : ℕ) (r : Result Opened Refusal) (s t : Moment) → slice_get s.book.runs number ≡ Some false → OpensIn form number r s t → IsOpenedIn r t.book number t.node
+pub acted_opens : (form : Form) (number : ℕ) (r : Result Opened Refusal) (s t : TurnMoment) → slice_get s.book.runs number ≡ Some false → OpensIn form number r s t → IsOpenedIn r t.book number t.node
     → NodeActed (OpenedEntries s.book.state.start number r) number (answered_with t.book number t.node r) s.book t.book
 acted_opens Plain number (Ok (Apart takes)) s t free O I =
     let r : Result Opened Refusal = Ok (Apart takes) in
@@ -161,7 +161,7 @@ acted_opens Plain number (Ok (Apart takes)) s t free O I =
     let mid = O.between in
     let turns = settles_turn number s mid D.acts D.did.did in
     let there = opened_there r t.book number t.node I in
-    let book = ap (λ (m : Moment). m.book) O.is in
+    let book = ap (λ (m : TurnMoment). m.book) O.is in
     let same = made_node (agreed t.book.state) (agreed s.book.state) number mid.node.live there.0 t.node.live (ap (λ (x : BookValue). agreed x.state) book ∙ D.added.nodes) there.1 in
     subst (λ (new : BookValue). NodeActed (OpenedEntries s.book.state.start number r) number (answered_with t.book number t.node r) s.book new) (sym book)
     (acted_reserved (OpenedEntries s.book.state.start number r) number D.acts s.book mid.book mid.node.live D.added (untrimmed D.acts turns) (sym D.did.many, taken s.book.state.start number D.acts turns D.added.own)
@@ -189,13 +189,13 @@ acted_opens Turns number (Err e) s t free O I =
     (answered_with t.book number t.node r) (made_node (agreed t.book.state) (agreed s.book.state) number t.node.live t.node.live t.node.live O.added.nodes I.there) free refl
 
 -- what was received for a turn that is one entry was received in a book that holds such
-pub answered_form : (form : Form) (number : ℕ) (r : Result Opened Refusal) (s t : Moment) → OpensIn form number r s t → (takes : List Received) → takes_of r ≡ Some takes → form ≡ Turns
+pub answered_form : (form : Form) (number : ℕ) (r : Result Opened Refusal) (s t : TurnMoment) → OpensIn form number r s t → (takes : List Received) → takes_opened r ≡ Some takes → form ≡ Turns
 answered_form form number (Ok opened) s t O takes given = opens_form form number opened s t O takes given
 answered_form form number (Err e) s t O takes given = cc
 
 -- ## Why it is refused
 
-stop_refused : (line : ℕ) (e : Refusal) (b : BookValue) → IsStop line e b → IsTurnRefusal e
+stop_refused : (line : ℕ) (e : Refusal) (b : BookValue) → EndsTurn line e b → IsTurnRefusal e
 stop_refused line JournalFull b h = tt
 stop_refused line StoreBroken b h = tt
 stop_refused line Memory b h = tt
@@ -203,7 +203,7 @@ stop_refused line NothingToTake b h = absurd h
 stop_refused line SnapshotRunning b h = absurd h
 stop_refused line PortFull b h = absurd h
 
-wire_refused : (number : ℕ) (o : Option ℕ) (e : Refusal) (s t : Moment) (acts : List Act) → OnWire number o (Err e) s acts t → IsTurnRefusal e
+wire_refused : (number : ℕ) (o : Option ℕ) (e : Refusal) (s t : TurnMoment) (acts : List Act) → OnWire number o (Err e) s acts t → IsTurnRefusal e
 wire_refused number None e s t acts D = let bad = D.0 in cc
 wire_refused number (Some line) e s t acts D = stop_refused line e t.book D.ends.1
 
@@ -216,13 +216,13 @@ reserve_reason true full reason e = let is : StoreBroken ≡ reason = cc in subs
 reserve_reason false true reason e = let is : JournalFull ≡ reason = cc in subst IsTurnRefusal is tt
 reserve_reason false false reason e = cc
 
-breaks_refused : (number : ℕ) (e : Refusal) (s t : Moment) (acts : List Act) → Breaks number e s acts t → IsTurnRefusal e
+breaks_refused : (number : ℕ) (e : Refusal) (s t : TurnMoment) (acts : List Act) → Breaks number e s acts t → IsTurnRefusal e
 breaks_refused number e s t acts (inl D) =
     let r = D.did.other_did in
     wire_refused number (back r.between.book.state.start (4 * number + D.link)) e r.between t r.second r.other_did
 breaks_refused number e s t acts (inr D) = answer_refused (reserve_refusal t.book) e (λ reason. reserve_reason t.book.broken (is_journal_full t.book 1) reason) D.answer
 
-pub opens_refused : (form : Form) (number : ℕ) (r : Result Opened Refusal) (s t : Moment) → OpensIn form number r s t → IfErr r IsTurnRefusal
+pub opens_refused : (form : Form) (number : ℕ) (r : Result Opened Refusal) (s t : TurnMoment) → OpensIn form number r s t → IfErr r IsTurnRefusal
 opens_refused form number (Ok opened) s t O = tt
 opens_refused Plain number (Err e) s t O = breaks_refused number e s t O.acts O.did
 opens_refused Turns number (Err e) s t O = whole_refused IsTurnRefusal tt tt tt number e s t O.acts O.did

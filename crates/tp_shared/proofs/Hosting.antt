@@ -14,14 +14,14 @@ use Rattle.tp_book.specs.Needs.{has_recorded_in}
 use Rattle.tp_book.specs.declared.refusal.Refusal.{Refusal}
 use Rattle.tp_book.specs.declared.refusal.Refusal.TheVariants.{JournalFull, StoreBroken, Memory, NothingToTake, SnapshotRunning, PortFull}
 use Rattle.tp_book.specs.Acts.{input_acts, confirm_acts, confirm_entries}
-use Rattle.tp_book.specs.Book.{BookValue, agreed, next_number, world_of}
-use Rattle.tp_book.specs.Host.{after_input, after_confirm, with_confirmed, port_in}
+use Rattle.tp_book.specs.Book.{BookValue, agreed, next_in_book, world_of}
+use Rattle.tp_book.specs.Host.{after_inputs, after_confirm, with_confirmed, port_in}
 use Rattle.tp_model.specs.Journal.{is_full_for_snapshot}
 use Rattle.tp_model.specs.Snapshot.{Snapshot}
 use Rattle.tp_book.specs.Marked.{after_begin, begin_refusal}
 use Rattle.tp_book.specs.Refusals.{else_if, IsAnswer}
 use Rattle.tp_book.proofs.Stood.{one_act, no_act}
-use Rattle.tp_turn.specs.Moments.{entries_in}
+use Rattle.tp_turn.specs.Moments.{entries_among}
 use Rattle.tp_turn.specs.Hosted.{HostAdded, HostDone, HostTurns}
 use Rattle.tp_turn.proofs.Fronted.{collected_recorded}
 use Rattle.tp_shared.specs.BookActs.{Grown, HostActed}
@@ -34,12 +34,12 @@ inputs_kept : (port : ℕ) (bytes : List ℕ) → AllByRecursion (λ act. is_tri
 inputs_kept port [] = tt
 inputs_kept port (x ∷ xs) = (refl, inputs_kept port xs)
 
-inputs_listed : (port : ℕ) (bytes : List ℕ) → entries_in (input_acts port bytes) ≡ map (HostIn port) bytes
+inputs_listed : (port : ℕ) (bytes : List ℕ) → entries_among (input_acts port bytes) ≡ map (HostIn port) bytes
 inputs_listed port [] = refl
 inputs_listed port (x ∷ xs) = ap (λ es. HostIn port x ∷ es) (inputs_listed port xs)
 
 -- they are the host's
-inputs_own : (wires : List (Option WireEnd)) (count port : ℕ) (bytes : List ℕ) → AllByRecursion (λ e. process wires count e ≡ count) (entries_in (input_acts port bytes))
+inputs_own : (wires : List (Option WireEnd)) (count port : ℕ) (bytes : List ℕ) → AllByRecursion (λ e. process wires count e ≡ count) (entries_among (input_acts port bytes))
 unfolding process
 inputs_own wires count port [] = tt
 inputs_own wires count port (x ∷ xs) = (refl, inputs_own wires count port xs)
@@ -48,10 +48,10 @@ confirm_own : (wires : List (Option WireEnd)) (count port upto : ℕ) → proces
 unfolding process
 confirm_own wires count port upto = refl
 
-inputs_many : (port : ℕ) (bytes : List ℕ) → length bytes ≡ length (entries_in (input_acts port bytes))
+inputs_many : (port : ℕ) (bytes : List ℕ) → length bytes ≡ length (entries_among (input_acts port bytes))
 inputs_many port bytes = sym (ap length (inputs_listed port bytes) ∙ length-map bytes (HostIn port))
 
-pub hosted_input : (b new : BookValue) (port : ℕ) (bytes : List ℕ) → new ≡ after_input b port bytes → agreed new.state ≡ agreed b.state → acted t414 (world_of b) (input_acts port bytes) ≡ Some (world_of new)
+pub hosted_input : (b new : BookValue) (port : ℕ) (bytes : List ℕ) → new ≡ after_inputs b port bytes → agreed new.state ≡ agreed b.state → acted t414 (world_of b) (input_acts port bytes) ≡ Some (world_of new)
     → HostActed (λ entries. entries ≡ map (HostIn port) bytes) b new
 hosted_input b new port bytes is same act = record {
   grown = record {
@@ -61,7 +61,7 @@ hosted_input b new port bytes is same act = record {
     are = inputs_listed port bytes;
     start = ap (λ x. x.state.start) is;
     entries_are = ap (λ x. x.state.entries) is ∙ ap (λ es. b.state.entries ++ es) (sym (inputs_listed port bytes));
-    numbers = ap (λ x. x.numbers) is ∙ ap (λ count. b.numbers ++ range_with_len (next_number b) count) (inputs_many port bytes);
+    numbers = ap (λ x. x.numbers) is ∙ ap (λ count. b.numbers ++ range_with_len (next_in_book b) count) (inputs_many port bytes);
     history = ap (λ x. x.history) is ∙ ap (λ es. b.history ++ es) (sym (inputs_listed port bytes));
     base = ap (λ x. x.base) is;
     ready = ap (λ x. x.ready) is;
@@ -131,7 +131,7 @@ hosted_confirm b new port upto is same act = go (nat_le upto (port_in b port).ou
 
 -- ## Turns
 
-pub hosted_by : (Are : List Entry → Type 0) (acts : List Act) (b new : BookValue) → HostAdded acts b new → AllByRecursion (λ act. is_trim act ≡ false) acts → Are (entries_in acts) → HostActed Are b new
+pub hosted_by : (Are : List Entry → Type 0) (acts : List Act) (b new : BookValue) → HostAdded acts b new → AllByRecursion (λ act. is_trim act ≡ false) acts → Are (entries_among acts) → HostActed Are b new
 hosted_by Are acts b new A none are = record {
   grown = record {
     acts = acts;

@@ -7,13 +7,13 @@ use Rattle.tp_model.specs.declared.entry.Entry.{Entry}
 use Rattle.tp_model.specs.NodeState.{NodeState}
 use Rattle.tp_model.specs.Network.{Network}
 use Rattle.tp_model.specs.Runs.{World}
-use Rattle.tp_book.specs.Book.{BookValue, next_number}
+use Rattle.tp_book.specs.Book.{BookValue, next_in_book}
 use Rattle.tp_shared.specs.BookActs.{Grown, HostActed}
 use Rattle.tp_shared.specs.Positions.{IsNumberedFrom}
 use Rattle.tp_shared.specs.Seals.{Stage, Sealed}
 use Rattle.tp_shared.specs.Thawed.{ThawedAsTold}
 use Rattle.tp_shared.specs.Together.{AreTogether}
-use Rattle.tp_shared.specs.Told.{Since, told_of}
+use Rattle.tp_shared.specs.Told.{ToldSince, told_of}
 use Rattle.tp_shared.specs.declared.seal.NodeSeal.{NodeSeal}
 use Rattle.tp_shared.specs.declared.told.Told.{Told}
 use Rattle.tp_shared.proofs.Copying.{since_flag}
@@ -28,7 +28,7 @@ module _ {roll_name first : ℕ} {start : Network NodeState} {node : ℕ → ℕ
   pub seal_at : (i : ℕ) (s : NodeSeal) → i < length start.nodes → s ≡ get_or seals i s → slice_get seals i ≡ Some s
   seal_at i s there is = slice_get_read seals (length seals) i s refl (let count = T.seal_count in omega (arith, count, there)) is
 
-  told_so : {now : Seal Told} → now.name ≡ told.name → Since now.value (told_of before first (record { book = b; all = roll.items; numbered_from = now.value.numbered_from })) → ThawedAsTold now.value seals
+  told_so : {now : Seal Told} → now.name ≡ told.name → ToldSince now.value (told_of before first (record { book = b; all = roll.items; numbered_from = now.value.numbered_from })) → ThawedAsTold now.value seals
       → IsNumberedFrom now.value.numbered_from b → now.value.numbered_from ≤ now.value.base + length now.value.net.entries → AreTogether roll_name first start node flusher room before b seals roll now
   told_so name since thawed numbered reaches = record {
     idle = T.idle;
@@ -53,7 +53,7 @@ module _ {roll_name first : ℕ} {start : Network NodeState} {node : ℕ → ℕ
   -- the flusher is told nothing else
   pub told_still : {now : Seal Told} → now.name ≡ told.name → now.value ≡ told.value → AreTogether roll_name first start node flusher room before b seals roll now
   told_still name is =
-      told_so name (subst (λ (t : Told). Since t (told_of before first (record { book = b; all = roll.items; numbered_from = t.numbered_from }))) (sym is) T.since) (subst (λ t. ThawedAsTold t seals) (sym is) T.thawed)
+      told_so name (subst (λ (t : Told). ToldSince t (told_of before first (record { book = b; all = roll.items; numbered_from = t.numbered_from }))) (sym is) T.since) (subst (λ t. ThawedAsTold t seals) (sym is) T.thawed)
       (subst (λ (t : Told). IsNumberedFrom t.numbered_from b) (sym is) T.numbered) (subst (λ (t : Told). t.numbered_from ≤ t.base + length t.net.entries) (sym is) T.reaches)
 
   -- it is told of the book as it is
@@ -61,8 +61,8 @@ module _ {roll_name first : ℕ} {start : Network NodeState} {node : ℕ → ℕ
       → ThawedAsTold now.value seals → AreTogether roll_name first start node flusher room before b seals roll now
   told_anew flag name is thawed =
       let stage : Stage = record { book = b; all = roll.items; numbered_from = told.value.numbered_from } in
-      let low : told.value.numbered_from ≤ next_number b = let more = told_fewer before first told.value stage T.since in let reaches = T.reaches in omega (arith, more, reaches) in
-      told_so name (subst (λ (t : Told). Since t (told_of before first (record { book = b; all = roll.items; numbered_from = t.numbered_from }))) (sym is) (since_flag (told_of before first stage) flag)) thawed
+      let low : told.value.numbered_from ≤ next_in_book b = let more = told_fewer before first told.value stage T.since in let reaches = T.reaches in omega (arith, more, reaches) in
+      told_so name (subst (λ (t : Told). ToldSince t (told_of before first (record { book = b; all = roll.items; numbered_from = t.numbered_from }))) (sym is) (since_flag (told_of before first stage) flag)) thawed
       (subst (λ (t : Told). IsNumberedFrom t.numbered_from b) (sym is) T.numbered) (subst (λ (t : Told). t.numbered_from ≤ t.base + length t.net.entries) (sym is) low)
 
   -- the book is as it was, beside other seals

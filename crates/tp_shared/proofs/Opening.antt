@@ -8,7 +8,7 @@ use Rattle.tp_law_machine.specs.NodeOfBytes.{IsNodeOfBytes}
 use Rattle.tp_node.specs.NodeContents.{NodeContents}
 use Rattle.tp_book.specs.declared.state.NetState.{NetState}
 use Rattle.tp_book.specs.Book.{BookValue, agreed, nodes_in}
-use Rattle.tp_book.specs.Opened.{IsOpened, now_of, opened_book}
+use Rattle.tp_book.specs.Opened.{IsWellOpen, now_of, opened_book}
 use Rattle.tp_turn.specs.Moments.{IsNodeOf}
 
 replicate_at : (n i : ℕ) → i < n → slice_get (replicate n false) i ≡ Some false
@@ -16,7 +16,7 @@ replicate_at zero i h = absurd (omega (arith, h))
 replicate_at (suc n) zero h = refl
 replicate_at (suc n) (suc i) h = replicate_at n i (omega (arith, h))
 
-module _ (s : NetState) (b : BookValue) (nodes : List NodeContents) (O : IsOpened s) (is : b ≡ opened_book s b.room) (same : map (λ n. n.live) nodes ≡ (now_of s).nodes) where
+module _ (s : NetState) (b : BookValue) (nodes : List NodeContents) (O : IsWellOpen s) (is : b ≡ opened_book s b.room) (same : map (λ n. n.live) nodes ≡ (now_of s).nodes) where
   many : length nodes ≡ length (now_of s).nodes
   many = sym (length-map nodes (λ n. n.live)) ∙ ap length same
 

@@ -18,17 +18,17 @@ use Rattle.tp_law_machine.specs.NodeOfBytes.{IsNodeOfBytes}
 use Rattle.tp_node.specs.NodeContents.{NodeContents}
 use Rattle.tp_book.specs.Needs.{has_recorded_in}
 use Rattle.tp_book.specs.declared.refusal.Refusal.{Refusal}
-use Rattle.tp_book.specs.Book.{BookValue, agreed, next_number, world_of}
+use Rattle.tp_book.specs.Book.{BookValue, agreed, next_in_book, world_of}
 use Rattle.tp_book.specs.Joined.{FitsRoom}
 use Rattle.tp_book.proofs.Stood.{one_act}
 use Rattle.tp_turn.specs.declared.opened.Opened.{Opened}
-use Rattle.tp_turn.specs.Moments.{IsNodeOf, entries_in}
-use Rattle.tp_turn.specs.Opened.{IsOpenedIn, sent_in, takes_in}
+use Rattle.tp_turn.specs.Moments.{IsNodeOf, entries_among}
+use Rattle.tp_turn.specs.Opened.{IsOpenedIn, sent_in, turn_received}
 use Rattle.tp_turn.proofs.Opening.{opened_behind}
-use Rattle.tp_shared.specs.Agreement.{Agreement, answered_with, at_rest, takes_of}
+use Rattle.tp_shared.specs.Agreement.{Agreement, answered_with, at_rest, takes_opened}
 use Rattle.tp_shared.specs.BookActs.{Grown, NodeActed, HostActed}
-use Rattle.tp_shared.specs.Gains.{Noted}
-use Rattle.tp_shared.specs.Seals.{Stage, IsSealOf, Sealed, IsTied, Shows, ShowsOpen}
+use Rattle.tp_shared.specs.Gains.{HoldNoted}
+use Rattle.tp_shared.specs.Seals.{Stage, IsSealOf, Sealed, IsTied, KeyShows, ShowsOpen}
 use Rattle.tp_shared.specs.Receipted.{AreBelow}
 use Rattle.tp_shared.specs.declared.place.Place.{Place}
 use Rattle.tp_shared.specs.declared.seal.NodeSeal.{NodeSeal}
@@ -73,7 +73,7 @@ rest_seal name s b i n N free named shows flag =
     })
 
 -- the seal of a node whose turn's opening was answered
-pub answered_seal : (name : ℕ) (s : NodeSeal) (b : BookValue) (i : ℕ) (n : NodeContents) (answer : Result Opened Refusal) → IsOpenedIn answer b i n → ((takes : List Received) → takes_of answer ≡ Some takes → b.form ≡ Turns)
+pub answered_seal : (name : ℕ) (s : NodeSeal) (b : BookValue) (i : ℕ) (n : NodeContents) (answer : Result Opened Refusal) → IsOpenedIn answer b i n → ((takes : List Received) → takes_opened answer ≡ Some takes → b.form ≡ Turns)
     → slice_get b.runs i ≡ Some (is_ok answer) → s.seal.name ≡ name → s.seal.value.state ≡ answered_with b i n answer → s.frozen ≡ is_some n.frozen → IsSealOf name s.seal.value.state s.frozen s.seal.name b i
 answered_seal name s b i n (Ok opened) O form runs named shows flag =
     let B = opened_behind b i opened n O in
@@ -92,12 +92,12 @@ answered_seal name s b i n (Err e) O form runs named shows flag =
 
 -- what its place's key shows
 pub answered_shows : (place : Place) (b : BookValue) (i : ℕ) (answer : Result Opened Refusal) → place.key.value.state ≡ answered_with b i place.node answer → IsOpenedIn answer b i place.node
-    → MatchResult answer (λ opened. ShowsOpen place (takes_in opened) (sent_in opened)) (λ e. Shows place)
+    → MatchResult answer (λ opened. ShowsOpen place (turn_received opened) (sent_in opened)) (λ e. KeyShows place)
 answered_shows place b i (Ok opened) shown O =
     let B = opened_behind b i opened place.node O in
     record {
       before = B.before.live;
-      shown = shown ∙ ap (λ x. record { node = x; frozen = place.node.frozen; reserved = true; takes = takes_in opened }) (get_found (agreed b.state) i B.before.live place.node.live B.is.there);
+      shown = shown ∙ ap (λ x. record { node = x; frozen = place.node.frozen; reserved = true; takes = turn_received opened }) (get_found (agreed b.state) i B.before.live place.node.live B.is.there);
       was = B.is.image;
       took = B.took;
       image = B.image;
@@ -181,19 +181,19 @@ sealed_begun names seals b new S idle nodes runs form act i s e =
 -- ## The journal
 
 module _ (Are : List Entry → Type 0) (b new : BookValue) (G : Grown Are b new) (before : ℕ) (many : before ≡ length b.state.entries) where
-  pub entries_new : drop before new.state.entries ≡ entries_in G.acts
-  entries_new = ap (drop before) G.entries_are ∙ drop_at b.state.entries (entries_in G.acts) before (sym many)
+  pub entries_new : drop before new.state.entries ≡ entries_among G.acts
+  entries_new = ap (drop before) G.entries_are ∙ drop_at b.state.entries (entries_among G.acts) before (sym many)
 
   -- the entries are those behind all that were there
-  pub all_after : (all now : List Entry) → now ≡ all ++ drop before new.state.entries → now ≡ all ++ entries_in G.acts
+  pub all_after : (all now : List Entry) → now ≡ all ++ drop before new.state.entries → now ≡ all ++ entries_among G.acts
   all_after all now is = is ∙ ap (λ es. all ++ es) entries_new
 
   pub tied_after : (first : ℕ) (all now : List Entry) → IsTied first all b → now ≡ all ++ drop before new.state.entries → IsTied first now new
   tied_after first all now T is =
-      let are : now ≡ all ++ entries_in G.acts = is ∙ ap (λ es. all ++ es) entries_new in
+      let are : now ≡ all ++ entries_among G.acts = is ∙ ap (λ es. all ++ es) entries_new in
       record {
-        are = are ∙ ap (λ es. es ++ entries_in G.acts) T.are ∙ sym G.history;
-        next = let n = T.next in let l = ap length are ∙ length-append all (entries_in G.acts) in let m = ap length G.entries_are ∙ length-append b.state.entries (entries_in G.acts) in let base = G.base in omega (arith, n, l, m, base);
+        are = are ∙ ap (λ es. es ++ entries_among G.acts) T.are ∙ sym G.history;
+        next = let n = T.next in let l = ap length are ∙ length-append all (entries_among G.acts) in let m = ap length G.entries_are ∙ length-append b.state.entries (entries_among G.acts) in let base = G.base in omega (arith, n, l, m, base);
       }
 
 -- ## Room
@@ -231,7 +231,7 @@ all_below first vs (x ∷ xs) s = (below_of first vs x.0 x.1 s.0, all_below firs
 
 -- the slips of what was just journalled are below the next number
 pub slips_below : (first roll_first number : ℕ) (all now es : List Entry) (slips : List (ℕ × Entry)) (new : BookValue) → IsTied first now new → roll_first ≡ first → now ≡ all ++ es
-    → slips ≡ enumerate_from (roll_first + length all) es → number ≡ next_number new → AreBelow number slips
+    → slips ≡ enumerate_from (roll_first + length all) es → number ≡ next_in_book new → AreBelow number slips
 slips_below first roll_first number all now es slips new T f is seat top =
     subst (AreBelow number) (sym seat)
     (enumerated_below (roll_first + length all) es number (let n = T.next in let l = ap length is ∙ length-append all es in omega (arith, n, l, f, top)))
@@ -241,9 +241,9 @@ pub noted_by : (Are : List Entry → Type 0) (b new : BookValue) (old_stage new_
     → new_stage.all ≡ old_stage.all ++ drop before new.state.entries
     → seat_new ≡ seat_old ++ enumerate_from (roll_first + length old_stage.all) (drop before new.state.entries)
     → Sound (item_of roll_first old_stage.all) seat_old
-    → Noted Are first old_stage new_stage seat_old seat_new
+    → HoldNoted Are first old_stage new_stage seat_old seat_new
 noted_by Are b new old_stage new_stage first roll_first before seat_old seat_new G many f is seat sound = record {
-  entries = entries_in G.acts;
+  entries = entries_among G.acts;
   are = G.are;
   journal = is ∙ ap (λ es. old_stage.all ++ es) (entries_new Are b new G before many);
   seat = seat ∙ ap (λ n. seat_old ++ enumerate_from (n + length old_stage.all) (drop before new.state.entries)) f

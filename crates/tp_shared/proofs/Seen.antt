@@ -5,14 +5,14 @@ use Rattle.tp_model.specs.declared.entry.Entry.{Entry}
 use Rattle.tp_model.specs.NodeState.{NodeState}
 use Rattle.tp_model.specs.Network.{Network}
 use Rattle.tp_book.specs.Book.{BookValue}
-use Rattle.tp_shared.specs.Gains.{Gained, Noted}
-use Rattle.tp_shared.specs.Holds.{Held, IsBookOf, in_hand}
+use Rattle.tp_shared.specs.Gains.{Gained, HoldNoted}
+use Rattle.tp_shared.specs.Holds.{WasHeld, IsBookOf, in_hand}
 use Rattle.tp_shared.specs.Seals.{IsTied, Stage}
 
 -- What lies under the lock is tied to the book, as it is found and as it is left, so that what was noted between is what the book got.
 pub held_by : (Are : List Entry → Type 0) (start : Network NodeState) (first : ℕ) (found left : Stage) (was between seen : List BookValue) (old new : List (ℕ × Entry))
     → IsBookOf start found.book → between ≡ was ++ found.book ∷ [] → seen ≡ between ++ left.book ∷ [] → IsTied first found.all found.book → IsTied first left.all left.book
-    → Noted Are first found left old new → Held start found.book left.book (in_hand was old) (in_hand seen new)
+    → HoldNoted Are first found left old new → WasHeld start found.book left.book (in_hand was old) (in_hand seen new)
 held_by Are start first found left was between seen old new of before behind tied after noted = record {
   of = of;
   seen = behind ∙ ap (λ books. books ++ left.book ∷ []) before ∙ append_assoc was (found.book ∷ []) (left.book ∷ []);
@@ -23,5 +23,5 @@ held_by Are start first found left was between seen old new of before behind tie
 }
 
 -- and the seat gained it
-pub gained_by : (Are : List Entry → Type 0) (first : ℕ) (found left : Stage) (old new : List (ℕ × Entry)) → Noted Are first found left old new → Gained Are old new
+pub gained_by : (Are : List Entry → Type 0) (first : ℕ) (found left : Stage) (old new : List (ℕ × Entry)) → HoldNoted Are first found left old new → Gained Are old new
 gained_by Are first found left old new noted = record { next = _; entries = noted.entries; are = noted.are; seat = noted.seat; below = noted.below }

@@ -7,7 +7,7 @@ use Rattle.tp_model.specs.Runs.{World, HasCut}
 use Rattle.tp_book.specs.Needs.{has_recorded_in}
 use Rattle.tp_book.specs.Book.{world_of}
 use Rattle.tp_shared.specs.Seals.{Stage}
-use Rattle.tp_shared.specs.Told.{Since, told_of}
+use Rattle.tp_shared.specs.Told.{ToldSince, told_of}
 use Rattle.tp_shared.specs.Thawed.{HasThawed, ThawedAsTold}
 use Rattle.tp_shared.specs.declared.seal.NodeSeal.{NodeSeal}
 use Rattle.tp_shared.specs.declared.told.Told.{Told}
@@ -27,9 +27,9 @@ pub thawed_at : (t : Told) (seals : List NodeSeal) (i : ℕ) (s : NodeSeal) → 
 thawed_at t seals i s H e = all_at (λ x. x.frozen ≡ false) seals i s H.none e
 
 -- the cut is whole still
-pub thawed_cut : (before : World NodeState) (first : ℕ) (t : Told) (seals : List NodeSeal) (stage : Stage) → (H : HasThawed t seals) → Since t (told_of before first stage) → HasCut (world_of stage.book) H.cut H.nodes
+pub thawed_cut : (before : World NodeState) (first : ℕ) (t : Told) (seals : List NodeSeal) (stage : Stage) → (H : HasThawed t seals) → ToldSince t (told_of before first stage) → HasCut (world_of stage.book) H.cut H.nodes
 thawed_cut before first t seals stage H S = stays_whole H.cut H.nodes t.net (world_of stage.book) H.holds H.has S.acts S.none S.net
 
 -- and all have recorded in it
-pub thawed_recorded : (before : World NodeState) (first : ℕ) (t : Told) (seals : List NodeSeal) (stage : Stage) → HasThawed t seals → Since t (told_of before first stage) → (p : ℕ) → has_recorded_in stage.book.state.snapshot p ≡ true
+pub thawed_recorded : (before : World NodeState) (first : ℕ) (t : Told) (seals : List NodeSeal) (stage : Stage) → HasThawed t seals → ToldSince t (told_of before first stage) → (p : ℕ) → has_recorded_in stage.book.state.snapshot p ≡ true
 thawed_recorded before first t seals stage H S p = whole_recorded (world_of stage.book) H.cut H.nodes (thawed_cut before first t seals stage H S) p

@@ -18,12 +18,12 @@ use Rattle.tp_book.specs.declared.refusal.Refusal.{Refusal}
 use Rattle.tp_book.specs.declared.refusal.Refusal.TheVariants.{JournalFull, StoreBroken, Memory, NothingToTake, SnapshotRunning, PortFull}
 use Rattle.tp_turn.specs.declared.left.Left.{Left}
 use Rattle.tp_turn.specs.Turns.{InOrder}
-use Rattle.tp_turn.specs.Moments.{Moment, entries_in}
+use Rattle.tp_turn.specs.Moments.{TurnMoment, entries_among}
 use Rattle.tp_turn.specs.Fronts.{front_act, AtFront, OnLine, OnWire, OnLink}
-use Rattle.tp_turn.specs.Settled.{Records, LeavesLink, Settles, StopsAt}
+use Rattle.tp_turn.specs.Settled.{Records, LeavesLink, Settles, EndsAtLink}
 use Rattle.tp_turn.specs.Stages.{Breaks}
 use Rattle.tp_turn.specs.Hosted.{PortAtFront, OnPortLine, OnPortWire, OnPort, LeavesPorts, StopsAtPort, HostTurns}
-use Rattle.tp_shared.specs.Entries.{Takes}
+use Rattle.tp_shared.specs.Entries.{AreTakes}
 
 abbrev pub IsTurnAct : Act → Type 0
 IsTurnAct Begin = ⊥
@@ -49,7 +49,7 @@ untrimmed (Journal entry ∷ acts) all = (refl, untrimmed acts all.1)
 untrimmed (Close line ∷ acts) all = (refl, untrimmed acts all.1)
 untrimmed (Trim ∷ acts) all = absurd all.0
 
-pub taken : (s : Network NodeState) (number : ℕ) (acts : List Act) → AreTurnActs acts → AllByRecursion (λ e. process s.wires (length s.nodes) e ≡ number) (entries_in acts) → Takes s number (entries_in acts)
+pub taken : (s : Network NodeState) (number : ℕ) (acts : List Act) → AreTurnActs acts → AllByRecursion (λ e. process s.wires (length s.nodes) e ≡ number) (entries_among acts) → AreTakes s number (entries_among acts)
 taken s number [] all own = tt
 taken s number (Begin ∷ acts) all own = absurd all.0
 taken s number (Record node ∷ acts) all own = taken s number acts all.1 own
@@ -82,38 +82,38 @@ order_turns part each (suc count) s t acts D = both_turn acts D.first D.second D
 
 -- ## A node
 
-line_turns : (number line : ℕ) (answer : Result Left Refusal) (s t : Moment) (acts : List Act) → OnLine number line answer s acts t → AreTurnActs acts
+line_turns : (number line : ℕ) (answer : Result Left Refusal) (s t : TurnMoment) (acts : List Act) → OnLine number line answer s acts t → AreTurnActs acts
 line_turns number line answer s t acts D =
     order_turns (λ at. AtFront number line) (λ k a b did A. subst AreTurnActs (sym A.are) (front_turns line (front_of a.book line))) D.count s t acts D.did
 
-wire_turns : (number : ℕ) (o : Option ℕ) (answer : Result Left Refusal) (s t : Moment) (acts : List Act) → OnWire number o answer s acts t → AreTurnActs acts
+wire_turns : (number : ℕ) (o : Option ℕ) (answer : Result Left Refusal) (s t : TurnMoment) (acts : List Act) → OnWire number o answer s acts t → AreTurnActs acts
 wire_turns number None answer s t acts D = none_turns acts D.1
 wire_turns number (Some line) answer s t acts D = line_turns number line answer s t acts D
 
-link_turns : (number link : ℕ) (answer : Result Left Refusal) (s t : Moment) (acts : List Act) → OnLink number link answer s acts t → AreTurnActs acts
+link_turns : (number link : ℕ) (answer : Result Left Refusal) (s t : TurnMoment) (acts : List Act) → OnLink number link answer s acts t → AreTurnActs acts
 link_turns number link answer s t acts D = wire_turns number (back s.book.state.start (4 * number + link)) answer s t acts D
 
 record_turns : (number : ℕ) (asked : Bool) → AreTurnActs (cond asked (Record number ∷ []) [])
 record_turns number true = (tt, tt)
 record_turns number false = tt
 
-records_turn : (number : ℕ) (s t : Moment) (acts : List Act) → Records number s acts t → AreTurnActs acts
+records_turn : (number : ℕ) (s t : TurnMoment) (acts : List Act) → Records number s acts t → AreTurnActs acts
 records_turn number s t acts R = subst AreTurnActs (sym R.are) (record_turns number (is_asked s.book.state.snapshot number))
 
-links_turn : (number count : ℕ) (s t : Moment) (acts : List Act) → InOrder (λ link. LeavesLink number link) count s acts t → AreTurnActs acts
+links_turn : (number count : ℕ) (s t : TurnMoment) (acts : List Act) → InOrder (λ link. LeavesLink number link) count s acts t → AreTurnActs acts
 links_turn number count s t acts D = order_turns (λ link. LeavesLink number link) (λ k a b did L. link_turns number k (Ok L.why) a b did L.did) count s t acts D
 
-pub settles_turn : (number : ℕ) (s t : Moment) (acts : List Act) → Settles number s acts t → AreTurnActs acts
+pub settles_turn : (number : ℕ) (s t : TurnMoment) (acts : List Act) → Settles number s acts t → AreTurnActs acts
 settles_turn number s t acts D = both_turn acts D.first D.second D.are (records_turn number s D.between D.first D.one_did) (links_turn number 4 D.between t D.second D.other_did)
 
-stops_turn : (number : ℕ) (e : Refusal) (s t : Moment) (acts : List Act) → StopsAt number e s acts t → AreTurnActs acts
+stops_turn : (number : ℕ) (e : Refusal) (s t : TurnMoment) (acts : List Act) → EndsAtLink number e s acts t → AreTurnActs acts
 stops_turn number e s t acts D =
     let d = D.did in
     let r = d.other_did in
     both_turn acts d.first d.second d.are (records_turn number s d.between d.first d.one_did)
     (both_turn d.second r.first r.second r.are (links_turn number D.link d.between r.between r.first r.one_did) (link_turns number D.link (Err e) r.between t r.second r.other_did))
 
-pub breaks_turn : (number : ℕ) (e : Refusal) (s t : Moment) (acts : List Act) → Breaks number e s acts t → AreTurnActs acts
+pub breaks_turn : (number : ℕ) (e : Refusal) (s t : TurnMoment) (acts : List Act) → Breaks number e s acts t → AreTurnActs acts
 breaks_turn number e s t acts (inl D) = stops_turn number e s t acts D
 breaks_turn number e s t acts (inr D) = settles_turn number s t acts D.did
 

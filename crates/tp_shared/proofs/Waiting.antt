@@ -15,7 +15,7 @@ use Rattle.tp_law_network.specs.Reserved.{IsNotOf}
 use Rattle.tp_law_machine.proofs.LinkLaws.{has_four_links}
 use Rattle.tp_law_network.proofs.Reorder.{after_shape}
 use Rattle.tp_book.specs.Book.{BookValue, agreed, nodes_in, world_of}
-use Rattle.tp_turn.specs.Moments.{entries_in}
+use Rattle.tp_turn.specs.Moments.{entries_among}
 use Rattle.tp_turn.proofs.Ahead.{not_of, received_stays}
 use Rattle.tp_shared.specs.Seals.{AreWaiting}
 
@@ -34,7 +34,7 @@ waits_on a b i takes acts did others form W = record { form = form; fronts = rec
 
 -- the acts are those of another process
 pub others_wait : (a b : BookValue) (i other : ℕ) (n : NodeState) (takes : List Received) (acts : List Act) → acted t414 (world_of a) acts ≡ Some (world_of b) → slice_get (agreed a.state) i ≡ Some n → other ≢ i
-    → AllByRecursion (λ e. process a.state.start.wires (length a.state.start.nodes) e ≡ other) (entries_in acts) → b.form ≡ a.form → AreWaiting a i takes → AreWaiting b i takes
+    → AllByRecursion (λ e. process a.state.start.wires (length a.state.start.nodes) e ≡ other) (entries_among acts) → b.form ≡ a.form → AreWaiting a i takes → AreWaiting b i takes
 others_wait a b i other n takes acts did at apart own form W =
     waits_on a b i takes acts did
-    (not_of a i other apart acts (subst (λ k. AllByRecursion (λ e. process a.state.start.wires k e ≡ other) (entries_in acts)) (sym (agreed_many a.state i n at)) own)) (form ∙ W.form) W
+    (not_of a i other apart acts (subst (λ k. AllByRecursion (λ e. process a.state.start.wires k e ≡ other) (entries_among acts)) (sym (agreed_many a.state i n at)) own)) (form ∙ W.form) W

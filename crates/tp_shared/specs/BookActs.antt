@@ -7,8 +7,8 @@ use Rattle.tp_model.specs.Acts.{Act, acted}
 use Rattle.tp_model.specs.Entries.{process}
 use Rattle.tp_model.specs.Runs.{is_trim}
 use Rattle.tp_book.specs.Needs.{has_recorded_in}
-use Rattle.tp_book.specs.Book.{BookValue, agreed, next_number, world_of}
-use Rattle.tp_turn.specs.Moments.{entries_in}
+use Rattle.tp_book.specs.Book.{BookValue, agreed, next_in_book, world_of}
+use Rattle.tp_turn.specs.Moments.{entries_among}
 use Rattle.tp_shared.specs.Agreement.{Agreement}
 
 -- Acts were done, none of them a trim. The book has their entries more, which are so, under the numbers that come next.
@@ -16,11 +16,11 @@ pub record Grown (Are : List Entry → Type 0) (old new : BookValue) : Type 0 wh
   pub acts : List Act
   pub none : AllByRecursion (λ act. is_trim act ≡ false) acts
   pub did : acted t414 (world_of old) acts ≡ Some (world_of new)
-  pub are : Are (entries_in acts)
+  pub are : Are (entries_among acts)
   pub start : new.state.start ≡ old.state.start
-  pub entries_are : new.state.entries ≡ old.state.entries ++ entries_in acts
-  pub numbers : new.numbers ≡ old.numbers ++ range_with_len (next_number old) (length (entries_in acts))
-  pub history : new.history ≡ old.history ++ entries_in acts
+  pub entries_are : new.state.entries ≡ old.state.entries ++ entries_among acts
+  pub numbers : new.numbers ≡ old.numbers ++ range_with_len (next_in_book old) (length (entries_among acts))
+  pub history : new.history ≡ old.history ++ entries_among acts
   pub base : new.base ≡ old.base
   pub ready : new.ready ≡ old.ready
   pub room : new.room ≡ old.room
@@ -32,7 +32,7 @@ pub record Grown (Are : List Entry → Type 0) (old new : BookValue) : Type 0 wh
 pub record NodeActed (Are : List Entry → Type 0) (number : ℕ) (agreement : Agreement) (old new : BookValue) : Type 0 where
   pub grown : Grown Are old new
   -- no entry among them is another process's, so what others received stays in front of their lines
-  pub own : AllByRecursion (λ e. process old.state.start.wires (length old.state.start.nodes) e ≡ number) (entries_in grown.acts)
+  pub own : AllByRecursion (λ e. process old.state.start.wires (length old.state.start.nodes) e ≡ number) (entries_among grown.acts)
   pub nodes : agreed new.state ≡ set (agreed old.state) number agreement.node
   pub runs : new.runs ≡ set old.runs number agreement.reserved
   pub recorded : (other : ℕ) → other ≢ number → has_recorded_in new.state.snapshot other ≡ has_recorded_in old.state.snapshot other
@@ -42,7 +42,7 @@ pub record NodeActed (Are : List Entry → Type 0) (number : ℕ) (agreement : A
 pub record HostActed (Are : List Entry → Type 0) (old new : BookValue) : Type 0 where
   pub grown : Grown Are old new
   -- no entry among them is a node's
-  pub own : AllByRecursion (λ e. process old.state.start.wires (length old.state.start.nodes) e ≡ length old.state.start.nodes) (entries_in grown.acts)
+  pub own : AllByRecursion (λ e. process old.state.start.wires (length old.state.start.nodes) e ≡ length old.state.start.nodes) (entries_among grown.acts)
   pub nodes : agreed new.state ≡ agreed old.state
   pub runs : new.runs ≡ old.runs
   pub recorded : (process : ℕ) → has_recorded_in new.state.snapshot process ≡ has_recorded_in old.state.snapshot process

@@ -1,13 +1,13 @@
 -- What lies under a node's lock.
 use Rattle.std.specs.Prelude.{◌≡◌, ◌<◌, ℕ, ◌+◌, ◌*◌, ◌%◌, ◌==◌, if◌then◌else◌, List, [], ◌∷◌, ◌++◌, length, Some, slice_get}
 use Rattle.tp_shared.specs.declared.place.Place.{Place}
-use Rattle.tp_shared.specs.Seals.{Shows}
+use Rattle.tp_shared.specs.Seals.{KeyShows}
 
 -- A node that is there, with the key of its name, which shows it. No turn of it is open.
 pub record IsPlaceOf (name i count : ℕ) (p : Place) : Type 0 where
   pub there : i < count
   pub named : p.key.name ≡ name
-  pub shows : Shows p
+  pub shows : KeyShows p
 
 -- each fourth node from `first` on, among `count`
 pub record AreOfCell (first : ℕ) (names : ℕ → ℕ) (count : ℕ) (places : List Place) : Type 0 where

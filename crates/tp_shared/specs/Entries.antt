@@ -22,17 +22,17 @@ IsTakeBy start number (Confirm p upto) = ⊥
 IsTakeBy start number (Turn i links k) = ⊥
 
 -- all are Takes of this process
-abbrev pub Takes : Network NodeState → ℕ → List Entry → Type 0
-Takes start number = AllByRecursion (IsTakeBy start number)
+abbrev pub AreTakes : Network NodeState → ℕ → List Entry → Type 0
+AreTakes start number = AllByRecursion (IsTakeBy start number)
 
 -- `count` entries, each a take of process `number`
 abbrev pub CountedTakes : Network NodeState → ℕ → ℕ → List Entry → Type 0
-CountedTakes start number count entries = (length entries ≡ count) × Takes start number entries
+CountedTakes start number count entries = (length entries ≡ count) × AreTakes start number entries
 
 -- the entries of takes that were answered with their number, or broken off
 abbrev pub TakesOf : Network NodeState → ℕ → Result ℕ Refusal → List Entry → Type 0
 TakesOf start number (Ok count) = CountedTakes start number count
-TakesOf start number (Err e) = Takes start number
+TakesOf start number (Err e) = AreTakes start number
 
 -- ## A node's turn
 
@@ -43,7 +43,7 @@ pub record TookAtOnce (number : ℕ) (entries : List Entry) : Type 0 where
 
 -- the entries of a node's turn that broke off: an entry for each token that it took, or one for all
 abbrev pub TookAlone : Network NodeState → ℕ → List Entry → Type 0
-TookAlone start number entries = Takes start number entries ⊎ TookAtOnce number entries
+TookAlone start number entries = AreTakes start number entries ⊎ TookAtOnce number entries
 
 -- The entries of an opening that was answered so. A turn that is one entry has none before its commit.
 abbrev pub OpenedEntries : Network NodeState → ℕ → Result Opened Refusal → List Entry → Type 0

@@ -6,7 +6,7 @@ use Rattle.tp_shared.specs.Seals.{Stage}
 
 -- What a hold of the book's lock did: entries of which `Are` holds were journalled, and the seat has just their slips. All
 -- slips that it had have numbers below theirs.
-pub record Noted (Are : List Entry → Type 0) (first : ℕ) (old new : Stage) (seat_old seat_new : List (ℕ × Entry)) : Type 0 where
+pub record HoldNoted (Are : List Entry → Type 0) (first : ℕ) (old new : Stage) (seat_old seat_new : List (ℕ × Entry)) : Type 0 where
   pub entries : List Entry
   pub are : Are entries
   pub journal : new.all ≡ old.all ++ entries

@@ -4,7 +4,7 @@ use Rattle.std.specs.List.{AllByRecursion, enumerate_from}
 use Rattle.tp_model.specs.declared.entry.Entry.{Entry}
 use Rattle.tp_model.specs.NodeState.{NodeState}
 use Rattle.tp_model.specs.Network.{Network}
-use Rattle.tp_book.specs.Book.{BookValue, next_number}
+use Rattle.tp_book.specs.Book.{BookValue, next_in_book}
 
 -- a book of the network
 pub record IsBookOf (start : Network NodeState) (b : BookValue) : Type 0 where
@@ -21,10 +21,10 @@ in_hand seen slips = record { seen = seen; slips = slips }
 
 -- In one hold the book was seen as it was found and as it was left, behind all that the hand saw before. The hand gained the slips of just
 -- the entries that this book has more, each under the number that the book gave it; all slips that it had have numbers below those.
-pub record Held (start : Network NodeState) (found left : BookValue) (old new : InHand) : Type 0 where
+pub record WasHeld (start : Network NodeState) (found left : BookValue) (old new : InHand) : Type 0 where
   pub of : IsBookOf start found
   pub seen : new.seen ≡ old.seen ++ found ∷ left ∷ []
   pub entries : List Entry
   pub history : left.history ≡ found.history ++ entries
-  pub slips : new.slips ≡ old.slips ++ enumerate_from (next_number found) entries
-  pub below : AllByRecursion (λ slip. slip.0 < next_number found) old.slips
+  pub slips : new.slips ≡ old.slips ++ enumerate_from (next_in_book found) entries
+  pub below : AllByRecursion (λ slip. slip.0 < next_in_book found) old.slips

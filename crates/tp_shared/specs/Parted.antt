@@ -5,7 +5,7 @@ use Rattle.tp_model.specs.declared.entry.Entry.{Entry}
 use Rattle.tp_node.specs.NodeContents.{NodeContents}
 use Rattle.tp_book.specs.declared.state.NetState.{NetState}
 use Rattle.tp_book.specs.Book.{BookValue}
-use Rattle.tp_book.specs.Opened.{IsOpened, now_of, opened_book}
+use Rattle.tp_book.specs.Opened.{IsWellOpen, now_of, opened_book}
 use Rattle.tp_shared.specs.Cells.{AreOfCell}
 use Rattle.tp_shared.specs.Seals.{Sealed, IsTied}
 use Rattle.tp_shared.specs.declared.dealt.Dealt.{Dealt}
@@ -14,7 +14,7 @@ use Rattle.tp_shared.specs.declared.seal.NodeSeal.{NodeSeal}
 -- The book of an opened device, and the nodes of its network as it is.
 pub record AreOfOpened (book : BookValue) (nodes : List NodeContents) : Type 0 where
   pub state : NetState
-  pub opened : IsOpened state
+  pub opened : IsWellOpen state
   pub book_is : book ≡ opened_book state book.room
   pub nodes_are : map (λ n. n.live) nodes ≡ (now_of state).nodes
 

@@ -5,7 +5,7 @@ use Rattle.tp_model.specs.Network.{Network}
 use Rattle.tp_node.specs.NodeContents.{NodeContents}
 use Rattle.tp_book.specs.Needs.{is_asked}
 use Rattle.tp_book.specs.Book.{BookValue}
-use Rattle.tp_turn.specs.Moments.{Done, IsNodeOf, moment}
+use Rattle.tp_turn.specs.Moments.{Done, IsNodeOf, moment_of}
 use Rattle.tp_turn.specs.Settled.{Records}
 use Rattle.tp_shared.specs.Holds.{IsBookOf}
 
@@ -20,4 +20,4 @@ pub record RecordedIn (start : Network NodeState) (number : ℕ) (seen : List Bo
   pub of : IsBookOf start found
   pub node : IsNodeOf found number was
   pub asked : done ≡ is_asked found.state.snapshot number
-  pub did : Done number (Records number) (moment found was) (moment left is)
+  pub did : Done number (Records number) (moment_of found was) (moment_of left is)

@@ -11,7 +11,7 @@ use Rattle.tp_model.specs.Node.{t414}
 use Rattle.tp_model.specs.Network.{steps}
 use Rattle.tp_model.specs.Turn.{took_all}
 use Rattle.tp_book.specs.Needs.{has_recorded_in}
-use Rattle.tp_book.specs.Book.{BookValue, agreed, next_number, world_of}
+use Rattle.tp_book.specs.Book.{BookValue, agreed, next_in_book, world_of}
 use Rattle.tp_turn.specs.Opened.{tokens_in}
 use Rattle.tp_shared.specs.Agreement.{Agreement, at_rest}
 use Rattle.tp_shared.specs.declared.place.Place.{Place}
@@ -53,10 +53,10 @@ Sealed names seals b = (i : ℕ) (s : NodeSeal) → slice_get seals i ≡ Some s
 -- All are the entries since the book was opened; the number of the first is `first`, and the next one will have the book's.
 pub record IsTied (first : ℕ) (all : List Entry) (b : BookValue) : Type 0 where
   pub are : all ≡ b.history
-  pub next : first + length all ≡ next_number b
+  pub next : first + length all ≡ next_in_book b
 
 -- No turn of the node is open. Its place's key shows it as it is, also as it is frozen. It has an image.
-pub record Shows (place : Place) : Type 0 where
+pub record KeyShows (place : Place) : Type 0 where
   pub shown : place.key.value.state ≡ at_rest place.node
   pub image : IsNodeOfBytes place.node.live
 

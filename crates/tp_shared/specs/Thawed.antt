@@ -5,7 +5,7 @@ use Rattle.tp_model.specs.NodeState.{NodeState}
 use Rattle.tp_model.specs.Node.{t414}
 use Rattle.tp_model.specs.WholeCut.{WholeCut}
 use Rattle.tp_model.specs.Runs.{HasCut}
-use Rattle.tp_law_network.specs.Invariant.{Holds}
+use Rattle.tp_law_network.specs.Invariant.{CutInvariant}
 use Rattle.tp_shared.specs.declared.seal.NodeSeal.{NodeSeal}
 use Rattle.tp_shared.specs.declared.told.Told.{Told}
 
@@ -14,7 +14,7 @@ pub record HasThawed (told : Told) (seals : List NodeSeal) : Type 0 where
   pub cut : WholeCut
   pub nodes : List NodeState
   pub has : HasCut told.net cut nodes
-  pub holds : Holds t414 told.net
+  pub holds : CutInvariant t414 told.net
   pub none : AllByRecursion (λ s. s.frozen ≡ false) seals
 
 -- so it is where it was told

@@ -11,7 +11,7 @@ use Rattle.tp_book.specs.Book.{BookValue}
 use Rattle.tp_shared.specs.Positions.{IsNumberedFrom}
 use Rattle.tp_shared.specs.Seals.{Sealed, IsTied}
 use Rattle.tp_shared.specs.Thawed.{ThawedAsTold}
-use Rattle.tp_shared.specs.Told.{Since, told_of}
+use Rattle.tp_shared.specs.Told.{ToldSince, told_of}
 use Rattle.tp_shared.specs.declared.seal.NodeSeal.{NodeSeal}
 use Rattle.tp_shared.specs.declared.told.Told.{Told}
 
@@ -40,7 +40,7 @@ pub record AreTogether (roll_name first : ℕ) (start : Network NodeState) (node
   -- the flusher has the key of this seal
   pub flusher_is : told.name ≡ flusher
   -- from what the flusher was told, acts that are no trim lead to the book as it is
-  pub since : Since told.value (told_of before first (record { book = book; all = roll.items; numbered_from = told.value.numbered_from }))
+  pub since : ToldSince told.value (told_of before first (record { book = book; all = roll.items; numbered_from = told.value.numbered_from }))
   -- the network has a place for a wire at each of four links a node, and at each port
   pub wire_count : length start.wires ≡ 4 * length start.nodes + length start.ports
   -- the book counts with the bytes that groups may fill on the device

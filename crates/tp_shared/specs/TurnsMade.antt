@@ -6,16 +6,16 @@ use Rattle.tp_model.specs.Network.{Network, steps}
 use Rattle.tp_model.specs.Node.{t414}
 use Rattle.tp_model.specs.NodeWrites.{node_ranges, kept_behind_steps}
 use Rattle.tp_model.specs.SharedPages.{LacksFrames}
-use Rattle.tp_node.specs.NodeContents.{NodeContents, kept_of}
+use Rattle.tp_node.specs.NodeContents.{NodeContents, memory_kept}
 use Rattle.tp_node.specs.RunEnd.{IsWhy}
 use Rattle.tp_book.specs.declared.refusal.Refusal.{Refusal}
 use Rattle.tp_book.specs.Book.{BookValue}
 use Rattle.tp_book.specs.Calls.{without_run}
 use Rattle.tp_turn.specs.Hosted.{HostDone, HostTurns}
-use Rattle.tp_turn.specs.Moments.{moment, IsNodeOf, Added}
+use Rattle.tp_turn.specs.Moments.{moment_of, IsNodeOf, Added}
 use Rattle.tp_turn.specs.declared.opened.Opened.{Opened}
 use Rattle.tp_turn.specs.Opened.{OpensIn, opened_acts, taken_in}
-use Rattle.tp_shared.specs.Holds.{Held, InHand}
+use Rattle.tp_shared.specs.Holds.{WasHeld, InHand}
 use Rattle.tp_shared.specs.declared.node_turn.NodeTurn.{NodeTurn}
 
 -- A node's turn was opened, with this answer, in the book that was found, in which the node was the one that its entries make, and by that
@@ -23,16 +23,16 @@ use Rattle.tp_shared.specs.declared.node_turn.NodeTurn.{NodeTurn}
 pub record TurnOpened (start : Network NodeState) (number : ℕ) (answer : Result Opened Refusal) (was is : NodeContents) (old new : InHand) : Type 0 where
   pub found : BookValue
   pub left : BookValue
-  pub held : Held start found left old new
+  pub held : WasHeld start found left old new
   pub node : IsNodeOf found number was
-  pub opens : OpensIn found.form number answer (moment found was) (moment left is)
+  pub opens : OpensIn found.form number answer (moment_of found was) (moment_of left is)
 
 -- A turn that was opened so was journalled in the book that was found, of whatever form that was by then: its run, and what it received
 -- for one entry.
 pub record TurnCommitted (start : Network NodeState) (number : ℕ) (opened : Opened) (count : ℕ) (node : NodeContents) (old new : InHand) : Type 0 where
   pub found : BookValue
   pub left : BookValue
-  pub held : Held start found left old new
+  pub held : WasHeld start found left old new
   pub added : Added number node.live (opened_acts number opened count) (without_run found number) left
 
 -- The turn of a node: it was opened in one hold of the book's lock, ran as far as it may, and was journalled in another by how it was
@@ -47,9 +47,9 @@ pub record TurnMade (start : Network NodeState) (number quantum : ℕ) (turn : N
   pub ran : NodeContents
   pub sent : List (ℕ × Token)
   pub steps : steps t414 turn.ran.count settled.live ≡ Some (ran.live, sent)
-  pub why : IsWhy turn.ran.why quantum turn.ran.count (LacksFrames (kept_of ran) (node_ranges ran.live)) ran.live
+  pub why : IsWhy turn.ran.why quantum turn.ran.count (LacksFrames (memory_kept ran) (node_ranges ran.live)) ran.live
   pub kept : ran.frozen ≡ settled.frozen
-  pub shared : kept_of ran ≡ kept_behind_steps turn.ran.count settled.live (kept_of settled)
+  pub shared : memory_kept ran ≡ kept_behind_steps turn.ran.count settled.live (memory_kept settled)
   pub committed : TurnCommitted start number opening turn.ran.count ran between new
 
 -- A turn of a node was refused, where it was opened.
@@ -62,5 +62,5 @@ pub record TurnBrokenOff (start : Network NodeState) (number : ℕ) (reason : Re
 pub record HostTurnMade (start : Network NodeState) (answer : Result ℕ Refusal) (old new : InHand) : Type 0 where
   pub found : BookValue
   pub left : BookValue
-  pub held : Held start found left old new
+  pub held : WasHeld start found left old new
   pub did : HostDone (HostTurns answer) found left

@@ -1,7 +1,7 @@
 //! What the flusher was told, beside the book as it is.
 
 ghost use Rattle.std.specs.Prelude.{◌≡◌};
-ghost use Rattle.tp_shared.specs.Told.{Since, told_of};
+ghost use Rattle.tp_shared.specs.Told.{ToldSince, told_of};
 
 use crate::locked::Locked;
 use crate::naming::Naming;
@@ -14,7 +14,7 @@ impl<J: Naming> Locked<J> {
     pub fn compare(&mut self, key: &mut Key<Told>)
         requires { key.old.name ≡ J.flusher }
         ensures same { (self.new ≡ self.old) × (key.new.name ≡ key.old.name) × (key.new.value ≡ key.old.value) }
-        ensures since { Since key.old.value (told_of J.before J.first self.old) }
+        ensures since { ToldSince key.old.value (told_of J.before J.first self.old) }
     {
         agree(&mut self.told, key);
     }

@@ -6,11 +6,11 @@ ghost use Rattle.tp_shared.specs.Cells.{AreOfCell};
 ghost use Rattle.tp_shared.specs.Entries.{IsTurnRefusal, OpenedEntries, TookAlone};
 ghost use Rattle.tp_shared.specs.Gains.{Gained};
 ghost use Rattle.tp_shared.specs.Holds.{in_hand};
-ghost use Rattle.tp_shared.specs.Seals.{Shows, ShowsOpen, ShowsRun};
+ghost use Rattle.tp_shared.specs.Seals.{KeyShows, ShowsOpen, ShowsRun};
 ghost use Rattle.tp_shared.specs.NodeTurned.{NodeTurned};
 ghost use Rattle.tp_shared.specs.RecordedIn.{RecordedIn};
 ghost use Rattle.tp_shared.specs.TurnsMade.{TurnBrokenOff, TurnCommitted, TurnOpened, TurnMade};
-ghost use Rattle.tp_turn.specs.Opened.{opened_entries, sent_in, takes_in};
+ghost use Rattle.tp_turn.specs.Opened.{opened_entries, sent_in, turn_received};
 
 use crate::gate::{COMMITTED, Gate, NODE_LOCKED, RUN_DONE};
 use crate::locked::Locked;
@@ -57,9 +57,9 @@ fn begin<J: Naming, R: Wait>(
 ) -> Result<Opened, Refusal>
     requires there { number < length J.start.nodes }
     requires named { place.old.key.name ≡ J.node number }
-    requires shows { Shows place.old }
+    requires shows { KeyShows place.old }
     ensures named { place.new.key.name ≡ place.old.key.name }
-    ensures shows { MatchResult result (λ opened. ShowsOpen place.new (takes_in opened) (sent_in opened)) (λ e. Shows place.new) }
+    ensures shows { MatchResult result (λ opened. ShowsOpen place.new (turn_received opened) (sent_in opened)) (λ e. KeyShows place.new) }
     ensures opened { TurnOpened J.start number result place.old.node place.new.node (in_hand seen.old seat.old) (in_hand seen.new seat.new) }
     ensures gained { Gained (OpenedEntries J.start number result) seat.old seat.new }
     ensures refused { IfErr result IsTurnRefusal }
@@ -82,10 +82,10 @@ fn commit<J: Naming, R: Wait>(
     requires there { number < length J.start.nodes }
     requires named { place.old.key.name ≡ J.node number }
     requires few { stretch.ran.count ≤ MAX_STEPS }
-    requires ran { ShowsRun place.old (takes_in opened) (sent_in opened) stretch.ran.count stretch.sent.items }
+    requires ran { ShowsRun place.old (turn_received opened) (sent_in opened) stretch.ran.count stretch.sent.items }
     ensures ran { result ≡ stretch.ran }
     ensures named { place.new.key.name ≡ place.old.key.name }
-    ensures shows { Shows place.new }
+    ensures shows { KeyShows place.new }
     ensures committed { TurnCommitted J.start number opened stretch.ran.count place.old.node (in_hand seen.old seat.old) (in_hand seen.new seat.new) }
     ensures gained { Gained (λ entries. entries ≡ opened_entries number opened stretch.ran.count) seat.old seat.new }
 {
@@ -107,9 +107,9 @@ fn turn_of<J: Naming, G: Gate, R: Wait>(
     requires quantum { quantum ≤ MAX_STEPS }
     requires there { number < length J.start.nodes }
     requires named { place.old.key.name ≡ J.node number }
-    requires shows { Shows place.old }
+    requires shows { KeyShows place.old }
     ensures named { place.new.key.name ≡ place.old.key.name }
-    ensures shows { Shows place.new }
+    ensures shows { KeyShows place.new }
     ensures turned { MatchResult result (λ turn. NodeTurned J.start number quantum turn seat.old seat.new) (λ e. Gained (TookAlone J.start number) seat.old seat.new) }
     ensures went { MatchResult result (λ turn. TurnMade J.start number quantum turn (in_hand seen.old seat.old) (in_hand seen.new seat.new)) (λ e. TurnBrokenOff J.start number e (in_hand seen.old seat.old) (in_hand seen.new seat.new)) }
     ensures refused { IfErr result IsTurnRefusal }
@@ -133,9 +133,9 @@ fn record_of<J: Naming, R: Wait>(
 ) -> Recorded<J>
     requires there { number < length J.start.nodes }
     requires named { place.old.key.name ≡ J.node number }
-    requires shows { Shows place.old }
+    requires shows { KeyShows place.old }
     ensures named { place.new.key.name ≡ place.old.key.name }
-    ensures shows { Shows place.new }
+    ensures shows { KeyShows place.new }
     ensures recorded { RecordedIn J.start number result.seen result.done }
 {
     let mut held = lock_soon(rt, book);

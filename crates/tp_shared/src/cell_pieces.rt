@@ -2,7 +2,7 @@
 
 ghost use Rattle.std.specs.Prelude.{◌≡◌, ◌<◌, ◌%◌, true, length};
 ghost use Rattle.tp_shared.specs.Pieces.{IsFrozenHead, IsFrozenPage};
-ghost use Rattle.tp_shared.specs.Told.{Since};
+ghost use Rattle.tp_shared.specs.Told.{ToldSince};
 
 use crate::cell::Cell;
 use crate::locked::Locked;
@@ -27,7 +27,7 @@ impl<const I: usize, J: Naming> Cell<I, J> {
         requires there { number < length J.start.nodes }
         requires here { number % 4 ≡ I }
         ensures name { key.new.name ≡ key.old.name }
-        ensures since { Since key.old.value key.new.value }
+        ensures since { ToldSince key.old.value key.new.value }
         ensures head { result ≡ true → IsFrozenHead key.new.value.net number out.new }
     {
         let place = &mut self.places[number as usize / 4];
@@ -48,7 +48,7 @@ impl<const I: usize, J: Naming> Cell<I, J> {
         requires there { number < length J.start.nodes }
         requires here { number % 4 ≡ I }
         ensures name { key.new.name ≡ key.old.name }
-        ensures since { Since key.old.value key.new.value }
+        ensures since { ToldSince key.old.value key.new.value }
         ensures page { result ≡ true → IsFrozenPage key.new.value.net number page out.new }
     {
         let place = &mut self.places[number as usize / 4];

@@ -2,11 +2,11 @@
 
 ghost use Rattle.std.specs.Prelude.{◌≡◌, ◌<◌, [], length, map, set, IfOk};
 ghost use Rattle.tp_model.specs.Network.{on_line};
-ghost use Rattle.tp_book.specs.PortParts.{port_of};
+ghost use Rattle.tp_book.specs.PortParts.{port_made};
 
 use std::alloc::{AllocError, Global};
-use tp_net::Lines;
 use tp_book::PortParts;
+use tp_net::Lines;
 
 // Puts onto an empty line what stands on that line of others.
 fn copy_line(lines: &mut Lines, line: usize, from: &Lines)
@@ -34,7 +34,7 @@ pub(crate) fn copy_lines(alloc: Global, from: &Lines) -> Result<Lines, AllocErro
 }
 
 fn copy_port(alloc: Global, port: &PortParts) -> Result<PortParts, AllocError>
-    ensures { IfOk result (λ parts. port_of parts ≡ port_of port.now) }
+    ensures { IfOk result (λ parts. port_made parts ≡ port_made port.now) }
 {
     Ok(PortParts {
         pending: Vec::from_slice(alloc, port.pending.as_slice())?,
@@ -46,7 +46,7 @@ fn copy_port(alloc: Global, port: &PortParts) -> Result<PortParts, AllocError>
 
 /// A copy of ports.
 pub(crate) fn copy_ports(alloc: Global, ports: &[PortParts]) -> Result<Vec<PortParts>, AllocError>
-    ensures { IfOk result (λ parts. map port_of parts.items ≡ map port_of ports.now) }
+    ensures { IfOk result (λ parts. map port_made parts.items ≡ map port_made ports.now) }
 {
     let mut parts = Vec::new(alloc);
     for port in ports {

@@ -6,7 +6,7 @@ ghost use Rattle.tp_shared.specs.Agreement.{answered_with, at_rest};
 ghost use Rattle.tp_shared.specs.BookActs.{NodeActed};
 ghost use Rattle.tp_shared.specs.Entries.{IsTurnRefusal, OpenedEntries};
 ghost use Rattle.tp_book.specs.Calls.{without_run};
-ghost use Rattle.tp_turn.specs.Moments.{Added, Done, IsNodeOf, moment};
+ghost use Rattle.tp_turn.specs.Moments.{Added, Done, IsNodeOf, moment_of};
 ghost use Rattle.tp_turn.specs.Opened.{HasTurnedBy, IsOpenedIn, OpensIn, opened_acts, opened_entries};
 ghost use Rattle.tp_turn.specs.Settled.{Records};
 
@@ -21,7 +21,7 @@ pub(crate) fn begin(book: &mut Book, node: &mut Node, number: u8) -> Result<Open
     requires idle { book.old.ready ≡ None }
     requires is { IsNodeOf book.old number node.old }
     ensures acted { NodeActed (OpenedEntries book.old.state.start number result) number (answered_with book.new number node.new result) book.old book.new }
-    ensures opens { OpensIn book.old.form number result (moment book.old node.old) (moment book.new node.new) }
+    ensures opens { OpensIn book.old.form number result (moment_of book.old node.old) (moment_of book.new node.new) }
     ensures is { IsOpenedIn result book.new number node.new }
     ensures stays { has_recorded_in book.old.state.snapshot number ≡ true → node.new.frozen ≡ node.old.frozen }
     ensures refused { IfErr result IsTurnRefusal }
@@ -34,7 +34,7 @@ pub(crate) fn record(book: &mut Book, node: &mut Node, number: u8)
     requires free { slice_get book.old.runs number ≡ Some false }
     requires is { IsNodeOf book.old number node.old }
     ensures acted { NodeActed (λ entries. entries ≡ []) number (at_rest node.new) book.old book.new }
-    ensures did { Done number (Records number) (moment book.old node.old) (moment book.new node.new) }
+    ensures did { Done number (Records number) (moment_of book.old node.old) (moment_of book.new node.new) }
     ensures is { IsNodeOf book.new number node.new }
     ensures stays { has_recorded_in book.old.state.snapshot number ≡ true → node.new.frozen ≡ node.old.frozen }
 {

@@ -2,12 +2,12 @@
 
 ghost use Rattle.std.specs.Prelude.{◌≡◌, ◌<◌, ◌≤◌, ◌+◌, [], Some, length, map, IfOk, IfErr, IsOk, OnErr};
 ghost use Rattle.tp_book.specs.Acts.{confirm_entries};
-ghost use Rattle.tp_book.specs.Book.{next_number};
-ghost use Rattle.tp_book.specs.Host.{after_input, input_refusal, port_in, accepted_of, after_confirm, confirm_refusal};
+ghost use Rattle.tp_book.specs.Book.{next_in_book};
+ghost use Rattle.tp_book.specs.Host.{after_inputs, input_refusal, port_in, accepted_of, after_confirm, confirm_refusal};
 ghost use Rattle.tp_book.specs.Refusals.{IsAnswer};
 ghost use Rattle.tp_model.specs.declared.entry.Entry.TheVariants.{HostIn};
 ghost use Rattle.tp_shared.specs.Entries.{IsTurnRefusal, TakesOf};
-ghost use Rattle.tp_shared.specs.Gains.{Noted};
+ghost use Rattle.tp_shared.specs.Gains.{HoldNoted};
 ghost use Rattle.tp_shared.specs.Holds.{IsBookOf};
 ghost use Rattle.tp_turn.specs.Hosted.{HostDone, HostTurns};
 
@@ -25,10 +25,10 @@ impl<J: Naming> Locked<J> {
     pub fn host_in(&mut self, port: u8, bytes: &[u8]) -> Result<Receipt<J>, Refusal>
         requires there { port < length self.old.book.state.ports }
         ensures answer { IsAnswer (input_refusal self.old.book port (length bytes.now)) result }
-        ensures book { IfOk result (λ receipt. self.new.book ≡ after_input self.old.book port bytes.now) }
-        ensures number { IfOk result (λ receipt. receipt.number ≡ next_number self.new.book) }
+        ensures book { IfOk result (λ receipt. self.new.book ≡ after_inputs self.old.book port bytes.now) }
+        ensures number { IfOk result (λ receipt. receipt.number ≡ next_in_book self.new.book) }
         ensures position { IfOk result (λ receipt. receipt.position ≡ Some (accepted_of (port_in self.old.book port))) }
-        ensures noted { IfOk result (λ receipt. Noted (λ entries. entries ≡ map (HostIn port) bytes.now) J.first self.old self.new [] receipt.seat) }
+        ensures noted { IfOk result (λ receipt. HoldNoted (λ entries. entries ≡ map (HostIn port) bytes.now) J.first self.old self.new [] receipt.seat) }
         ensures nothing { length bytes.now ≡ 0 → IsOk result }
         ensures err { OnErr result (self.new ≡ self.old) }
     {
@@ -47,8 +47,8 @@ impl<J: Naming> Locked<J> {
         requires held { upto ≤ (port_in self.old.book port).out_base + length (port_in self.old.book port).outputs }
         ensures answer { IsAnswer (confirm_refusal self.old.book port upto) result }
         ensures book { IfOk result (λ receipt. self.new.book ≡ after_confirm self.old.book port upto) }
-        ensures number { IfOk result (λ receipt. receipt.number ≡ next_number self.new.book) }
-        ensures noted { IfOk result (λ receipt. Noted (λ entries. entries ≡ confirm_entries self.old.book port upto) J.first self.old self.new [] receipt.seat) }
+        ensures number { IfOk result (λ receipt. receipt.number ≡ next_in_book self.new.book) }
+        ensures noted { IfOk result (λ receipt. HoldNoted (λ entries. entries ≡ confirm_entries self.old.book port upto) J.first self.old self.new [] receipt.seat) }
         ensures nothing { upto ≤ (port_in self.old.book port).out_base → IsOk result }
         ensures err { OnErr result (self.new ≡ self.old) }
     {
@@ -66,7 +66,7 @@ impl<J: Naming> Locked<J> {
     pub fn host_turn(&mut self, seat: &mut Seat<J>) -> Result<u64, Refusal>
         ensures of { IsBookOf J.start self.old.book }
         ensures did { HostDone (HostTurns result) self.old.book self.new.book }
-        ensures noted { Noted (TakesOf J.start (length J.start.nodes) result) J.first self.old self.new seat.old seat.new }
+        ensures noted { HoldNoted (TakesOf J.start (length J.start.nodes) result) J.first self.old self.new seat.old seat.new }
         ensures refused { IfErr result IsTurnRefusal }
     {
         let Locked { book, roll, .. } = self;

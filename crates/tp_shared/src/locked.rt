@@ -3,14 +3,14 @@
 ghost use Rattle.std.specs.Prelude.{◌≡◌, ◌<◌, ◌≤◌, ◌+◌, ◌-◌, ◌*◌, None, [], length, IfErr, MatchResult};
 ghost use Rattle.tp_model.specs.declared.limits.TheConstants.{MAX_STEPS};
 ghost use Rattle.tp_shared.specs.Entries.{IsTurnRefusal, OpenedEntries};
-ghost use Rattle.tp_shared.specs.Gains.{Noted};
+ghost use Rattle.tp_shared.specs.Gains.{HoldNoted};
 ghost use Rattle.tp_shared.specs.Positions.{IsNumberedFrom};
-ghost use Rattle.tp_shared.specs.Seals.{Sealed, IsTied, Shows, ShowsOpen, ShowsRun};
+ghost use Rattle.tp_shared.specs.Seals.{Sealed, IsTied, KeyShows, ShowsOpen, ShowsRun};
 ghost use Rattle.tp_shared.specs.Told.{told_of};
 ghost use Rattle.tp_shared.specs.Holds.{IsBookOf};
 ghost use Rattle.tp_book.specs.Calls.{without_run};
-ghost use Rattle.tp_turn.specs.Moments.{Added, IsNodeOf, moment};
-ghost use Rattle.tp_turn.specs.Opened.{OpensIn, opened_acts, opened_entries, sent_in, takes_in};
+ghost use Rattle.tp_turn.specs.Moments.{Added, IsNodeOf, moment_of};
+ghost use Rattle.tp_turn.specs.Opened.{OpensIn, opened_acts, opened_entries, sent_in, turn_received};
 
 use crate::hold::{begin, commit};
 use crate::naming::Naming;
@@ -110,13 +110,13 @@ impl<J: Naming> Locked<J> {
     ) -> Result<Opened, Refusal>
         requires there { number < length J.start.nodes }
         requires named { place.old.key.name ≡ J.node number }
-        requires shows { Shows place.old }
+        requires shows { KeyShows place.old }
         ensures named { place.new.key.name ≡ place.old.key.name }
-        ensures shows { MatchResult result (λ opened. ShowsOpen place.new (takes_in opened) (sent_in opened)) (λ e. Shows place.new) }
+        ensures shows { MatchResult result (λ opened. ShowsOpen place.new (turn_received opened) (sent_in opened)) (λ e. KeyShows place.new) }
         ensures of { IsBookOf J.start self.old.book }
         ensures is { IsNodeOf self.old.book number place.old.node }
-        ensures opens { OpensIn self.old.book.form number result (moment self.old.book place.old.node) (moment self.new.book place.new.node) }
-        ensures noted { Noted (OpenedEntries J.start number result) J.first self.old self.new seat.old seat.new }
+        ensures opens { OpensIn self.old.book.form number result (moment_of self.old.book place.old.node) (moment_of self.new.book place.new.node) }
+        ensures noted { HoldNoted (OpenedEntries J.start number result) J.first self.old self.new seat.old seat.new }
         ensures refused { IfErr result IsTurnRefusal }
     {
         let Locked {
@@ -151,14 +151,14 @@ impl<J: Naming> Locked<J> {
         requires there { number < length J.start.nodes }
         requires named { place.old.key.name ≡ J.node number }
         requires few { stretch.ran.count ≤ MAX_STEPS }
-        requires ran { ShowsRun place.old (takes_in opened) (sent_in opened) stretch.ran.count stretch.sent.items }
+        requires ran { ShowsRun place.old (turn_received opened) (sent_in opened) stretch.ran.count stretch.sent.items }
         ensures ran { result ≡ stretch.ran }
         ensures named { place.new.key.name ≡ place.old.key.name }
-        ensures shows { Shows place.new }
+        ensures shows { KeyShows place.new }
         ensures of { IsBookOf J.start self.old.book }
         ensures node { place.new.node ≡ place.old.node }
         ensures added { Added number place.old.node.live (opened_acts number opened stretch.ran.count) (without_run self.old.book number) self.new.book }
-        ensures noted { Noted (λ entries. entries ≡ opened_entries number opened stretch.ran.count) J.first self.old self.new seat.old seat.new }
+        ensures noted { HoldNoted (λ entries. entries ≡ opened_entries number opened stretch.ran.count) J.first self.old self.new seat.old seat.new }
     {
         let Locked {
             book,

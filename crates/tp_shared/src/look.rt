@@ -3,7 +3,7 @@
 ghost use Rattle.std.specs.Prelude.{◌≡◌, ◌<◌, ◌≤◌, ℕ, false, get_or, length};
 ghost use Rattle.tp_model.specs.declared.limits.TheConstants.{MAX_NODES};
 ghost use Rattle.tp_book.specs.Needs.{has_recorded_in};
-ghost use Rattle.tp_book.specs.Book.{node_count};
+ghost use Rattle.tp_book.specs.Book.{count_of_nodes};
 
 use crate::locked::Locked;
 use crate::naming::Naming;
@@ -19,8 +19,8 @@ pub struct Look {
 
 // Of each node whether it has recorded.
 fn recorded_in(book: &Book) -> [bool; MAX_NODES]
-    requires { node_count book.now ≤ MAX_NODES }
-    ensures { (i : ℕ) → i < node_count book.now → get_or result i false ≡ has_recorded_in book.now.state.snapshot i }
+    requires { count_of_nodes book.now ≤ MAX_NODES }
+    ensures { (i : ℕ) → i < count_of_nodes book.now → get_or result i false ≡ has_recorded_in book.now.state.snapshot i }
 {
     let mut recorded = [false; MAX_NODES];
     for node in 0..book.nodes() {

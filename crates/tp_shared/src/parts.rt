@@ -2,7 +2,7 @@
 
 ghost use Rattle.std.specs.Prelude.{◌≡◌, ◌<◌, ℕ, [], None, Some, false, length, slice_get, IfOk};
 ghost use Rattle.tp_law_machine.specs.NodeOfBytes.{IsNodeOfBytes};
-ghost use Rattle.tp_book.specs.Book.{next_number};
+ghost use Rattle.tp_book.specs.Book.{next_in_book};
 ghost use Rattle.tp_node.specs.NodeContents.{NodeContents};
 ghost use Rattle.tp_shared.specs.Agreement.{at_rest};
 ghost use Rattle.tp_shared.specs.Parted.{AreOfOpened, IsDealt};
@@ -17,9 +17,9 @@ use std::alloc::{AllocError, Global};
 use std::marker::Model;
 use std::snapshot::Snapshot;
 use tp_book::Book;
-use tp_ready::Mark;
 use tp_model::Entry;
 use tp_node::Node;
+use tp_ready::Mark;
 use tp_token::{Key, Roll, Seal, pair, start, turn};
 
 /// A book, its nodes, their seals and keys, the roll of its entries, the mark, both halves of what the flusher is told, and the roll of
@@ -88,7 +88,7 @@ impl Parts {
         requires opened { AreOfOpened book nodes.items }
         requires each { (i : ℕ) (node : NodeContents) → slice_get nodes.items i ≡ Some node → IsNodeOfBytes node.live × (node.frozen ≡ None) }
         ensures book { IfOk result (λ parts. parts.book ≡ book) }
-        ensures roll { IfOk result (λ parts. (parts.first ≡ next_number book) × (parts.all ≡ [])) }
+        ensures roll { IfOk result (λ parts. (parts.first ≡ next_in_book book) × (parts.all ≡ [])) }
         ensures mark { IfOk result (λ parts. parts.mark ≡ mark) }
     {
         book.known();
@@ -103,7 +103,7 @@ impl Parts {
         requires free { (i : ℕ) → i < length nodes.items → slice_get book.runs i ≡ Some false }
         requires agree { (i : ℕ) (node : NodeContents) → slice_get nodes.items i ≡ Some node → IsNodeOf book i node }
         ensures book { IfOk result (λ parts. parts.book ≡ book) }
-        ensures roll { IfOk result (λ parts. (parts.first ≡ next_number book) × (parts.all ≡ [])) }
+        ensures roll { IfOk result (λ parts. (parts.first ≡ next_in_book book) × (parts.all ≡ [])) }
         ensures mark { IfOk result (λ parts. parts.mark ≡ mark) }
     {
         let (seals, dealt) = deal(alloc, &book, nodes)?;

@@ -7,8 +7,8 @@ ghost use Rattle.tp_model.specs.NodeState.{NodeState};
 ghost use Rattle.tp_book.specs.Book.{world_of};
 ghost use Rattle.tp_shared.specs.Agreement.{at_rest};
 ghost use Rattle.tp_shared.specs.Pieces.{IsFrozenHead, IsFrozenPage};
-ghost use Rattle.tp_shared.specs.Seals.{Shows};
-ghost use Rattle.tp_shared.specs.Told.{Since, told_of};
+ghost use Rattle.tp_shared.specs.Seals.{KeyShows};
+ghost use Rattle.tp_shared.specs.Told.{ToldSince, told_of};
 
 use crate::locked::Locked;
 use crate::naming::Naming;
@@ -25,11 +25,11 @@ impl<J: Naming> Locked<J> {
     pub(crate) fn audit_frozen(&mut self, place: &mut Place, number: u8)
         requires there { number < length J.start.nodes }
         requires named { place.old.key.name ≡ J.node number }
-        requires shows { Shows place.old }
+        requires shows { KeyShows place.old }
         ensures same { self.new ≡ self.old }
         ensures node { place.new.node ≡ place.old.node }
         ensures named { place.new.key.name ≡ place.old.key.name }
-        ensures shows { Shows place.new }
+        ensures shows { KeyShows place.new }
         ensures frozen { (node : NodeState) → place.old.node.frozen ≡ Some node → IsFrozenAs (world_of self.old.book) number node }
     {
         self.book.known();
@@ -41,14 +41,14 @@ impl<J: Naming> Locked<J> {
     pub(crate) fn tell_frozen(&mut self, place: &mut Place, key: &mut Key<Told>, number: u8)
         requires there { number < length J.start.nodes }
         requires named { place.old.key.name ≡ J.node number }
-        requires shows { Shows place.old }
+        requires shows { KeyShows place.old }
         requires name { key.old.name ≡ J.flusher }
         ensures same { self.new ≡ self.old }
         ensures node { place.new.node ≡ place.old.node }
         ensures named { place.new.key.name ≡ place.old.key.name }
-        ensures shows { Shows place.new }
+        ensures shows { KeyShows place.new }
         ensures key { (key.new.name ≡ key.old.name) × (key.new.value ≡ told_of J.before J.first self.old) }
-        ensures since { Since key.old.value key.new.value }
+        ensures since { ToldSince key.old.value key.new.value }
         ensures frozen { (node : NodeState) → place.old.node.frozen ≡ Some node → IsFrozenAs key.new.value.net number node }
     {
         self.audit_frozen(place, number);
@@ -83,13 +83,13 @@ fn audit<J: Naming, R: Wait>(
 )
     requires there { number < length J.start.nodes }
     requires named { place.old.key.name ≡ J.node number }
-    requires shows { Shows place.old }
+    requires shows { KeyShows place.old }
     requires name { key.old.name ≡ J.flusher }
     ensures node { place.new.node ≡ place.old.node }
     ensures named { place.new.key.name ≡ place.old.key.name }
-    ensures shows { Shows place.new }
+    ensures shows { KeyShows place.new }
     ensures name { key.new.name ≡ key.old.name }
-    ensures since { Since key.old.value key.new.value }
+    ensures since { ToldSince key.old.value key.new.value }
     ensures frozen { (node : NodeState) → place.old.node.frozen ≡ Some node → IsFrozenAs key.new.value.net number node }
 {
     let mut held = book.lock(rt);
@@ -107,12 +107,12 @@ pub(crate) fn head_of<J: Naming, R: Wait>(
 ) -> bool
     requires there { number < length J.start.nodes }
     requires named { place.old.key.name ≡ J.node number }
-    requires shows { Shows place.old }
+    requires shows { KeyShows place.old }
     requires name { key.old.name ≡ J.flusher }
     ensures named { place.new.key.name ≡ place.old.key.name }
-    ensures shows { Shows place.new }
+    ensures shows { KeyShows place.new }
     ensures name { key.new.name ≡ key.old.name }
-    ensures since { Since key.old.value key.new.value }
+    ensures since { ToldSince key.old.value key.new.value }
     ensures answer { result ≡ is_some place.old.node.frozen }
     ensures head { result ≡ true → IsFrozenHead key.new.value.net number out.new }
     ensures none { result ≡ false → out.new ≡ out.old }
@@ -137,12 +137,12 @@ pub(crate) fn page_of<J: Naming, R: Wait>(
 ) -> bool
     requires there { number < length J.start.nodes }
     requires named { place.old.key.name ≡ J.node number }
-    requires shows { Shows place.old }
+    requires shows { KeyShows place.old }
     requires name { key.old.name ≡ J.flusher }
     ensures named { place.new.key.name ≡ place.old.key.name }
-    ensures shows { Shows place.new }
+    ensures shows { KeyShows place.new }
     ensures name { key.new.name ≡ key.old.name }
-    ensures since { Since key.old.value key.new.value }
+    ensures since { ToldSince key.old.value key.new.value }
     ensures answer { result ≡ is_some place.old.node.frozen && nat_lt (PAGE_BYTES * page) (length place.old.node.live.memory) }
     ensures page { result ≡ true → IsFrozenPage key.new.value.net number page out.new }
     ensures none { result ≡ false → out.new ≡ out.old }
@@ -164,11 +164,11 @@ pub(crate) fn drop_of<J: Naming, R: Wait>(
 )
     requires there { number < length J.start.nodes }
     requires named { place.old.key.name ≡ J.node number }
-    requires shows { Shows place.old }
+    requires shows { KeyShows place.old }
     ensures live { place.new.node.live ≡ place.old.node.live }
     ensures frozen { place.new.node.frozen ≡ None }
     ensures named { place.new.key.name ≡ place.old.key.name }
-    ensures shows { Shows place.new }
+    ensures shows { KeyShows place.new }
 {
     let Place { node, key } = place;
     node.drop_frozen();

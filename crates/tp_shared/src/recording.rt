@@ -2,10 +2,10 @@
 
 ghost use Rattle.std.specs.Prelude.{◌≡◌, ◌<◌, length};
 ghost use Rattle.tp_shared.specs.RecordedIn.{RecordedIn};
-ghost use Rattle.tp_shared.specs.Seals.{Shows};
+ghost use Rattle.tp_shared.specs.Seals.{KeyShows};
 ghost use Rattle.tp_shared.specs.Holds.{IsBookOf};
 ghost use Rattle.tp_book.specs.Needs.{is_asked};
-ghost use Rattle.tp_turn.specs.Moments.{Done, IsNodeOf, moment};
+ghost use Rattle.tp_turn.specs.Moments.{Done, IsNodeOf, moment_of};
 ghost use Rattle.tp_turn.specs.Settled.{Records};
 
 use crate::hold::record;
@@ -22,13 +22,13 @@ impl<J: Naming> Locked<J> {
     pub(crate) fn record(&mut self, place: &mut Place, number: u8) -> bool
         requires there { number < length J.start.nodes }
         requires named { place.old.key.name ≡ J.node number }
-        requires shows { Shows place.old }
+        requires shows { KeyShows place.old }
         ensures named { place.new.key.name ≡ place.old.key.name }
-        ensures shows { Shows place.new }
+        ensures shows { KeyShows place.new }
         ensures of { IsBookOf J.start self.old.book }
         ensures is { IsNodeOf self.old.book number place.old.node }
         ensures asked { result ≡ is_asked self.old.book.state.snapshot number }
-        ensures did { Done number (Records number) (moment self.old.book place.old.node) (moment self.new.book place.new.node) }
+        ensures did { Done number (Records number) (moment_of self.old.book place.old.node) (moment_of self.new.book place.new.node) }
         ensures all { self.new.all ≡ self.old.all }
     {
         let Locked { book, seals, .. } = self;
@@ -47,9 +47,9 @@ impl<J: Naming> Locked<J> {
     pub(crate) fn record_seen(&mut self, place: &mut Place, number: u8) -> Recorded<J>
         requires there { number < length J.start.nodes }
         requires named { place.old.key.name ≡ J.node number }
-        requires shows { Shows place.old }
+        requires shows { KeyShows place.old }
         ensures named { place.new.key.name ≡ place.old.key.name }
-        ensures shows { Shows place.new }
+        ensures shows { KeyShows place.new }
         ensures recorded { RecordedIn J.start number result.seen result.done }
     {
         let mut seen = Sights::new();

@@ -6,7 +6,7 @@ ghost use Rattle.tp_model.specs.Network.{steps};
 ghost use Rattle.tp_model.specs.Node.{t414};
 ghost use Rattle.tp_model.specs.NodeWrites.{node_ranges, kept_behind_steps};
 ghost use Rattle.tp_model.specs.SharedPages.{LacksFrames};
-ghost use Rattle.tp_node.specs.NodeContents.{kept_of};
+ghost use Rattle.tp_node.specs.NodeContents.{memory_kept};
 ghost use Rattle.tp_node.specs.RunEnd.{IsWhy};
 ghost use Rattle.tp_shared.specs.Seals.{IsInTurn};
 
@@ -21,8 +21,8 @@ impl Place {
         ensures key { self.new.key ≡ self.old.key }
         ensures steps { steps t414 result.ran.count self.old.node.live ≡ Some (self.new.node.live, result.sent.items) }
         ensures asked { result.ran.max ≡ quantum }
-        ensures why { IsWhy result.ran.why quantum result.ran.count (LacksFrames (kept_of self.new.node) (node_ranges self.new.node.live)) self.new.node.live }
-        ensures shared { kept_of self.new.node ≡ kept_behind_steps result.ran.count self.old.node.live (kept_of self.old.node) }
+        ensures why { IsWhy result.ran.why quantum result.ran.count (LacksFrames (memory_kept self.new.node) (node_ranges self.new.node.live)) self.new.node.live }
+        ensures shared { memory_kept self.new.node ≡ kept_behind_steps result.ran.count self.old.node.live (memory_kept self.old.node) }
         ensures few { result.ran.count ≤ quantum }
         ensures image { IsNodeOfBytes self.new.node.live }
         ensures kept { self.new.node.frozen ≡ self.old.node.frozen }

@@ -5,9 +5,9 @@ ghost use Rattle.tp_model.specs.declared.limits.TheConstants.{MAX_STEPS};
 ghost use Rattle.tp_shared.specs.Entries.{IsTurnRefusal, OpenedEntries, TakesOf};
 ghost use Rattle.tp_shared.specs.Gains.{Gained};
 ghost use Rattle.tp_shared.specs.Holds.{in_hand};
-ghost use Rattle.tp_shared.specs.Seals.{Shows, ShowsOpen, ShowsRun};
+ghost use Rattle.tp_shared.specs.Seals.{KeyShows, ShowsOpen, ShowsRun};
 ghost use Rattle.tp_shared.specs.TurnsMade.{HostTurnMade, TurnCommitted, TurnOpened};
-ghost use Rattle.tp_turn.specs.Opened.{opened_entries, sent_in, takes_in};
+ghost use Rattle.tp_turn.specs.Opened.{opened_entries, sent_in, turn_received};
 
 use crate::locked::Locked;
 use crate::naming::Naming;
@@ -29,9 +29,9 @@ impl<J: Naming> Locked<J> {
     ) -> Result<Opened, Refusal>
         requires there { number < length J.start.nodes }
         requires named { place.old.key.name ≡ J.node number }
-        requires shows { Shows place.old }
+        requires shows { KeyShows place.old }
         ensures named { place.new.key.name ≡ place.old.key.name }
-        ensures shows { MatchResult result (λ opened. ShowsOpen place.new (takes_in opened) (sent_in opened)) (λ e. Shows place.new) }
+        ensures shows { MatchResult result (λ opened. ShowsOpen place.new (turn_received opened) (sent_in opened)) (λ e. KeyShows place.new) }
         ensures opened { TurnOpened J.start number result place.old.node place.new.node (in_hand seen.old seat.old) (in_hand seen.new seat.new) }
         ensures gained { Gained (OpenedEntries J.start number result) seat.old seat.new }
         ensures refused { IfErr result IsTurnRefusal }
@@ -57,10 +57,10 @@ impl<J: Naming> Locked<J> {
         requires there { number < length J.start.nodes }
         requires named { place.old.key.name ≡ J.node number }
         requires few { stretch.ran.count ≤ MAX_STEPS }
-        requires ran { ShowsRun place.old (takes_in opened) (sent_in opened) stretch.ran.count stretch.sent.items }
+        requires ran { ShowsRun place.old (turn_received opened) (sent_in opened) stretch.ran.count stretch.sent.items }
         ensures ran { result ≡ stretch.ran }
         ensures named { place.new.key.name ≡ place.old.key.name }
-        ensures shows { Shows place.new }
+        ensures shows { KeyShows place.new }
         ensures committed { TurnCommitted J.start number opened stretch.ran.count place.old.node (in_hand seen.old seat.old) (in_hand seen.new seat.new) }
         ensures gained { Gained (λ entries. entries ≡ opened_entries number opened stretch.ran.count) seat.old seat.new }
     {

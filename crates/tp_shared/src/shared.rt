@@ -2,7 +2,7 @@
 
 ghost use Rattle.std.specs.Prelude.{◌≡◌, ◌<◌, ◌≤◌, [], length, IfErr, MatchResult};
 ghost use Rattle.tp_model.specs.declared.limits.TheConstants.{MAX_STEPS};
-ghost use Rattle.tp_shared.specs.Entries.{IsTurnRefusal, CountedTakes, Takes, TakesOf, TookAlone};
+ghost use Rattle.tp_shared.specs.Entries.{IsTurnRefusal, CountedTakes, AreTakes, TakesOf, TookAlone};
 ghost use Rattle.tp_shared.specs.Gains.{Gained};
 ghost use Rattle.tp_shared.specs.Holds.{in_hand};
 ghost use Rattle.tp_shared.specs.Named.{Names};
@@ -186,7 +186,7 @@ impl<J: Naming> Shared<J> {
         seat: &mut Seat<J>,
         seen: &mut Sights<J>,
     ) -> Result<u64, Refusal>
-        ensures turned { MatchResult result (λ takes. Gained (CountedTakes J.start (length J.start.nodes) takes) seat.old seat.new) (λ e. Gained (Takes J.start (length J.start.nodes)) seat.old seat.new) }
+        ensures turned { MatchResult result (λ takes. Gained (CountedTakes J.start (length J.start.nodes) takes) seat.old seat.new) (λ e. Gained (AreTakes J.start (length J.start.nodes)) seat.old seat.new) }
         ensures went { HostTurnMade J.start result (in_hand seen.old seat.old) (in_hand seen.new seat.new) }
         ensures refused { IfErr result IsTurnRefusal }
     {

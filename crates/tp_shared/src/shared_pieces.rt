@@ -2,7 +2,7 @@
 
 ghost use Rattle.std.specs.Prelude.{◌≡◌, ◌<◌, true, length};
 ghost use Rattle.tp_shared.specs.Pieces.{IsFrozenHead, IsFrozenPage};
-ghost use Rattle.tp_shared.specs.Told.{Since};
+ghost use Rattle.tp_shared.specs.Told.{ToldSince};
 
 use crate::naming::Naming;
 use crate::shared::Shared;
@@ -25,7 +25,7 @@ impl<J: Naming> Shared<J> {
         requires name { key.old.name ≡ J.flusher }
         requires there { number < length J.start.nodes }
         ensures name { key.new.name ≡ key.old.name }
-        ensures since { Since key.old.value key.new.value }
+        ensures since { ToldSince key.old.value key.new.value }
         ensures head { result ≡ true → IsFrozenHead key.new.value.net number out.new }
     {
         let book = self.book();
@@ -50,7 +50,7 @@ impl<J: Naming> Shared<J> {
         requires name { key.old.name ≡ J.flusher }
         requires there { number < length J.start.nodes }
         ensures name { key.new.name ≡ key.old.name }
-        ensures since { Since key.old.value key.new.value }
+        ensures since { ToldSince key.old.value key.new.value }
         ensures page { result ≡ true → IsFrozenPage key.new.value.net number page out.new }
     {
         let book = self.book();

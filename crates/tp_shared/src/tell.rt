@@ -1,7 +1,7 @@
 //! The flusher is told of the book.
 
 ghost use Rattle.std.specs.Prelude.{◌≡◌};
-ghost use Rattle.tp_shared.specs.Told.{Since, told_of};
+ghost use Rattle.tp_shared.specs.Told.{ToldSince, told_of};
 
 use crate::locked::Locked;
 use crate::naming::Naming;
@@ -14,7 +14,7 @@ impl<J: Naming> Locked<J> {
         requires { key.old.name ≡ J.flusher }
         ensures same { self.new ≡ self.old }
         ensures key { (key.new.name ≡ key.old.name) × (key.new.value ≡ told_of J.before J.first self.old) }
-        ensures since { Since key.old.value key.new.value }
+        ensures since { ToldSince key.old.value key.new.value }
     {
         let now = Told::now(&*self);
         turn(&mut self.told, key, &now);

@@ -6,7 +6,7 @@ use Rattle.tp_model.specs.Journal.{entry_room, is_full, reserve}
 use Rattle.tp_book.specs.Book.{BookValue, reserved}
 use Rattle.tp_book.specs.Refusals.{is_journal_full}
 use Rattle.tp_area.specs.declared.journal.JournalRoom.{JournalRoom}
-use Rattle.tp_stream.specs.Rooms.{Lies, has_room}
+use Rattle.tp_stream.specs.Rooms.{UnreservedBook, has_room_for}
 
 not_full : (most kept entries runs base more lines : ℕ) (room : Option ℕ) → room ≡ Some most → kept ≡ reserve lines → runs ≡ 0
     → kept + entry_room * (base + entries - base + more) ≤ most → base + entries + more < NUMBER_LIMIT → is_full room lines entries runs (base + entries) more ≡ false
@@ -16,7 +16,7 @@ not_full most kept entries runs base more lines room bound beside rests low few 
     (le-ltb (NUMBER_LIMIT - 1) (base + entries + runs + more) (omega (arith, rests, few))))
 
 -- Where a book lies in such a journal, and there is room for `more` entries, it isn't full for them.
-pub room_kept : (journal : JournalRoom) (b : BookValue) (more : ℕ) → Lies journal b → has_room journal b more ≡ true → is_journal_full b more ≡ false
+pub room_kept : (journal : JournalRoom) (b : BookValue) (more : ℕ) → UnreservedBook journal b → has_room_for journal b more ≡ true → is_journal_full b more ≡ false
 room_kept journal b more L there =
     let parts = and_parts _ _ there in
     not_full journal.bytes journal.kept (length b.state.entries) (reserved b) b.base more (length b.state.lines) b.room L.bound L.beside L.rests

@@ -9,21 +9,21 @@ use Rattle.tp_model.specs.Network.{Network, Port}
 use Rattle.tp_model.specs.Markers.{plain_network}
 use Rattle.tp_model.specs.Order.{after}
 use Rattle.tp_model.specs.Runs.{World}
-use Rattle.tp_book.specs.Ports.{fresh_port}
-use Rattle.tp_book.specs.Book.{BookValue, next_number, world_of}
+use Rattle.tp_book.specs.Ports.{fresh_value}
+use Rattle.tp_book.specs.Book.{BookValue, next_in_book, world_of}
 use Rattle.tp_book.specs.Host.{after_confirm, confirmed_port, port_in, shown_from, shown_of, with_confirmed}
-use Rattle.tp_flush.specs.Ahead.{IsAhead}
+use Rattle.tp_flush.specs.Ahead.{IsAheadOf}
 use Rattle.std.proofs.lemmas.List.{length-append}
-use Rattle.tp_stream_files.specs.Held.{Held, HasPut, KeepsFront}
-use Rattle.tp_stream_files.specs.Outputs.{Grew, OutputValue}
+use Rattle.tp_stream_files.specs.Held.{HeldBytes, HasPut, KeepsFront}
+use Rattle.tp_stream_files.specs.Outputs.{WasPutSafely, OutputValue}
 use Rattle.tp_stream_files.proofs.StreamEndsSinks.{none_put}
-use Rattle.tp_stream.specs.Put.{EachWith, Shows, port_of}
-use Rattle.tp_stream.specs.Steps.{AreLeft, Extends, IsLeft, PutsLeft, PutsShown, Stands}
+use Rattle.tp_stream.specs.Put.{EachWith, LeadsToBytes, port_or_fresh}
+use Rattle.tp_stream.specs.Steps.{AreLeft, Extends, IsPartConfirmed, PutsLeft, PutsShown, PortsStand}
 
 -- ## Bytes of one output
 
 -- where the front is as it was, no bytes were put
-front_puts : (n : ℕ) (a b : Option Held) → KeepsFront n a b → HasPut n [] a b
+front_puts : (n : ℕ) (a b : Option HeldBytes) → KeepsFront n a b → HasPut n [] a b
 front_puts n None None front = tt
 front_puts n None (Some b) front = absurd front
 front_puts n (Some a) None front = absurd front
@@ -46,7 +46,7 @@ puts_front b mark old new front same =
     inl (nothing_put old new (ap (λ (o : OutputValue). o.port) same) (ap (λ (o : OutputValue). o.next) same) (front_puts old.next old.held new.held front))
 
 -- one that was done
-pub puts_grew : (b : BookValue) (mark : ℕ) (old new : OutputValue) → (port_in b old.port).out_base ≤ old.next → Grew (shown_from b old.port mark old.next) old new → PutsShown b mark old new
+pub puts_grew : (b : BookValue) (mark : ℕ) (old new : OutputValue) → (port_in b old.port).out_base ≤ old.next → WasPutSafely (shown_from b old.port mark old.next) old new → PutsShown b mark old new
 puts_grew b mark old new low G = inr (low, record { port = G.port; next = G.next; put = G.put })
 
 -- what is confirmed is no matter
@@ -58,10 +58,10 @@ puts_like b mark old one new port next held (inr (low, E)) =
 
 -- ## What confirms leave
 
-left_still : (p : Port) → IsLeft p p
+left_still : (p : Port) → IsPartConfirmed p p
 left_still p = record { base = omega arith; outputs = let none : p.out_base - p.out_base ≡ 0 = omega arith in ap (λ n. drop n p.outputs) (sym none) }
 
-left_on : (p q r : Port) → IsLeft p q → IsLeft q r → IsLeft p r
+left_on : (p q r : Port) → IsPartConfirmed p q → IsPartConfirmed q r → IsPartConfirmed p r
 left_on p q r one other =
     let low = one.base in
     let up = other.base in
@@ -79,7 +79,7 @@ all_left b p = left_still (port_in b p)
 pub left_then : (b c d : BookValue) → AreLeft b c → AreLeft c d → AreLeft b d
 left_then b c d one other p = left_on (port_in b p) (port_in c p) (port_in d p) (one p) (other p)
 
-left_confirmed : (p : Port) (upto : ℕ) → p.out_base ≤ upto → IsLeft p (confirmed_port p upto)
+left_confirmed : (p : Port) (upto : ℕ) → p.out_base ≤ upto → IsPartConfirmed p (confirmed_port p upto)
 left_confirmed p upto low = record { base = low; outputs = refl }
 
 pub left_same : (b c : BookValue) → c ≡ b → AreLeft b c
@@ -92,11 +92,11 @@ confirm_left b port upto there = by_test (nat_le upto (port_in b port).out_base)
     confirmed : nat_le upto (port_in b port).out_base ≡ false → AreLeft b (with_confirmed b port upto)
     confirmed test p = elim (cases_eq p port) [
       | inl same ↦
-          subst (λ q. IsLeft (port_in b q) (get_or (set b.state.ports port (confirmed_port (port_in b port) upto)) q fresh_port.port)) (sym same)
-          (subst (IsLeft (port_in b port)) (sym (get_or-set_same b.state.ports port (confirmed_port (port_in b port) upto) fresh_port.port there))
+          subst (λ q. IsPartConfirmed (port_in b q) (get_or (set b.state.ports port (confirmed_port (port_in b port) upto)) q fresh_value.port)) (sym same)
+          (subst (IsPartConfirmed (port_in b port)) (sym (get_or-set_same b.state.ports port (confirmed_port (port_in b port) upto) fresh_value.port there))
           (left_confirmed (port_in b port) upto (let more = leb-false upto (port_in b port).out_base test in omega (arith, more))))
       | inr other ↦
-          subst (IsLeft (port_in b p)) (sym (get_or-set_other b.state.ports port p (confirmed_port (port_in b port) upto) fresh_port.port other)) (left_still (port_in b p))
+          subst (IsPartConfirmed (port_in b p)) (sym (get_or-set_other b.state.ports port p (confirmed_port (port_in b port) upto) fresh_value.port other)) (left_still (port_in b p))
     ]
 
     by_test : (test : Bool) → nat_le upto (port_in b port).out_base ≡ test → AreLeft b (cond test b (with_confirmed b port upto))
@@ -110,7 +110,7 @@ nothing_in [] e = refl
 nothing_in (x ∷ xs) e = absurd (omega (arith, e))
 
 -- where a mark is above all of a book, the journal that the flusher knows is all of it
-pub all_in_journal : (start : Network NodeState) (w : World NodeState) (b : BookValue) → (A : IsAhead start w b) → next_number b ≤ w.mark → (A.more ≡ []) × (length w.journal ≡ next_number b)
+pub all_in_journal : (start : Network NodeState) (w : World NodeState) (b : BookValue) → (A : IsAheadOf start w b) → next_in_book b ≤ w.mark → (A.more ≡ []) × (length w.journal ≡ next_in_book b)
 all_in_journal start w b A stored =
     let many = A.many in
     let long = length-append w.journal A.more in
@@ -118,14 +118,14 @@ all_in_journal start w b A stored =
     (nothing_in A.more (omega (arith, many, long, marked, stored)), omega (arith, many, long, marked, stored))
 
 -- the first entries lead to the book
-pub book_stands : (start : Network NodeState) (w : World NodeState) (b : BookValue) → IsAhead start w b → next_number b ≤ w.mark → Stands start w b
+pub book_stands : (start : Network NodeState) (w : World NodeState) (b : BookValue) → IsAheadOf start w b → next_in_book b ≤ w.mark → PortsStand start w b
 book_stands start w b A stored =
     let all = all_in_journal start w b A stored in
     let many = all.1 in
-    let whole : take (next_number b) w.journal ≡ w.journal = take_all (next_number b) w.journal (omega (arith, many)) in
-    let front : take (next_number b) w.journal ≡ w.journal ++ A.more = whole ∙ sym (append-nil w.journal) ∙ ap (λ es. w.journal ++ es) (sym all.0) in
+    let whole : take (next_in_book b) w.journal ≡ w.journal = take_all (next_in_book b) w.journal (omega (arith, many)) in
+    let front : take (next_in_book b) w.journal ≡ w.journal ++ A.more = whole ∙ sym (append-nil w.journal) ∙ ap (λ es. w.journal ++ es) (sym all.0) in
     record {
-      number = next_number b;
+      number = next_in_book b;
       few = stored;
       state = plain_network (world_of b).live;
       leads = ap (after t414 start) front ∙ A.leads;
@@ -145,7 +145,7 @@ front_behind (suc k) (suc n) [] = refl
 front_behind (suc k) (suc n) (x ∷ xs) = front_behind k n xs
 
 -- what a mark shows of what is left of a port is a front of what that had
-shown_is : (p q : Port) (n from : ℕ) → IsLeft p q → q.out_base ≤ from
+shown_is : (p q : Port) (n from : ℕ) → IsPartConfirmed p q → q.out_base ≤ from
     → drop (from - q.out_base) (take n q.outputs) ≡ take (length (drop (from - q.out_base) (take n q.outputs))) (drop (from - p.out_base) p.outputs)
 shown_is p q n from left up =
     let low = left.base in
@@ -154,15 +154,15 @@ shown_is p q n from left up =
     ap (drop (from - q.out_base)) left.outputs ∙ drop-drop (from - q.out_base) (q.out_base - p.out_base) p.outputs ∙ ap (λ m. drop m p.outputs) all in
     front_behind (from - q.out_base) n q.outputs ∙ ap (take (length (drop (from - q.out_base) (take n q.outputs)))) behind
 
-pub shows_left : (start : Network NodeState) (w : World NodeState) (b c : BookValue) (mark port from : ℕ) → (S : Stands start w b) → AreLeft b c → (port_in c port).out_base ≤ from
-    → Shows start w.journal S.number port from (shown_from c port mark from)
+pub shows_left : (start : Network NodeState) (w : World NodeState) (b c : BookValue) (mark port from : ℕ) → (S : PortsStand start w b) → AreLeft b c → (port_in c port).out_base ≤ from
+    → LeadsToBytes start w.journal S.number port from (shown_from c port mark from)
 shows_left start w b c mark port from S left up =
-    let L : IsLeft (port_of S.state port) (port_in c port) = left_on (port_of S.state port) (port_in b port) (port_in c port) (S.left port) (left port) in
+    let L : IsPartConfirmed (port_or_fresh S.state port) (port_in c port) = left_on (port_or_fresh S.state port) (port_in b port) (port_in c port) (S.left port) (left port) in
     record {
       state = S.state;
       leads = S.leads;
       unconfirmed = let low = L.base in omega (arith, low, up);
-      are = shown_is (port_of S.state port) (port_in c port) (shown_of c port mark) from L up;
+      are = shown_is (port_or_fresh S.state port) (port_in c port) (shown_of c port mark) from L up;
     }
 
 -- ## Outputs one behind the other

@@ -8,7 +8,7 @@ use Rattle.tp_model.specs.Node.{node_step}
 use Rattle.tp_model.specs.Step.{step_of}
 use Rattle.tp_model.specs.NodeWrites.{node_ranges}
 use Rattle.tp_model.specs.SharedPages.{LacksFrames}
-use Rattle.tp_node.specs.NodeContents.{kept_of}
+use Rattle.tp_node.specs.NodeContents.{memory_kept}
 use Rattle.tp_node.specs.RunEnd.{IsWhy}
 use Rattle.tp_node.specs.declared.run.Why.{Why}
 use Rattle.tp_node.specs.declared.run.Why.TheVariants.{Full, Idle, NoFrame, Halted as Stopped}
@@ -23,7 +23,7 @@ use Rattle.tp_stream.specs.declared.fault.StreamFault.{StreamFault}
 use Rattle.tp_stream.specs.declared.pumping.Pumped.{Pumped}
 use Rattle.tp_stream.specs.declared.turns.Turns.{Turns as TurnsValue}
 use Rattle.tp_stream.specs.Endings.{IsEnding}
-use Rattle.tp_stream.specs.Quiet.{AreQuiet, HasNoStep, HaveRested, HostRests, IsAsked, IsWhyEnded, NodeRests, Rested}
+use Rattle.tp_stream.specs.Quiet.{IsQuietNetwork, HasNoStep, HaveRested, HostRests, IsAsked, IsWhyEnded, NodeRests, HadNothingToDo}
 
 halted_rests : (node : NodeState) → IsSome node.cpu.halt → node_step node ≡ None
 unfolding node_step step_of
@@ -46,7 +46,7 @@ node_rests start number quantum turn old new went taken count none = record {
   went = went;
   taken = taken;
   count = count;
-  rests = no_step turn.ran.why quantum turn.ran.count (LacksFrames (kept_of went.ran) (node_ranges went.ran.live)) went.ran.live went.why none;
+  rests = no_step turn.ran.why quantum turn.ran.count (LacksFrames (memory_kept went.ran) (node_ranges went.ran.live)) went.ran.live went.why none;
 }
 
 pub host_rests : (start : Network NodeState) (takes : ℕ) (old new : InHand) → HostTurnMade start (Ok takes) old new → takes ≡ 0 → HostRests start
@@ -63,18 +63,18 @@ none_rested start whose idle low none = record {
 }
 
 -- one more turn, of a process that isn't the host
-node_more : (start : Network NodeState) (whose idle new : ℕ) → HaveRested start whose idle → whose < length start.nodes → new ≤ idle + 1 → Rested start whose
+node_more : (start : Network NodeState) (whose idle new : ℕ) → HaveRested start whose idle → whose < length start.nodes → new ≤ idle + 1 → HadNothingToDo start whose
     → HaveRested start (whose + 1) new
 node_more start whose idle new H low one here = record {
   whose_is = omega (arith, low);
   this_round =
-      below_more (λ p. whose + 1 ≤ p + new → Rested start p) whose
+      below_more (λ p. whose + 1 ≤ p + new → HadNothingToDo start p) whose
       (λ p below up. H.this_round p below (omega (arith, up, one))) (λ up. here);
   round_before = λ p there far. H.round_before p there (omega (arith, far, one));
 }
 
 -- one more turn, of the host
-host_more : (start : Network NodeState) (whose idle new : ℕ) → HaveRested start whose idle → length start.nodes ≤ whose → new ≤ idle + 1 → Rested start whose
+host_more : (start : Network NodeState) (whose idle new : ℕ) → HaveRested start whose idle → length start.nodes ≤ whose → new ≤ idle + 1 → HadNothingToDo start whose
     → HaveRested start 0 new
 host_more start whose idle new H high one here =
     let low = H.whose_is in
@@ -82,7 +82,7 @@ host_more start whose idle new H high one here =
       whose_is = omega arith;
       this_round = λ p below up. absurd (omega (arith, below));
       round_before = λ p there far.
-          below_more (λ p. length start.nodes + 1 ≤ p + new → Rested start p) whose
+          below_more (λ p. length start.nodes + 1 ≤ p + new → HadNothingToDo start p) whose
           (λ p below up. H.this_round p below (omega (arith, up, one, low))) (λ up. here) p (omega (arith, there, high)) (omega (arith, far));
     }
 
@@ -95,7 +95,7 @@ next_low whose nodes =
     ]
 
 -- One more turn. Where it isn't among those that had nothing to do, there are none.
-pub one_more : (start : Network NodeState) (whose idle new : ℕ) → HaveRested start whose idle → new ≤ idle + 1 → (0 < new → Rested start whose)
+pub one_more : (start : Network NodeState) (whose idle new : ℕ) → HaveRested start whose idle → new ≤ idle + 1 → (0 < new → HadNothingToDo start whose)
     → HaveRested start (if nat_lt whose (length start.nodes) then whose + 1 else 0) new
 one_more start whose idle new H one here =
     elim (cases_lt 0 new) [
@@ -108,12 +108,12 @@ one_more start whose idle new H one here =
     ]
 
 pub turn_more : (start : Network NodeState) (nodes whose idle next new : ℕ) → nodes ≡ length start.nodes → HaveRested start whose idle
-    → next ≡ (if nat_lt whose nodes then whose + 1 else 0) → new ≤ idle + 1 → (0 < new → Rested start whose) → HaveRested start next new
+    → next ≡ (if nat_lt whose nodes then whose + 1 else 0) → new ≤ idle + 1 → (0 < new → HadNothingToDo start whose) → HaveRested start next new
 turn_more start nodes whose idle next new many H is one here =
     subst (λ w. HaveRested start w new) (sym (is ∙ ap (λ n. if nat_lt whose n then whose + 1 else 0) many)) (one_more start whose idle new H one here)
 
 -- where there were more of them than nodes, each process had nothing to do in its last turn
-pub all_rested : (start : Network NodeState) (whose idle : ℕ) → HaveRested start whose idle → length start.nodes < idle → AreQuiet start
+pub all_rested : (start : Network NodeState) (whose idle : ℕ) → HaveRested start whose idle → length start.nodes < idle → IsQuietNetwork start
 all_rested start whose idle H many p there =
     let low = H.whose_is in
     elim (cases_lt p whose) [

@@ -20,10 +20,10 @@ use Rattle.tp_stream_files.specs.declared.ending.Ended.{Ended}
 use Rattle.tp_stream.specs.declared.fault.StreamFault.{StreamFault}
 use Rattle.tp_stream.specs.declared.fault.StreamFault.TheVariants.{Opening, Spare, Port, Unnamed, Short, Long, Gone, NotShown, ShortInput, InputFailed, OutputFailed, FlushFailed, JournalFull, Memory}
 use Rattle.tp_stream.specs.declared.standing.Standing.{Standing}
-use Rattle.tp_stream.specs.Put.{ArePut, EachWith, Got, Piece, ServedInto, StreamedInto, bytes_of}
+use Rattle.tp_stream.specs.Put.{ArePut, EachWith, Got, PutPiece, ServedInto, StreamedInto, bytes_put}
 use Rattle.tp_stream.specs.Standing.{from_of, stands_opened}
 use Rattle.tp_stream.specs.Steps.{AllStepped, IsSetOut}
-use Rattle.tp_stream.specs.Streamed.{IsBegun, IsUnbegun, Streamed}
+use Rattle.tp_stream.specs.Streamed.{CameBegun, StaysUnstreamed, Streamed}
 use Rattle.tp_stream.proofs.Puts.{each_then}
 use Rattle.tp_stream.proofs.Stepping.{all_got}
 
@@ -54,7 +54,7 @@ unput start fault was now old new L same = record { streamed = unwritten start f
 
 -- ## A device that was read first
 
-put_earlier : (start : Network NodeState) (journal : List Entry) (port from : ℕ) (old read new : State) → moment old ≤ moment read → (ps : List Piece) → ArePut start journal port from read new ps
+put_earlier : (start : Network NodeState) (journal : List Entry) (port from : ℕ) (old read new : State) → moment old ≤ moment read → (ps : List PutPiece) → ArePut start journal port from read new ps
     → ArePut start journal port from old new ps
 put_earlier start journal port from old read new up [] each = tt
 put_earlier start journal port from old read new up (p ∷ ps) each =
@@ -74,8 +74,8 @@ got_set start journal stands old read new up x y z I G =
       each =
           put_earlier start journal x.port from old read new up G.pieces
           (subst (λ n. ArePut start journal x.port n read new G.pieces) I.next (subst (λ p. ArePut start journal p y.next read new G.pieces) port G.each));
-      next = G.next ∙ ap (λ n. n + length (bytes_of G.pieces)) I.next;
-      holds = subst (λ n. HasPut n (bytes_of G.pieces) x.held z.held) I.next (subst (λ h. HasPut y.next (bytes_of G.pieces) h z.held) held G.holds);
+      next = G.next ∙ ap (λ n. n + length (bytes_put G.pieces)) I.next;
+      holds = subst (λ n. HasPut n (bytes_put G.pieces) x.held z.held) I.next (subst (λ h. HasPut y.next (bytes_put G.pieces) h z.held) held G.holds);
     }
 
 -- a device that was read, so that its bytes are the same, and then more, behind outputs that were set out where their ports stand
@@ -102,7 +102,7 @@ into start result o was set now old read new L same reads sets S =
     }
 
 -- a stream that was begun isn't answered as one that wasn't
-pub begun_written : (r : Result Ended StreamFault) → IfErr r IsBegun → IsUnbegun r → ⊥
+pub begun_written : (r : Result Ended StreamFault) → IfErr r CameBegun → StaysUnstreamed r → ⊥
 begun_written (Ok next) begun unbegun = unbegun
 begun_written (Err (Opening unopened)) begun unbegun = begun
 begun_written (Err Spare) begun unbegun = begun

@@ -10,7 +10,7 @@ use Rattle.std.proofs.lemmas.Option.{slice_get-get_or, slice_get-map, slice_get_
 use Rattle.tp_model.specs.Network.{Port}
 use Rattle.tp_model.specs.Opening.{Opened, verdict}
 use Rattle.tp_book.specs.Counted.{AreCounted}
-use Rattle.tp_book.specs.Ports.{fresh_port, opened_port}
+use Rattle.tp_book.specs.Ports.{fresh_value, opened_port}
 use Rattle.tp_book.specs.declared.state.NetState.{NetState}
 use Rattle.tp_book.specs.Book.{BookValue, outputs_of}
 use Rattle.tp_book.specs.Host.{accepted_of, port_in}
@@ -21,12 +21,12 @@ use Rattle.tp_stream.specs.declared.fault.StreamFault.TheVariants.{Opening, Spar
 use Rattle.tp_stream.specs.declared.standing.Standing.{Standing}
 use Rattle.tp_stream_files.specs.Inputs.{GivenInput, HasAtLeast}
 use Rattle.tp_stream_files.specs.Outputs.{Given, OutputValue, given_of}
-use Rattle.tp_stream.specs.Standing.{AllHaveAccepted, AllMayBegin, HaveAcceptedBelow, IsFirstRefused, IsFirstShort, IsNotBegun, MayBegin, MayBeginBelow, OfInput, OfOutput, Refuses, RefusesInput, accepted, accepted_opened, put_out, standing, stands_opened}
-use Rattle.tp_stream.specs.Streamed.{IsBegun}
+use Rattle.tp_stream.specs.Standing.{AllHaveAccepted, AllMayBegin, HaveAcceptedBelow, IsFirstRefused, IsFirstShort, IsNotBegun, MayBegin, MayBeginBelow, OfInput, OfOutput, Refuses, RefusesInput, accepted_at, accepted_opened, put_out, port_standing, stands_opened}
+use Rattle.tp_stream.specs.Streamed.{CameBegun}
 
 -- ## What a port has put out
 
-outputs_in : (ports : List Port) (p : ℕ) (xs : List ℕ) → Some xs ≡ option_map (λ port. port.outputs) (slice_get ports p) → xs ≡ (get_or ports p fresh_port.port).outputs
+outputs_in : (ports : List Port) (p : ℕ) (xs : List ℕ) → Some xs ≡ option_map (λ port. port.outputs) (slice_get ports p) → xs ≡ (get_or ports p fresh_value.port).outputs
 outputs_in [] p xs is = absurd (cc)
 outputs_in (q ∷ qs) zero xs is = cc
 outputs_in (q ∷ qs) (suc p) xs is = outputs_in qs p xs is
@@ -37,7 +37,7 @@ length_outputs b p xs is = ap length (outputs_in b.state.ports p xs is)
 
 -- no more than there are entries
 pub put_out_few : (b : BookValue) (mark p : ℕ) → AreCounted mark b.state.ports → p < length b.state.ports → put_out (port_in b p) ≤ mark
-put_out_few b mark p counted there = (counted p (port_in b p) (slice_get-get_or b.state.ports p fresh_port.port there)).outputs
+put_out_few b mark p counted there = (counted p (port_in b p) (slice_get-get_or b.state.ports p fresh_value.port there)).outputs
 
 -- ## Outputs one behind the other
 
@@ -68,16 +68,16 @@ zeros_shown mark n =
     sum_by-replicate (λ least. cond (nat_le least mark) 1 0) n 0 ∙ ap (λ b. n * cond b 1 0) (le-leb 0 mark (omega arith)) ∙ omega arith
 
 all_shown : (mark : ℕ) (ports : List Port) (p : ℕ)
-    → count_by (λ least. nat_le least mark) (get_or (map (λ port. (opened_port port).marks) ports) p []) ≡ length (get_or ports p fresh_port.port).outputs
+    → count_by (λ least. nat_le least mark) (get_or (map (λ port. (opened_port port).marks) ports) p []) ≡ length (get_or ports p fresh_value.port).outputs
 all_shown mark [] p = refl
 all_shown mark (q ∷ qs) zero = zeros_shown mark (length q.outputs)
 all_shown mark (q ∷ qs) (suc p) = all_shown mark qs p
 
 -- each port stands as it does in what was opened
-pub opened_stands : (s : NetState) (room : Option ℕ) (o : Opened) (mark : ℕ) → now_of s ≡ o.now → standing (opened_book s room) mark ≡ stands_opened o
+pub opened_stands : (s : NetState) (room : Option ℕ) (o : Opened) (mark : ℕ) → now_of s ≡ o.now → port_standing (opened_book s room) mark ≡ stands_opened o
 opened_stands s room o mark now = fun_ext (λ p.
-    ap (λ shown. record { confirmed = (get_or (now_of s).ports p fresh_port.port).out_base; shown = (get_or (now_of s).ports p fresh_port.port).out_base + shown; upto = put_out (get_or (now_of s).ports p fresh_port.port) }) (all_shown mark (now_of s).ports p)
-    ∙ ap (λ net. let port = get_or net.ports p fresh_port.port in record { confirmed = port.out_base; shown = put_out port; upto = put_out port }) now)
+    ap (λ shown. record { confirmed = (get_or (now_of s).ports p fresh_value.port).out_base; shown = (get_or (now_of s).ports p fresh_value.port).out_base + shown; upto = put_out (get_or (now_of s).ports p fresh_value.port) }) (all_shown mark (now_of s).ports p)
+    ∙ ap (λ net. let port = get_or net.ports p fresh_value.port in record { confirmed = port.out_base; shown = put_out port; upto = put_out port }) now)
 
 -- a fault of an output names the first that may not begin
 said : (fault : StreamFault) (P : Type 0) → P → OfOutput fault P
@@ -89,7 +89,7 @@ said (Short port has from) P p = p
 said (Long port has upto) P p = p
 said (Gone port have confirmed) P p = p
 said (NotShown port have shown) P p = p
-said (ShortInput port has accepted) P p = tt
+said (ShortInput port has accepted_at) P p = tt
 said (InputFailed port) P p = tt
 said (OutputFailed port) P p = tt
 said FlushFailed P p = tt
@@ -106,7 +106,7 @@ no_output (Short port has from) P none = absurd none
 no_output (Long port has upto) P none = absurd none
 no_output (Gone port have confirmed) P none = absurd none
 no_output (NotShown port have shown) P none = absurd none
-no_output (ShortInput port has accepted) P none = tt
+no_output (ShortInput port has accepted_at) P none = tt
 no_output (InputFailed port) P none = tt
 no_output (OutputFailed port) P none = tt
 no_output FlushFailed P none = tt
@@ -114,7 +114,7 @@ no_output JournalFull P none = tt
 no_output Memory P none = tt
 
 -- as one of a stream that was begun
-begun_says : (fault : StreamFault) → IsBegun fault → OfOutput fault ⊥
+begun_says : (fault : StreamFault) → CameBegun fault → OfOutput fault ⊥
 begun_says (Opening unopened) begun = absurd begun
 begun_says Spare begun = absurd begun
 begun_says (Absent port) begun = absurd begun
@@ -123,14 +123,14 @@ begun_says (Short port has from) begun = begun
 begun_says (Long port has upto) begun = begun
 begun_says (Gone port have confirmed) begun = begun
 begun_says (NotShown port have shown) begun = begun
-begun_says (ShortInput port has accepted) begun = absurd begun
+begun_says (ShortInput port has accepted_at) begun = absurd begun
 begun_says (InputFailed port) begun = tt
 begun_says (OutputFailed port) begun = tt
 begun_says FlushFailed begun = tt
 begun_says JournalFull begun = tt
 begun_says Memory begun = tt
 
-pub begun_refused : (r : Result Ended StreamFault) (P : StreamFault → Type 0) → IfErr r IsBegun → IfErr r (λ fault. OfOutput fault (P fault))
+pub begun_refused : (r : Result Ended StreamFault) (P : StreamFault → Type 0) → IfErr r CameBegun → IfErr r (λ fault. OfOutput fault (P fault))
 begun_refused (Ok next) P begun = tt
 begun_refused (Err fault) P begun = no_output fault (P fault) (begun_says fault begun)
 
@@ -153,7 +153,7 @@ said_input (Short port has from) P p = tt
 said_input (Long port has upto) P p = tt
 said_input (Gone port have confirmed) P p = tt
 said_input (NotShown port have shown) P p = tt
-said_input (ShortInput port has accepted) P p = p
+said_input (ShortInput port has accepted_at) P p = p
 said_input (InputFailed port) P p = tt
 said_input (OutputFailed port) P p = tt
 said_input FlushFailed P p = tt
@@ -170,7 +170,7 @@ no_input (Short port has from) P none = tt
 no_input (Long port has upto) P none = tt
 no_input (Gone port have confirmed) P none = tt
 no_input (NotShown port have shown) P none = tt
-no_input (ShortInput port has accepted) P none = absurd none
+no_input (ShortInput port has accepted_at) P none = absurd none
 no_input (InputFailed port) P none = tt
 no_input (OutputFailed port) P none = tt
 no_input FlushFailed P none = tt
@@ -178,7 +178,7 @@ no_input JournalFull P none = tt
 no_input Memory P none = tt
 
 -- as one of a stream that was begun
-begun_input : (fault : StreamFault) → IsBegun fault → OfInput fault ⊥
+begun_input : (fault : StreamFault) → CameBegun fault → OfInput fault ⊥
 begun_input (Opening unopened) begun = absurd begun
 begun_input Spare begun = absurd begun
 begun_input (Absent port) begun = absurd begun
@@ -187,14 +187,14 @@ begun_input (Short port has from) begun = absurd begun
 begun_input (Long port has upto) begun = absurd begun
 begun_input (Gone port have confirmed) begun = absurd begun
 begun_input (NotShown port have shown) begun = absurd begun
-begun_input (ShortInput port has accepted) begun = absurd begun
+begun_input (ShortInput port has accepted_at) begun = absurd begun
 begun_input (InputFailed port) begun = tt
 begun_input (OutputFailed port) begun = tt
 begun_input FlushFailed begun = tt
 begun_input JournalFull begun = tt
 begun_input Memory begun = tt
 
-pub begun_short : (r : Result Ended StreamFault) (P : StreamFault → Type 0) → IfErr r IsBegun → IfErr r (λ fault. OfInput fault (P fault))
+pub begun_short : (r : Result Ended StreamFault) (P : StreamFault → Type 0) → IfErr r CameBegun → IfErr r (λ fault. OfInput fault (P fault))
 begun_short (Ok ended) P begun = tt
 begun_short (Err fault) P begun = no_input fault (P fault) (begun_input fault begun)
 
@@ -208,7 +208,7 @@ output_refused s g (Short port has from) P why = tt
 output_refused s g (Long port has upto) P why = tt
 output_refused s g (Gone port have confirmed) P why = tt
 output_refused s g (NotShown port have shown) P why = tt
-output_refused s g (ShortInput port has accepted) P why = absurd why
+output_refused s g (ShortInput port has accepted_at) P why = absurd why
 output_refused s g (InputFailed port) P why = tt
 output_refused s g (OutputFailed port) P why = tt
 output_refused s g FlushFailed P why = tt
@@ -225,7 +225,7 @@ input_refused n g (Short port has from) P why = absurd why
 input_refused n g (Long port has upto) P why = absurd why
 input_refused n g (Gone port have confirmed) P why = absurd why
 input_refused n g (NotShown port have shown) P why = absurd why
-input_refused n g (ShortInput port has accepted) P why = tt
+input_refused n g (ShortInput port has accepted_at) P why = tt
 input_refused n g (InputFailed port) P why = tt
 input_refused n g (OutputFailed port) P why = tt
 input_refused n g FlushFailed P why = tt
@@ -239,27 +239,27 @@ first_refused ports stands gs fault P first =
       | inr absent ↦ subst (λ f. OfInput f P) (sym absent.0) tt
     ]
 
-first_short : (ports : ℕ) (accepted : ℕ → ℕ) (gs : List GivenInput) (fault : StreamFault) (P : Type 0) → IsFirstShort ports accepted gs fault → OfOutput fault P
-first_short ports accepted gs fault P first =
+first_short : (ports : ℕ) (accepted_at : ℕ → ℕ) (gs : List GivenInput) (fault : StreamFault) (P : Type 0) → IsFirstShort ports accepted_at gs fault → OfOutput fault P
+first_short ports accepted_at gs fault P first =
     elim first.why [
-      | inl why ↦ input_refused (accepted first.given.port) first.given fault P why
+      | inl why ↦ input_refused (accepted_at first.given.port) first.given fault P why
       | inr absent ↦ subst (λ f. OfOutput f P) (sym absent.0) tt
     ]
 
-pub says_first : (ports : ℕ) (stands : ℕ → Standing) (accepted : ℕ → ℕ) (gs : List Given) (inputs : List GivenInput) (fault : StreamFault)
-    → (fault ≡ Memory) ⊎ IsNotBegun ports stands accepted gs inputs fault → OfOutput fault (IsFirstRefused ports stands gs fault)
-says_first ports stands accepted gs inputs fault either =
+pub says_first : (ports : ℕ) (stands : ℕ → Standing) (accepted_at : ℕ → ℕ) (gs : List Given) (inputs : List GivenInput) (fault : StreamFault)
+    → (fault ≡ Memory) ⊎ IsNotBegun ports stands accepted_at gs inputs fault → OfOutput fault (IsFirstRefused ports stands gs fault)
+says_first ports stands accepted_at gs inputs fault either =
     let First : Type 0 = IsFirstRefused ports stands gs fault in
     elim either [
       | inl memory ↦ subst (λ f. OfOutput f First) (sym memory) tt
       | inr (inl first) ↦ said fault First first
-      | inr (inr input) ↦ first_short ports accepted inputs fault First input.1
+      | inr (inr input) ↦ first_short ports accepted_at inputs fault First input.1
     ]
 
-pub says_short : (ports : ℕ) (stands : ℕ → Standing) (accepted : ℕ → ℕ) (gs : List Given) (inputs : List GivenInput) (fault : StreamFault)
-    → (fault ≡ Memory) ⊎ IsNotBegun ports stands accepted gs inputs fault → OfInput fault (AllMayBegin stands gs × IsFirstShort ports accepted inputs fault)
-says_short ports stands accepted gs inputs fault either =
-    let First : Type 0 = AllMayBegin stands gs × IsFirstShort ports accepted inputs fault in
+pub says_short : (ports : ℕ) (stands : ℕ → Standing) (accepted_at : ℕ → ℕ) (gs : List Given) (inputs : List GivenInput) (fault : StreamFault)
+    → (fault ≡ Memory) ⊎ IsNotBegun ports stands accepted_at gs inputs fault → OfInput fault (AllMayBegin stands gs × IsFirstShort ports accepted_at inputs fault)
+says_short ports stands accepted_at gs inputs fault either =
+    let First : Type 0 = AllMayBegin stands gs × IsFirstShort ports accepted_at inputs fault in
     elim either [
       | inl memory ↦ subst (λ f. OfInput f First) (sym memory) tt
       | inr (inl first) ↦ first_refused ports stands gs fault First first
@@ -271,20 +271,20 @@ says_short ports stands accepted gs inputs fault either =
 pub input_at : {A : Type 0} (f : A → GivenInput) (xs : List A) (i : ℕ) (x : A) → i < length xs → x ≡ get_or xs i x → slice_get (map f xs) i ≡ Some (f x)
 input_at f xs i x there is = slice_get-map f xs i ∙ ap (option_map f) (slice_get-get_or xs i x there) ∙ ap (λ y. Some (f y)) (sym is)
 
-pub all_have_accepted : (accepted : ℕ → ℕ) (gs : List GivenInput) (n : ℕ) → length gs ≤ n → HaveAcceptedBelow n accepted gs → AllHaveAccepted accepted gs
-all_have_accepted accepted gs n all below k g is = below k (let within = slice_get_within gs k g is in omega (arith, within, all)) g is
+pub all_have_accepted : (accepted_at : ℕ → ℕ) (gs : List GivenInput) (n : ℕ) → length gs ≤ n → HaveAcceptedBelow n accepted_at gs → AllHaveAccepted accepted_at gs
+all_have_accepted accepted_at gs n all below k g is = below k (let within = slice_get_within gs k g is in omega (arith, within, all)) g is
 
 same_input : (x y : GivenInput) → Some x ≡ Some y → x ≡ y
 same_input x y e = cc
 
-pub have_accepted_more : (accepted : ℕ → ℕ) (gs : List GivenInput) (i : ℕ) (h : GivenInput) → HaveAcceptedBelow i accepted gs → slice_get gs i ≡ Some h
-    → HasAtLeast (accepted h.port) h.all → HaveAcceptedBelow (i + 1) accepted gs
-have_accepted_more accepted gs i h below at here =
-    below_more _ i below (λ g is. subst (λ (x : GivenInput). HasAtLeast (accepted x.port) x.all) (same_input h g (sym at ∙ is)) here)
+pub have_accepted_more : (accepted_at : ℕ → ℕ) (gs : List GivenInput) (i : ℕ) (h : GivenInput) → HaveAcceptedBelow i accepted_at gs → slice_get gs i ≡ Some h
+    → HasAtLeast (accepted_at h.port) h.all → HaveAcceptedBelow (i + 1) accepted_at gs
+have_accepted_more accepted_at gs i h below at here =
+    below_more _ i below (λ g is. subst (λ (x : GivenInput). HasAtLeast (accepted_at x.port) x.all) (same_input h g (sym at ∙ is)) here)
 
 -- ports of what was opened have accepted as many
-pub opened_accepted : (s : NetState) (room : Option ℕ) (o : Opened) → now_of s ≡ o.now → accepted (opened_book s room) ≡ accepted_opened o
-opened_accepted s room o now = fun_ext (λ p. ap (λ net. accepted_of (get_or net.ports p fresh_port.port)) now)
+pub opened_accepted : (s : NetState) (room : Option ℕ) (o : Opened) → now_of s ≡ o.now → accepted_at (opened_book s room) ≡ accepted_opened o
+opened_accepted s room o now = fun_ext (λ p. ap (λ net. accepted_of (get_or net.ports p fresh_value.port)) now)
 
 -- why nothing is begun, of ports that stand so
 pub not_begun_as : (many few : ℕ) (stands at : ℕ → Standing) (taken had : ℕ → ℕ) (gs : List Given) (inputs : List GivenInput) (fault : StreamFault)

@@ -20,16 +20,16 @@ use Rattle.tp_flush.specs.Flushing.{Flushing, Walked}
 use Rattle.tp_flush.proofs.Kept.{reached_then}
 use Rattle.tp_flush.proofs.Recovers.{recovers_less}
 use Rattle.tp_flush.proofs.Turns.{walked_recovers, walked_stays, walked_then}
-use Rattle.tp_stream_files.specs.Held.{Held, HasPut}
+use Rattle.tp_stream_files.specs.Held.{HeldBytes, HasPut}
 use Rattle.tp_stream_files.specs.Outputs.{OutputValue}
 use Rattle.tp_stream_files.proofs.StreamEndsSinks.{none_put}
-use Rattle.tp_stream.specs.Put.{ArePut, EachWith, Got, Piece, Shows, bytes_of}
-use Rattle.tp_stream.specs.Steps.{AllStepped, AreSteps, PutsLeft, Stands, Step, Stepped, put_by}
+use Rattle.tp_stream.specs.Put.{ArePut, EachWith, Got, PutPiece, LeadsToBytes, bytes_put}
+use Rattle.tp_stream.specs.Steps.{AllStepped, AreSteps, PutsLeft, PortsStand, PutStep, Stepped, put_by}
 use Rattle.tp_stream.proofs.Puts.{each_like, each_same, each_then, shows_left}
 
 -- ## Bytes behind bytes
 
-put_more : (n : ℕ) (xs ys : List ℕ) (a b c : Option Held) → HasPut n xs a b → HasPut (n + length xs) ys b c → HasPut n (xs ++ ys) a c
+put_more : (n : ℕ) (xs ys : List ℕ) (a b c : Option HeldBytes) → HasPut n xs a b → HasPut (n + length xs) ys b c → HasPut n (xs ++ ys) a c
 put_more n xs ys None None None first then = tt
 put_more n xs ys None None (Some c) first then = absurd then
 put_more n xs ys None (Some b) c first then = absurd first
@@ -40,19 +40,19 @@ put_more n xs ys (Some a) (Some b) (Some c) first then =
     let all : n + length (xs ++ ys) ≡ n + length xs + length ys = omega (arith, long) in
     ap (λ m. take m c.bytes) all ∙ then ∙ ap (λ l. l ++ ys) first ∙ append_assoc (take n a.bytes) xs ys
 
-put_both : (ss ts : List Step) → put_by (ss ++ ts) ≡ put_by ss ++ put_by ts
+put_both : (ss ts : List PutStep) → put_by (ss ++ ts) ≡ put_by ss ++ put_by ts
 put_both [] ts = refl
 put_both (s ∷ ss) ts = ap (λ l. s.bytes ++ l) (put_both ss ts) ∙ sym (append_assoc s.bytes (put_by ss) (put_by ts))
 
 -- ## Steps behind steps
 
-steps_since : (start : Network NodeState) (first old new : Flushing) → Walked first old → (port from : ℕ) (ss : List Step) → AreSteps start old new port from ss → AreSteps start first new port from ss
+steps_since : (start : Network NodeState) (first old new : Flushing) → Walked first old → (port from : ℕ) (ss : List PutStep) → AreSteps start old new port from ss → AreSteps start first new port from ss
 steps_since start first old new W port from [] each = tt
 steps_since start first old new W port from (s ∷ ss) each =
     let S = each.0 in
     (record { before = walked_then first old s.at W S.before; behind = S.behind; few = S.few; shows = S.shows }, each.1)
 
-steps_then : (start : Network NodeState) (old mid new : Flushing) → Walked old mid → Walked mid new → (port from : ℕ) (ss ts : List Step) → AreSteps start old mid port from ss
+steps_then : (start : Network NodeState) (old mid new : Flushing) → Walked old mid → Walked mid new → (port from : ℕ) (ss ts : List PutStep) → AreSteps start old mid port from ss
     → AreSteps start mid new port (from + length (put_by ss)) ts → AreSteps start old new port from (ss ++ ts)
 steps_then start old mid new W V port from [] ts first then =
     let none : from + 0 ≡ from = omega arith in
@@ -106,7 +106,7 @@ pub all_since : (start : Network NodeState) (first old new : Flushing) → Walke
 all_since start first old new W V xs ys then = all_then start first old new W V xs xs ys (all_still start first old xs) then
 
 -- what is put under the lock, where the flusher's journal leads to the book
-one_step : (start : Network NodeState) (f : Flushing) (b : BookValue) (mark : ℕ) → Walked f f → Stands start f.world b → (x y : OutputValue) → PutsLeft b mark x y → Stepped start f f x y
+one_step : (start : Network NodeState) (f : Flushing) (b : BookValue) (mark : ℕ) → Walked f f → PortsStand start f.world b → (x y : OutputValue) → PutsLeft b mark x y → Stepped start f f x y
 one_step start f b mark W S x y P = elim P.puts [
   | inl E ↦ record { port = E.port; steps = []; each = tt; next = E.next; holds = E.put }
   | inr (low, E) ↦
@@ -120,7 +120,7 @@ one_step start f b mark W S x y P = elim P.puts [
       }
 ]
 
-pub stepped_under : (start : Network NodeState) (f : Flushing) (b : BookValue) (mark : ℕ) → Walked f f → Stands start f.world b → (xs ys : List OutputValue) → EachWith (PutsLeft b mark) xs ys
+pub stepped_under : (start : Network NodeState) (f : Flushing) (b : BookValue) (mark : ℕ) → Walked f f → PortsStand start f.world b → (xs ys : List OutputValue) → EachWith (PutsLeft b mark) xs ys
     → AllStepped start f f xs ys
 stepped_under start f b mark W S xs ys each = each_like (PutsLeft b mark) (Stepped start f f) (one_step start f b mark W S) xs ys each
 
@@ -130,7 +130,7 @@ reached_at : (start : Network NodeState) (a b : Flushing) → Reached start a.wo
 reached_at start a b R W = reached_then start a.world b.world R (chain_leads t414 device_areas a.world b.world W.worlds W.chain)
 
 shows_on : (start : Network NodeState) (a b : Flushing) → Reached start a.world → Walked a b → (port from number : ℕ) (bytes : List ℕ) → number ≤ a.world.mark
-    → Shows start a.world.journal number port from bytes → Shows start b.world.journal number port from bytes
+    → LeadsToBytes start a.world.journal number port from bytes → LeadsToBytes start b.world.journal number port from bytes
 shows_on start a b R W port from number bytes few S =
     let front : take number b.world.journal ≡ take number a.world.journal =
     sym (take-take number a.world.mark b.world.journal few) ∙ ap (take number) (walked_stays start a b R W).1 ∙ take-take number a.world.mark a.world.journal few in
@@ -140,15 +140,15 @@ walked_later : (a b : Flushing) → Walked a b → moment a.state ≤ moment b.s
 walked_later a b W =
     let grew = ap length W.past in let long = length-append a.state.past (map (λ (u : World NodeState). u.disk) W.worlds) in omega (arith, grew, long)
 
-abbrev pieces_of : List Step → List Piece
+abbrev pieces_of : List PutStep → List PutPiece
 pieces_of [] = []
 pieces_of (s ∷ ss) = record { bytes = s.bytes; number = s.number; there = s.at.state } ∷ pieces_of ss
 
-same_bytes : (ss : List Step) → bytes_of (pieces_of ss) ≡ put_by ss
+same_bytes : (ss : List PutStep) → bytes_put (pieces_of ss) ≡ put_by ss
 same_bytes [] = refl
 same_bytes (s ∷ ss) = ap (λ l. s.bytes ++ l) (same_bytes ss)
 
-pieces_put : (start : Network NodeState) (old new : Flushing) → Reached start old.world → (port from : ℕ) (ss : List Step) → AreSteps start old new port from ss
+pieces_put : (start : Network NodeState) (old new : Flushing) → Reached start old.world → (port from : ℕ) (ss : List PutStep) → AreSteps start old new port from ss
     → ArePut start new.world.journal port from old.state new.state (pieces_of ss)
 pieces_put start old new R port from [] each = tt
 pieces_put start old new R port from (s ∷ ss) each =

@@ -9,7 +9,7 @@ use Rattle.tp_stream_files.specs.declared.sink.SinkFault.{SinkFault}
 use Rattle.tp_stream_files.specs.declared.sink.SinkFault.TheVariants.{Failed, Gone}
 use Rattle.tp_stream.specs.declared.output.StepFault.{StepFault}
 use Rattle.tp_stream.specs.declared.output.StepFault.TheVariants.{Gone as TakerGone, Fault}
-use Rattle.tp_stream.specs.Streamed.{IsBegun}
+use Rattle.tp_stream.specs.Streamed.{CameBegun}
 
 -- Why a step of a port's output isn't done, where its sink answered so.
 abbrev pub step_fault_of : ℕ → SinkFault → StepFault
@@ -19,7 +19,7 @@ step_fault_of port Gone = TakerGone
 -- Whoever takes the output has gone, or it is a fault of a stream that was begun.
 abbrev pub IsStepFault : StepFault → Type 0
 IsStepFault TakerGone = Unit {0}
-IsStepFault (Fault fault) = IsBegun fault
+IsStepFault (Fault fault) = CameBegun fault
 
 -- How a node has stopped that stands so: where it has halted; or where it waits and there is input that no node takes any more.
 abbrev pub stopped_of : Standing → Bool → Option Stopped

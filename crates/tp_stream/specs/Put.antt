@@ -9,7 +9,7 @@ use Rattle.tp_model.specs.DiskHistory.{LeavesOnly, State, moment}
 use Rattle.tp_model.specs.DeviceAreas.{device_areas}
 use Rattle.tp_model.specs.Opening.{Opened, verdict}
 use Rattle.tp_model.specs.Walks.{RecoversTo}
-use Rattle.tp_book.specs.Ports.{fresh_port}
+use Rattle.tp_book.specs.Ports.{fresh_value}
 use Rattle.tp_stream_files.specs.Held.{HasPut}
 use Rattle.tp_stream_files.specs.Outputs.{OutputValue, given_of}
 use Rattle.tp_stream_files.specs.declared.ending.Ended.{Ended}
@@ -18,16 +18,16 @@ use Rattle.tp_stream.specs.Standing.{from_of, stands_opened}
 use Rattle.tp_stream.specs.Streamed.{Streamed}
 
 -- a port of a network; where there is none, one at which nothing has happened
-abbrev pub port_of : Network NodeState → ℕ → Port
-port_of s port = get_or s.ports port fresh_port.port
+abbrev pub port_or_fresh : Network NodeState → ℕ → Port
+port_or_fresh s port = get_or s.ports port fresh_value.port
 
 -- Bytes are outputs of a port from the position `from` on: a front of those that it has there, none of which is confirmed, in the
 -- network to which the first `number` entries of a journal lead.
-pub record Shows (start : Network NodeState) (journal : List Entry) (number port from : ℕ) (bytes : List ℕ) : Type 0 where
+pub record LeadsToBytes (start : Network NodeState) (journal : List Entry) (number port from : ℕ) (bytes : List ℕ) : Type 0 where
   pub state : Network NodeState
   pub leads : after t414 start (take number journal) ≡ Some state
-  pub unconfirmed : (port_of state port).out_base ≤ from
-  pub are : bytes ≡ take (length bytes) (drop (from - (port_of state port).out_base) (port_of state port).outputs)
+  pub unconfirmed : (port_or_fresh state port).out_base ≤ from
+  pub are : bytes ≡ take (length bytes) (drop (from - (port_or_fresh state port).out_base) (port_or_fresh state port).outputs)
 
 -- Each of one list has to do so with the one at its place in the other, and there are as many.
 abbrev pub EachWith : (OutputValue → OutputValue → Type 0) → List OutputValue → List OutputValue → Type 0
@@ -39,25 +39,25 @@ EachWith R (x ∷ xs) (y ∷ ys) = R x y × EachWith R xs ys
 -- ## As a device goes on
 
 -- Bytes that a step put, how many entries lead to where they are outputs, and the device as it was then.
-pub record Piece : Type 0 where
+pub record PutPiece : Type 0 where
   pub bytes : List ℕ
   pub number : ℕ
   pub there : State
 
 -- the bytes of all pieces
-abbrev pub bytes_of : List Piece → List ℕ
-bytes_of [] = []
-bytes_of (p ∷ ps) = p.bytes ++ bytes_of ps
+abbrev pub bytes_put : List PutPiece → List ℕ
+bytes_put [] = []
+bytes_put (p ∷ ps) = p.bytes ++ bytes_put ps
 
 -- A piece of a port's outputs was put at a position: it is shown where the first entries of the journal lead, as many as it says; and
 -- whatever a crash leaves from then on, up to `new`, has each of those entries.
-pub record IsPut (start : Network NodeState) (journal : List Entry) (port from : ℕ) (old new : State) (p : Piece) : Type 0 where
-  pub shows : Shows start journal p.number port from p.bytes
+pub record IsPut (start : Network NodeState) (journal : List Entry) (port from : ℕ) (old new : State) (p : PutPiece) : Type 0 where
+  pub shows : LeadsToBytes start journal p.number port from p.bytes
   pub later : moment old ≤ moment p.there
   pub since : LeavesOnly p.there new (RecoversTo t414 device_areas start journal p.number)
 
 -- So was each, one behind the other and none earlier than the one before.
-abbrev pub ArePut : Network NodeState → List Entry → ℕ → ℕ → State → State → List Piece → Type 0
+abbrev pub ArePut : Network NodeState → List Entry → ℕ → ℕ → State → State → List PutPiece → Type 0
 ArePut start journal port from old new [] = Unit {0}
 ArePut start journal port from old new (p ∷ ps) =
     IsPut start journal port from old new p × ArePut start journal port (from + length p.bytes) p.there new ps
@@ -66,10 +66,10 @@ ArePut start journal port from old new (p ∷ ps) =
 -- steps put, up to where the output says that it was put.
 pub record Got (start : Network NodeState) (journal : List Entry) (from : ℕ) (old new : State) (was now : OutputValue) : Type 0 where
   pub port : now.port ≡ was.port
-  pub pieces : List Piece
+  pub pieces : List PutPiece
   pub each : ArePut start journal was.port from old new pieces
-  pub next : now.next ≡ from + length (bytes_of pieces)
-  pub holds : HasPut from (bytes_of pieces) was.held now.held
+  pub next : now.next ≡ from + length (bytes_put pieces)
+  pub holds : HasPut from (bytes_put pieces) was.held now.held
 
 -- What the sinks of all outputs got, over a device that opened: each was set out where its reader has it, or its port stood.
 pub record AreShown (start : Network NodeState) (journal : List Entry) (was now : List OutputValue) (old new : State) : Type 0 where

@@ -6,7 +6,7 @@ use Rattle.tp_model.specs.Node.{node_step}
 use Rattle.tp_node.specs.declared.run.Why.{Why}
 use Rattle.tp_node.specs.declared.run.Why.TheVariants.{Full, Idle, NoFrame, Halted as Stopped}
 use Rattle.tp_book.specs.Needs.{has_recorded_in}
-use Rattle.tp_book.specs.Book.{BookValue, node_count}
+use Rattle.tp_book.specs.Book.{BookValue, count_of_nodes}
 use Rattle.tp_shared.specs.declared.node_turn.NodeTurn.{NodeTurn}
 use Rattle.tp_shared.specs.Holds.{InHand}
 use Rattle.tp_shared.specs.TurnsMade.{HostTurnMade, TurnMade}
@@ -19,7 +19,7 @@ pub record IsStill (start : Network NodeState) : Type 0 where
   pub seen : BookValue
   pub nodes : length seen.state.start.nodes ≡ length start.nodes
   pub ports : length seen.state.ports ≡ length start.ports
-  pub still : has_recorded_in seen.state.snapshot (node_count seen) ≡ false
+  pub still : has_recorded_in seen.state.snapshot (count_of_nodes seen) ≡ false
 
 -- Why a run made no more steps: there is none. One for want of a frame has a step left.
 abbrev pub HasNoStep : Why → Type 0
@@ -51,7 +51,7 @@ pub record HadNothing (start : Network NodeState) (process : ℕ) : Type 0 where
   pub host : length start.nodes ≤ process → HostRests start
 
 -- so while no snapshot ran
-pub record Rested (start : Network NodeState) (process : ℕ) : Type 0 where
+pub record HadNothingToDo (start : Network NodeState) (process : ℕ) : Type 0 where
   pub had : HadNothing start process
   pub still : IsStill start
 
@@ -59,18 +59,18 @@ pub record Rested (start : Network NodeState) (process : ℕ) : Type 0 where
 -- host, which is the process behind them; the next one is that of `whose`.
 pub record HaveRested (start : Network NodeState) (whose idle : ℕ) : Type 0 where
   pub whose_is : whose ≤ length start.nodes
-  pub this_round : (p : ℕ) → p < whose → whose ≤ p + idle → Rested start p
-  pub round_before : (p : ℕ) → p ≤ length start.nodes → whose + length start.nodes + 1 ≤ p + idle → Rested start p
+  pub this_round : (p : ℕ) → p < whose → whose ≤ p + idle → HadNothingToDo start p
+  pub round_before : (p : ℕ) → p ≤ length start.nodes → whose + length start.nodes + 1 ≤ p + idle → HadNothingToDo start p
 
 -- Nothing is left to do: each node and the host had nothing to do in its last turn, while no snapshot ran.
-abbrev pub AreQuiet : Network NodeState → Type 0
-AreQuiet start = (p : ℕ) → p ≤ length start.nodes → Rested start p
+abbrev pub IsQuietNetwork : Network NodeState → Type 0
+IsQuietNetwork start = (p : ℕ) → p ≤ length start.nodes → HadNothingToDo start p
 
 -- ## Why a stream is over
 
 -- It was asked to end so; and where it ended as quiet, nothing is left to do.
 abbrev pub IsWhyEnded : Network NodeState → Task → Ending → Type 0
-IsWhyEnded start task Quiet = (task.until_quiet ≡ true) × AreQuiet start
+IsWhyEnded start task Quiet = (task.until_quiet ≡ true) × IsQuietNetwork start
 IsWhyEnded start task Turns = IsSome task.turns
 IsWhyEnded start task Gone = Unit {0}
 IsWhyEnded start task Halted = task.stop_on_halt ≡ true

@@ -2,20 +2,20 @@
 use Rattle.std.specs.Prelude.{◌≡◌, ◌<◌, ℕ, ◌+◌, ◌-◌, Bool, ◌&&◌, nat_lt, length, Some, IfSome}
 use Rattle.tp_model.specs.declared.limits.TheConstants.{MAX_HELD, NUMBER_LIMIT}
 use Rattle.tp_model.specs.Journal.{reserve}
-use Rattle.tp_book.specs.Book.{BookValue, next_number, outputs_of, reserved}
+use Rattle.tp_book.specs.Book.{BookValue, next_in_book, outputs_of, reserved}
 use Rattle.tp_area.specs.Capacity.{left_behind, takes}
 use Rattle.tp_area.specs.declared.journal.JournalRoom.{JournalRoom}
 
 -- A journal has room for `more` entries behind those that were made since the kept cut.
-abbrev pub has_room : JournalRoom → BookValue → ℕ → Bool
-has_room journal b more = takes (next_number b - b.base + more) journal && nat_lt (next_number b + more) NUMBER_LIMIT
+abbrev pub has_room_for : JournalRoom → BookValue → ℕ → Bool
+has_room_for journal b more = takes (next_in_book b - b.base + more) journal && nat_lt (next_in_book b + more) NUMBER_LIMIT
 
 -- how many entries it has room for
 abbrev pub free_of : JournalRoom → BookValue → ℕ
-free_of journal b = left_behind (next_number b - b.base) journal
+free_of journal b = left_behind (next_in_book b - b.base) journal
 
 -- A book in such a journal, with no run reserved.
-pub record Lies (journal : JournalRoom) (b : BookValue) : Type 0 where
+pub record UnreservedBook (journal : JournalRoom) (b : BookValue) : Type 0 where
   pub bound : b.room ≡ Some journal.bytes
   pub beside : journal.kept ≡ reserve (length b.state.lines)
   pub rests : reserved b ≡ 0

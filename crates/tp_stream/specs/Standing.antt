@@ -3,7 +3,7 @@ use Rattle.std.specs.Prelude.{◌≡◌, ◌⊎◌, ◌<◌, ◌≤◌, ℕ, ◌
 use Rattle.std.specs.Option.{unwrap_or}
 use Rattle.tp_model.specs.Network.{Port}
 use Rattle.tp_model.specs.Opening.{Opened}
-use Rattle.tp_book.specs.Ports.{fresh_port}
+use Rattle.tp_book.specs.Ports.{fresh_value}
 use Rattle.tp_book.specs.Book.{BookValue}
 use Rattle.tp_book.specs.Host.{accepted_of, port_in, shown_upto_of}
 use Rattle.tp_stream.specs.declared.fault.StreamFault.{StreamFault}
@@ -18,13 +18,13 @@ abbrev pub put_out : Port → ℕ
 put_out port = port.out_base + length port.outputs
 
 -- where a port of a book stands, as a mark shows it
-abbrev pub standing : BookValue → ℕ → ℕ → Standing
-standing b mark p = record { confirmed = (port_in b p).out_base; shown = shown_upto_of b p mark; upto = put_out (port_in b p) }
+abbrev pub port_standing : BookValue → ℕ → ℕ → Standing
+port_standing b mark p = record { confirmed = (port_in b p).out_base; shown = shown_upto_of b p mark; upto = put_out (port_in b p) }
 
 -- where a port stands of a device that opens: all that it has put out is shown
 abbrev pub stands_opened : Opened → ℕ → Standing
 stands_opened o p =
-    let port = get_or o.now.ports p fresh_port.port in
+    let port = get_or o.now.ports p fresh_value.port in
     record { confirmed = port.out_base; shown = put_out port; upto = put_out port }
 
 -- up to where the reader of an output has it: where it says nothing, up to where it is confirmed
@@ -32,13 +32,13 @@ abbrev pub from_of : Standing → Given → ℕ
 from_of s g = unwrap_or g.have s.confirmed
 
 -- The reader has all that was confirmed, and no more than is shown.
-pub record IsRead (s : Standing) (from : ℕ) : Type 0 where
+pub record IsReadUpTo (s : Standing) (from : ℕ) : Type 0 where
   pub confirmed : s.confirmed ≤ from
   pub shown : from ≤ s.shown
 
 -- An output may begin: its sink has the bytes that its reader has, safe, and none that the port didn't put out.
 pub record MayBegin (s : Standing) (g : Given) : Type 0 where
-  pub reader : IsRead s (from_of s g)
+  pub reader : IsReadUpTo s (from_of s g)
   pub front : Reaches (from_of s g) g.held
   pub behind : HasAtMost s.upto g.held
 
@@ -50,9 +50,9 @@ Refuses s g (Absent port) = ⊥
 Refuses s g (Unnamed port) = ⊥
 Refuses s g (Gone port have confirmed) = (port ≡ g.port) × (have ≡ from_of s g) × (confirmed ≡ s.confirmed) × (have < confirmed)
 Refuses s g (NotShown port have shown) = (port ≡ g.port) × (have ≡ from_of s g) × (shown ≡ s.shown) × (s.confirmed ≤ have) × (shown < have)
-Refuses s g (ShortInput port has accepted) = ⊥
-Refuses s g (Short port has from) = (port ≡ g.port) × (from ≡ from_of s g) × IsRead s from × HasReach has g.held × (has < from)
-Refuses s g (Long port has upto) = (port ≡ g.port) × (upto ≡ s.upto) × IsRead s (from_of s g) × Reaches (from_of s g) g.held × HasLength (Some has) g.held × (upto < has)
+Refuses s g (ShortInput port has accepted_at) = ⊥
+Refuses s g (Short port has from) = (port ≡ g.port) × (from ≡ from_of s g) × IsReadUpTo s from × HasReach has g.held × (has < from)
+Refuses s g (Long port has upto) = (port ≡ g.port) × (upto ≡ s.upto) × IsReadUpTo s (from_of s g) × Reaches (from_of s g) g.held × HasLength (Some has) g.held × (upto < has)
 Refuses s g (InputFailed port) = ⊥
 Refuses s g (OutputFailed port) = ⊥
 Refuses s g FlushFailed = ⊥
@@ -78,11 +78,11 @@ pub record IsFirstRefused (ports : ℕ) (stands : ℕ → Standing) (gs : List G
 -- ## Inputs
 
 -- how many bytes a port of a book has accepted, and how many one of a device that opens
-abbrev pub accepted : BookValue → ℕ → ℕ
-accepted b p = accepted_of (port_in b p)
+abbrev pub accepted_at : BookValue → ℕ → ℕ
+accepted_at b p = accepted_of (port_in b p)
 
 abbrev pub accepted_opened : Opened → ℕ → ℕ
-accepted_opened o p = accepted_of (get_or o.now.ports p fresh_port.port)
+accepted_opened o p = accepted_of (get_or o.now.ports p fresh_value.port)
 
 -- Why an input may not begin: it has fewer bytes than its port has accepted.
 abbrev pub RefusesInput : ℕ → GivenInput → StreamFault → Type 0
@@ -94,7 +94,7 @@ RefusesInput n g (Short port has from) = ⊥
 RefusesInput n g (Long port has upto) = ⊥
 RefusesInput n g (Gone port have confirmed) = ⊥
 RefusesInput n g (NotShown port have shown) = ⊥
-RefusesInput n g (ShortInput port has accepted) = (port ≡ g.port) × (accepted ≡ n) × IsLength (Some has) g.all × (has < accepted)
+RefusesInput n g (ShortInput port has accepted_at) = (port ≡ g.port) × (accepted_at ≡ n) × IsLength (Some has) g.all × (has < accepted_at)
 RefusesInput n g (InputFailed port) = ⊥
 RefusesInput n g (OutputFailed port) = ⊥
 RefusesInput n g FlushFailed = ⊥
@@ -103,23 +103,23 @@ RefusesInput n g Memory = ⊥
 
 -- Each of the first `n` inputs has all that its port has accepted.
 abbrev pub HaveAcceptedBelow : ℕ → (ℕ → ℕ) → List GivenInput → Type 0
-HaveAcceptedBelow n accepted gs = (k : ℕ) → k < n → (g : GivenInput) → slice_get gs k ≡ Some g → HasAtLeast (accepted g.port) g.all
+HaveAcceptedBelow n accepted_at gs = (k : ℕ) → k < n → (g : GivenInput) → slice_get gs k ≡ Some g → HasAtLeast (accepted_at g.port) g.all
 
 -- Each input has all that its port has accepted.
 abbrev pub AllHaveAccepted : (ℕ → ℕ) → List GivenInput → Type 0
-AllHaveAccepted accepted gs = (k : ℕ) (g : GivenInput) → slice_get gs k ≡ Some g → HasAtLeast (accepted g.port) g.all
+AllHaveAccepted accepted_at gs = (k : ℕ) (g : GivenInput) → slice_get gs k ≡ Some g → HasAtLeast (accepted_at g.port) g.all
 
 -- The first input that may not begin, and why: as its port stands; or it is none of `ports` ports.
-pub record IsFirstShort (ports : ℕ) (accepted : ℕ → ℕ) (gs : List GivenInput) (fault : StreamFault) : Type 0 where
+pub record IsFirstShort (ports : ℕ) (accepted_at : ℕ → ℕ) (gs : List GivenInput) (fault : StreamFault) : Type 0 where
   pub at : ℕ
   pub given : GivenInput
   pub there : slice_get gs at ≡ Some given
-  pub before : HaveAcceptedBelow at accepted gs
-  pub why : RefusesInput (accepted given.port) given fault ⊎ ((fault ≡ Absent given.port) × (ports ≤ given.port))
+  pub before : HaveAcceptedBelow at accepted_at gs
+  pub why : RefusesInput (accepted_at given.port) given fault ⊎ ((fault ≡ Absent given.port) × (ports ≤ given.port))
 
 -- Why nothing is begun: an output that may not; or, where each output may, an input that may not.
 abbrev pub IsNotBegun : ℕ → (ℕ → Standing) → (ℕ → ℕ) → List Given → List GivenInput → StreamFault → Type 0
-IsNotBegun ports stands accepted gs inputs fault = IsFirstRefused ports stands gs fault ⊎ (AllMayBegin stands gs × IsFirstShort ports accepted inputs fault)
+IsNotBegun ports stands accepted_at gs inputs fault = IsFirstRefused ports stands gs fault ⊎ (AllMayBegin stands gs × IsFirstShort ports accepted_at inputs fault)
 
 -- A fault of an input says so.
 abbrev pub OfInput : StreamFault → Type 0 → Type 0
@@ -131,7 +131,7 @@ OfInput (Short port has from) P = Unit {0}
 OfInput (Long port has upto) P = Unit {0}
 OfInput (Gone port have confirmed) P = Unit {0}
 OfInput (NotShown port have shown) P = Unit {0}
-OfInput (ShortInput port has accepted) P = P
+OfInput (ShortInput port has accepted_at) P = P
 OfInput (InputFailed port) P = Unit {0}
 OfInput (OutputFailed port) P = Unit {0}
 OfInput FlushFailed P = Unit {0}
@@ -148,7 +148,7 @@ OfOutput (Short port has from) P = P
 OfOutput (Long port has upto) P = P
 OfOutput (Gone port have confirmed) P = P
 OfOutput (NotShown port have shown) P = P
-OfOutput (ShortInput port has accepted) P = Unit {0}
+OfOutput (ShortInput port has accepted_at) P = Unit {0}
 OfOutput (InputFailed port) P = Unit {0}
 OfOutput (OutputFailed port) P = Unit {0}
 OfOutput FlushFailed P = Unit {0}

@@ -11,7 +11,7 @@ use Rattle.tp_flush.specs.Flushing.{Flushing, Walked}
 use Rattle.tp_stream_files.specs.Held.{HasPut}
 use Rattle.tp_stream_files.specs.Outputs.{OutputValue, given_of}
 use Rattle.tp_stream.specs.declared.standing.Standing.{Standing}
-use Rattle.tp_stream.specs.Put.{EachWith, Shows, port_of}
+use Rattle.tp_stream.specs.Put.{EachWith, LeadsToBytes, port_or_fresh}
 use Rattle.tp_stream.specs.Standing.{from_of}
 
 -- An output was set out where its port stands.
@@ -22,13 +22,13 @@ pub record IsSetOut (stands : ℕ → Standing) (old new : OutputValue) : Type 0
 -- ## In a book
 
 -- Some outputs of a port are confirmed, and the others are those that there were.
-pub record IsLeft (old new : Port) : Type 0 where
+pub record IsPartConfirmed (old new : Port) : Type 0 where
   pub base : old.out_base ≤ new.out_base
   pub outputs : new.outputs ≡ drop (new.out_base - old.out_base) old.outputs
 
 -- so it is of each port of a book
 abbrev pub AreLeft : BookValue → BookValue → Type 0
-AreLeft old new = (p : ℕ) → IsLeft (port_in old p) (port_in new p)
+AreLeft old new = (p : ℕ) → IsPartConfirmed (port_in old p) (port_in new p)
 
 -- Bytes were put behind those that there were, and these are as they were.
 pub record Extends (bytes : List ℕ) (old new : OutputValue) : Type 0 where
@@ -48,43 +48,43 @@ pub record PutsLeft (b : BookValue) (mark : ℕ) (old new : OutputValue) : Type 
   pub puts : PutsShown now mark old new
 
 -- The first entries of a world's journal, all of them below its mark, lead to a network of which the ports of a book are left.
-pub record Stands (start : Network NodeState) (w : World NodeState) (b : BookValue) : Type 0 where
+pub record PortsStand (start : Network NodeState) (w : World NodeState) (b : BookValue) : Type 0 where
   pub number : ℕ
   pub few : number ≤ w.mark
   pub state : Network NodeState
   pub leads : after t414 start (take number w.journal) ≡ Some state
-  pub left : (p : ℕ) → IsLeft (port_of state p) (port_in b p)
+  pub left : (p : ℕ) → IsPartConfirmed (port_or_fresh state p) (port_in b p)
 
 -- ## Beside the flusher's journal
 
 -- Bytes that a step put, how many entries lead to where they are outputs, and the flusher as it was then.
-pub record Step : Type 0 where
+pub record PutStep : Type 0 where
   pub bytes : List ℕ
   pub number : ℕ
   pub at : Flushing
 
 -- the bytes of all steps
-abbrev pub put_by : List Step → List ℕ
+abbrev pub put_by : List PutStep → List ℕ
 put_by [] = []
 put_by (s ∷ ss) = s.bytes ++ put_by ss
 
 -- A step put outputs of a port at a position, between two moments of the flusher: they are shown where the first entries of the journal
 -- that it had lead, all of which it had stored.
-pub record IsStep (start : Network NodeState) (old new : Flushing) (port from : ℕ) (s : Step) : Type 0 where
+pub record IsPutStep (start : Network NodeState) (old new : Flushing) (port from : ℕ) (s : PutStep) : Type 0 where
   pub before : Walked old s.at
   pub behind : Walked s.at new
   pub few : s.number ≤ s.at.world.mark
-  pub shows : Shows start s.at.world.journal s.number port from s.bytes
+  pub shows : LeadsToBytes start s.at.world.journal s.number port from s.bytes
 
 -- So did each, one behind the other and none earlier than the one before.
-abbrev pub AreSteps : Network NodeState → Flushing → Flushing → ℕ → ℕ → List Step → Type 0
+abbrev pub AreSteps : Network NodeState → Flushing → Flushing → ℕ → ℕ → List PutStep → Type 0
 AreSteps start old new port from [] = Unit {0}
-AreSteps start old new port from (s ∷ ss) = IsStep start old new port from s × AreSteps start s.at new port (from + length s.bytes) ss
+AreSteps start old new port from (s ∷ ss) = IsPutStep start old new port from s × AreSteps start s.at new port (from + length s.bytes) ss
 
 -- Steps alone put what was put of an output between two moments of the flusher.
 pub record Stepped (start : Network NodeState) (old new : Flushing) (was now : OutputValue) : Type 0 where
   pub port : now.port ≡ was.port
-  pub steps : List Step
+  pub steps : List PutStep
   pub each : AreSteps start old new was.port was.next steps
   pub next : now.next ≡ was.next + length (put_by steps)
   pub holds : HasPut was.next (put_by steps) was.held now.held

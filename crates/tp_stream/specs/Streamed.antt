@@ -20,36 +20,36 @@ pub record Streamed (start : Network NodeState) (result : Result Ended StreamFau
   pub last : IfOk result (λ ended. ended.next ≡ length journal)
 
 -- the device isn't written
-abbrev pub IsUnbegun : {A : Type 0} → Result A StreamFault → Type 0
-IsUnbegun (Ok x) = ⊥
-IsUnbegun (Err (Opening unopened)) = Unit {0}
-IsUnbegun (Err Spare) = Unit {0}
-IsUnbegun (Err (Port port)) = Unit {0}
-IsUnbegun (Err (Unnamed port)) = Unit {0}
-IsUnbegun (Err (Short port has from)) = Unit {0}
-IsUnbegun (Err (Long port has upto)) = Unit {0}
-IsUnbegun (Err (Gone port have confirmed)) = Unit {0}
-IsUnbegun (Err (NotShown port have shown)) = Unit {0}
-IsUnbegun (Err (ShortInput port has accepted)) = Unit {0}
-IsUnbegun (Err (InputFailed port)) = ⊥
-IsUnbegun (Err (OutputFailed port)) = ⊥
-IsUnbegun (Err FlushFailed) = ⊥
-IsUnbegun (Err JournalFull) = ⊥
-IsUnbegun (Err Memory) = ⊥
+abbrev pub StaysUnstreamed : {A : Type 0} → Result A StreamFault → Type 0
+StaysUnstreamed (Ok x) = ⊥
+StaysUnstreamed (Err (Opening unopened)) = Unit {0}
+StaysUnstreamed (Err Spare) = Unit {0}
+StaysUnstreamed (Err (Port port)) = Unit {0}
+StaysUnstreamed (Err (Unnamed port)) = Unit {0}
+StaysUnstreamed (Err (Short port has from)) = Unit {0}
+StaysUnstreamed (Err (Long port has upto)) = Unit {0}
+StaysUnstreamed (Err (Gone port have confirmed)) = Unit {0}
+StaysUnstreamed (Err (NotShown port have shown)) = Unit {0}
+StaysUnstreamed (Err (ShortInput port has accepted)) = Unit {0}
+StaysUnstreamed (Err (InputFailed port)) = ⊥
+StaysUnstreamed (Err (OutputFailed port)) = ⊥
+StaysUnstreamed (Err FlushFailed) = ⊥
+StaysUnstreamed (Err JournalFull) = ⊥
+StaysUnstreamed (Err Memory) = ⊥
 
 -- a fault of a stream that was begun
-abbrev pub IsBegun : StreamFault → Type 0
-IsBegun (Opening unopened) = ⊥
-IsBegun Spare = ⊥
-IsBegun (Port port) = ⊥
-IsBegun (Unnamed port) = ⊥
-IsBegun (Short port has from) = ⊥
-IsBegun (Long port has upto) = ⊥
-IsBegun (Gone port have confirmed) = ⊥
-IsBegun (NotShown port have shown) = ⊥
-IsBegun (ShortInput port has accepted) = ⊥
-IsBegun (InputFailed port) = Unit {0}
-IsBegun (OutputFailed port) = Unit {0}
-IsBegun FlushFailed = Unit {0}
-IsBegun JournalFull = Unit {0}
-IsBegun Memory = Unit {0}
+abbrev pub CameBegun : StreamFault → Type 0
+CameBegun (Opening unopened) = ⊥
+CameBegun Spare = ⊥
+CameBegun (Port port) = ⊥
+CameBegun (Unnamed port) = ⊥
+CameBegun (Short port has from) = ⊥
+CameBegun (Long port has upto) = ⊥
+CameBegun (Gone port have confirmed) = ⊥
+CameBegun (NotShown port have shown) = ⊥
+CameBegun (ShortInput port has accepted) = ⊥
+CameBegun (InputFailed port) = Unit {0}
+CameBegun (OutputFailed port) = Unit {0}
+CameBegun FlushFailed = Unit {0}
+CameBegun JournalFull = Unit {0}
+CameBegun Memory = Unit {0}

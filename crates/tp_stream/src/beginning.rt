@@ -5,7 +5,7 @@ ghost use Rattle.tp_book.specs.Counted.{AreCounted};
 ghost use Rattle.tp_stream_files.specs.Inputs.{given_input};
 ghost use Rattle.tp_stream_files.specs.Outputs.{given_of};
 ghost use Rattle.tp_stream.specs.Put.{EachWith};
-ghost use Rattle.tp_stream.specs.Standing.{AllHaveAccepted, AllMayBegin, IsFirstRefused, IsFirstShort, IsNotBegun, OfInput, OfOutput, accepted, standing};
+ghost use Rattle.tp_stream.specs.Standing.{AllHaveAccepted, AllMayBegin, IsFirstRefused, IsFirstShort, IsNotBegun, OfInput, OfOutput, accepted_at, port_standing};
 ghost use Rattle.tp_stream.specs.Steps.{IsSetOut};
 
 use crate::fault::StreamFault;
@@ -83,10 +83,10 @@ fn begin_outputs<S: Sink, L: Listener>(
     listener: &mut L,
 ) -> Result<(), StreamFault>
     requires { AreCounted mark book.now.state.ports }
-    ensures begun { OnOk result (AllMayBegin (standing book.now mark) (map given_of outputs.old)) }
-    ensures refused { IfErr result (IsFirstRefused (length book.now.state.ports) (standing book.now mark) (map given_of outputs.old)) }
+    ensures begun { OnOk result (AllMayBegin (port_standing book.now mark) (map given_of outputs.old)) }
+    ensures refused { IfErr result (IsFirstRefused (length book.now.state.ports) (port_standing book.now mark) (map given_of outputs.old)) }
     ensures same { map given_of outputs.new ≡ map given_of outputs.old }
-    ensures set { OnOk result (EachWith (IsSetOut (standing book.now mark)) outputs.old outputs.new) }
+    ensures set { OnOk result (EachWith (IsSetOut (port_standing book.now mark)) outputs.old outputs.new) }
 {
     for output in outputs.iter_mut() {
         if usize::from(output.port()) >= book.ports() {
@@ -106,8 +106,8 @@ fn begin_inputs<I: Source, L: Listener>(
     inputs: &[Input<I>],
     listener: &mut L,
 ) -> Result<(), StreamFault>
-    ensures begun { OnOk result (AllHaveAccepted (accepted book.now) (map (λ i. given_input i.port (I.input i.source)) inputs.now)) }
-    ensures refused { IfErr result (IsFirstShort (length book.now.state.ports) (accepted book.now) (map (λ i. given_input i.port (I.input i.source)) inputs.now)) }
+    ensures begun { OnOk result (AllHaveAccepted (accepted_at book.now) (map (λ i. given_input i.port (I.input i.source)) inputs.now)) }
+    ensures refused { IfErr result (IsFirstShort (length book.now.state.ports) (accepted_at book.now) (map (λ i. given_input i.port (I.input i.source)) inputs.now)) }
 {
     for input in inputs {
         let port = input.port();
@@ -135,11 +135,11 @@ pub(crate) fn begin_all<S: Sink, I: Source, L: Listener>(
     listener: &mut L,
 ) -> Result<(), StreamFault>
     requires { AreCounted mark book.now.state.ports }
-    ensures begun { OnOk result (AllMayBegin (standing book.now mark) (map given_of streams.old.outputs.items)) }
-    ensures inputs { OnOk result (AllHaveAccepted (accepted book.now) (map (λ i. given_input i.port (I.input i.source)) streams.old.inputs.items)) }
-    ensures refused { IfErr result (IsNotBegun (length book.now.state.ports) (standing book.now mark) (accepted book.now) (map given_of streams.old.outputs.items) (map (λ i. given_input i.port (I.input i.source)) streams.old.inputs.items)) }
+    ensures begun { OnOk result (AllMayBegin (port_standing book.now mark) (map given_of streams.old.outputs.items)) }
+    ensures inputs { OnOk result (AllHaveAccepted (accepted_at book.now) (map (λ i. given_input i.port (I.input i.source)) streams.old.inputs.items)) }
+    ensures refused { IfErr result (IsNotBegun (length book.now.state.ports) (port_standing book.now mark) (accepted_at book.now) (map given_of streams.old.outputs.items) (map (λ i. given_input i.port (I.input i.source)) streams.old.inputs.items)) }
     ensures same { map given_of streams.new.outputs.items ≡ map given_of streams.old.outputs.items }
-    ensures set { OnOk result (EachWith (IsSetOut (standing book.now mark)) streams.old.outputs.items streams.new.outputs.items) }
+    ensures set { OnOk result (EachWith (IsSetOut (port_standing book.now mark)) streams.old.outputs.items streams.new.outputs.items) }
 {
     begin_outputs(book, mark, &mut streams.outputs, listener)?;
     begin_inputs(book, &streams.inputs, listener)

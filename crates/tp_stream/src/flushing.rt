@@ -3,7 +3,7 @@
 ghost use Rattle.std.specs.Prelude.{◌≡◌, ◌≤◌, length, IfOk, IfErr};
 ghost use Rattle.tp_flush.specs.Known.{Began};
 ghost use Rattle.tp_flush.specs.Flushing.{IsSameProcess, Walked};
-ghost use Rattle.tp_stream.specs.Streamed.{IsBegun};
+ghost use Rattle.tp_stream.specs.Streamed.{CameBegun};
 
 use crate::fault::StreamFault;
 use std::alloc::Global;
@@ -22,7 +22,7 @@ pub(crate) fn flush<J: Naming, D: Disk, R: Wait>(
     ensures walks { D.keeps → Began J.formatted J.before flusher.old.opened → Walked flusher.old flusher.new }
     ensures process { IsSameProcess flusher.old flusher.new }
     ensures mark { IfOk result (λ mark. mark ≡ flusher.new.world.mark) }
-    ensures begun { IfErr result IsBegun }
+    ensures begun { IfErr result CameBegun }
 {
     match flusher.turn(rt, alloc, shared) {
         Ok(flushed) => Ok(flushed.mark),
@@ -41,7 +41,7 @@ fn last_under<J: Naming, D: Disk>(
     ensures same { flusher.new ≡ flusher.old }
     ensures stored { IfOk result (λ next. next ≤ flusher.old.world.mark) }
     ensures last { D.keeps → Began J.formatted J.before flusher.old.opened → IfOk result (λ next. next ≡ length flusher.old.world.journal) }
-    ensures begun { IfErr result IsBegun }
+    ensures begun { IfErr result CameBegun }
 {
     flusher.settle_book(held);
     let (next, mark) = (held.book().next(), flusher.mark());
@@ -60,7 +60,7 @@ fn last_of<J: Naming, D: Disk, R: Wait>(
     ensures same { flusher.new ≡ flusher.old }
     ensures stored { IfOk result (λ next. next ≤ flusher.old.world.mark) }
     ensures last { D.keeps → Began J.formatted J.before flusher.old.opened → IfOk result (λ next. next ≡ length flusher.old.world.journal) }
-    ensures begun { IfErr result IsBegun }
+    ensures begun { IfErr result CameBegun }
 {
     let mut held = shared.book().lock(rt);
     last_under(&mut held, flusher)
@@ -77,7 +77,7 @@ pub(crate) fn finish<J: Naming, D: Disk, R: Wait>(
     ensures process { IsSameProcess flusher.old flusher.new }
     ensures stored { IfOk result (λ next. next ≤ flusher.new.world.mark) }
     ensures last { D.keeps → Began J.formatted J.before flusher.old.opened → IfOk result (λ next. next ≡ length flusher.new.world.journal) }
-    ensures begun { IfErr result IsBegun }
+    ensures begun { IfErr result CameBegun }
 {
     let _mark = flush(rt, alloc, shared, flusher)?;
     last_of(rt, shared, flusher)

@@ -1,14 +1,14 @@
 //! Steps of a port's input: handed in piece by piece.
 
 ghost use Rattle.std.specs.Prelude.{◌≡◌, ◌<◌, length, true, false, Ok, IfErr, OnErr};
-ghost use Rattle.tp_book.specs.Host.{accepted_of, after_input, port_in};
+ghost use Rattle.tp_book.specs.Host.{accepted_of, after_inputs, port_in};
 ghost use Rattle.tp_stream.specs.Offered.{Offered};
-ghost use Rattle.tp_stream.specs.Streamed.{IsBegun};
+ghost use Rattle.tp_stream.specs.Streamed.{CameBegun};
 
 use crate::fault::StreamFault;
-use tp_work::{OfferFault, offer};
 use tp_shared::{Locked, Naming};
 use tp_stream_files::{Input, Source};
+use tp_work::{OfferFault, offer};
 
 /// Hands a port bytes, under the book's lock, where it accepts those at this position. Whether it took them: it takes none that it, or
 /// the journal, has no room for.
@@ -20,10 +20,10 @@ fn offer_bytes<J: Naming>(
 ) -> Result<bool, StreamFault>
     requires there { port < length held.old.book.state.ports }
     requires at { at ≡ accepted_of (port_in held.old.book port) }
-    ensures taken { result ≡ Ok true → held.new.book ≡ after_input held.old.book port bytes.now }
+    ensures taken { result ≡ Ok true → held.new.book ≡ after_inputs held.old.book port bytes.now }
     ensures refused { result ≡ Ok false → held.new ≡ held.old }
     ensures err { OnErr result (held.new ≡ held.old) }
-    ensures begun { IfErr result IsBegun }
+    ensures begun { IfErr result CameBegun }
 {
     match offer(held, port, at, bytes) {
         Ok(_) => Ok(true),
@@ -51,7 +51,7 @@ pub(crate) fn step<J: Naming, I: Source>(
     ensures refused { result ≡ Ok false → held.new ≡ held.old }
     ensures same { (input.new.port ≡ input.old.port) × (I.input input.new.source ≡ I.input input.old.source) }
     ensures err { OnErr result (held.new ≡ held.old) }
-    ensures begun { IfErr result IsBegun }
+    ensures begun { IfErr result CameBegun }
 {
     let port = input.port();
     let at = held.book().accepted(port);

@@ -2,9 +2,9 @@
 
 ghost use Rattle.std.specs.Prelude.{◌≡◌, ◌⊎◌, IfOk, OnOk, IfErr, Some, length, map};
 ghost use Rattle.tp_model.specs.Journal.{room};
-ghost use Rattle.tp_book.specs.Book.{next_number};
-ghost use Rattle.tp_book.specs.Opened.{IsOpened, opened_book};
-ghost use Rattle.tp_flush.specs.Made.{StandsFor};
+ghost use Rattle.tp_book.specs.Book.{next_in_book};
+ghost use Rattle.tp_book.specs.Opened.{IsWellOpen, opened_book};
+ghost use Rattle.tp_flush.specs.Made.{IsMadeOf};
 ghost use Rattle.tp_stream.specs.declared.fault.StreamFault.TheVariants.{Memory};
 ghost use Rattle.tp_stream_files.specs.Inputs.{given_input};
 ghost use Rattle.tp_stream_files.specs.Outputs.{given_of};
@@ -29,10 +29,10 @@ fn parts_with(
     book: Book,
     spare: u16,
 ) -> Result<(Parts, Raiser), AllocError>
-    requires opened { IsOpened state }
+    requires opened { IsWellOpen state }
     requires book { book ≡ opened_book state book.room }
     ensures book { IfOk result (λ made. made.0.book ≡ book) }
-    ensures first { IfOk result (λ made. made.0.first ≡ next_number book) }
+    ensures first { IfOk result (λ made. made.0.first ≡ next_in_book book) }
     ensures raiser { IfOk result (λ made. made.1 ≡ record { mark = made.0.mark; at = state.next }) }
 {
     let (mark, raiser, _) = Mark::start(alloc, state.next, 0)?;
@@ -49,7 +49,7 @@ pub(crate) fn parts_of<S: Sink, I: Source, L: Listener>(
     streams: &mut Streams<S, I>,
     listener: &mut L,
 ) -> Result<(Parts, Raiser), StreamFault>
-    ensures parts { IfOk result (λ made. StandsFor opened made.0 made.1) }
+    ensures parts { IfOk result (λ made. IsMadeOf opened made.0 made.1) }
     ensures bound { IfOk result (λ made. made.0.book.room ≡ Some (room opened.head.topology opened.head.areas.length)) }
     ensures begun { OnOk result (AllMayBegin (stands_opened opened) (map given_of streams.old.outputs.items)) }
     ensures inputs { OnOk result (AllHaveAccepted (accepted_opened opened) (map (λ i. given_input i.port (I.input i.source)) streams.old.inputs.items)) }

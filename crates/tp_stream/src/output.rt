@@ -5,9 +5,9 @@ ghost use Rattle.tp_book.specs.Host.{after_confirm, port_in, shown_from, shown_u
 ghost use Rattle.tp_book.specs.Acts.{confirm_entries};
 ghost use Rattle.tp_work.specs.Receipts.{IsFor};
 ghost use Rattle.tp_stream_files.specs.Held.{HasPut, KeepsFront};
-ghost use Rattle.tp_stream_files.specs.Outputs.{Grew, given_of};
-ghost use Rattle.tp_stream.specs.Standing.{MayBegin, Refuses, from_of, put_out, standing};
-ghost use Rattle.tp_stream.specs.Streamed.{IsBegun};
+ghost use Rattle.tp_stream_files.specs.Outputs.{WasPutSafely, given_of};
+ghost use Rattle.tp_stream.specs.Standing.{MayBegin, Refuses, from_of, put_out, port_standing};
+ghost use Rattle.tp_stream.specs.Streamed.{CameBegun};
 ghost use Rattle.tp_stream.specs.Outcomes.{IsStepFault, step_fault_of};
 ghost use Rattle.tp_stream.specs.Steps.{AreLeft, IsSetOut, PutsShown};
 
@@ -16,9 +16,9 @@ use crate::standing::Standing;
 use tp_book::Book;
 use tp_disk::Disk;
 use tp_flush::Flusher;
-use tp_work::{ConfirmFault, confirm};
 use tp_shared::{Locked, Naming, Receipt};
 use tp_stream_files::{Output, Sink, SinkFault};
+use tp_work::{ConfirmFault, confirm};
 
 /// Why a step of an output isn't done: whoever takes it has gone, or the stream ends with a fault.
 #[derive(Clone, Copy, Debug, PartialEq, Eq)]
@@ -39,7 +39,7 @@ fn step_fault(fault: SinkFault, port: u8) -> StepFault
 
 /// The fault of a confirmation that was refused.
 fn fault_of(fault: ConfirmFault) -> StreamFault
-    ensures { IsBegun result }
+    ensures { CameBegun result }
 {
     match fault {
         ConfirmFault::JournalFull | ConfirmFault::NotShown => StreamFault::JournalFull,
@@ -97,13 +97,13 @@ pub(crate) fn begin<S: Sink>(
 ) -> Result<(), StreamFault>
     requires there { output.old.port < length book.now.state.ports }
     requires few { put_out (port_in book.now output.old.port) ≤ mark }
-    ensures begun { OnOk result (MayBegin (standing book.now mark output.old.port) (given_of output.old)) }
-    ensures refused { IfErr result (Refuses (standing book.now mark output.old.port) (given_of output.old)) }
-    ensures next { OnOk result (output.new.next ≡ from_of (standing book.now mark output.old.port) (given_of output.old)) }
+    ensures begun { OnOk result (MayBegin (port_standing book.now mark output.old.port) (given_of output.old)) }
+    ensures refused { IfErr result (Refuses (port_standing book.now mark output.old.port) (given_of output.old)) }
+    ensures next { OnOk result (output.new.next ≡ from_of (port_standing book.now mark output.old.port) (given_of output.old)) }
     ensures confirmed { OnOk result (output.new.confirmed ≡ (port_in book.now output.old.port).out_base) }
     ensures shown { OnOk result (output.new.next ≤ shown_upto_of book.now output.old.port mark) }
     ensures same { given_of output.new ≡ given_of output.old }
-    ensures set { OnOk result (IsSetOut (standing book.now mark) output.old output.new) }
+    ensures set { OnOk result (IsSetOut (port_standing book.now mark) output.old output.new) }
 {
     let stand = Standing::of(book, output.port(), mark);
     set_out(output, stand)
@@ -117,7 +117,7 @@ fn put_shown<J: Naming, D: Disk, S: Sink>(
     flusher: &Flusher<J, D>,
 ) -> Result<(), StepFault>
     requires there { output.old.port < length book.now.state.ports }
-    ensures put { OnOk result (Grew (shown_from book.now output.old.port flusher.now.world.mark output.old.next) output.old output.new) }
+    ensures put { OnOk result (WasPutSafely (shown_from book.now output.old.port flusher.now.world.mark output.old.next) output.old output.new) }
     ensures shown { OnOk result (output.new.next ≡ shown_upto_of book.now output.old.port flusher.now.world.mark) }
     ensures front { KeepsFront output.old.next output.old.held output.new.held }
     ensures puts { PutsShown book.now flusher.now.world.mark output.old output.new }
@@ -149,7 +149,7 @@ fn confirm_put<J: Naming, D: Disk, S: Sink>(
     ensures receipt { IfOk result (IsFor (confirm_entries held.old.book output.old.port output.old.next)) }
     ensures confirmed { OnOk result (output.new ≡ record output.old { confirmed = output.old.next }) }
     ensures err { OnErr result ((held.new ≡ held.old) × (output.new ≡ output.old)) }
-    ensures begun { IfErr result IsBegun }
+    ensures begun { IfErr result CameBegun }
 {
     match confirm(held, output.port(), flusher.mark(), output.put()) {
         Ok(receipt) => {

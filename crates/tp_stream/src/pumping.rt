@@ -4,7 +4,7 @@ ghost use Rattle.std.specs.Prelude.{◌≡◌, IfErr};
 ghost use Rattle.tp_flush.specs.Known.{Began};
 ghost use Rattle.tp_stream.specs.Put.{EachWith};
 ghost use Rattle.tp_stream.specs.Steps.{AllStepped, AreLeft, PutsLeft, PutsShown};
-ghost use Rattle.tp_stream.specs.Streamed.{IsBegun};
+ghost use Rattle.tp_stream.specs.Streamed.{CameBegun};
 
 use crate::fault::StreamFault;
 use crate::output::StepFault;
@@ -67,7 +67,7 @@ fn step_output<J: Naming, D: Disk, S: Sink>(
 ) -> Result<Pumped, StreamFault>
     ensures left { AreLeft held.old.book held.new.book }
     ensures puts { PutsShown held.old.book flusher.now.world.mark output.old output.new }
-    ensures begun { IfErr result IsBegun }
+    ensures begun { IfErr result CameBegun }
 {
     let before = output.put();
     if usize::from(output.port()) >= held.book().ports() {
@@ -88,7 +88,7 @@ fn step_all<J: Naming, D: Disk, S: Sink>(
     outputs: &mut [Output<S>],
 ) -> Result<Pumped, StreamFault>
     ensures puts { EachWith (PutsLeft held.old.book flusher.now.world.mark) outputs.old outputs.new }
-    ensures begun { IfErr result IsBegun }
+    ensures begun { IfErr result CameBegun }
 {
     let mut pumped = Pumped::Nothing;
     for output in outputs.iter_mut() {
@@ -108,7 +108,7 @@ fn step_settled<J: Naming, D: Disk, S: Sink>(
     ensures same { flusher.new ≡ flusher.old }
     ensures put { D.keeps → Began J.formatted J.before flusher.old.opened
         → AllStepped J.formatted flusher.old flusher.old outputs.old outputs.new }
-    ensures begun { IfErr result IsBegun }
+    ensures begun { IfErr result CameBegun }
 {
     flusher.known();
     flusher.settle_book(held);
@@ -129,7 +129,7 @@ fn step_outputs<J: Naming, D: Disk, S: Sink, R: Wait>(
     ensures same { flusher.new ≡ flusher.old }
     ensures put { D.keeps → Began J.formatted J.before flusher.old.opened
         → AllStepped J.formatted flusher.old flusher.old outputs.old outputs.new }
-    ensures begun { IfErr result IsBegun }
+    ensures begun { IfErr result CameBegun }
 {
     let mut held = shared.book().lock(rt);
     step_settled(&mut held, flusher, outputs)
@@ -145,7 +145,7 @@ fn step_input<J: Naming, I: Source, R: Wait>(
     may_wait: bool,
     input: &mut Input<I>,
 ) -> Result<bool, StreamFault>
-    ensures { IfErr result IsBegun }
+    ensures { IfErr result CameBegun }
 {
     let mut held = shared.book().lock(rt);
     held.known();
@@ -199,7 +199,7 @@ fn step_inputs<J: Naming, I: Source, R: Wait>(
     may_wait: bool,
     inputs: &mut [Input<I>],
 ) -> Result<Pumped, StreamFault>
-    ensures { IfErr result IsBegun }
+    ensures { IfErr result CameBegun }
 {
     let mut piece = [0u8; MAX_HELD];
     let mut has_moved = false;
@@ -224,7 +224,7 @@ pub(crate) fn pump<J: Naming, D: Disk, S: Sink, I: Source, R: Wait>(
     ensures same { flusher.new ≡ flusher.old }
     ensures put { D.keeps → Began J.formatted J.before flusher.old.opened
         → AllStepped J.formatted flusher.old flusher.old streams.old.outputs.items streams.new.outputs.items }
-    ensures begun { IfErr result IsBegun }
+    ensures begun { IfErr result CameBegun }
 {
     let put = step_outputs(rt, shared, flusher, &mut streams.outputs)?;
     if put == Pumped::Gone {

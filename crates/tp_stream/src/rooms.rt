@@ -3,10 +3,10 @@
 ghost use Rattle.std.specs.Prelude.{◌≡◌, ◌<◌, true, false};
 ghost use Rattle.tp_book.specs.Refusals.{is_journal_full};
 ghost use Rattle.tp_area.specs.Capacity.{journal_of};
-ghost use Rattle.tp_stream.specs.Rooms.{HavePlace, Lies, free_of, has_room};
+ghost use Rattle.tp_stream.specs.Rooms.{HavePlace, UnreservedBook, free_of, has_room_for};
 
-use tp_book::Book;
 use tp_area::JournalRoom;
+use tp_book::Book;
 use tp_model::limits::{MAX_HELD, NUMBER_LIMIT};
 use tp_net::Topology;
 
@@ -29,8 +29,8 @@ impl Rooms {
     /// Whether there is room for `more` entries that anyone may make. Where the book lies in such a journal, and no run is reserved, none
     /// of them is then refused as JournalFull.
     pub(crate) fn has_room(self, book: &Book, more: u32) -> bool
-        ensures value { result ≡ has_room self.journal book.now more }
-        ensures keeps { Lies self.journal book.now → result ≡ true → is_journal_full book.now more ≡ false }
+        ensures value { result ≡ has_room_for self.journal book.now more }
+        ensures keeps { UnreservedBook self.journal book.now → result ≡ true → is_journal_full book.now more ≡ false }
     {
         book.known();
         let made = book.next().saturating_sub(book.base());

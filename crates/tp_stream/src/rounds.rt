@@ -6,7 +6,7 @@ ghost use Rattle.tp_book.specs.Marked.{after_begin};
 ghost use Rattle.tp_flush.specs.Due.{is_due};
 ghost use Rattle.tp_stream.specs.Quiet.{HadNothing, HasNoStep, HaveRested, HostRests, IsStill, NodeRests};
 ghost use Rattle.tp_stream.specs.Rooms.{HavePlace};
-ghost use Rattle.tp_stream.specs.Streamed.{IsBegun};
+ghost use Rattle.tp_stream.specs.Streamed.{CameBegun};
 
 use crate::fault::StreamFault;
 use crate::pace::Pace;
@@ -154,7 +154,7 @@ fn one_turn<J: Naming, R: Wait>(
     requires rested { HaveRested J.start turns.old.whose turns.old.idle }
     requires still { seen.is_running ≡ false → IsStill J.start }
     ensures rested { OnOk result (HaveRested J.start turns.new.whose turns.new.idle) }
-    ensures begun { IfErr result IsBegun }
+    ensures begun { IfErr result CameBegun }
 {
     let nodes = shared.nodes();
     match make_turn(rt, shared, seat, turns.whose, pace.task.quantum) {
@@ -188,7 +188,7 @@ pub(crate) fn round<J: Naming, R: Wait>(
 ) -> Result<(), StreamFault>
     requires { turns.old.whose ≤ length J.start.nodes }
     ensures rested { OnOk result (HaveRested J.start turns.new.whose turns.new.idle) }
-    ensures begun { IfErr result IsBegun }
+    ensures begun { IfErr result CameBegun }
 {
     let nodes = shared.nodes();
     turns.begin();

@@ -6,7 +6,7 @@ ghost use Rattle.tp_flush.specs.Flushing.{IsSameProcess, Walked};
 ghost use Rattle.tp_stream.specs.Looks.{HaveLooked, LooksOnce};
 ghost use Rattle.tp_stream.specs.Quiet.{HaveRested, IsWhyEnded};
 ghost use Rattle.tp_stream.specs.Steps.{AllStepped};
-ghost use Rattle.tp_stream.specs.Streamed.{IsBegun};
+ghost use Rattle.tp_stream.specs.Streamed.{CameBegun};
 
 use crate::endings::{are_over, ending, is_asked, may_wait};
 use crate::fault::StreamFault;
@@ -89,7 +89,7 @@ fn make_turns<J: Naming, I: Source, R: Wait>(
 ) -> Result<(), StreamFault>
     requires { HaveRested J.start going.old.turns.whose going.old.turns.idle }
     ensures rested { OnOk result (HaveRested J.start going.new.turns.whose going.new.turns.idle) }
-    ensures begun { IfErr result IsBegun }
+    ensures begun { IfErr result CameBegun }
 {
     let Going { turns, seat, .. } = going;
     let lacks_input = pumped == Pumped::Nothing && turns.is_quiet(shared.nodes()) && !over;
@@ -130,7 +130,7 @@ fn go_on<J: Naming, D: Disk, S: Sink, I: Source, L: Listener, P: Stop, R: Wait>(
     ensures looks { IfOk result (LooksOnce pace.task going.old.turns.made going.new.turns.made (P.answers stop.old) (P.answers stop.new)) }
     ensures over { IfOk result (λ ended. IfSome ended (λ why. going.new ≡ going.old)) }
     ensures rested { OnOk result (HaveRested J.start going.new.turns.whose going.new.turns.idle) }
-    ensures begun { IfErr result IsBegun }
+    ensures begun { IfErr result CameBegun }
 {
     if !can_confirm(rt, shared, pace) && going.turns.may_settle() {
         settle(rt, alloc, shared, &mut going.seat, &mut going.turns)?;
@@ -180,7 +180,7 @@ fn cycle<J: Naming, D: Disk, S: Sink, I: Source, L: Listener, P: Stop, R: Wait>(
     ensures looks { IfOk result (LooksOnce pace.task going.old.turns.made going.new.turns.made (P.answers stop.old) (P.answers stop.new)) }
     ensures over { IfOk result (λ ended. IfSome ended (λ why. going.new ≡ going.old)) }
     ensures rested { OnOk result (HaveRested J.start going.new.turns.whose going.new.turns.idle) }
-    ensures begun { IfErr result IsBegun }
+    ensures begun { IfErr result CameBegun }
 {
     flush(rt, alloc, shared, flusher)?;
     go_on(
@@ -205,7 +205,7 @@ fn cycles<J: Naming, D: Disk, S: Sink, I: Source, L: Listener, P: Stop, R: Wait>
         → AllStepped J.formatted first result.0 streams.old.outputs.items streams.new.outputs.items }
     ensures why { IfOk result.1 (λ ended. IfSome ended (IsWhyEnded J.start pace.task)) }
     ensures looks { IfOk result.1 (HaveLooked pace.task (P.answers stop.old) (P.answers stop.new)) }
-    ensures begun { IfErr result.1 IsBegun }
+    ensures begun { IfErr result.1 CameBegun }
 {
     first.known();
     let mut flusher = first;
@@ -256,7 +256,7 @@ pub(crate) fn serve<J: Naming, D: Disk, S: Sink, I: Source, L: Listener, P: Stop
     ensures looks { IfOk result.1 (λ ended. HaveLooked pace.task (P.answers stop.old) (P.answers stop.new) (Some ended.why)) }
     ensures stored { IfOk result.1 (λ ended. ended.next ≤ result.0.world.mark) }
     ensures last { D.keeps → Began J.formatted J.before flusher.opened → IfOk result.1 (λ ended. ended.next ≡ length result.0.world.journal) }
-    ensures begun { IfErr result.1 IsBegun }
+    ensures begun { IfErr result.1 CameBegun }
 {
     let (mut there, last, rests) = cycles(
         rt, alloc, shared, pace, flusher, streams, listener, stop,

@@ -2,7 +2,7 @@
 
 ghost use Rattle.std.specs.Prelude.{◌≡◌, ◌<◌, ◌≤◌, length};
 ghost use Rattle.tp_book.specs.Host.{port_in};
-ghost use Rattle.tp_stream.specs.Standing.{put_out, standing};
+ghost use Rattle.tp_stream.specs.Standing.{put_out, port_standing};
 
 use tp_book::Book;
 
@@ -20,7 +20,7 @@ impl Standing {
     pub(crate) fn of(book: &Book, port: u8, mark: u64) -> Standing
         requires there { port < length book.now.state.ports }
         requires few { put_out (port_in book.now port) ≤ mark }
-        ensures { result ≡ standing book.now mark port }
+        ensures { result ≡ port_standing book.now mark port }
     {
         let confirmed = book.out_base(port);
         Standing {

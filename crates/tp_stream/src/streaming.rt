@@ -12,7 +12,7 @@ ghost use Rattle.tp_model.specs.Opening.{Opened as OpenedValue, verdict};
 ghost use Rattle.tp_model.specs.Spelling.{IsCut};
 ghost use Rattle.tp_model.specs.declared.limits.TheConstants.{MAX_STEPS};
 ghost use Rattle.tp_recover.specs.Reading.{LeavesNothingNew};
-ghost use Rattle.tp_flush.specs.Made.{StandsFor};
+ghost use Rattle.tp_flush.specs.Made.{IsMadeOf};
 ghost use Rattle.tp_flush.specs.History.{History};
 ghost use Rattle.tp_shared.specs.Named.{Names};
 ghost use Rattle.tp_stream_files.specs.Inputs.{given_input};
@@ -21,7 +21,7 @@ ghost use Rattle.tp_stream.specs.Put.{ServedInto, StreamedInto};
 ghost use Rattle.tp_stream.specs.Looks.{HaveLooked};
 ghost use Rattle.tp_stream.specs.Quiet.{IsAsked};
 ghost use Rattle.tp_stream.specs.Standing.{AllHaveAccepted, AllMayBegin, IsFirstRefused, IsFirstShort, OfInput, OfOutput, accepted_opened, stands_opened};
-ghost use Rattle.tp_stream.specs.Streamed.{IsBegun, IsUnbegun, Streamed};
+ghost use Rattle.tp_stream.specs.Streamed.{CameBegun, StaysUnstreamed, Streamed};
 ghost use Rattle.tp_recover.specs.declared.unopened.Unopened.{Unopened};
 
 use crate::beginning::task_fault;
@@ -38,8 +38,8 @@ use std::sync::Wait;
 use tp_area::Store;
 use tp_disk::Disk;
 use tp_flush::{Flusher, topology_of};
-use tp_ready::Raiser;
 use tp_net::Topology;
+use tp_ready::Raiser;
 use tp_recover::{Opened, open};
 use tp_shared::{Naming, Parts, Shared};
 use tp_stream_files::{Ended, Listener, Sink, Source, Stop, Streams};
@@ -78,7 +78,7 @@ fn stream_parts<J: Naming, D: Disk + Drop, S: Sink, I: Source, L: Listener, P: S
 ) -> (D, Result<Ended, StreamFault>)
     requires quantum { task.quantum ≤ MAX_STEPS }
     requires names { Names J.roll J.first J.start J.node J.mark J.flusher J.sights J.room parts }
-    requires stands { StandsFor opened.value parts raiser }
+    requires stands { IsMadeOf opened.value parts raiser }
     requires bound { parts.book.room ≡ Some (room opened.value.head.topology opened.value.head.areas.length) }
     requires cut { IsCut t414_ends opened.value.head.topology opened.value.base opened.value.cut }
     requires bytes { AllByRecursion IsNodeOfBytes opened.value.cut.nodes }
@@ -93,7 +93,7 @@ fn stream_parts<J: Naming, D: Disk + Drop, S: Sink, I: Source, L: Listener, P: S
         → ServedInto J.formatted result.1 streams.old.outputs.items streams.new.outputs.items (D.state store.disk) (D.state result.0) }
     ensures why { IfOk result.1 (λ ended. IsAsked task ended.why) }
     ensures looks { IfOk result.1 (λ ended. HaveLooked task (P.answers stop.old) (P.answers stop.new) (Some ended.why)) }
-    ensures begun { IfErr result.1 IsBegun }
+    ensures begun { IfErr result.1 CameBegun }
 {
     let (shared, key) = Shared::<J>::start(parts);
     let pace = pace_of(task, &topology, store.place.areas.length);
@@ -127,7 +127,7 @@ pub fn stream<D: Disk + Drop, S: Sink, I: Source, L: Listener, P: Stop, R: Wait>
         → Streamed history.formatted result.1 (D.state disk) (D.state result.0) }
     ensures put { D.keeps → Began history.formatted history.before (D.state disk).now.bytes
         → StreamedInto history.formatted result.1 streams.old.outputs.items streams.new.outputs.items (D.state disk) (D.state result.0) }
-    ensures unwritten { D.keeps → IsUnbegun result.1 → LeavesNothingNew (D.state disk) (D.state result.0) }
+    ensures unwritten { D.keeps → StaysUnstreamed result.1 → LeavesNothingNew (D.state disk) (D.state result.0) }
     ensures unopened { D.keeps → IsErr (verdict (D.state disk).now.bytes) → (unopened : Unopened) × (result.1 ≡ Err (StreamFault.Opening unopened)) }
     ensures begun { D.keeps → (opened : OpenedValue) → verdict (D.state disk).now.bytes ≡ Ok opened
         → OnOk result.1 (AllMayBegin (stands_opened opened) (map given_of streams.old.outputs.items)) }
@@ -141,7 +141,7 @@ pub fn stream<D: Disk + Drop, S: Sink, I: Source, L: Listener, P: Stop, R: Wait>
         → (map given_of streams.new.outputs.items ≡ map given_of streams.old.outputs.items) ⊎ AllMayBegin (stands_opened opened) (map given_of streams.old.outputs.items) }
     ensures why { IfOk result.1 (λ ended. IsAsked task ended.why) }
     ensures looks { IfOk result.1 (λ ended. HaveLooked task (P.answers stop.old) (P.answers stop.new) (Some ended.why)) }
-    ensures untouched { IsUnbegun result.1 → map given_of streams.new.outputs.items ≡ map given_of streams.old.outputs.items }
+    ensures untouched { StaysUnstreamed result.1 → map given_of streams.new.outputs.items ≡ map given_of streams.old.outputs.items }
 {
     let mut disk = disk;
     let opened = match open(alloc, &mut disk) {

@@ -2,20 +2,20 @@
 use Rattle.std.proofs.Common.{◌≡◌, ◌≤◌, ◌-◌, take, drop, arith, subst, ℕ, ◌+◌, Bool, true, false, ◌||◌, List, [], ◌∷◌, ◌++◌, length, refl, sym, ap, ◌∙◌, append_assoc, append-nil, length-append}
 use Rattle.std.proofs.Math.Seq.{drop-append_seam}
 use Rattle.std.proofs.lemmas.List.{drop-drop, drop-take, length-take-le, take-append-le, take-take}
-use Rattle.tp_stream_files.specs.Told.{Told, Opened, SyncedFolder, Measured, MeasureFailed, HasRead, ReadFailed, Wrote, Synced, Gave, GiveFailed}
-use Rattle.tp_stream_files.specs.Trace.{size_after, size_told, bytes_of, is_none, says_end, says_failed, GrewAlike}
+use Rattle.tp_stream_files.specs.Told.{EndTold, Opened, SyncedFolder, Measured, MeasureFailed, HasRead, ReadFailed, Wrote, Synced, Gave, GiveFailed}
+use Rattle.tp_stream_files.specs.Trace.{size_after, size_told, bytes_given, is_none, says_end, says_failed, GrewAlike}
 
 -- ## A file's length
 
-pub size_told-append : (size : ℕ) (calls more : List Told) → size_told size (calls ++ more) ≡ size_told (size_told size calls) more
+pub size_told-append : (size : ℕ) (calls more : List EndTold) → size_told size (calls ++ more) ≡ size_told (size_told size calls) more
 size_told-append size [] more = refl
 size_told-append size (call ∷ calls) more = size_told-append (size_after size call) calls more
 
 -- ## The bytes of a feed
 
-pub bytes_of-append : (calls more : List Told) → bytes_of (calls ++ more) ≡ bytes_of calls ++ bytes_of more
+pub bytes_of-append : (calls more : List EndTold) → bytes_given (calls ++ more) ≡ bytes_given calls ++ bytes_given more
 bytes_of-append [] more = refl
-bytes_of-append (Gave bytes ∷ calls) more = ap (λ rest. bytes ++ rest) (bytes_of-append calls more) ∙ sym (append_assoc bytes (bytes_of calls) (bytes_of more))
+bytes_of-append (Gave bytes ∷ calls) more = ap (λ rest. bytes ++ rest) (bytes_of-append calls more) ∙ sym (append_assoc bytes (bytes_given calls) (bytes_given more))
 bytes_of-append (Opened how path ok ∷ calls) more = bytes_of-append calls more
 bytes_of-append (SyncedFolder path ok ∷ calls) more = bytes_of-append calls more
 bytes_of-append (Measured size ∷ calls) more = bytes_of-append calls more
@@ -26,11 +26,11 @@ bytes_of-append (Wrote at bytes ok ∷ calls) more = bytes_of-append calls more
 bytes_of-append (Synced ok ∷ calls) more = bytes_of-append calls more
 bytes_of-append (GiveFailed ∷ calls) more = bytes_of-append calls more
 
-pub bytes_of_gave : (calls : List Told) (bytes : List ℕ) → bytes_of (calls ++ Gave bytes ∷ []) ≡ bytes_of calls ++ bytes
-bytes_of_gave calls bytes = bytes_of-append calls (Gave bytes ∷ []) ∙ ap (λ rest. bytes_of calls ++ rest) (append-nil bytes)
+pub bytes_of_gave : (calls : List EndTold) (bytes : List ℕ) → bytes_given (calls ++ Gave bytes ∷ []) ≡ bytes_given calls ++ bytes
+bytes_of_gave calls bytes = bytes_of-append calls (Gave bytes ∷ []) ∙ ap (λ rest. bytes_given calls ++ rest) (append-nil bytes)
 
-pub bytes_of_failed : (calls : List Told) → bytes_of (calls ++ GiveFailed ∷ []) ≡ bytes_of calls
-bytes_of_failed calls = bytes_of-append calls (GiveFailed ∷ []) ∙ append-nil (bytes_of calls)
+pub bytes_of_failed : (calls : List EndTold) → bytes_given (calls ++ GiveFailed ∷ []) ≡ bytes_given calls
+bytes_of_failed calls = bytes_of-append calls (GiveFailed ∷ []) ∙ append-nil (bytes_given calls)
 
 -- ## Its end
 
@@ -42,7 +42,7 @@ or_false : (a : Bool) → a || false ≡ a
 or_false true = refl
 or_false false = refl
 
-pub says_end-append : (calls more : List Told) → says_end (calls ++ more) ≡ says_end calls || says_end more
+pub says_end-append : (calls more : List EndTold) → says_end (calls ++ more) ≡ says_end calls || says_end more
 says_end-append [] more = refl
 says_end-append (Gave bytes ∷ calls) more =
     ap (λ rest. is_none bytes || rest) (says_end-append calls more) ∙ sym (or_assoc (is_none bytes) (says_end calls) (says_end more))
@@ -56,15 +56,15 @@ says_end-append (Wrote at bytes ok ∷ calls) more = says_end-append calls more
 says_end-append (Synced ok ∷ calls) more = says_end-append calls more
 says_end-append (GiveFailed ∷ calls) more = says_end-append calls more
 
-pub says_end_gave : (calls : List Told) (bytes : List ℕ) → says_end (calls ++ Gave bytes ∷ []) ≡ says_end calls || is_none bytes
+pub says_end_gave : (calls : List EndTold) (bytes : List ℕ) → says_end (calls ++ Gave bytes ∷ []) ≡ says_end calls || is_none bytes
 says_end_gave calls bytes = says_end-append calls (Gave bytes ∷ []) ∙ ap (λ last. says_end calls || last) (or_false (is_none bytes))
 
-pub says_end_failed : (calls : List Told) → says_end (calls ++ GiveFailed ∷ []) ≡ says_end calls
+pub says_end_failed : (calls : List EndTold) → says_end (calls ++ GiveFailed ∷ []) ≡ says_end calls
 says_end_failed calls = says_end-append calls (GiveFailed ∷ []) ∙ or_false (says_end calls)
 
 -- ## Its failures
 
-pub says_failed-append : (calls more : List Told) → says_failed (calls ++ more) ≡ says_failed calls || says_failed more
+pub says_failed-append : (calls more : List EndTold) → says_failed (calls ++ more) ≡ says_failed calls || says_failed more
 says_failed-append [] more = refl
 says_failed-append (GiveFailed ∷ calls) more = refl
 says_failed-append (Gave bytes ∷ calls) more = says_failed-append calls more
@@ -77,32 +77,32 @@ says_failed-append (ReadFailed at ∷ calls) more = says_failed-append calls mor
 says_failed-append (Wrote at bytes ok ∷ calls) more = says_failed-append calls more
 says_failed-append (Synced ok ∷ calls) more = says_failed-append calls more
 
-pub says_failed_gave : (calls : List Told) (bytes : List ℕ) → says_failed (calls ++ Gave bytes ∷ []) ≡ says_failed calls
+pub says_failed_gave : (calls : List EndTold) (bytes : List ℕ) → says_failed (calls ++ Gave bytes ∷ []) ≡ says_failed calls
 says_failed_gave calls bytes = says_failed-append calls (Gave bytes ∷ []) ∙ or_false (says_failed calls)
 
 -- ## Two lists
 
-pub grew_none : (one other : List Told) → GrewAlike one one other other
+pub grew_none : (one other : List EndTold) → GrewAlike one one other other
 grew_none one other = ([], sym (append-nil one), sym (append-nil other))
 
-pub grew_more : (one one' one'' other other' other'' : List Told) → GrewAlike one one' other other' → GrewAlike one' one'' other' other'' → GrewAlike one one'' other other''
+pub grew_more : (one one' one'' other other' other'' : List EndTold) → GrewAlike one one' other other' → GrewAlike one' one'' other' other'' → GrewAlike one one'' other other''
 grew_more one one' one'' other other' other'' (calls, is, is') (more, then, then') =
     (calls ++ more, then ∙ ap (λ front. front ++ more) is ∙ append_assoc one calls more, then' ∙ ap (λ front. front ++ more) is' ∙ append_assoc other calls more)
 
 -- ## The bytes that are kept
 
 -- behind all that came before stand those that came last
-pub behind_bytes : (calls : List Told) (bytes : List ℕ) (behind : ℕ) → behind ≡ length (bytes_of calls) → bytes ≡ drop behind (bytes_of (calls ++ Gave bytes ∷ []))
-behind_bytes calls bytes behind is = sym (rw (bytes_of_gave calls bytes) (rw is (drop-append_seam (bytes_of calls) bytes)))
+pub behind_bytes : (calls : List EndTold) (bytes : List ℕ) (behind : ℕ) → behind ≡ length (bytes_given calls) → bytes ≡ drop behind (bytes_given (calls ++ Gave bytes ∷ []))
+behind_bytes calls bytes behind is = sym (rw (bytes_of_gave calls bytes) (rw is (drop-append_seam (bytes_given calls) bytes)))
 
-pub behind_length : (calls : List Told) (bytes : List ℕ) (behind : ℕ) → behind ≡ length (bytes_of calls) → behind + length bytes ≡ length (bytes_of (calls ++ Gave bytes ∷ []))
-behind_length calls bytes behind is = let all = ap length (bytes_of_gave calls bytes) ∙ length-append (bytes_of calls) bytes in omega (arith, is, all)
+pub behind_length : (calls : List EndTold) (bytes : List ℕ) (behind : ℕ) → behind ≡ length (bytes_given calls) → behind + length bytes ≡ length (bytes_given (calls ++ Gave bytes ∷ []))
+behind_length calls bytes behind is = let all = ap length (bytes_of_gave calls bytes) ∙ length-append (bytes_given calls) bytes in omega (arith, is, all)
 
 -- the end was said before, or just now
-pub end_before : (calls : List Told) (bytes : List ℕ) → says_end calls ≡ true → says_end (calls ++ Gave bytes ∷ []) ≡ true
+pub end_before : (calls : List EndTold) (bytes : List ℕ) → says_end calls ≡ true → says_end (calls ++ Gave bytes ∷ []) ≡ true
 end_before calls bytes was = says_end_gave calls bytes ∙ ap (λ said. said || is_none bytes) was
 
-pub end_now : (calls : List Told) (bytes : List ℕ) → bytes ≡ [] → says_end (calls ++ Gave bytes ∷ []) ≡ true
+pub end_now : (calls : List EndTold) (bytes : List ℕ) → bytes ≡ [] → says_end (calls ++ Gave bytes ∷ []) ≡ true
 end_now calls bytes none = says_end_gave calls bytes ∙ ap (λ bytes. says_end calls || is_none bytes) none ∙ or_true (says_end calls)
   where
     or_true : (a : Bool) → a || true ≡ true

@@ -1,8 +1,8 @@
 -- What takes an output, and where an input comes from, whichever it is.
 use Rattle.std.specs.Prelude.{◌≡◌, ◌<◌, ◌≤◌, ℕ, ◌-◌, ◌^◌, Bool, true, false, Option, Some, None, List, [], ◌∷◌, ◌++◌, length, take, drop, Result, IfOk, is_ok, is_err}
 use Rattle.std.specs.Io.KnownBytes.{Appends, Keeps}
-use Rattle.tp_stream_files.specs.Told.{Told, Wrote, Synced}
-use Rattle.tp_stream_files.specs.Trace.{size_after, read, GrewAlike, bytes_of, says_end, says_failed}
+use Rattle.tp_stream_files.specs.Told.{EndTold, Wrote, Synced}
+use Rattle.tp_stream_files.specs.Trace.{size_after, read, GrewAlike, bytes_given, says_end, says_failed}
 use Rattle.tp_stream_files.specs.declared.sinks.AnySink.{AnySink}
 use Rattle.tp_stream_files.specs.declared.sinks.AnySink.TheVariants.{File, Out, Nothing}
 use Rattle.tp_stream_files.specs.declared.sources.AnySource.{AnySource}
@@ -23,7 +23,7 @@ length_of Nothing = None
 
 -- Bytes were to be put: a file was asked to write them at their offset, and has as many bytes as that says; standard output has them behind
 -- what it had.
-abbrev pub WasPut : {F O : Type 0} → (calls : F → List Told) → (contents : O → Option (List ℕ)) → ℕ → List ℕ → Bool → AnySink F O → AnySink F O → Type 0
+abbrev pub WasPut : {F O : Type 0} → (calls : F → List EndTold) → (contents : O → Option (List ℕ)) → ℕ → List ℕ → Bool → AnySink F O → AnySink F O → Type 0
 WasPut calls contents at bytes ok (File old) (File new) = (calls new.file ≡ calls old.file ++ Wrote at bytes ok ∷ []) × (new.size ≡ size_after old.size (Wrote at bytes ok))
 WasPut calls contents at bytes ok (Out old) (Out new) = ok ≡ true → Appends (contents old.now) (contents new.now) bytes
 WasPut calls contents at bytes ok Nothing Nothing = ok ≡ true
@@ -35,7 +35,7 @@ WasPut calls contents at bytes ok Nothing (File new) = ⊥
 WasPut calls contents at bytes ok Nothing (Out new) = ⊥
 
 -- What was put was to be made safe: a file was asked to sync, and standard output has the bytes that it had.
-abbrev pub WasSettled : {F O : Type 0} → (calls : F → List Told) → (contents : O → Option (List ℕ)) → Bool → AnySink F O → AnySink F O → Type 0
+abbrev pub WasSettled : {F O : Type 0} → (calls : F → List EndTold) → (contents : O → Option (List ℕ)) → Bool → AnySink F O → AnySink F O → Type 0
 WasSettled calls contents ok (File old) (File new) = (calls new.file ≡ calls old.file ++ Synced ok ∷ []) × (new.size ≡ old.size)
 WasSettled calls contents ok (Out old) (Out new) = Keeps (contents old.now) (contents new.now)
 WasSettled calls contents ok Nothing Nothing = ok ≡ true
@@ -47,27 +47,27 @@ WasSettled calls contents ok Nothing (File new) = ⊥
 WasSettled calls contents ok Nothing (Out new) = ⊥
 
 -- A pipe took of its feed just what that gave.
-abbrev pub Took : {I : Type 0} → (given : I → List Told) → Pipe I → Pipe I → Type 0
+abbrev pub Took : {I : Type 0} → (given : I → List EndTold) → Pipe I → Pipe I → Type 0
 Took given old new = GrewAlike (given old.feed.now) (given new.feed.now) old.held.trace.told new.held.trace.told
 
 -- A pipe was read from a position on: what it gave is what its feed gave there, however that was cut into pieces; it gave none only where
 -- the feed has ended in front of the position; and it failed where the feed has failed.
-pub record WasPiped {I E : Type 0} (given : I → List Told) (at : ℕ) (result : Result ℕ E) (out : List ℕ) (old new : Pipe I) : Type 0 where
+pub record WasPiped {I E : Type 0} (given : I → List EndTold) (at : ℕ) (result : Result ℕ E) (out : List ℕ) (old new : Pipe I) : Type 0 where
   pub took : Took given old new
-  pub bytes : IfOk result (λ count. take count out ≡ take count (drop at (bytes_of new.held.trace.told)))
+  pub bytes : IfOk result (λ count. take count out ≡ take count (drop at (bytes_given new.held.trace.told)))
   pub none : IfOk result (λ count. count ≡ 0 → 0 < length out → says_end new.held.trace.told ≡ true)
-  pub all : IfOk result (λ count. count ≡ 0 → 0 < length out → length (bytes_of new.held.trace.told) ≤ at)
+  pub all : IfOk result (λ count. count ≡ 0 → 0 < length out → length (bytes_given new.held.trace.told) ≤ at)
   pub failed : says_failed new.held.trace.told ≡ true → is_err result ≡ true
 
 -- A source was read from a position on: a file was asked for the bytes there, and its answer is the source's.
-abbrev pub WasRead : {F I E : Type 0} → (calls : F → List Told) → (given : I → List Told) → ℕ → Result ℕ E → List ℕ → AnySource F I → AnySource F I → Type 0
+abbrev pub WasRead : {F I E : Type 0} → (calls : F → List EndTold) → (given : I → List EndTold) → ℕ → Result ℕ E → List ℕ → AnySource F I → AnySource F I → Type 0
 WasRead calls given at result out (FromFile old) (FromFile new) = calls new ≡ calls old ++ read at result out ∷ []
 WasRead calls given at result out (In old) (In new) = WasPiped given at result out old new
 WasRead calls given at result out (FromFile old) (In new) = ⊥
 WasRead calls given at result out (In old) (FromFile new) = ⊥
 
 -- A source was asked whether it would wait: a file never does, and isn't asked.
-abbrev pub WasAsked : {F I : Type 0} → (given : I → List Told) → Bool → AnySource F I → AnySource F I → Type 0
+abbrev pub WasAsked : {F I : Type 0} → (given : I → List EndTold) → Bool → AnySource F I → AnySource F I → Type 0
 WasAsked given waits (FromFile old) (FromFile new) = (waits ≡ false) × (new ≡ old)
 WasAsked given waits (In old) (In new) = Took given old new
 WasAsked given waits (FromFile old) (In new) = ⊥

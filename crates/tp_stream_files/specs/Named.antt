@@ -11,17 +11,17 @@ have_in [] port = None
 have_in (have ∷ haves) port = if nat_eq have.port port then Some have.number else have_in haves port
 
 -- the output of a port before anything is put, where its reader has it up to `have`
-abbrev pub fresh : ℕ → Option ℕ → OutputValue
-fresh port have = record { port = port; have = have; confirmed = 0; next = 0; held = None }
+abbrev pub fresh_output : ℕ → Option ℕ → OutputValue
+fresh_output port have = record { port = port; have = have; confirmed = 0; next = 0; held = None }
 
 -- the output that goes to an end
 abbrev pub output_to : List PortNumber → PortFile → OutputValue
-output_to haves end = fresh end.port (have_in haves end.port)
+output_to haves end = fresh_output end.port (have_in haves end.port)
 
 -- the output that is let go
 abbrev pub output_away : ℕ → OutputValue
-output_away port = fresh port None
+output_away port = fresh_output port None
 
 -- the outputs of all ends, each with what its own reader has
-abbrev pub outputs_of : Ends → List OutputValue
-outputs_of ends = map (output_to ends.haves.items) ends.outs.items ++ map output_away ends.discards.items
+abbrev pub outputs_named : Ends → List OutputValue
+outputs_named ends = map (output_to ends.haves.items) ends.outs.items ++ map output_away ends.discards.items

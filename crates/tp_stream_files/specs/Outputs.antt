@@ -1,6 +1,6 @@
 -- A port's output, and the sink that takes it.
 use Rattle.std.specs.Prelude.{◌≡◌, ℕ, ◌+◌, List, length, Option}
-use Rattle.tp_stream_files.specs.Held.{Held, HasPut}
+use Rattle.tp_stream_files.specs.Held.{HeldBytes, HasPut}
 
 -- The port; up to where its reader says that it has the outputs; up to where they are confirmed; up to where they were put and are
 -- safe; and what the sink holds.
@@ -9,19 +9,19 @@ pub record OutputValue : Type 0 where
   pub have : Option ℕ
   pub confirmed : ℕ
   pub next : ℕ
-  pub held : Option Held
+  pub held : Option HeldBytes
 
 -- An output as it is given: its port, up to where its reader says that it has the outputs, and what the sink holds.
 pub record Given : Type 0 where
   pub port : ℕ
   pub have : Option ℕ
-  pub held : Option Held
+  pub held : Option HeldBytes
 
 abbrev pub given_of : OutputValue → Given
 given_of o = record { port = o.port; have = o.have; held = o.held }
 
 -- Bytes were put behind those that there were, and are safe. Nothing was confirmed.
-pub record Grew (bytes : List ℕ) (old new : OutputValue) : Type 0 where
+pub record WasPutSafely (bytes : List ℕ) (old new : OutputValue) : Type 0 where
   pub port : new.port ≡ old.port
   pub confirmed : new.confirmed ≡ old.confirmed
   pub next : new.next ≡ old.next + length bytes

@@ -1,10 +1,10 @@
 -- What the file that takes an output was asked.
 use Rattle.std.specs.Prelude.{◌≡◌, ◌⊎◌, ℕ, true, Some, None, List, [], ◌∷◌, ◌++◌, length, take, if◌then◌else◌, nat_eq, ◌<◌}
 use Rattle.std.specs.Str.Pattern.{RFindsChar}
-use Rattle.tp_stream_files.specs.Told.{Told, SyncedFolder, Measured, Synced}
+use Rattle.tp_stream_files.specs.Told.{EndTold, SyncedFolder, Measured, Synced}
 
 -- of the file: its length, and that what is in it lasts
-abbrev pub begin_calls : ℕ → List Told
+abbrev pub begin_calls : ℕ → List EndTold
 begin_calls size = Measured size ∷ Synced true ∷ []
 
 -- what is in front of a path's last slash, or `/` where nothing is
@@ -18,9 +18,9 @@ IsFolder path folder =
     ⊎ ((i : ℕ) × (j : ℕ) × RFindsChar 47 path (Some (i, j)) × (folder ≡ before_slash (take i path)))
 
 -- The folder of a path was synced.
-abbrev pub HasSynced : List ℕ → List Told → List Told → Type 0
+abbrev pub HasSynced : List ℕ → List EndTold → List EndTold → Type 0
 HasSynced path old new = (folder : List ℕ) × IsFolder path folder × (new ≡ old ++ SyncedFolder folder true ∷ [])
 
 -- The folder of a file that is opened was synced where the file is empty and may be new, and nothing else was asked.
-abbrev pub SyncsFolder : ℕ → List ℕ → List Told → List Told → Type 0
+abbrev pub SyncsFolder : ℕ → List ℕ → List EndTold → List EndTold → Type 0
 SyncsFolder size path old new = (size ≡ 0 → HasSynced path old new) × (0 < size → new ≡ old)

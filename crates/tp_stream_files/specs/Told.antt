@@ -5,14 +5,14 @@ use Rattle.std.specs.declared.fs.options.OpenOptions.{OpenOptions}
 -- Of files: how one of a path was opened, and whether that was done; whether a folder was synced. Of an open file: its length, or that it
 -- wasn't said; what was read from a place on, or that it wasn't; what was written there, and whether it was; whether it was synced. Of a
 -- feed: the bytes that it gave, none at its end, or that it failed.
-pub data Told : Type 0 where
-  Opened : (how : OpenOptions) → (path : List ℕ) → (ok : Bool) → Told
-  SyncedFolder : (path : List ℕ) → (ok : Bool) → Told
-  Measured : (size : ℕ) → Told
-  MeasureFailed : Told
-  HasRead : (at : ℕ) → (came : List ℕ) → Told
-  ReadFailed : (at : ℕ) → Told
-  Wrote : (at : ℕ) → (bytes : List ℕ) → (ok : Bool) → Told
-  Synced : (ok : Bool) → Told
-  Gave : (bytes : List ℕ) → Told
-  GiveFailed : Told
+pub data EndTold : Type 0 where
+  Opened : (how : OpenOptions) → (path : List ℕ) → (ok : Bool) → EndTold
+  SyncedFolder : (path : List ℕ) → (ok : Bool) → EndTold
+  Measured : (size : ℕ) → EndTold
+  MeasureFailed : EndTold
+  HasRead : (at : ℕ) → (came : List ℕ) → EndTold
+  ReadFailed : (at : ℕ) → EndTold
+  Wrote : (at : ℕ) → (bytes : List ℕ) → (ok : Bool) → EndTold
+  Synced : (ok : Bool) → EndTold
+  Gave : (bytes : List ℕ) → EndTold
+  GiveFailed : EndTold

@@ -1,9 +1,9 @@
 -- What a list of calls comes to.
 use Rattle.std.specs.Prelude.{◌≡◌, ℕ, ◌+◌, ◌-◌, ◌^◌, Bool, true, false, ◌||◌, List, [], ◌∷◌, ◌++◌, length, min, max, take, Result, Ok, Err}
-use Rattle.tp_stream_files.specs.Told.{Told, Opened, SyncedFolder, Measured, MeasureFailed, HasRead, ReadFailed, Wrote, Synced, Gave, GiveFailed}
+use Rattle.tp_stream_files.specs.Told.{EndTold, Opened, SyncedFolder, Measured, MeasureFailed, HasRead, ReadFailed, Wrote, Synced, Gave, GiveFailed}
 
 -- how many bytes a file has after a call, where it had `size`
-abbrev pub size_after : ℕ → Told → ℕ
+abbrev pub size_after : ℕ → EndTold → ℕ
 size_after size (Measured now) = now
 size_after size (Wrote at bytes true) = max size (min (at + length bytes) (2 ^ 64 - 1))
 size_after size (Wrote at bytes false) = size
@@ -17,30 +17,30 @@ size_after size (Gave bytes) = size
 size_after size GiveFailed = size
 
 -- how many bytes a file has as its calls say: as measured, and grown by each write that was done
-abbrev pub size_told : ℕ → List Told → ℕ
+abbrev pub size_told : ℕ → List EndTold → ℕ
 size_told size [] = size
 size_told size (call ∷ calls) = size_told (size_after size call) calls
 
 -- the answer to a measure
-abbrev pub measured : {E : Type 0} → Result ℕ E → Told
+abbrev pub measured : {E : Type 0} → Result ℕ E → EndTold
 measured (Ok size) = Measured size
 measured (Err e) = MeasureFailed
 
 -- the answer to a read from a place on, where `out` is what the buffer holds then
-abbrev pub read : {E : Type 0} → ℕ → Result ℕ E → List ℕ → Told
+abbrev pub read : {E : Type 0} → ℕ → Result ℕ E → List ℕ → EndTold
 read at (Ok count) out = HasRead at (take count out)
 read at (Err e) out = ReadFailed at
 
 -- what a feed answered
-abbrev pub gave : {E : Type 0} → Result ℕ E → List ℕ → Told
+abbrev pub gave : {E : Type 0} → Result ℕ E → List ℕ → EndTold
 gave (Ok count) out = Gave (take count out)
 gave (Err e) out = GiveFailed
 
 -- the bytes that a feed gave
-abbrev pub bytes_of : List Told → List ℕ
-bytes_of [] = []
-bytes_of (Gave bytes ∷ calls) = bytes ++ bytes_of calls
-bytes_of (_ ∷ calls) = bytes_of calls
+abbrev pub bytes_given : List EndTold → List ℕ
+bytes_given [] = []
+bytes_given (Gave bytes ∷ calls) = bytes ++ bytes_given calls
+bytes_given (_ ∷ calls) = bytes_given calls
 
 -- no byte
 abbrev pub is_none : List ℕ → Bool
@@ -48,22 +48,22 @@ is_none [] = true
 is_none (byte ∷ bytes) = false
 
 -- whether a feed said that it has come to its end
-abbrev pub says_end : List Told → Bool
+abbrev pub says_end : List EndTold → Bool
 says_end [] = false
 says_end (Gave bytes ∷ calls) = is_none bytes || says_end calls
 says_end (_ ∷ calls) = says_end calls
 
 -- whether a feed has failed
-abbrev pub says_failed : List Told → Bool
+abbrev pub says_failed : List EndTold → Bool
 says_failed [] = false
 says_failed (GiveFailed ∷ calls) = true
 says_failed (_ ∷ calls) = says_failed calls
 
 -- Two lists have grown by just the calls that were made.
-abbrev pub GrewAlike : (one one' other other' : List Told) → Type 0
-GrewAlike one one' other other' = (calls : List Told) × (one' ≡ one ++ calls) × (other' ≡ other ++ calls)
+abbrev pub GrewAlike : (one one' other other' : List EndTold) → Type 0
+GrewAlike one one' other other' = (calls : List EndTold) × (one' ≡ one ++ calls) × (other' ≡ other ++ calls)
 
 -- how many bytes an answer has
-abbrev pub count_in : {E : Type 0} → Result ℕ E → ℕ
-count_in (Ok count) = count
-count_in (Err e) = 0
+abbrev pub count_answered : {E : Type 0} → Result ℕ E → ℕ
+count_answered (Ok count) = count
+count_answered (Err e) = 0

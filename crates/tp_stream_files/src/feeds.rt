@@ -2,18 +2,18 @@
 
 ghost use Rattle.std.specs.Prelude.{◌≡◌, ◌≤◌, List, [], ◌∷◌, ◌++◌, length, IfOk};
 ghost use Rattle.std.specs.Io.KnownBytes.{ReadConsumes};
-ghost use Rattle.tp_stream_files.specs.Told.{Told};
+ghost use Rattle.tp_stream_files.specs.Told.{EndTold};
 ghost use Rattle.tp_stream_files.specs.Trace.{gave};
 
+use crate::SourceFailed;
 use crate::trace::Trace;
 use std::io::{ErrorKind, Read};
 use tp_model::limits::MAX_HELD;
-use crate::SourceFailed;
 
 /// Bytes that come once, in order, as those of standard input.
 pub trait Feed {
     /// What it has given so far, the oldest first.
-    ghost given: { Self → List Told };
+    ghost given: { Self → List EndTold };
 
     /// Whether `next` would wait for bytes that haven't come yet.
     fn would_wait(&mut self) -> bool

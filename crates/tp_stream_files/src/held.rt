@@ -2,11 +2,11 @@
 
 ghost use Rattle.std.specs.Prelude.{◌≡◌, ◌+◌, ◌<◌, ◌≤◌, ◌⊎◌, ◌∷◌, [], ◌++◌, true, length, take, drop, is_err, IfOk, IfSome, OnErr, OnOk};
 ghost use Rattle.tp_stream_files.specs.Told.{Gave, GiveFailed};
-ghost use Rattle.tp_stream_files.specs.Trace.{bytes_of, gave, says_end, says_failed};
+ghost use Rattle.tp_stream_files.specs.Trace.{bytes_given, gave, says_end, says_failed};
 
+use crate::SourceFailed;
 use crate::trace::Trace;
 use tp_model::limits::MAX_HELD;
-use crate::SourceFailed;
 
 /// The last bytes that came of a feed: they are kept, since a port may have no room for them yet. Those in front of them are gone.
 #[derive(Drop)]
@@ -20,8 +20,8 @@ pub(crate) struct Held {
     has_ended: bool,
     has_failed: bool,
     ghost few: { count ≤ length kept },
-    ghost place: { from + count ≡ length (bytes_of trace.told) },
-    ghost bytes: { take count kept ≡ drop from (bytes_of trace.told) },
+    ghost place: { from + count ≡ length (bytes_given trace.told) },
+    ghost bytes: { take count kept ≡ drop from (bytes_given trace.told) },
     ghost ended: { has_ended ≡ true → says_end trace.told ≡ true },
     ghost failed: { says_failed trace.told ≡ true → has_failed ≡ true },
 }
@@ -48,7 +48,7 @@ impl Held {
 
     /// The position behind all bytes that came. None where it is above the greatest number.
     pub(crate) fn behind(&self) -> Option<u64>
-        ensures { IfSome result (λ behind. behind ≡ length (bytes_of self.now.trace.told)) }
+        ensures { IfSome result (λ behind. behind ≡ length (bytes_given self.now.trace.told)) }
     {
         self.from.checked_add(self.count as u64)
     }
@@ -68,7 +68,7 @@ impl Held {
         kept: &[u8; MAX_HELD],
     )
         requires few { IfOk done (λ count. count ≤ length kept.now) }
-        requires behind { behind ≡ length (bytes_of self.old.trace.told) }
+        requires behind { behind ≡ length (bytes_given self.old.trace.told) }
         ensures { self.new.trace.told ≡ self.old.trace.told ++ gave done kept.now ∷ [] }
     {
         match done {
@@ -81,7 +81,7 @@ impl Held {
     #[tactic(auto, using(crate::proofs::Traces::bytes_of_gave, crate::proofs::Traces::says_end_gave, crate::proofs::Traces::says_failed_gave))]
     fn take_bytes(&mut self, behind: u64, count: usize, kept: &[u8; MAX_HELD])
         requires few { count ≤ length kept.now }
-        requires behind { behind ≡ length (bytes_of self.old.trace.told) }
+        requires behind { behind ≡ length (bytes_given self.old.trace.told) }
         ensures { self.new.trace.told ≡ self.old.trace.told ++ Gave (take count kept.now) ∷ [] }
     {
         self.trace = self.trace.gave(&kept[..count]);
@@ -104,9 +104,9 @@ impl Held {
     /// that are kept, and bytes that haven't come, can't be given.
     pub(crate) fn copy(&self, at: u64, out: &mut [u8]) -> Result<usize, SourceFailed>
         ensures few { IfOk result (λ count. count ≤ length out.new) }
-        ensures bytes { IfOk result (λ count. take count out.new ≡ take count (drop at (bytes_of self.now.trace.told))) }
+        ensures bytes { IfOk result (λ count. take count out.new ≡ take count (drop at (bytes_given self.now.trace.told))) }
         ensures none { IfOk result (λ count. count ≡ 0 → 0 < length out.new → says_end self.now.trace.told ≡ true) }
-        ensures all { IfOk result (λ count. count ≡ 0 → 0 < length out.new → length (bytes_of self.now.trace.told) ≤ at) }
+        ensures all { IfOk result (λ count. count ≡ 0 → 0 < length out.new → length (bytes_given self.now.trace.told) ≤ at) }
         ensures failed { says_failed self.now.trace.told ≡ true → is_err result ≡ true }
         ensures front { at < self.now.from → is_err result ≡ true }
     {

@@ -1,7 +1,7 @@
 //! How ends are opened.
 
 ghost use Rattle.std.specs.Prelude.{◌≡◌, ◌++◌, [], map, IfOk, OnOk};
-ghost use Rattle.tp_stream_files.specs.Named.{output_away, output_to, outputs_of};
+ghost use Rattle.tp_stream_files.specs.Named.{output_away, output_to, outputs_named};
 ghost use Rattle.tp_stream_files.specs.Opening.{KeepsFiles};
 
 use crate::ends::{EndFault, Ends, PortFile};
@@ -14,11 +14,11 @@ use crate::same::{
 use crate::sinks::{AnySink, FileSink, file_at};
 use crate::sources::AnySource;
 use crate::system::{EndFile, EndFiles, Looks};
+use crate::{Input, Output, Streams};
 use std::alloc::Global;
 use std::fs::{Files, OpenFile, OpenOptions};
 use std::io::Write;
 use std::os::unix::fs::FileExt;
-use crate::{Input, Output, Streams};
 
 /// Gives a file its part in the stream.
 fn take(taken: &mut Taken, file: Option<FileNumbers>) -> Result<(), EndFault> {
@@ -179,7 +179,7 @@ pub fn open_ends_over<'a, S: EndFiles<File = F> + Looks, F: EndFile + Drop, I: F
     out: &'a mut O,
 ) -> Result<Streams<AnySink<'a, F, O>, AnySource<'a, F, I>>, EndFault>
     ensures kept { KeepsFiles (S.calls files.old) (S.calls files.new) }
-    ensures outputs { IfOk result (λ streams. streams.outputs.items ≡ outputs_of ends.now) }
+    ensures outputs { IfOk result (λ streams. streams.outputs.items ≡ outputs_named ends.now) }
 {
     if let Some(port) = same_file(files, device, ends) {
         return Err(EndFault::SameFile(port));
@@ -206,7 +206,7 @@ pub fn open_ends<
     feed: &'a mut I,
     out: &'a mut O,
 ) -> Result<Streams<AnySink<'a, OutsideFile<F>, O>, AnySource<'a, OutsideFile<F>, I>>, EndFault>
-    ensures { IfOk result (λ streams. streams.outputs.items ≡ outputs_of ends.now) }
+    ensures { IfOk result (λ streams. streams.outputs.items ≡ outputs_named ends.now) }
 {
     open_ends_over(&mut Outside::new(rt), rt.alloc(), device, ends, feed, out)
 }

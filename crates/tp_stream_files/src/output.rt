@@ -2,7 +2,7 @@
 
 ghost use Rattle.std.specs.Prelude.{◌≡◌, ◌<◌, ◌≤◌, ◌+◌, length, Some, IfSome, IfNone, OnOk, OnErr};
 ghost use Rattle.tp_stream_files.specs.Held.{HasAtMost, HasLength, HasPut, HasReach, KeepsFront, Reaches};
-ghost use Rattle.tp_stream_files.specs.Outputs.{Grew};
+ghost use Rattle.tp_stream_files.specs.Outputs.{WasPutSafely};
 
 use crate::sink::{Sink, SinkFault};
 use std::marker::Model;
@@ -147,7 +147,7 @@ impl<S: Sink> Output<S> {
     /// Puts `bytes` behind those that were put, up to `upto`, and makes them safe.
     pub fn put_upto(&mut self, upto: u64, bytes: &[u8]) -> Result<(), SinkFault>
         requires { upto ≡ self.old.next + length bytes.now }
-        ensures put { OnOk result (Grew bytes.now self.old self.new) }
+        ensures put { OnOk result (WasPutSafely bytes.now self.old self.new) }
         ensures front { KeepsFront self.old.next self.old.held self.new.held }
         ensures failed { OnErr result (self.new ≡ record self.old { held = self.new.held }) }
     {

@@ -1,12 +1,12 @@
 //! A feed by positions.
 
 ghost use Rattle.std.specs.Prelude.{◌≡◌, ◌<◌, ◌≤◌, [], true, length, take, drop, is_err, IfOk};
-ghost use Rattle.tp_stream_files.specs.Trace.{GrewAlike, bytes_of, says_end, says_failed};
+ghost use Rattle.tp_stream_files.specs.Trace.{GrewAlike, bytes_given, says_end, says_failed};
 
+use crate::SourceFailed;
 use crate::feeds::Feed;
 use crate::held::Held;
 use tp_model::limits::MAX_HELD;
-use crate::SourceFailed;
 
 /// A port's whole input, from a feed.
 #[derive(Drop)]
@@ -73,9 +73,9 @@ impl<'a, I: Feed> Pipe<'a, I> {
     pub(crate) fn read_from(&mut self, at: u64, out: &mut [u8]) -> Result<usize, SourceFailed>
         ensures grew { GrewAlike (I.given self.old.feed.now) (I.given self.new.feed.now) self.old.held.trace.told self.new.held.trace.told }
         ensures few { IfOk result (λ count. count ≤ length out.new) }
-        ensures bytes { IfOk result (λ count. take count out.new ≡ take count (drop at (bytes_of self.new.held.trace.told))) }
+        ensures bytes { IfOk result (λ count. take count out.new ≡ take count (drop at (bytes_given self.new.held.trace.told))) }
         ensures none { IfOk result (λ count. count ≡ 0 → 0 < length out.new → says_end self.new.held.trace.told ≡ true) }
-        ensures all { IfOk result (λ count. count ≡ 0 → 0 < length out.new → length (bytes_of self.new.held.trace.told) ≤ at) }
+        ensures all { IfOk result (λ count. count ≡ 0 → 0 < length out.new → length (bytes_given self.new.held.trace.told) ≤ at) }
         ensures failed { says_failed self.new.held.trace.told ≡ true → is_err result ≡ true }
     {
         self.reach(at);

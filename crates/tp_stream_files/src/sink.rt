@@ -1,7 +1,7 @@
 //! What takes a port's output.
 
 ghost use Rattle.std.specs.Prelude.{Option, None, OnOk};
-ghost use Rattle.tp_stream_files.specs.Held.{Held, HasLength, HasPut, HasReach, IsSafe, KeepsBytes, KeepsFront, Reaches};
+ghost use Rattle.tp_stream_files.specs.Held.{HeldBytes, HasLength, HasPut, HasReach, IsSafe, KeepsBytes, KeepsFront, Reaches};
 
 /// Why bytes couldn't be put, or not be made safe.
 #[derive(Clone, Copy, Debug, PartialEq, Eq)]
@@ -15,7 +15,7 @@ pub enum SinkFault {
 /// What takes a port's output: byte number q of the port at position q.
 pub trait Sink {
     /// What it holds, where that is known.
-    ghost held: { Self → Option Held } = { λ _. None };
+    ghost held: { Self → Option HeldBytes } = { λ _. None };
 
     /// Up to which position it can be put at: its bytes up to there are there, and safe.
     fn reach(&self) -> u64

@@ -10,11 +10,11 @@ ghost use Rattle.tp_stream_files.specs.Trace.{size_after};
 
 use crate::outside::{Outside, OutsideFile};
 use crate::system::{EndFile, EndFiles};
+use crate::{Sink, SinkFault};
 use std::fs::{Files, OpenFile, OpenOptions};
 use std::io;
 use std::io::{ErrorKind, Write};
 use std::os::unix::fs::FileExt;
-use crate::{Sink, SinkFault};
 
 /// A file whose byte number q is byte number q of the port.
 #[derive(Drop)]

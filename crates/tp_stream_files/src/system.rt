@@ -1,7 +1,7 @@
 //! The system's calls on the files of streams.
 
 ghost use Rattle.std.specs.Prelude.{◌≡◌, ◌≤◌, List, [], ◌∷◌, ◌++◌, length, is_ok, IfOk};
-ghost use Rattle.tp_stream_files.specs.Told.{Told, Opened, SyncedFolder, Synced, Wrote};
+ghost use Rattle.tp_stream_files.specs.Told.{EndTold, Opened, SyncedFolder, Synced, Wrote};
 ghost use Rattle.tp_stream_files.specs.Trace.{measured, read};
 
 use crate::same::FileNumbers;
@@ -11,7 +11,7 @@ use std::io;
 /// An open file, as an end uses it. No call of it cuts the file.
 pub trait EndFile {
     /// The calls that were made on it, the oldest first.
-    ghost calls: { Self → List Told };
+    ghost calls: { Self → List EndTold };
 
     /// How many bytes it has.
     fn measure(&mut self) -> io::Result<u64>
@@ -42,7 +42,7 @@ pub trait EndFiles {
     type File: EndFile + Drop;
 
     /// The calls that were made on it, the oldest first.
-    ghost calls: { Self → List Told };
+    ghost calls: { Self → List EndTold };
 
     /// Opens the file of a path. No call was made on it.
     fn open(&mut self, how: &OpenOptions, path: &str) -> io::Result<Self::File>

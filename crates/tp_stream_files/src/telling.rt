@@ -1,7 +1,7 @@
 //! What is said of a stream on standard error.
 
-use std::io::Write;
 use crate::{Ended, Listener, Output, Progress, Sink, Stopped};
+use std::io::Write;
 
 /// Who says it, and which ports live on standard output and standard input. A failed write is let go.
 #[derive(Drop)]

@@ -2,8 +2,9 @@
 
 ghost use Rattle.std.specs.Prelude.{◌≡◌, ◌≤◌, true, length, is_err, IfNone, IfOk, IfSome};
 ghost use Rattle.std.specs.Io.KnownBytes.{ReadConsumes};
-ghost use Rattle.tp_stream_files.specs.Trace.{count_in};
+ghost use Rattle.tp_stream_files.specs.Trace.{count_answered};
 
+use crate::SourceFailed;
 use crate::feeds::{Feed, read_some};
 use crate::trace::Trace;
 use crossbeam_channel::{Receiver, Sender, TryRecvError, bounded};
@@ -13,7 +14,6 @@ use std::sync::Wait;
 use std::thread;
 use std::thread::Threads;
 use tp_model::limits::MAX_HELD;
-use crate::SourceFailed;
 
 /// How many pieces are read before the first one is taken.
 const PIECES: usize = 4;
@@ -23,7 +23,7 @@ const PIECES: usize = 4;
 struct Piece {
     came: Result<usize, SourceFailed>,
     bytes: [u8; MAX_HELD],
-    ghost few: { count_in came ≤ length bytes },
+    ghost few: { count_answered came ≤ length bytes },
 }
 
 /// Reads the next piece.

@@ -2,7 +2,7 @@
 
 ghost use Rattle.std.specs.Prelude.{◌≡◌, List, [], ◌∷◌, ◌++◌};
 ghost use Rattle.std.specs.Borrow.{ftrue};
-ghost use Rattle.tp_stream_files.specs.Told.{Told, Opened, SyncedFolder, Measured, MeasureFailed, HasRead, ReadFailed, Wrote, Synced, Gave, GiveFailed};
+ghost use Rattle.tp_stream_files.specs.Told.{EndTold, Opened, SyncedFolder, Measured, MeasureFailed, HasRead, ReadFailed, Wrote, Synced, Gave, GiveFailed};
 
 use std::fs::OpenOptions;
 use std::marker::Model;
@@ -10,7 +10,7 @@ use std::marker::Model;
 /// A list of calls without bytes: contracts alone see it, and no call reads it.
 #[derive(Drop)]
 pub struct Trace {
-    pub ghost told: { List Told },
+    pub ghost told: { List EndTold },
 }
 
 impl Model for Trace {
@@ -20,7 +20,7 @@ impl Model for Trace {
 impl Trace {
     /// The list that contracts name of a value. It does nothing.
     pub(crate) fn of<T>(_value: &T) -> Trace
-        ghost told: { List Told }
+        ghost told: { List EndTold }
         ensures { result.told ≡ told }
     {
         Trace {}

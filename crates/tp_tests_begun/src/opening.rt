@@ -2,7 +2,7 @@
 
 ghost use Rattle.std.specs.Prelude.{◌≡◌, ◌<◌, ◌≤◌, [], true, false, Ok, All, IfOk, Some};
 ghost use Rattle.tp_area.specs.Places.{place_at};
-ghost use Rattle.tp_flush.specs.Made.{StandsFor};
+ghost use Rattle.tp_flush.specs.Made.{IsMadeOf};
 ghost use Rattle.tp_model.specs.DiskHistory.{IsSynced};
 ghost use Rattle.tp_model.specs.Journal.{is_roomy, room};
 ghost use Rattle.tp_model.specs.Opening.{verdict};
@@ -18,8 +18,8 @@ use tp_area::Store;
 use tp_book::{Book, opened_books_begin};
 use tp_disk::Disk;
 use tp_flush::{Flusher, topology_of};
-use tp_ready::{Mark, Pass, Raiser};
 use tp_net::Topology;
+use tp_ready::{Mark, Pass, Raiser};
 use tp_recover::{Opened, Unopened, open};
 use tp_shared::{Gate, Naming, Parts};
 use tp_work::{Net, Seat, nodes_of};
@@ -40,7 +40,7 @@ pub struct Opening<D: Disk> {
     pub first: u64,
     raiser: Raiser,
     store: Store<D>,
-    pub ghost made: { StandsFor opened.value parts raiser },
+    pub ghost made: { IsMadeOf opened.value parts raiser },
     pub ghost bound: { parts.book.room ≡ Some (room opened.value.head.topology opened.value.head.areas.length) },
     pub ghost first_is: { first ≡ parts.first },
     pub ghost topology_is: { topology ≡ opened.value.head.topology },
@@ -63,7 +63,7 @@ impl<D: Disk + Drop> Opening<D> {
 
 /// The book and the nodes of what was opened, and the raiser of their mark.
 fn parts_of(alloc: Global, opened: Opened, spare: usize) -> Result<(Parts, Raiser), AllocError>
-    ensures parts { IfOk result (λ made. StandsFor opened made.0 made.1) }
+    ensures parts { IfOk result (λ made. IsMadeOf opened made.0 made.1) }
     ensures bound { IfOk result (λ made. made.0.book.room ≡ Some (room opened.head.topology opened.head.areas.length)) }
 {
     opened_books_begin();

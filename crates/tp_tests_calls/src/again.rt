@@ -5,10 +5,9 @@ use std::alloc::Global;
 use std::sync::Wait;
 use tp_book::{Book, Refusal};
 use tp_flush::FlushFault;
-use tp_work::{ConfirmFault, OfferFault, ShownFault};
 use tp_model::Token;
 use tp_shared::{Naming, Shared};
-use tp_work::TurnFault;
+use tp_work::{ConfirmFault, OfferFault, ShownFault, TurnFault};
 
 /// A turn. Where memory was refused in it, nothing ran, and the process waits behind the other one: which finds nothing to do, and then it
 /// goes on behind the tokens that it took. None where the other one did something.

@@ -1,8 +1,8 @@
 //! Calls of a book: where memory is refused it is as it was, and the call can be made again.
 
 ghost use Rattle.std.specs.Prelude.{IfOk, IfSome};
-ghost use Rattle.tp_book.specs.Opened.{IsOpened};
-ghost use Rattle.tp_book.specs.Parts.{network_of};
+ghost use Rattle.tp_book.specs.Opened.{IsWellOpen};
+ghost use Rattle.tp_book.specs.Parts.{network_made};
 ghost use Rattle.tp_tests_calls.specs.Usable.{IsLone, IsUsable};
 
 use crate::books::{hand_in, lone_net, make_ready, reserve, start};
@@ -16,7 +16,7 @@ use tp_recover::open;
 
 /// The network of an image, though memory may be refused once.
 fn net_of(alloc: Global, image: &[u8]) -> Result<NetParts, Fail>
-    ensures { IfOk result (λ net. IsLone (network_of net)) }
+    ensures { IfOk result (λ net. IsLone (network_made net)) }
 {
     match lone_net(alloc, image) {
         Some(net) => Ok(net),
@@ -29,7 +29,7 @@ fn net_of(alloc: Global, image: &[u8]) -> Result<NetParts, Fail>
 
 /// The network.
 fn net(alloc: Global) -> Result<NetParts, Fail>
-    ensures { IfOk result (λ net. IsLone (network_of net)) }
+    ensures { IfOk result (λ net. IsLone (network_made net)) }
 {
     let image = image(alloc)?;
     let net = net_of(alloc, &image);
@@ -38,7 +38,7 @@ fn net(alloc: Global) -> Result<NetParts, Fail>
 
 /// The book of the network, though memory may be refused once.
 fn started(alloc: Global, net: &NetParts) -> Result<Book, AllocError>
-    requires { IsLone (network_of net.now) }
+    requires { IsLone (network_made net.now) }
     ensures { IfOk result (λ book. IsUsable book) }
 {
     match start(alloc, net) {
@@ -134,7 +134,7 @@ fn a_token_is_made_ready_again(rt: HostRuntime) -> Result<(), Fail> {
 
 /// What a device leaves, where memory isn't refused.
 fn state(alloc: Global, disk: &mut MemDisk) -> Option<NetState>
-    ensures { IfSome result IsOpened }
+    ensures { IfSome result IsWellOpen }
 {
     let Ok(opened) = open(alloc, disk) else {
         return None;
@@ -147,7 +147,7 @@ fn state(alloc: Global, disk: &mut MemDisk) -> Option<NetState>
 
 /// The same, though memory may be refused once.
 fn state_again(alloc: Global, disk: &mut MemDisk) -> Option<NetState>
-    ensures { IfSome result IsOpened }
+    ensures { IfSome result IsWellOpen }
 {
     match state(alloc, disk) {
         Some(state) => Some(state),
@@ -157,7 +157,7 @@ fn state_again(alloc: Global, disk: &mut MemDisk) -> Option<NetState>
 
 /// The book of what it leaves, though memory may be refused once.
 fn book_of(alloc: Global, state: &NetState) -> Result<Book, AllocError>
-    requires { IsOpened state.now }
+    requires { IsWellOpen state.now }
 {
     match Book::open(alloc, state, Some(3_862)) {
         Ok(book) => Ok(book),

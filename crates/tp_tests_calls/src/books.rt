@@ -2,19 +2,18 @@
 
 ghost use Rattle.std.specs.Prelude.{◌≡◌, IfOk, IfSome, OnErr};
 ghost use Rattle.tp_model.specs.Image.{node_at};
-ghost use Rattle.tp_book.specs.Parts.{network_of};
+ghost use Rattle.tp_book.specs.Parts.{network_made};
 ghost use Rattle.tp_turn.specs.Tried.{lone_network};
 ghost use Rattle.tp_tests_calls.specs.Usable.{IsLone, IsUsable};
 
 use std::alloc::{AllocError, Global};
-use tp_book::{Book, NetParts, Refusal};
+use tp_book::{Book, NetParts, PortParts, Refusal};
 use tp_model::{Token, WireEnd};
-use tp_book::PortParts;
 use tp_turn::{ONE_WIRE, try_output};
 
 /// The network of the node of an image.
 fn parts(alloc: Global, image: &[u8]) -> Result<NetParts, AllocError>
-    ensures { IfOk result (λ net. network_of net ≡ lone_network (node_at image.now)) }
+    ensures { IfOk result (λ net. network_made net ≡ lone_network (node_at image.now)) }
 {
     let lines = Vec::from_array(
         alloc,
@@ -45,7 +44,7 @@ fn parts(alloc: Global, image: &[u8]) -> Result<NetParts, AllocError>
 
 /// The same, where the image can be tried.
 pub(crate) fn lone_net(alloc: Global, image: &[u8]) -> Option<NetParts>
-    ensures { IfSome result (λ net. IsLone (network_of net)) }
+    ensures { IfSome result (λ net. IsLone (network_made net)) }
 {
     let Ok(_output) = try_output(alloc, image, 0, 1) else {
         return None;
@@ -58,7 +57,7 @@ pub(crate) fn lone_net(alloc: Global, image: &[u8]) -> Option<NetParts>
 
 /// The network's book, in which nothing has happened.
 pub(crate) fn start(alloc: Global, net: &NetParts) -> Result<Book, AllocError>
-    requires { IsLone (network_of net.now) }
+    requires { IsLone (network_made net.now) }
     ensures { IfOk result (λ book. IsUsable book) }
 {
     Book::start(alloc, net, None)

@@ -2,7 +2,7 @@
 
 ghost use Rattle.std.specs.Prelude.{◌≡◌, ◌+◌, ◌≤◌, length, take, drop, OnOk, OnErr};
 ghost use Rattle.tp_model.specs.Disk.{Write, Sync, Read, done};
-ghost use Rattle.tp_model.specs.DiskHistory.{Goes, Fails, unknown};
+ghost use Rattle.tp_model.specs.DiskHistory.{MomentPassed, Fails, unknown};
 ghost use Rattle.tp_tests_calls.specs.Changing.{changing_keeps, no_changing};
 
 use tp_disk::{DeviceFailed, RawDisk};
@@ -68,7 +68,7 @@ impl RawDisk for RawChanging {
     #[tactic(auto, unfolding(crate::specs::Changing::changing_keeps))]
     fn read(&mut self, at: u64, out: &mut [u8]) -> Result<(), DeviceFailed>
         ensures size { self.new.size ≡ self.old.size }
-        ensures goes { changing_keeps → Goes unknown unknown }
+        ensures goes { changing_keeps → MomentPassed unknown unknown }
         ensures bytes { changing_keeps → OnOk result (out.new ≡ take (length out.old) (drop at unknown.now.bytes)) }
         ensures after { changing_keeps → OnOk result (unknown.now ≡ done Read unknown.now) }
         ensures failed { changing_keeps → OnErr result (Fails Read unknown unknown) }
@@ -82,7 +82,7 @@ impl RawDisk for RawChanging {
     #[tactic(auto, unfolding(crate::specs::Changing::changing_keeps))]
     fn write_at(&mut self, at: u64, bytes: &[u8]) -> Result<(), DeviceFailed>
         ensures size { self.new.size ≡ self.old.size }
-        ensures goes { changing_keeps → Goes unknown unknown }
+        ensures goes { changing_keeps → MomentPassed unknown unknown }
         ensures after { changing_keeps → OnOk result (unknown.now ≡ done (Write at bytes.now) unknown.now) }
         ensures failed { changing_keeps → OnErr result (Fails (Write at bytes.now) unknown unknown) }
     {
@@ -94,7 +94,7 @@ impl RawDisk for RawChanging {
     #[tactic(auto, unfolding(crate::specs::Changing::changing_keeps))]
     fn sync(&mut self) -> Result<(), DeviceFailed>
         ensures size { self.new.size ≡ self.old.size }
-        ensures goes { changing_keeps → Goes unknown unknown }
+        ensures goes { changing_keeps → MomentPassed unknown unknown }
         ensures after { changing_keeps → OnOk result (unknown.now ≡ done Sync unknown.now) }
         ensures failed { changing_keeps → OnErr result (Fails Sync unknown unknown) }
     {

@@ -6,10 +6,10 @@ use crate::copied::{
 };
 use std::alloc::{AllocError, Global};
 use std::test::Fail;
-use tp_recover::{CopyFault, copy_opened};
 use tp_disk::{Counted, Disk, MemDisk, PlannedFault};
 use tp_model::Form;
 use tp_model::limits::WIDE_HEAD_BYTES;
+use tp_recover::{CopyFault, copy_opened};
 use tp_tests_fixtures::{GROUPS, KEPT, SECOND, SIZE, place};
 
 /// What stands in a copy before it is made.

@@ -10,11 +10,10 @@ use std::sync::Wait;
 use tp_book::Refusal;
 use tp_disk::MemDisk;
 use tp_flush::{FlushFault, Flusher};
-use tp_work::{ConfirmFault, OfferFault, Session, ShownFault};
 use tp_ready::Pass;
 use tp_shared::{Naming, NoGate};
 use tp_tests_begun::opening::{Opening, begin_with};
-use tp_work::{Net, Seat, TurnFault};
+use tp_work::{ConfirmFault, Net, OfferFault, Seat, Session, ShownFault, TurnFault};
 
 /// How many steps a node's turn has.
 const QUANTUM: u16 = 16;

@@ -9,12 +9,11 @@ use std::marker::Brand;
 use std::process::Abort;
 use std::sync::Wait;
 use std::test::Fail;
-use tp_work::{ConfirmFault, OfferFault, Session, ShownFault};
-use tp_ready::{Pass, Raiser};
 use tp_model::{Entry, Received, Token};
+use tp_ready::{Pass, Raiser};
 use tp_shared::{Naming, NoGate, Parts};
 use tp_tests_begun::opening::opening_of;
-use tp_work::{Net, Seat, TurnFault};
+use tp_work::{ConfirmFault, Net, OfferFault, Seat, Session, ShownFault, TurnFault};
 
 /// Each turn of one worker: the process, how many tokens it took, and how many steps it made, where it runs.
 const TURNS: &[(u8, u64, Option<u16>)] = &[

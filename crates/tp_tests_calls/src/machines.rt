@@ -3,8 +3,8 @@
 use crate::devices::image;
 use std::alloc::Global;
 use std::test::Fail;
-use tp_frames::FramePool;
 use tp_cpu::{Fun, encode};
+use tp_frames::FramePool;
 use tp_mem::{CowMemory, FlatMemory, Freeze, Mem};
 use tp_node::{ImageFault, Node};
 use tp_tests_fixtures::place;

@@ -3,11 +3,10 @@
 use crate::devices::{grown, image};
 use std::alloc::{AllocError, Global};
 use std::test::Fail;
-use tp_book::NetParts;
+use tp_book::{NetParts, PortParts};
 use tp_disk::MemDisk;
 use tp_model::WireEnd::{Link, Port};
 use tp_model::{Token, WireEnd};
-use tp_book::PortParts;
 use tp_recover::{Unopened, open};
 use tp_replay::FlatNetwork;
 

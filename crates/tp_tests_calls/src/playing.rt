@@ -14,12 +14,11 @@ use std::process::Abort;
 use std::sync::Wait;
 use std::test::Fail;
 use tp_disk::MemDisk;
-use tp_work::OfferFault;
 use tp_model::Entry;
 use tp_recover::{Opened, open};
 use tp_shared::{Naming, NoGate};
 use tp_tests_begun::opening::{Opening, opening_with};
-use tp_work::{Net, TurnFault};
+use tp_work::{Net, OfferFault, TurnFault};
 
 /// Whether a step goes as it should, where `offered` bytes were offered first, and the next entry gets the number `next` then.
 fn goes<J: Naming, R: Wait>(

@@ -9,9 +9,9 @@ use std::sync::atomic::{AtomicBool, Ordering};
 use std::thread::{Threads, join, yield_now};
 use tp_disk::Disk;
 use tp_flush::Flusher;
-use tp_work::Session;
 use tp_ready::Pass;
 use tp_shared::{Gate, Naming, NoGate, Receipt, Shared};
+use tp_work::Session;
 
 /// Makes turns of the flusher until the others have ended. Answers whether all of them were done.
 pub fn flush_meanwhile<J: Naming, D: Disk, G: Gate, R: Wait>(

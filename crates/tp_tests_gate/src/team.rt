@@ -7,9 +7,8 @@ use std::alloc::AllocError;
 use std::sync::Wait;
 use std::sync::atomic::{AtomicU32, Ordering};
 use std::thread::{Threads, join, map_vec, yield_now};
-use tp_work::Session;
 use tp_shared::{Gate, Locked, Naming, Receipt, Seat as Slips};
-use tp_work::{Net, Seat};
+use tp_work::{Net, Seat, Session};
 
 /// What a worker's turns journalled: their slips, and whether a turn was refused.
 #[derive(Drop)]

@@ -10,9 +10,8 @@ use std::sync::atomic::{AtomicBool, Ordering};
 use std::thread::{Threads, join};
 use tp_disk::Disk;
 use tp_flush::Flusher;
-use tp_work::Session;
 use tp_shared::{Gate, Naming};
-use tp_work::{Net, Seat};
+use tp_work::{Net, Seat, Session};
 
 /// How many pairs of bytes are handed in meanwhile.
 const PAIRS: u64 = 40;

@@ -6,12 +6,12 @@ use crate::image::Fact::Stack;
 use crate::part_calls::{Call, make};
 use std::alloc::Global;
 use std::test::Fail;
-use tp_model::{ChannelWord, Fault, Wish};
 use tp_cpu::{
     ENABLING, KEPT_AT, NONE_CHOSEN, NOT_PROCESS, READY, Undone, WAITING, channel_at, descriptor_of,
     has_low_priority, is_alternative, is_low, link_at, load, must_slice, queue_write, saved_at,
     state_at, workspace,
 };
+use tp_model::{ChannelWord, Fault, Wish};
 
 /// A channel instruction, what is given, and the link and the pointer for which it asks that link for 4 bytes.
 type Request<'a> = (Call, &'a [Fact<'a>], u8, u32);

@@ -11,10 +11,9 @@ ghost use Rattle.tp_model.specs.NodeState.{NodeState};
 
 use crate::image::FIRST;
 use std::alloc::Global;
-use tp_node::OutEngine;
 use tp_model::limits::IMAGE_HEAD_BYTES;
 use tp_model::{InEnd, OutEnd, Token, Transfer};
-use tp_node::Node;
+use tp_node::{Node, OutEngine};
 
 /// The number in four bytes from a place on.
 fn word_at(bytes: &[u8], at: usize) -> u32

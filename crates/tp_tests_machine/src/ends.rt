@@ -1,7 +1,7 @@
 //! The ends of a link on their own.
 
-use tp_node::{InEngine, LinkBusy, OutEngine};
 use tp_model::{Arrival, InEnd, News, OutEnd, Started, Token, Transfer};
+use tp_node::{InEngine, LinkBusy, OutEngine};
 
 /// Messages of the process 80000201: of two bytes, and what is left behind the first.
 const TWO: Transfer = Transfer {

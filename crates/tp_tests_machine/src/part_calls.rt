@@ -1,14 +1,14 @@
 //! The calls that do parts of steps.
 
 use crate::desk::Desk;
-use tp_mem::FlatMemory;
-use tp_model::Cpu;
 use tp_cpu::{
     BAD_ADDRESS, Undone, alt, alt_disable, alt_enable, altwt, chan_in, chan_out, chan_out_word,
     change, choose, dispatch_high, dispatch_low, diss, drop_b, enbs, end, endp, enqueue, interrupt,
     jump, jump_looping, note_choice, pass, pass_over, queue, restore, runp, slice, startp, stop,
     store, store_all,
 };
+use tp_mem::FlatMemory;
+use tp_model::Cpu;
 
 /// A call that does a part of a step.
 #[derive(Clone, Copy)]

@@ -5,7 +5,7 @@ ghost use Rattle.std.specs.Option.{is_some};
 ghost use Rattle.tp_model.specs.CutImage.{is_line_of, is_port_of};
 ghost use Rattle.tp_model.specs.Network.{on_line};
 ghost use Rattle.tp_model.specs.Spelling.{are_lines, has_record};
-ghost use Rattle.tp_book.specs.PortParts.{port_of};
+ghost use Rattle.tp_book.specs.PortParts.{port_made};
 ghost use Rattle.tp_area.specs.Other.{OtherIsClosed};
 ghost use Rattle.tp_tests_opening.specs.TailOf.{AreTailOf};
 
@@ -13,13 +13,12 @@ use crate::devices::{Held, replayed};
 use std::alloc::{AllocError, Global};
 use std::test::Fail;
 use tp_area::{Store, StoreFault};
-use tp_book::Numbered;
+use tp_book::{Numbered, PortParts};
 use tp_disk::Disk;
 use tp_entry::is_in_range;
 use tp_model::limits::{IMAGE_HEAD_BYTES, MAX_HELD, PAGE_BYTES};
 use tp_model::{Entry, Token, WireEnd};
 use tp_net::{Lines, Topology};
-use tp_book::PortParts;
 
 /// The pages of the node.
 const PAGES: usize = 4;
@@ -94,7 +93,7 @@ fn are_lines(wires: &[Option<WireEnd>], lines: &Lines) -> bool
 
 /// Whether the record of a port can hold it in a cut of `base` entries.
 fn is_port(base: u64, port: &PortParts) -> bool
-    ensures { result ≡ true → is_port_of base (port_of port.now) ≡ true }
+    ensures { result ≡ true → is_port_of base (port_made port.now) ≡ true }
 {
     port.pending.len() <= MAX_HELD
         && port.outputs.len() <= MAX_HELD

@@ -1,7 +1,7 @@
 //! Books of devices that were formatted and opened: one node of four pages, whose link 0 is wired to a port.
 
 ghost use Rattle.std.specs.Prelude.{IfOk};
-ghost use Rattle.tp_book.specs.Opened.{IsOpened};
+ghost use Rattle.tp_book.specs.Opened.{IsWellOpen};
 ghost use Rattle.tp_tests_store.specs.Lone.{IsUsable};
 
 use crate::devices::fresh;
@@ -37,7 +37,7 @@ pub(crate) fn grown(alloc: Global) -> Result<Vec<u8>, Fail> {
 
 /// What a device of `bytes` opens as.
 pub(crate) fn state_of(alloc: Global, bytes: Vec<u8>) -> Result<NetState, Fail>
-    ensures { IfOk result (λ state. IsOpened state) }
+    ensures { IfOk result (λ state. IsWellOpen state) }
 {
     let mut disk = MemDisk::of_bytes(bytes);
     match open(alloc, &mut disk) {

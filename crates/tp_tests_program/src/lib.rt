@@ -1,8 +1,6 @@
 //! What the program's commands answer, on devices in memory and on files, where a call fails or no command line asks for it.
 #![tactic(auto)]
 
-
-
 #[cfg(test)]
 mod backup_tests;
 #[cfg(test)]

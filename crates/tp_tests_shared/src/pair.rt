@@ -1,16 +1,16 @@
 //! Two nodes of one image, whose links 0 are wired to each other.
 
 ghost use Rattle.std.specs.Prelude.{◌≡◌, Ok, true, length, IfOk, IfSome};
-ghost use Rattle.tp_book.specs.Parts.{network_of};
+ghost use Rattle.tp_book.specs.Parts.{network_made};
 ghost use Rattle.tp_model.specs.Image.{node_at, node_of, has_idle_links};
 ghost use Rattle.tp_node.specs.FromImage.{ReadsImage};
 ghost use Rattle.tp_tests_shared.specs.Pair.{pair_network};
 
 use std::alloc::{AllocError, Global};
 use tp_book::{Book, NetParts};
-use tp_ready::Mark;
 use tp_model::WireEnd;
 use tp_node::{Node, has_idle_links};
+use tp_ready::Mark;
 use tp_shared::Parts;
 
 /// Line 0 leads to the second node, and line 4 back to the first.
@@ -27,7 +27,7 @@ const WIRES: [Option<WireEnd>; 8] = [
 
 /// The network before its first entry.
 fn network(alloc: Global, image: &[u8]) -> Result<NetParts, AllocError>
-    ensures { IfOk result (λ net. network_of net ≡ pair_network (node_at image.now)) }
+    ensures { IfOk result (λ net. network_made net ≡ pair_network (node_at image.now)) }
 {
     let lines = Vec::from_array(
         alloc,

@@ -11,12 +11,11 @@ use std::sync::Wait;
 use std::test::Fail;
 use tp_disk::MemDisk;
 use tp_flush::{FlushFault, Flusher};
-use tp_work::Session;
 use tp_model::{Entry, Received};
 use tp_node::Why;
 use tp_shared::{Naming, NoGate, Shared};
 use tp_tests_begun::opening::{Opening, begin_with};
-use tp_work::{Net, Seat, Turn};
+use tp_work::{Net, Seat, Session, Turn};
 
 /// What is done, and what comes of it.
 #[derive(Clone, Copy)]

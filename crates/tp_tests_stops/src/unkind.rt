@@ -2,7 +2,7 @@
 
 ghost use Rattle.std.specs.Prelude.{◌≡◌, ◌+◌, ◌≤◌, length, take, drop, OnOk, OnErr};
 ghost use Rattle.tp_model.specs.Disk.{Write, Sync, Read, done};
-ghost use Rattle.tp_model.specs.DiskHistory.{Goes, Fails, unknown};
+ghost use Rattle.tp_model.specs.DiskHistory.{MomentPassed, Fails, unknown};
 ghost use Rattle.tp_tests_stops.specs.Unkind.{no_unkind, unkind_keeps};
 
 use std::alloc::{AllocError, Global};
@@ -222,7 +222,7 @@ impl RawDisk for RawUnkind {
     #[tactic(auto, unfolding(crate::specs::Unkind::unkind_keeps))]
     fn read(&mut self, at: u64, out: &mut [u8]) -> Result<(), DeviceFailed>
         ensures size { self.new.size ≡ self.old.size }
-        ensures goes { unkind_keeps → Goes unknown unknown }
+        ensures goes { unkind_keeps → MomentPassed unknown unknown }
         ensures bytes { unkind_keeps → OnOk result (out.new ≡ take (length out.old) (drop at unknown.now.bytes)) }
         ensures after { unkind_keeps → OnOk result (unknown.now ≡ done Read unknown.now) }
         ensures failed { unkind_keeps → OnErr result (Fails Read unknown unknown) }
@@ -241,7 +241,7 @@ impl RawDisk for RawUnkind {
     #[tactic(auto, unfolding(crate::specs::Unkind::unkind_keeps))]
     fn write_at(&mut self, at: u64, bytes: &[u8]) -> Result<(), DeviceFailed>
         ensures size { self.new.size ≡ self.old.size }
-        ensures goes { unkind_keeps → Goes unknown unknown }
+        ensures goes { unkind_keeps → MomentPassed unknown unknown }
         ensures after { unkind_keeps → OnOk result (unknown.now ≡ done (Write at bytes.now) unknown.now) }
         ensures failed { unkind_keeps → OnErr result (Fails (Write at bytes.now) unknown unknown) }
     {
@@ -260,7 +260,7 @@ impl RawDisk for RawUnkind {
     #[tactic(auto, unfolding(crate::specs::Unkind::unkind_keeps))]
     fn sync(&mut self) -> Result<(), DeviceFailed>
         ensures size { self.new.size ≡ self.old.size }
-        ensures goes { unkind_keeps → Goes unknown unknown }
+        ensures goes { unkind_keeps → MomentPassed unknown unknown }
         ensures after { unkind_keeps → OnOk result (unknown.now ≡ done Sync unknown.now) }
         ensures failed { unkind_keeps → OnErr result (Fails Sync unknown unknown) }
     {

@@ -18,10 +18,10 @@ use Rattle.tp_model.specs.Order.{after}
 use Rattle.tp_model.specs.Markers.{plain}
 use Rattle.tp_book.specs.declared.state.NetState.{NetState}
 use Rattle.tp_book.specs.Counted.{IsCounted, AreCounted}
-use Rattle.tp_book.specs.Parts.{network_of}
+use Rattle.tp_book.specs.Parts.{network_made}
 use Rattle.tp_book.specs.Start.{IsNetwork}
 use Rattle.tp_book.specs.Kept.{AreInRange}
-use Rattle.tp_book.specs.Opened.{IsOpened, cut_of, now_of, opened_book}
+use Rattle.tp_book.specs.Opened.{IsWellOpen, cut_of, now_of, opened_book}
 
 no_wire : (x : ℕ) → receiver lone_network.wires x ≡ None
 no_wire zero = refl
@@ -58,8 +58,8 @@ no_images [] none = refl
 no_images (image ∷ images) none = cc
 
 -- a device leaves it, with a cut of two entries and none behind it
-pub lone_opened : (s : NetState) → network_of s.net ≡ lone_network → cut_of s ≡ lone_network → s.kept.items ≡ [] → s.base ≡ 2 → s.next ≡ 2 → s.generation ≡ 1
-    → All (λ port. vec_len port.pending ≤ MAX_HELD) s.net.ports.items → All (λ port. vec_len port.outputs ≤ MAX_HELD) s.net.ports.items → IsOpened s
+pub lone_opened : (s : NetState) → network_made s.net ≡ lone_network → cut_of s ≡ lone_network → s.kept.items ≡ [] → s.base ≡ 2 → s.next ≡ 2 → s.generation ≡ 1
+    → All (λ port. vec_len port.pending ≤ MAX_HELD) s.net.ports.items → All (λ port. vec_len port.outputs ≤ MAX_HELD) s.net.ports.items → IsWellOpen s
 unfolding after
 lone_opened s is cut kept base next generation pending outputs = record {
   history = ap (λ es. after t414 (cut_of s) (map (λ (e : Entry × ℕ). e.0) es)) kept ∙ ap Some (cut ∙ sym is);
@@ -82,5 +82,5 @@ lone_opened s is cut kept base next generation pending outputs = record {
 }
 
 -- its book can be used
-pub lone_usable : (s : NetState) → network_of s.net ≡ lone_network → (room : Option ℕ) → IsUsable (opened_book s room)
+pub lone_usable : (s : NetState) → network_made s.net ≡ lone_network → (room : Option ℕ) → IsUsable (opened_book s room)
 lone_usable s is room = record { idle = refl; there = subst (λ net. 0 < length net.ports) (sym is) (omega arith) }

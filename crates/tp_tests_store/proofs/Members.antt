@@ -5,7 +5,7 @@ use Rattle.tp_model.specs.declared.entry.Entry.{Entry}
 use Rattle.tp_model.specs.NodeState.{NodeState}
 use Rattle.tp_model.specs.Network.{Network}
 use Rattle.tp_law_network.specs.Piece.{Agrees, Covers}
-use Rattle.tp_pieces.specs.Whole.{EndsAgree, IsWhole}
+use Rattle.tp_pieces.specs.Whole.{EndsAgree, AreWhole}
 use Rattle.tp_tests_store.specs.declared.member.Member.{Member}
 use Rattle.tp_tests_store.specs.declared.member.Member.TheVariants.{Node, Host as OfHost}
 use Rattle.tp_tests_store.specs.declared.side.Side.TheVariants.{First, Second}
@@ -25,7 +25,7 @@ ok_map P Q (Err e) f h = h
 abbrev pub members : List Member
 members = Node (record { side = First; out = Some 65; held = None }) ∷ Node (record { side = Second; out = Some 66; held = None }) ∷ OfHost (record {}) ∷ []
 
-pub members_are_whole : (p : Member) → IsWhole pair_whole 3 (λ i. member_piece (slice_index_or members i p)) (λ i. member_network (slice_index_or members i p))
+pub members_are_whole : (p : Member) → AreWhole pair_whole 3 (λ i. member_piece (slice_index_or members i p)) (λ i. member_network (slice_index_or members i p))
 members_are_whole p = record { sound = pair_is_whole.sound; unmarked = pair_is_whole.unmarked; covers = covers; agree = agree }
   where
     covers : Covers 3 (λ i. member_piece (slice_index_or members i p))
@@ -52,10 +52,10 @@ members_end p es stop ends h none =
     each t A (suc (suc (suc i))) below = absurd (omega (arith, below))
 
 -- so of whatever list is theirs
-pub these_are_whole : (count : ℕ) (items : List Member) → count ≡ 3 → items ≡ members → IsWhole pair_whole count (λ i. member_piece (slice_index_or items i any)) (λ i. member_network (slice_index_or items i any))
+pub these_are_whole : (count : ℕ) (items : List Member) → count ≡ 3 → items ≡ members → AreWhole pair_whole count (λ i. member_piece (slice_index_or items i any)) (λ i. member_network (slice_index_or items i any))
 these_are_whole count items three are =
-    subst (λ n. IsWhole pair_whole n (λ i. member_piece (slice_index_or items i any)) (λ i. member_network (slice_index_or items i any))) (sym three)
-    (subst (λ xs. IsWhole pair_whole 3 (λ i. member_piece (slice_index_or xs i any)) (λ i. member_network (slice_index_or xs i any))) (sym are) (members_are_whole any))
+    subst (λ n. AreWhole pair_whole n (λ i. member_piece (slice_index_or items i any)) (λ i. member_network (slice_index_or items i any))) (sym three)
+    (subst (λ xs. AreWhole pair_whole 3 (λ i. member_piece (slice_index_or xs i any)) (λ i. member_network (slice_index_or xs i any))) (sym are) (members_are_whole any))
 
 pub these_end : (count : ℕ) (items : List Member) → count ≡ 3 → items ≡ members → (es : List Entry) (stop : Option ℕ) (ends : ℕ → Network NodeState) → EndsAgree pair_whole es stop count (λ i. member_piece (slice_index_or items i any)) ends
     → EndsAgree pair_whole es stop 3 whole_pieces ends

@@ -14,7 +14,7 @@ use Rattle.tp_model.specs.Sound.{Sound, Wired, holds_at, end_holds, end_waits, d
 use Rattle.tp_model.specs.Word.{bit}
 use Rattle.tp_law_network.specs.Piece.{Agrees, Covers, sends}
 use Rattle.tp_law_network.specs.Reach.{reach}
-use Rattle.tp_pieces.specs.Whole.{IsWhole}
+use Rattle.tp_pieces.specs.Whole.{AreWhole}
 use Rattle.tp_tests_store.specs.declared.side.Side.TheVariants.{First, Second}
 use Rattle.tp_tests_store.specs.Pair.{pair_end, pair_whole, pair_wires, pair_network, node_piece, host_piece, host_network, whole_pieces, whole_parts}
 
@@ -182,7 +182,7 @@ agree zero below = first_agrees
 agree (suc zero) below = second_agrees
 agree (suc (suc i)) below = host_agrees
 
-pub pair_is_whole : IsWhole pair_whole 3 whole_pieces whole_parts
+pub pair_is_whole : AreWhole pair_whole 3 whole_pieces whole_parts
 pair_is_whole = record { sound = pair_sound; unmarked = unmarked; covers = whole_covers; agree = agree }
 
 -- Each node takes the other's byte.

@@ -2,18 +2,17 @@
 
 ghost use Rattle.std.specs.Prelude.{◌≡◌, ◌≤◌, IfOk, All, vec_len};
 ghost use Rattle.tp_model.specs.declared.limits.TheConstants.{MAX_HELD};
-ghost use Rattle.tp_book.specs.Parts.{network_of};
-ghost use Rattle.tp_book.specs.Opened.{IsOpened};
+ghost use Rattle.tp_book.specs.Parts.{network_made};
+ghost use Rattle.tp_book.specs.Opened.{IsWellOpen};
 ghost use Rattle.tp_tests_store.specs.Lone.{lone_network, IsUsable};
 
 use std::alloc::{AllocError, Global};
-use tp_book::{Book, CutNetwork, NetParts, NetState};
+use tp_book::{Book, CutNetwork, NetParts, NetState, PortParts};
 use tp_model::Form;
-use tp_book::PortParts;
 
 /// Its parts: the outputs are the letters "hi".
 fn parts(alloc: Global) -> Result<NetParts, AllocError>
-    ensures network { IfOk result (λ parts. network_of parts ≡ lone_network) }
+    ensures network { IfOk result (λ parts. network_made parts ≡ lone_network) }
     ensures pending { IfOk result (λ parts. All (λ port. vec_len port.pending ≤ MAX_HELD) parts.ports.items) }
     ensures outputs { IfOk result (λ parts. All (λ port. vec_len port.outputs ≤ MAX_HELD) parts.ports.items) }
 {
@@ -37,8 +36,8 @@ fn parts(alloc: Global) -> Result<NetParts, AllocError>
 
 /// What a device leaves whose cut has two entries.
 fn state(alloc: Global) -> Result<NetState, AllocError>
-    ensures opened { IfOk result (λ state. IsOpened state) }
-    ensures network { IfOk result (λ state. network_of state.net ≡ lone_network) }
+    ensures opened { IfOk result (λ state. IsWellOpen state) }
+    ensures network { IfOk result (λ state. network_made state.net ≡ lone_network) }
 {
     let net = parts(alloc)?;
     Ok(NetState {

@@ -8,7 +8,7 @@ ghost use Rattle.tp_model.specs.Node.{t414};
 ghost use Rattle.tp_model.specs.Order.{after};
 ghost use Rattle.tp_law_network.specs.Reach.{reach};
 ghost use Rattle.tp_law_network.specs.Readable.{bare};
-ghost use Rattle.tp_pieces.specs.Whole.{EndsAgree, IsStop, IsWhole};
+ghost use Rattle.tp_pieces.specs.Whole.{EndsAgree, IsStop, AreWhole};
 ghost use Rattle.tp_tests_store.specs.Member.{member_network};
 ghost use Rattle.tp_tests_store.specs.Pair.{pair_end, pair_whole, whole_parts, whole_pieces};
 
@@ -26,7 +26,7 @@ use tp_pieces::{Played, play_whole};
 /// The pair is a sound network without Markers, and its three parts are the whole of it. Each node can take the byte of the other;
 /// no node takes another byte than the other has sent.
 pub fn the_pair_is_whole()
-    ensures whole { IsWhole pair_whole 3 whole_pieces whole_parts }
+    ensures whole { AreWhole pair_whole 3 whole_pieces whole_parts }
     ensures goes { after t414 pair_whole (Take 0 (Data 65) ∷ Take 4 (Data 66) ∷ []) ≡ Some pair_end }
     ensures stops { reach (next t414) pair_whole (Take 4 (Data 66) ∷ Take 0 (Data 66) ∷ []) ≡ 1 }
 {}

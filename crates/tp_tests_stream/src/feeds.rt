@@ -4,8 +4,7 @@ use crate::files::Lent;
 use std::io;
 use std::io::{ErrorKind, Read};
 use std::test::Fail;
-use tp_stream_files::Source;
-use tp_stream_files::{AnySource, Feed, Pipe, Plain, Threaded};
+use tp_stream_files::{AnySource, Feed, Pipe, Plain, Source, Threaded};
 
 /// How many bytes come.
 const TOTAL: u32 = 10_000;

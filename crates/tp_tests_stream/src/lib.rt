@@ -1,8 +1,6 @@
 //! Runs and streams over devices in memory, as the program makes them, with devices, outputs, sinks and sources that fail.
 #![tactic(auto)]
 
-
-
 #[cfg(test)]
 mod asked;
 #[cfg(test)]

@@ -3,8 +3,7 @@
 use crate::files::{FakeFile, FakeFiles, Left};
 use std::alloc::Global;
 use std::test::Fail;
-use tp_stream_files::SinkFault;
-use tp_stream_files::{EndFile, FileSink};
+use tp_stream_files::{EndFile, FileSink, SinkFault};
 
 /// What came of an output: how many bytes the sink counts, or `None` where the file wasn't opened; how the last call went; and how many
 /// times a folder was synced.

@@ -14,7 +14,7 @@ use Rattle.tp_law_machine.proofs.Partial.{slice_get-set_same, slice_get-set_othe
 use Rattle.tp_node.specs.NodeContents.{NodeContents}
 use Rattle.tp_book.specs.Book.{BookValue, agreed, world_of}
 use Rattle.tp_book.specs.Calls.{HostTook}
-use Rattle.tp_book.specs.Host.{after_input}
+use Rattle.tp_book.specs.Host.{after_inputs}
 use Rattle.tp_book.specs.Trimmed.{after_trim}
 use Rattle.tp_book.specs.declared.refusal.Refusal.{Refusal}
 use Rattle.tp_tests_turns.specs.Agrees.{Agrees}
@@ -63,7 +63,7 @@ looked_at nodes number n m b there live none H = record {
 
 -- ## The host
 
-pub handed_in : {A : Type 0} (a b : BookValue) (port : ℕ) (bytes : List ℕ) (r : Result A Refusal) → IfOk r (λ x. b ≡ after_input a port bytes) → OnErr r (b ≡ a) → agreed b.state ≡ agreed a.state → Stays a b
+pub handed_in : {A : Type 0} (a b : BookValue) (port : ℕ) (bytes : List ℕ) (r : Result A Refusal) → IfOk r (λ x. b ≡ after_inputs a port bytes) → OnErr r (b ≡ a) → agreed b.state ≡ agreed a.state → Stays a b
 handed_in a b port bytes (Ok x) is err same = record { ready = ap (λ x. x.ready) is; runs = ap (λ x. x.runs) is; nodes = same }
 handed_in a b port bytes (Err e) ok is same = record { ready = ap (λ x. x.ready) is; runs = ap (λ x. x.runs) is; nodes = same }
 

@@ -23,9 +23,9 @@ use Rattle.tp_book.specs.declared.refusal.Refusal.{Refusal}
 use Rattle.tp_book.specs.declared.refusal.Refusal.TheVariants.{JournalFull, StoreBroken, SnapshotRunning}
 use Rattle.tp_book.specs.declared.state.NetState.{NetState}
 use Rattle.tp_book.specs.Book.{BookValue, agreed, nodes_in, world_of}
-use Rattle.tp_book.specs.Host.{after_input, after_confirm, with_confirmed, port_in}
+use Rattle.tp_book.specs.Host.{after_inputs, after_confirm, with_confirmed, port_in}
 use Rattle.tp_book.specs.Marked.{after_begin, begin_refusal}
-use Rattle.tp_book.specs.Opened.{IsOpened, now_of, opened_book}
+use Rattle.tp_book.specs.Opened.{IsWellOpen, now_of, opened_book}
 use Rattle.tp_book.specs.Refusals.{else_if, IsAnswer}
 use Rattle.tp_book.specs.Trimmed.{after_trim}
 use Rattle.tp_turn.specs.Moments.{IsNodeOf, Added}
@@ -88,7 +88,7 @@ stays nodes a b ready runs agree recorded frozen H = record {
       node_stays a b i node node N (ap (λ ns. slice_get ns i) agree ∙ N.there) N.image refl (recorded i) frozen;
 }
 
-pub handed_in : (nodes : List NodeContents) (a b : BookValue) (port : ℕ) (bytes : List ℕ) → b ≡ after_input a port bytes → agreed b.state ≡ agreed a.state → HasNodes a nodes → HasNodes b nodes
+pub handed_in : (nodes : List NodeContents) (a b : BookValue) (port : ℕ) (bytes : List ℕ) → b ≡ after_inputs a port bytes → agreed b.state ≡ agreed a.state → HasNodes a nodes → HasNodes b nodes
 handed_in nodes a b port bytes is agree H =
     stays nodes a b (ap (λ x. x.ready) is) (ap (λ x. x.runs) is) agree (λ p. ap (λ x. has_recorded_in x.state.snapshot p) is) (ap (λ x. x.frozen) is) H
 
@@ -219,11 +219,11 @@ aligned f (x ∷ xs) (t ∷ ts) (n ∷ ns) spells same =
         (sym live ∙ ap (λ m. Some m.live) one, ap (λ m. m.frozen) (sym one) ∙ none)
     at rest (suc i) node is = rest i node is
 
-opened_agreed : (s : NetState) (room : Option ℕ) → IsOpened s → agreed (opened_book s room).state ≡ (now_of s).nodes
+opened_agreed : (s : NetState) (room : Option ℕ) → IsWellOpen s → agreed (opened_book s room).state ≡ (now_of s).nodes
 unfolding agreed
 opened_agreed s room O = ap nodes_in O.history
 
-pub opens : (s : NetState) (room : Option ℕ) (b : BookValue) (nodes : List NodeContents) → IsOpened s → b ≡ opened_book s room
+pub opens : (s : NetState) (room : Option ℕ) (b : BookValue) (nodes : List NodeContents) → IsWellOpen s → b ≡ opened_book s room
     → ((i : ℕ) (node : NodeState) → slice_get (now_of s).nodes i ≡ Some node → IsNodeOfBytes node) → seen nodes ≡ spelt (map (λ image. image.items) s.net.images.items) → HasNodes b nodes
 opens s room b nodes O is images same =
     let now = aligned (λ image. image.items) s.net.images.items (now_of s).nodes nodes O.images same in

@@ -4,19 +4,18 @@ ghost use Rattle.std.specs.Prelude.{◌≡◌, IfOk, IsSome, None, Some};
 ghost use Rattle.tp_model.specs.Image.{node_at};
 ghost use Rattle.tp_model.specs.Network.{receiver};
 ghost use Rattle.tp_model.specs.declared.wire.WireEnd.TheVariants.{Link};
-ghost use Rattle.tp_book.specs.Parts.{network_of};
+ghost use Rattle.tp_book.specs.Parts.{network_made};
 ghost use Rattle.tp_tests_turns.specs.CutsNets.{pair_network};
 
 use crate::acts::{begin, close, record, run, take};
 use std::alloc::{AllocError, Global};
 use std::marker::Model;
 use std::test::Fail;
-use tp_book::{Book, NetParts};
+use tp_book::{Book, NetParts, PortParts, fresh_ports};
 use tp_model::WireEnd;
 use tp_model::limits::{IMAGE_HEAD_BYTES, MAX_STEPS, PAGE_BYTES};
 use tp_net::Lines;
 use tp_node::Node;
-use tp_book::{PortParts, fresh_ports};
 use tp_replay::FlatNetwork;
 use tp_turn::lone_node;
 
@@ -57,7 +56,7 @@ impl Model for Net {
 
 /// The network of two images, before its first entry.
 fn pair_parts(alloc: Global, first: &[u8], second: &[u8]) -> Result<NetParts, AllocError>
-    ensures { IfOk result (λ net. network_of net ≡ pair_network (node_at first.now) (node_at second.now)) }
+    ensures { IfOk result (λ net. network_made net ≡ pair_network (node_at first.now) (node_at second.now)) }
 {
     let lines = Vec::from_array(
         alloc,

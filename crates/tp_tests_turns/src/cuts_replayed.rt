@@ -8,12 +8,10 @@ use crate::plain::Plain;
 use crate::playing::Play;
 use std::alloc::Global;
 use std::test::Fail;
-use tp_book::NetParts;
+use tp_book::{Cut, NetParts, PortParts};
 use tp_model::Token;
 use tp_net::Lines;
-use tp_book::PortParts;
 use tp_replay::FlatNetwork;
-use tp_book::Cut;
 
 /// Whether the network's one port can count one more byte.
 fn can_count(flat: &FlatNetwork) -> bool

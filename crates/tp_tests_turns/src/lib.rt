@@ -2,8 +2,6 @@
 //! as they may, and that snapshots come to their end.
 #![tactic(auto)]
 
-
-
 #[cfg(test)]
 mod acts;
 #[cfg(test)]

@@ -1,9 +1,9 @@
 //! Each order of the acts of two nodes and the host, from some moment on up to the whole cut.
 
 use crate::cuts_machines::{Task, image};
+use crate::cuts_replayed::comes_first;
 use crate::playing::Act::{Begin, Close, Record, Run, Take};
 use crate::playing::{Act, Play, do_all, does, start};
-use crate::cuts_replayed::comes_first;
 use std::alloc::{AllocError, Global};
 use std::test::Fail;
 

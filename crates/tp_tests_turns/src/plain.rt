@@ -2,9 +2,8 @@
 
 use crate::cuts_network::{LINES, PROCESSES, WIRES};
 use std::alloc::{AllocError, Global};
-use tp_book::{Book, Numbered};
+use tp_book::{Book, Cut, Numbered};
 use tp_model::{Entry, Token, WireEnd};
-use tp_book::Cut;
 
 /// The number of the host.
 pub(crate) const HOST: usize = 2;

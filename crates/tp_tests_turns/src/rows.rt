@@ -2,15 +2,13 @@
 
 use crate::cuts_machines::{Task, image};
 use crate::cuts_network::LINES;
+use crate::cuts_replayed::comes_first;
 use crate::playing::Act::{Begin, Close, HandIn, Record, Run, Take};
 use crate::playing::{Act, Play, do_all, does, start};
-use crate::cuts_replayed::comes_first;
 use std::alloc::{AllocError, Global};
 use std::test::Fail;
-use tp_book::{Book, Numbered};
+use tp_book::{Book, Cut, Numbered, PortParts};
 use tp_model::{Entry, Token};
-use tp_book::PortParts;
-use tp_book::Cut;
 
 /// What the nodes do, and the acts up to the whole cut; then what is in the cut: the entries of each process and in all, the
 /// lines that aren't empty, and the port's pending bytes, nothing else having come to it; then the entries outside, the next

@@ -15,7 +15,7 @@ use Rattle.tp_book.specs.Book.{BookValue, agreed, world_of}
 use Rattle.tp_book.proofs.Stood.{no_act}
 use Rattle.tp_turn.specs.Books.{Grew}
 use Rattle.tp_turn.specs.Turns.{Then, InOrder}
-use Rattle.tp_turn.specs.Moments.{Moment, IsNodeOf, entries_in, Added, Done}
+use Rattle.tp_turn.specs.Moments.{TurnMoment, IsNodeOf, entries_among, Added, Done}
 use Rattle.tp_turn.proofs.Grown.{grew_none, grew_more}
 
 -- ## Acts
@@ -27,7 +27,7 @@ acted_more w v u (act ∷ first) second one other =
     let step = bind_some (happens t414 w act) (λ x. acted t414 x first) v one in
     ap (λ o. o >>= λ x. acted t414 x (first ++ second)) step.1 ∙ acted_more step.0 v u first second step.2 other
 
-pub entries_more : (first second : List Act) → entries_in (first ++ second) ≡ entries_in first ++ entries_in second
+pub entries_more : (first second : List Act) → entries_among (first ++ second) ≡ entries_among first ++ entries_among second
 entries_more [] second = refl
 entries_more (Begin ∷ first) second = entries_more first second
 entries_more (Record node ∷ first) second = entries_more first second
@@ -51,10 +51,10 @@ added_none number node b there = record {
 pub added_more : (number : ℕ) (node last : NodeState) (first second : List Act) (a b c : BookValue) → Added number node first a b → Added number last second b c → Added number last (first ++ second) a c
 added_more number node last first second a b c A B = record {
   did = acted_more (world_of a) (world_of b) (world_of c) first second A.did B.did;
-  grew = subst (λ es. Grew es a c) (sym (entries_more first second)) (grew_more (entries_in first) (entries_in second) a b c A.grew B.grew);
+  grew = subst (λ es. Grew es a c) (sym (entries_more first second)) (grew_more (entries_among first) (entries_among second) a b c A.grew B.grew);
   own = subst (AllByRecursion (λ e. process a.state.start.wires (length a.state.start.nodes) e ≡ number)) (sym (entries_more first second))
-      (all_append (λ e. process a.state.start.wires (length a.state.start.nodes) e ≡ number) (entries_in first) (entries_in second) A.own
-      (subst (λ s. AllByRecursion (λ e. process s.wires (length s.nodes) e ≡ number) (entries_in second)) A.grew.start B.own));
+      (all_append (λ e. process a.state.start.wires (length a.state.start.nodes) e ≡ number) (entries_among first) (entries_among second) A.own
+      (subst (λ s. AllByRecursion (λ e. process s.wires (length s.nodes) e ≡ number) (entries_among second)) A.grew.start B.own));
   nodes = B.nodes ∙ ap (λ ns. set ns number last) A.nodes ∙ set-set (agreed a.state) number node last;
   recorded = λ other apart. B.recorded other apart ∙ A.recorded other apart;
   frozen = λ other apart. B.frozen other apart ∙ A.frozen other apart;
@@ -63,18 +63,18 @@ added_more number node last first second a b c A B = record {
 
 -- ## Parts of a turn
 
-pub order_none : (number : ℕ) (part : ℕ → Moment → List Act → Moment → Type 0) (m : Moment) → slice_get (agreed m.book.state) number ≡ Some m.node.live → Done number (InOrder part 0) m m
+pub order_none : (number : ℕ) (part : ℕ → TurnMoment → List Act → TurnMoment → Type 0) (m : TurnMoment) → slice_get (agreed m.book.state) number ≡ Some m.node.live → Done number (InOrder part 0) m m
 unfolding InOrder
 order_none number part m there = record { acts = []; added = added_none number m.node.live m.book there; did = (refl, refl) }
 
-pub then_more : (number : ℕ) (one other : Moment → List Act → Moment → Type 0) (a b c : Moment) → Done number one a b → Done number other b c → Done number (Then one other) a c
+pub then_more : (number : ℕ) (one other : TurnMoment → List Act → TurnMoment → Type 0) (a b c : TurnMoment) → Done number one a b → Done number other b c → Done number (Then one other) a c
 then_more number one other a b c A B = record {
   acts = A.acts ++ B.acts;
   added = added_more number b.node.live c.node.live A.acts B.acts a.book b.book c.book A.added B.added;
   did = record { between = b; first = A.acts; second = B.acts; are = refl; one_did = A.did; other_did = B.did };
 }
 
-pub order_more : (number : ℕ) (part : ℕ → Moment → List Act → Moment → Type 0) (count : ℕ) (a b c : Moment) → Done number (InOrder part count) a b → Done number (part count) b c → Done number (InOrder part (count + 1)) a c
+pub order_more : (number : ℕ) (part : ℕ → TurnMoment → List Act → TurnMoment → Type 0) (count : ℕ) (a b c : TurnMoment) → Done number (InOrder part count) a b → Done number (part count) b c → Done number (InOrder part (count + 1)) a c
 unfolding InOrder
 order_more number part count a b c A B =
     subst (λ n. Done number (InOrder part n) a c) (sym (add-one count)) (then_more number (InOrder part count) (part count) a b c A B)

@@ -23,11 +23,11 @@ use Rattle.tp_law_machine.proofs.LinkLaws.{has_four_links}
 use Rattle.tp_law_machine.proofs.Nodes.{node_steps}
 use Rattle.tp_node.specs.NodeContents.{NodeContents}
 use Rattle.tp_book.specs.Book.{BookValue, agreed, world_of}
-use Rattle.tp_book.specs.Kept.{Keeps}
+use Rattle.tp_book.specs.Kept.{BookKeeps}
 use Rattle.tp_book.specs.Refusals.{needs_take}
 use Rattle.tp_book.proofs.Commit.{length-agreed}
 use Rattle.tp_turn.specs.Turns.{InOrder}
-use Rattle.tp_turn.specs.Moments.{IsNodeOf, Added, entries_in}
+use Rattle.tp_turn.specs.Moments.{IsNodeOf, Added, entries_among}
 use Rattle.tp_turn.specs.Hosted.{HostAdded}
 use Rattle.tp_turn.specs.Receiving.{Answered, IsAhead, Receives, ReceivesOf, offered, offered_on}
 use Rattle.tp_turn.specs.Whole.{HasTurnedOn}
@@ -111,7 +111,7 @@ none_of_none : (ts us : List Token) → [] ≡ ts ++ us → ts ≡ []
 none_of_none [] us e = refl
 none_of_none (t ∷ ts) us e = cc
 
-module _ (b : BookValue) (K : Keeps b.state) (all : Bool) (number link : ℕ) (below : number < length (agreed b.state)) (four : link < 4) (one : Received) where
+module _ (b : BookValue) (K : BookKeeps b.state) (all : Bool) (number link : ℕ) (below : number < length (agreed b.state)) (four : link < 4) (one : Received) where
   stands_on : (rest : List Token) → offered_on b all number link ≡ received one ++ rest → (received one ≡ []) ⊎ StandsOn (world_of b).live number link (received one)
   stands_on rest are = go (back b.state.start (4 * number + link)) refl are
     where
@@ -134,7 +134,7 @@ module _ (b : BookValue) (K : Keeps b.state) (all : Bool) (number link : ℕ) (b
               })
           either false are = inl (none_of_none (received one) rest are)
 
-module _ (b : BookValue) (K : Keeps b.state) (all : Bool) (number : ℕ) (below : number < length (agreed b.state)) (first second third fourth : Received) where
+module _ (b : BookValue) (K : BookKeeps b.state) (all : Bool) (number : ℕ) (below : number < length (agreed b.state)) (first second third fourth : Received) where
   abbrev the_takes : List Received
   the_takes = first ∷ second ∷ third ∷ fourth ∷ []
 
@@ -198,7 +198,7 @@ rests_ahead b number takes sent n A =
 
 -- no entry of another process is one of the node
 pub not_of : (b : BookValue) (number other : ℕ) → other ≢ number → (acts : List Act)
-    → AllByRecursion (λ e. process b.state.start.wires (length (agreed b.state)) e ≡ other) (entries_in acts) → AllByRecursion (IsNotOf (world_of b).live number) acts
+    → AllByRecursion (λ e. process b.state.start.wires (length (agreed b.state)) e ≡ other) (entries_among acts) → AllByRecursion (IsNotOf (world_of b).live number) acts
 not_of b number other apart [] own = tt
 not_of b number other apart (Begin ∷ acts) own = (tt, not_of b number other apart acts own)
 not_of b number other apart (Record node ∷ acts) own = (tt, not_of b number other apart acts own)
@@ -212,14 +212,14 @@ pub received_stays : (a b : BookValue) (number : ℕ) (takes : List Received) (a
 received_stays a b number takes acts did others R = received_after t414 has_four_links number takes (world_of a) (world_of b) acts did others R
 
 -- so it does where the acts are those of one other process
-pub stays_with : (a b : BookValue) → Keeps a.state → (number other : ℕ) (takes : List Received) (acts : List Act) → acted t414 (world_of a) acts ≡ Some (world_of b) → other ≢ number
-    → AllByRecursion (λ e. process a.state.start.wires (length a.state.start.nodes) e ≡ other) (entries_in acts) → IsReceived (world_of a).live number takes → IsReceived (world_of b).live number takes
+pub stays_with : (a b : BookValue) → BookKeeps a.state → (number other : ℕ) (takes : List Received) (acts : List Act) → acted t414 (world_of a) acts ≡ Some (world_of b) → other ≢ number
+    → AllByRecursion (λ e. process a.state.start.wires (length a.state.start.nodes) e ≡ other) (entries_among acts) → IsReceived (world_of a).live number takes → IsReceived (world_of b).live number takes
 stays_with a b K number other takes acts did apart own R =
     received_stays a b number takes acts did
-    (not_of a number other apart acts (subst (λ n. AllByRecursion (λ e. process a.state.start.wires n e ≡ other) (entries_in acts)) (sym (length-agreed a.state K)) own)) R
+    (not_of a number other apart acts (subst (λ n. AllByRecursion (λ e. process a.state.start.wires n e ≡ other) (entries_among acts)) (sym (length-agreed a.state K)) own)) R
 
 -- The node stays ahead while another node acts, and while the host does.
-pub ahead_stays : (number other : ℕ) (node : NodeState) (takes : List Received) (sent : List (ℕ × Token)) (n : NodeContents) (acts : List Act) (a b : BookValue) → Keeps a.state → Added other node acts a b → number ≢ other
+pub ahead_stays : (number other : ℕ) (node : NodeState) (takes : List Received) (sent : List (ℕ × Token)) (n : NodeContents) (acts : List Act) (a b : BookValue) → BookKeeps a.state → Added other node acts a b → number ≢ other
     → IsAhead a number takes sent n → IsAhead b number takes sent n
 ahead_stays number other node takes sent n acts a b K A apart H = record {
   before = H.before;
@@ -230,7 +230,7 @@ ahead_stays number other node takes sent n acts a b K A apart H = record {
   image = H.image;
 }
 
-pub ahead_stays_host : (number : ℕ) (takes : List Received) (sent : List (ℕ × Token)) (n : NodeContents) (acts : List Act) (a b : BookValue) → Keeps a.state → number < length a.state.start.nodes → HostAdded acts a b
+pub ahead_stays_host : (number : ℕ) (takes : List Received) (sent : List (ℕ × Token)) (n : NodeContents) (acts : List Act) (a b : BookValue) → BookKeeps a.state → number < length a.state.start.nodes → HostAdded acts a b
     → IsAhead a number takes sent n → IsAhead b number takes sent n
 ahead_stays_host number takes sent n acts a b K below A H = record {
   before = H.before;

@@ -9,7 +9,7 @@ use Rattle.tp_model.specs.NodeWrites.{took_ranges}
 use Rattle.tp_model.specs.SharedPages.{LacksFrames}
 use Rattle.tp_model.specs.Turn.{received, took_all}
 use Rattle.tp_law_network.proofs.Partial.{bind_some}
-use Rattle.tp_node.specs.NodeContents.{NodeContents, kept_of}
+use Rattle.tp_node.specs.NodeContents.{NodeContents, memory_kept}
 use Rattle.tp_turn.specs.Receiving.{Answered, TakesOne, TakesEach, ReceivesOf}
 
 -- ## Several tokens
@@ -50,7 +50,7 @@ of_all link one a b first second A = record {
 
 -- what is in front of a token for which memory has no frame
 pub of_front : (link : ℕ) (one : Received) (token : Token) (rest : List Token) (a b c : NodeContents) (first second third : List (ℕ × Token)) → Answered (TakesEach link (received one)) a first b second
-    → (c ≡ b) × (third ≡ second) × LacksFrames (kept_of b) (took_ranges b.live link token) → Answered (ReceivesOf link (received one ++ token ∷ rest) one) a first c third
+    → (c ≡ b) × (third ≡ second) × LacksFrames (memory_kept b) (took_ranges b.live link token) → Answered (ReceivesOf link (received one ++ token ∷ rest) one) a first c third
 of_front link one token rest a b c first second third A L =
     subst (λ n. Answered (ReceivesOf link (received one ++ token ∷ rest) one) a first n third) (sym L.0)
     (record {

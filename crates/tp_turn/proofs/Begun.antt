@@ -13,7 +13,7 @@ use Rattle.tp_model.specs.Order.{after}
 use Rattle.tp_model.specs.Sound.{owner, is_pending, waits_at, holds_at, end_waits, end_holds}
 use Rattle.tp_model.specs.Format.{fresh_port}
 use Rattle.tp_law_network.proofs.Local.{own_node, own_host}
-use Rattle.tp_book.specs.Book.{BookValue, agreed, next_number}
+use Rattle.tp_book.specs.Book.{BookValue, agreed, next_in_book}
 use Rattle.tp_book.specs.Dropped.{network_now}
 use Rattle.tp_law_machine.specs.NodeOfBytes.{IsNodeOfBytes}
 use Rattle.tp_book.specs.Start.{IsFresh, IsNetwork, first_book}
@@ -180,7 +180,7 @@ lone_starts image n s t bytes fresh is first node thawed =
         thawed = thawed;
       };
       network = ap network_now book ∙ ap (λ ns. record (lone_network n) { nodes = ns }) (first_agreed (lone_network n));
-      first = ap next_number book;
+      first = ap next_in_book book;
     }
   where
     first_lone : (n : NodeState) → IsLoneBook (first_book (lone_network n) None)

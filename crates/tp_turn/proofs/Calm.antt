@@ -22,18 +22,18 @@ use Rattle.tp_model.specs.Acts.{Act, Journal, Close, acted, close_line, happens}
 use Rattle.tp_law_machine.proofs.LinkLaws.{has_four_links}
 use Rattle.tp_law_machine.proofs.Partial.{bind_some}
 use Rattle.tp_law_network.proofs.Reorder.{after_one, after_shape}
-use Rattle.tp_book.specs.Book.{BookValue, agreed, next_number, reserved, world_of}
+use Rattle.tp_book.specs.Book.{BookValue, agreed, next_in_book, reserved, world_of}
 use Rattle.tp_book.specs.Dropped.{network_now}
-use Rattle.tp_book.specs.Refusals.{else_if, entry_refusal, host_refusal, is_full_for, is_full_for_take, is_journal_full, needs_take, port_at, ready_refusal, reserve_refusal, takeable_of, IsAnswer}
+use Rattle.tp_book.specs.Refusals.{else_if, entry_refusal, host_refusal, is_full_for, is_full_for_take, is_journal_full, needs_take, port_behind, ready_refusal, reserve_refusal, takeable_of, IsAnswer}
 use Rattle.tp_book.specs.declared.refusal.Refusal.{Refusal}
 use Rattle.tp_book.specs.declared.refusal.Refusal.TheVariants.{JournalFull, Memory, NothingToTake, PortFull, StoreBroken}
 use Rattle.tp_book.proofs.Fresh.{none_reserved}
 use Rattle.tp_book.proofs.TakeRefused.{full_for_any}
 use Rattle.tp_turn.specs.Books.{Grew}
 use Rattle.tp_turn.specs.Fronts.{front_act}
-use Rattle.tp_turn.specs.Moments.{entries_in}
+use Rattle.tp_turn.specs.Moments.{entries_among}
 use Rattle.tp_turn.proofs.Grown.{grew_next}
-use Rattle.tp_turn.specs.Lone.{IsLoneBook, Made, value_of}
+use Rattle.tp_turn.specs.Lone.{IsLoneBook, Made, lone_value}
 use Rattle.tp_turn.specs.TrialTurns.{TookSo, port_there}
 
 -- ## What acts journal
@@ -42,7 +42,7 @@ use Rattle.tp_turn.specs.TrialTurns.{TookSo, port_there}
 pub record Goes (es : List Entry) (a b : BookValue) : Type 0 where
   pub leads : after t414 (network_now a) es ≡ Some (network_now b)
   pub book : IsLoneBook b
-  pub count : next_number b ≡ next_number a + length es
+  pub count : next_in_book b ≡ next_in_book a + length es
 
 record Journalled (w v : MarkedNetwork NodeState) (e : Entry) : Type 0 where
   leads : next t414 w.live e ≡ Some v.live
@@ -84,12 +84,12 @@ goes es a b L G many idle leads = record {
   count = grew_next es a b G;
 }
 
-module _ (a b : BookValue) (L : IsLoneBook a) (acts : List Act) (did : acted t414 (world_of a) acts ≡ Some (world_of b)) (grew : Grew (entries_in acts) a b) (many : length (agreed b.state) ≡ length (agreed a.state)) where
+module _ (a b : BookValue) (L : IsLoneBook a) (acts : List Act) (did : acted t414 (world_of a) acts ≡ Some (world_of b)) (grew : Grew (entries_among acts) a b) (many : length (agreed b.state) ≡ length (agreed a.state)) where
   -- an entry was journalled
   pub goes_one : (e : Entry) → acts ≡ Journal e ∷ [] → Goes (e ∷ []) a b
   goes_one e are =
       let J = one_journalled (world_of a) (world_of b) e (subst (λ x. acted t414 (world_of a) x ≡ Some (world_of b)) are did) in
-      goes (e ∷ []) a b L (subst (λ x. Grew (entries_in x) a b) are grew) many
+      goes (e ∷ []) a b L (subst (λ x. Grew (entries_among x) a b) are grew) many
       (J.snapshot ∙ ap (option_map (collected (process a.state.start.wires (length a.state.start.nodes) e) (takes (network_now a).wires (length (network_now a).nodes) e))) L.idle)
       (after_one t414 (network_now a) e ∙ J.leads)
 
@@ -99,7 +99,7 @@ module _ (a b : BookValue) (L : IsLoneBook a) (acts : List Act) (did : acted t41
   goes_none are =
       let nothing : Some (world_of a) ≡ Some (world_of b) = subst (λ x. acted t414 (world_of a) x ≡ Some (world_of b)) are did in
       let same : world_of a ≡ world_of b = cc in
-      goes [] a b L (subst (λ x. Grew (entries_in x) a b) are grew) many
+      goes [] a b L (subst (λ x. Grew (entries_among x) a b) are grew) many
       (sym (ap (λ (w : MarkedNetwork NodeState). w.snapshot) same) ∙ L.idle)
       (ap (λ (w : MarkedNetwork NodeState). Some w.live) same)
 
@@ -109,7 +109,7 @@ module _ (a b : BookValue) (L : IsLoneBook a) (acts : List Act) (did : acted t41
   front_goes line Ack are = goes_one (Take line Ack) are
   front_goes line Marker are = absurd (no_close (world_of a) (world_of b) line L.idle (subst (λ x. acted t414 (world_of a) x ≡ Some (world_of b)) are did))
 
-pub took_goes : (a b : BookValue) (line : ℕ) (token : Token) → Goes (Take line token ∷ []) a b → Made (TookSo line 1) 1 (value_of a) (value_of b)
+pub took_goes : (a b : BookValue) (line : ℕ) (token : Token) → Goes (Take line token ∷ []) a b → Made (TookSo line 1) 1 (lone_value a) (lone_value b)
 took_goes a b line token G = record {
   entries = Take line token ∷ [];
   few = omega arith;
@@ -117,22 +117,22 @@ took_goes a b line token G = record {
   did = record { tokens = token ∷ []; many = refl; are = refl; leads = G.leads };
 }
 
-pub same_value : (a b : BookValue) → Goes [] a b → value_of a ≡ value_of b
+pub same_value : (a b : BookValue) → Goes [] a b → lone_value a ≡ lone_value b
 unfolding after
 same_value a b G =
     let nets : Some (network_now a) ≡ Some (network_now b) = G.leads in
     let net : network_now a ≡ network_now b = cc in
-    let number : next_number a ≡ next_number b = omega (arith, G.count) in
-    ap (λ s. record { network = s; entries = next_number a }) net ∙ ap (λ n. record { network = network_now b; entries = n }) number
+    let number : next_in_book a ≡ next_in_book b = omega (arith, G.count) in
+    ap (λ s. record { network = s; entries = next_in_book a }) net ∙ ap (λ n. record { network = network_now b; entries = n }) number
 
 -- ## What a book refuses
 
-module _ (b : BookValue) (L : IsLoneBook b) (left : next_number b + 1 < NUMBER_LIMIT) where
+module _ (b : BookValue) (L : IsLoneBook b) (left : next_in_book b + 1 < NUMBER_LIMIT) where
   free : is_journal_full b 1 ≡ false
   free =
       let none : reserved b ≡ 0 = ap (count_by (λ run. run)) L.runs ∙ none_reserved 1 in
-      let numbers : nat_lt (NUMBER_LIMIT - 1) (next_number b + reserved b + 1) ≡ false = le-ltb (NUMBER_LIMIT - 1) (next_number b + reserved b + 1) (omega (arith, left, none)) in
-      ap (λ r. is_full r (length b.state.lines) (length b.state.entries) (reserved b) (next_number b) 1) L.alone ∙ numbers
+      let numbers : nat_lt (NUMBER_LIMIT - 1) (next_in_book b + reserved b + 1) ≡ false = le-ltb (NUMBER_LIMIT - 1) (next_in_book b + reserved b + 1) (omega (arith, left, none)) in
+      ap (λ r. is_full r (length b.state.lines) (length b.state.entries) (reserved b) (next_in_book b) 1) L.alone ∙ numbers
 
   free_take : (needed : Bool) → is_full_for_take b needed ≡ false
   free_take needed = elim (cases_Bool (is_full_for_take b needed)) [
@@ -159,9 +159,9 @@ module _ (b : BookValue) (L : IsLoneBook b) (left : next_number b + 1 < NUMBER_L
 
   -- a port's take
   pub host_refused : (line : ℕ) (r : Refusal) → host_refusal b line ≡ Some r
-      → (r ≡ NothingToTake) ⊎ (is_full_for (port_at b (receiver b.state.start.wires line)) (get_or (on_line b.state.lines line) 0 Marker) ≡ true)
+      → (r ≡ NothingToTake) ⊎ (is_full_for (port_behind b (receiver b.state.start.wires line)) (get_or (on_line b.state.lines line) 0 Marker) ≡ true)
   host_refused line r =
-      go (is_none (takeable_of (on_line b.state.lines line))) b.broken (is_full_for (port_at b (receiver b.state.start.wires line)) (get_or (on_line b.state.lines line) 0 Marker)) (is_full_for_take b (needs_take b line))
+      go (is_none (takeable_of (on_line b.state.lines line))) b.broken (is_full_for (port_behind b (receiver b.state.start.wires line)) (get_or (on_line b.state.lines line) 0 Marker)) (is_full_for_take b (needs_take b line))
       L.whole (free_take (needs_take b line))
     where
       go : (none broken port full : Bool) → broken ≡ false → full ≡ false → else_if (else_if (else_if (else_if None none NothingToTake) broken StoreBroken) port PortFull) full JournalFull ≡ Some r → (r ≡ NothingToTake) ⊎ (port ≡ true)
@@ -172,9 +172,9 @@ module _ (b : BookValue) (L : IsLoneBook b) (left : next_number b + 1 < NUMBER_L
       go false false false false whole not e = cc
 
 -- where the port has no room the journal isn't told to be full
-pub host_not_full : (b : BookValue) → IsLoneBook b → next_number b + 1 < NUMBER_LIMIT → (line : ℕ) → host_refusal b line ≡ Some JournalFull → ⊥
+pub host_not_full : (b : BookValue) → IsLoneBook b → next_in_book b + 1 < NUMBER_LIMIT → (line : ℕ) → host_refusal b line ≡ Some JournalFull → ⊥
 host_not_full b L left line =
-    go (is_none (takeable_of (on_line b.state.lines line))) b.broken (is_full_for (port_at b (receiver b.state.start.wires line)) (get_or (on_line b.state.lines line) 0 Marker)) (is_full_for_take b (needs_take b line))
+    go (is_none (takeable_of (on_line b.state.lines line))) b.broken (is_full_for (port_behind b (receiver b.state.start.wires line)) (get_or (on_line b.state.lines line) 0 Marker)) (is_full_for_take b (needs_take b line))
     (free_take b L left (needs_take b line))
   where
     go : (none broken port full : Bool) → full ≡ false → else_if (else_if (else_if (else_if None none NothingToTake) broken StoreBroken) port PortFull) full JournalFull ≡ Some JournalFull → ⊥
@@ -196,7 +196,7 @@ ready_not_broken b whole line = go (is_none (takeable_of (on_line b.state.lines 
 
 pub host_not_broken : (b : BookValue) → b.broken ≡ false → (line : ℕ) → host_refusal b line ≡ Some StoreBroken → ⊥
 host_not_broken b whole line =
-    go (is_none (takeable_of (on_line b.state.lines line))) b.broken (is_full_for (port_at b (receiver b.state.start.wires line)) (get_or (on_line b.state.lines line) 0 Marker)) (is_full_for_take b (needs_take b line)) whole
+    go (is_none (takeable_of (on_line b.state.lines line))) b.broken (is_full_for (port_behind b (receiver b.state.start.wires line)) (get_or (on_line b.state.lines line) 0 Marker)) (is_full_for_take b (needs_take b line)) whole
   where
     go : (none broken port full : Bool) → broken ≡ false → else_if (else_if (else_if (else_if None none NothingToTake) broken StoreBroken) port PortFull) full JournalFull ≡ Some StoreBroken → ⊥
     go true broken port full whole e = cc
@@ -214,7 +214,7 @@ marker_stays (Data byte ∷ ts) e = cc
 marker_stays (Ack ∷ ts) e = cc
 marker_stays (Marker ∷ ts) e = refl
 
-pub port_same : (b : BookValue) (end : Option WireEnd) → port_at b end ≡ port_there b.state.ports end
+pub port_same : (b : BookValue) (end : Option WireEnd) → port_behind b end ≡ port_there b.state.ports end
 port_same b None = refl
 port_same b (Some (Link i k)) = refl
 port_same b (Some (AtPort p)) = refl

@@ -3,10 +3,10 @@ use Rattle.std.proofs.Common.{◌≡◌, ℕ, length, sym, ap, subst, ◌∙◌,
 use Rattle.std.specs.Prelude.{is_some, Ok}
 use Rattle.tp_model.specs.NodeState.{NodeState}
 use Rattle.tp_node.specs.NodeContents.{NodeContents}
-use Rattle.tp_book.specs.Book.{BookValue, agreed, next_number}
+use Rattle.tp_book.specs.Book.{BookValue, agreed, next_in_book}
 use Rattle.tp_book.specs.Dropped.{after_drop, network_now}
 use Rattle.tp_turn.specs.Moments.{IsNodeOf}
-use Rattle.tp_turn.specs.Lone.{Begins, IsLoneBook, IsOutputOf, Made, StandsAs, Went, lone_of, value_of}
+use Rattle.tp_turn.specs.Lone.{Begins, IsLoneBook, IsOutputOf, Made, StandsAs, WentByAct, lone_of, lone_value}
 use Rattle.tp_turn.specs.Output.{TrialAs}
 use Rattle.tp_turn.specs.Tried.{lone_network}
 use Rattle.tp_turn.specs.TrialTurns.{AreTurns}
@@ -39,12 +39,12 @@ node_of b n a thawed same N = record {
   kept = λ here its h k. cc;
 }
 
-dropped_value : (a b : BookValue) → b ≡ after_drop a → network_now b ≡ network_now a → value_of b ≡ value_of a
+dropped_value : (a b : BookValue) → b ≡ after_drop a → network_now b ≡ network_now a → lone_value b ≡ lone_value a
 dropped_value a b is net =
-    let number : next_number b ≡ next_number a = ap next_number is ∙ omega arith in
-    ap (λ s. record { network = s; entries = next_number b }) net ∙ ap (λ n. record { network = network_now a; entries = n }) number
+    let number : next_in_book b ≡ next_in_book a = ap next_in_book is ∙ omega arith in
+    ap (λ s. record { network = s; entries = next_in_book b }) net ∙ ap (λ n. record { network = network_now a; entries = n }) number
 
-pub went_dropped : (act : Act) (most : ℕ) (a b : Lone) (book : BookValue) → book ≡ after_drop b.book → agreed book.state ≡ agreed b.book.state → network_now book ≡ network_now b.book → Went act most a b → Went act most a (record b { book = book })
+pub went_dropped : (act : Act) (most : ℕ) (a b : Lone) (book : BookValue) → book ≡ after_drop b.book → agreed book.state ≡ agreed b.book.state → network_now book ≡ network_now b.book → WentByAct act most a b → WentByAct act most a (record b { book = book })
 went_dropped act most a b book is same net W = record {
   made = subst (Made act most (lone_of a)) (sym (dropped_value b.book book is net)) W.made;
   lone = record {
@@ -56,7 +56,7 @@ went_dropped act most a b book is same net W = record {
 
 -- ## The answer
 
-pub trial_is : (o : Option NodeState) (node : NodeState) (a b : Lone) (turns quantum most : ℕ) (trial : Trial) → o ≡ Some node → Begins node a → Went (AreTurns quantum turns) most a b
+pub trial_is : (o : Option NodeState) (node : NodeState) (a b : Lone) (turns quantum most : ℕ) (trial : Trial) → o ≡ Some node → Begins node a → WentByAct (AreTurns quantum turns) most a b
     → IsOutputOf (lone_of b).network trial.output.items → StandsAs (lone_of b).network trial.standing → TrialAs o turns quantum (Ok trial)
 trial_is o node a b turns quantum most trial fresh B W held stands =
     let turned : AreTurns quantum turns (lone_network node) W.made.entries (network_now b.book) = subst (λ s. AreTurns quantum turns s W.made.entries (network_now b.book)) B.network W.made.did in

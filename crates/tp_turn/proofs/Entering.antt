@@ -23,11 +23,11 @@ use Rattle.tp_book.specs.Sends.{on_lines}
 use Rattle.tp_book.specs.Needs.{has_recorded_in}
 use Rattle.tp_book.specs.Book.{BookValue, agreed, world_of}
 use Rattle.tp_book.specs.Calls.{without_run, with_journalled}
-use Rattle.tp_book.specs.Kept.{Keeps}
+use Rattle.tp_book.specs.Kept.{BookKeeps}
 use Rattle.tp_book.specs.Turning.{after_turn, with_entries, IsTurned, TurnIsAgreed}
 use Rattle.tp_book.proofs.Commit.{length-agreed}
 use Rattle.tp_turn.specs.Books.{Grew}
-use Rattle.tp_turn.specs.Moments.{IsNodeOf, entries_in, Added}
+use Rattle.tp_turn.specs.Moments.{IsNodeOf, entries_among, Added}
 use Rattle.tp_turn.specs.Whole.{HasTurnedOn}
 use Rattle.tp_turn.proofs.Grown.{grew_none}
 use Rattle.tp_turn.proofs.Fronted.{collected_recorded, node_stays}
@@ -54,7 +54,7 @@ held b es form = subst (λ f. AllByRecursion (λ e. is_of f e ≡ true) es) (sym
 
 module _ (b : BookValue) (number : ℕ) (takes : List Received) (count : ℕ) (tokens : List (ℕ × Token)) (m : NodeContents) (R : HasTurnedOn b number takes count tokens m) where
   -- what the book asks of it
-  pub turn_made : Keeps b.state → IsTurned b number takes count tokens
+  pub turn_made : BookKeeps b.state → IsTurned b number takes count tokens
   turn_made K =
       let many = length-agreed b.state K in
       record {
@@ -96,15 +96,15 @@ module _ (b : BookValue) (number : ℕ) (takes : List Received) (count : ℕ) (t
     grown : (e : Entry) → Grew (e ∷ []) w (j e)
     grown e = record { start = refl; entries_are = refl; numbers = refl; base = refl; runs = refl; ready = refl; broken = refl; room = refl; history = refl; generation = refl; floor = refl; form = refl }
 
-    turn_own : AllByRecursion (λ e. process b.state.start.wires (length b.state.start.nodes) e ≡ number) (entries_in (turn_acts number takes count))
+    turn_own : AllByRecursion (λ e. process b.state.start.wires (length b.state.start.nodes) e ≡ number) (entries_among (turn_acts number takes count))
     unfolding process
     turn_own =
-        entries_either (λ es. AllByRecursion (λ e. process b.state.start.wires (length b.state.start.nodes) e ≡ number) (entries_in (map Journal es))) number takes count tt (refl, tt) (λ k. (refl, tt))
+        entries_either (λ es. AllByRecursion (λ e. process b.state.start.wires (length b.state.start.nodes) e ≡ number) (entries_among (map Journal es))) number takes count tt (refl, tt) (λ k. (refl, tt))
 
     pub turn_added : Added number m.live (turn_acts number takes count) (without_run b number) new
     turn_added = record {
       did = act;
-      grew = either (λ es x. Grew (entries_in (map Journal es)) w x) (grew_none w) (grown (Turn number takes count)) (λ k. grown (Run number k));
+      grew = either (λ es x. Grew (entries_among (map Journal es)) w x) (grew_none w) (grown (Turn number takes count)) (λ k. grown (Run number k));
       own = turn_own;
       nodes = nodes;
       recorded = λ other apart. recorded other;

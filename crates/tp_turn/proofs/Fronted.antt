@@ -17,7 +17,7 @@ use Rattle.tp_model.specs.Acts.{Journal, Close, happens}
 use Rattle.tp_law_machine.specs.NodeOfBytes.{IsNodeOfBytes}
 use Rattle.tp_model.specs.NodeWrites.{took_ranges}
 use Rattle.tp_model.specs.SharedPages.{kept_behind}
-use Rattle.tp_node.specs.NodeContents.{NodeContents, kept_of}
+use Rattle.tp_node.specs.NodeContents.{NodeContents, memory_kept}
 use Rattle.tp_law_machine.proofs.Partial.{slice_get-set_same}
 use Rattle.tp_book.proofs.Lists.{set_back}
 use Rattle.tp_book.specs.Needs.{has_recorded_in}
@@ -26,7 +26,7 @@ use Rattle.tp_book.specs.Calls.{front_of, with_ready, after_take, TakeIsAgreed}
 use Rattle.tp_book.specs.Marked.{after_close}
 use Rattle.tp_book.proofs.Stood.{one_act}
 use Rattle.tp_turn.specs.Books.{Grew}
-use Rattle.tp_turn.specs.Moments.{moment, IsNodeOf, Added, Done}
+use Rattle.tp_turn.specs.Moments.{moment_of, IsNodeOf, Added, Done}
 use Rattle.tp_turn.specs.Fronts.{front_act, AtFront}
 
 -- ## What is in front
@@ -106,7 +106,7 @@ module _ (b r new : BookValue) (line number link : ℕ) (n m : NodeContents) (an
     marks = ap (λ x. x.marks) is_after;
   }
 
-  pub taken_done : is_marker (front_of b line) ≡ false → kept_of m ≡ kept_behind (kept_of n) (took_ranges n.live link (front_of b line)) → Done number (AtFront number line) (moment b n) (moment new m)
+  pub taken_done : is_marker (front_of b line) ≡ false → memory_kept m ≡ kept_behind (memory_kept n) (took_ranges n.live link (front_of b line)) → Done number (AtFront number line) (moment_of b n) (moment_of new m)
   taken_done plainly shared = record {
     acts = Journal (Take line (front_of b line)) ∷ [];
     added = added;
@@ -142,7 +142,7 @@ module _ (b new : BookValue) (line number : ℕ) (n : NodeContents) (is : new �
   }
 
   pub closed_done : (link : ℕ) → receiver b.state.start.wires line ≡ Some (Link number link) → is_first (on_line b.state.lines line) Marker ≡ true → happens t414 (world_of b) (Close line) ≡ Some (world_of new)
-      → Done number (AtFront number line) (moment b n) (moment new n)
+      → Done number (AtFront number line) (moment_of b n) (moment_of new n)
   closed_done link goes first act = record {
     acts = Close line ∷ [];
     added = closed_added act;
@@ -152,7 +152,7 @@ module _ (b new : BookValue) (line number : ℕ) (n : NodeContents) (is : new �
       kept = refl;
       link = link;
       goes = goes;
-      shared = ap (kept_behind (kept_of n)) (sym (marker_ranges n.live link (front_of b line) (front_marker (on_line b.state.lines line) first)));
+      shared = ap (kept_behind (memory_kept n)) (sym (marker_ranges n.live link (front_of b line) (front_marker (on_line b.state.lines line) first)));
     };
   }
 

@@ -3,7 +3,7 @@ use Rattle.std.proofs.Common.{◌≡◌, ℕ, ◌+◌, suc, List, [], ◌∷◌,
 use Rattle.std.specs.List.{range_with_len}
 use Rattle.std.proofs.lemmas.List.{append-nil}
 use Rattle.tp_model.specs.declared.entry.Entry.{Entry}
-use Rattle.tp_book.specs.Book.{BookValue, next_number}
+use Rattle.tp_book.specs.Book.{BookValue, next_in_book}
 use Rattle.tp_turn.specs.Books.{Grew}
 
 pub grew_none : (b : BookValue) → Grew [] b b
@@ -16,7 +16,7 @@ range_more n (x ∷ es) fs =
     let e : n + suc (length es) ≡ n + 1 + length es = omega arith in
     ap (λ ns. n ∷ ns) (ap (λ k. range_with_len (n + 1) (length es) ++ range_with_len k (length fs)) e ∙ range_more (n + 1) es fs)
 
-pub grew_next : (es : List Entry) (a b : BookValue) → Grew es a b → next_number b ≡ next_number a + length es
+pub grew_next : (es : List Entry) (a b : BookValue) → Grew es a b → next_in_book b ≡ next_in_book a + length es
 grew_next es a b G = let base = G.base in let l = ap length G.entries_are ∙ length-append a.state.entries es in omega (arith, base, l)
 
 pub grew_more : (es fs : List Entry) (a b c : BookValue) → Grew es a b → Grew fs b c → Grew (es ++ fs) a c
@@ -24,10 +24,10 @@ grew_more es fs a b c G H = record {
   start = H.start ∙ G.start;
   entries_are = H.entries_are ∙ ap (λ xs. xs ++ fs) G.entries_are ∙ append_assoc a.state.entries es fs;
   numbers =
-      H.numbers ∙ ap (λ xs. xs ++ range_with_len (next_number b) (length fs)) G.numbers
-      ∙ append_assoc a.numbers (range_with_len (next_number a) (length es)) (range_with_len (next_number b) (length fs))
-      ∙ ap (λ k. a.numbers ++ (range_with_len (next_number a) (length es) ++ range_with_len k (length fs))) (grew_next es a b G)
-      ∙ ap (λ ns. a.numbers ++ ns) (range_more (next_number a) es fs);
+      H.numbers ∙ ap (λ xs. xs ++ range_with_len (next_in_book b) (length fs)) G.numbers
+      ∙ append_assoc a.numbers (range_with_len (next_in_book a) (length es)) (range_with_len (next_in_book b) (length fs))
+      ∙ ap (λ k. a.numbers ++ (range_with_len (next_in_book a) (length es) ++ range_with_len k (length fs))) (grew_next es a b G)
+      ∙ ap (λ ns. a.numbers ++ ns) (range_more (next_in_book a) es fs);
   base = H.base ∙ G.base;
   runs = H.runs ∙ G.runs;
   ready = H.ready ∙ G.ready;

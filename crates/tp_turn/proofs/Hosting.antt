@@ -16,7 +16,7 @@ use Rattle.tp_model.specs.Acts.{Act, Journal, Close, happens}
 use Rattle.tp_law_machine.proofs.Partial.{all_append}
 use Rattle.tp_node.specs.NodeContents.{NodeContents}
 use Rattle.tp_book.specs.Needs.{has_recorded_in}
-use Rattle.tp_book.specs.Book.{BookValue, agreed, world_of, next_number}
+use Rattle.tp_book.specs.Book.{BookValue, agreed, world_of, next_in_book}
 use Rattle.tp_book.specs.Calls.{front_of, HostTook}
 use Rattle.tp_book.specs.Marked.{after_close}
 use Rattle.tp_book.specs.declared.refusal.Refusal.{Refusal}
@@ -24,7 +24,7 @@ use Rattle.tp_book.specs.declared.refusal.Refusal.TheVariants.{JournalFull as Fu
 use Rattle.tp_book.proofs.Stood.{one_act, no_act}
 use Rattle.tp_turn.specs.Books.{Grew}
 use Rattle.tp_turn.specs.Turns.{Then, InOrder}
-use Rattle.tp_turn.specs.Moments.{IsNodeOf, entries_in}
+use Rattle.tp_turn.specs.Moments.{IsNodeOf, entries_among}
 use Rattle.tp_turn.specs.Fronts.{front_act}
 use Rattle.tp_turn.specs.Hosted.{HostAdded, HostDone, PortAtFront, PortIsLeft, PortIsStop, PortAnswers, PortLineEnds, OnPortLine, OnPortWire, OnPort, LeavesPorts, StopsAtPort, HostTurns, is_for_room}
 use Rattle.tp_turn.specs.declared.left.Left.{Left}
@@ -42,10 +42,10 @@ host_none b = record { did = no_act (world_of b); grew = grew_none b; own = tt; 
 pub host_more : (first second : List Act) (a b c : BookValue) → HostAdded first a b → HostAdded second b c → HostAdded (first ++ second) a c
 host_more first second a b c A B = record {
   did = acted_more (world_of a) (world_of b) (world_of c) first second A.did B.did;
-  grew = subst (λ es. Grew es a c) (sym (entries_more first second)) (grew_more (entries_in first) (entries_in second) a b c A.grew B.grew);
+  grew = subst (λ es. Grew es a c) (sym (entries_more first second)) (grew_more (entries_among first) (entries_among second) a b c A.grew B.grew);
   own = subst (AllByRecursion (λ e. process a.state.start.wires (length a.state.start.nodes) e ≡ length a.state.start.nodes)) (sym (entries_more first second))
-      (all_append (λ e. process a.state.start.wires (length a.state.start.nodes) e ≡ length a.state.start.nodes) (entries_in first) (entries_in second) A.own
-      (subst (λ s. AllByRecursion (λ e. process s.wires (length s.nodes) e ≡ length s.nodes) (entries_in second)) A.grew.start B.own));
+      (all_append (λ e. process a.state.start.wires (length a.state.start.nodes) e ≡ length a.state.start.nodes) (entries_among first) (entries_among second) A.own
+      (subst (λ s. AllByRecursion (λ e. process s.wires (length s.nodes) e ≡ length s.nodes) (entries_among second)) A.grew.start B.own));
   nodes = B.nodes ∙ A.nodes;
   recorded = λ process. B.recorded process ∙ A.recorded process;
   frozen = B.frozen ∙ A.frozen;
@@ -167,8 +167,8 @@ port_unwired port a to = record { acts = []; added = host_none a; did = subst (�
 
 -- ## A whole turn
 
-pub host_takes : (takes : ℕ) (a b : BookValue) → HostDone (LeavesPorts (length a.state.ports) false) a b → takes ≡ next_number b - next_number a → HostDone (HostTurns (Ok takes)) a b
-host_takes takes a b D many = record { acts = D.acts; added = D.added; did = record { many = omega (arith, many, grew_next (entries_in D.acts) a b D.added.grew); did = D.did } }
+pub host_takes : (takes : ℕ) (a b : BookValue) → HostDone (LeavesPorts (length a.state.ports) false) a b → takes ≡ next_in_book b - next_in_book a → HostDone (HostTurns (Ok takes)) a b
+host_takes takes a b D many = record { acts = D.acts; added = D.added; did = record { many = omega (arith, many, grew_next (entries_among D.acts) a b D.added.grew); did = D.did } }
 
 pub host_full : (a b : BookValue) → HostDone (LeavesPorts (length a.state.ports) true) a b → HostDone (HostTurns (Err Full)) a b
 host_full a b D = record { acts = D.acts; added = D.added; did = D.did }

@@ -11,7 +11,7 @@ use Rattle.tp_law_network.proofs.Reorder.{after_front}
 use Rattle.tp_turn.specs.Lone.{LoneValue, Made}
 use Rattle.tp_turn.specs.declared.take.TheConstants.{TAKES}
 use Rattle.tp_turn.specs.Turns.{Then, InOrder}
-use Rattle.tp_turn.specs.TrialTurns.{IsLeft, TookSo, TookAll}
+use Rattle.tp_turn.specs.TrialTurns.{StaysOnLine, TookSo, TookAll}
 
 -- what an act does to a network, and its entries
 abbrev pub Act : Type 1
@@ -36,7 +36,7 @@ took_more a b c line n G H = record {
   };
 }
 
-pub took_all : (a b : LoneValue) (line n : ℕ) → Made (TookSo line n) n a b → n ≤ TAKES → (n < TAKES → IsLeft b.network line) → Made (TookAll line) TAKES a b
+pub took_all : (a b : LoneValue) (line n : ℕ) → Made (TookSo line n) n a b → n ≤ TAKES → (n < TAKES → StaysOnLine b.network line) → Made (TookAll line) TAKES a b
 took_all a b line n G few all = record { entries = G.entries; few = omega (arith, G.few, few); counted = G.counted; did = record { count = n; few = few; took = G.did; all = all } }
 
 -- ## Acts in order

@@ -11,19 +11,19 @@ use Rattle.tp_book.specs.Needs.{has_recorded_in}
 use Rattle.tp_book.specs.Book.{BookValue, world_of}
 use Rattle.tp_book.specs.Marked.{after_close}
 use Rattle.tp_turn.specs.Turns.{Then, InOrder}
-use Rattle.tp_turn.specs.Moments.{Moment, moment, IsNodeOf, Done}
+use Rattle.tp_turn.specs.Moments.{TurnMoment, moment_of, IsNodeOf, Done}
 use Rattle.tp_turn.specs.Whole.{close_acts, ClosesFront}
 use Rattle.tp_turn.proofs.Adding.{added_none, added_more}
 use Rattle.tp_turn.proofs.Fronted.{closed_added}
 
 module _ (b : BookValue) (number link : ℕ) (n : NodeContents) (N : IsNodeOf b number n) where
-  nothing_closed : close_acts b number (back b.state.start (4 * number + link)) ≡ [] → Done number (ClosesFront number link) (moment b n) (moment b n)
+  nothing_closed : close_acts b number (back b.state.start (4 * number + link)) ≡ [] → Done number (ClosesFront number link) (moment_of b n) (moment_of b n)
   nothing_closed none =
       let added = added_none number n.live b N.there in
       record { acts = []; added = added; did = record { are = sym none; added = added; node = refl } }
 
   -- where the node hasn't recorded
-  pub front_unrecorded : has_recorded_in b.state.snapshot number ≡ false → Done number (ClosesFront number link) (moment b n) (moment b n)
+  pub front_unrecorded : has_recorded_in b.state.snapshot number ≡ false → Done number (ClosesFront number link) (moment_of b n) (moment_of b n)
   front_unrecorded not = nothing_closed (none (back b.state.start (4 * number + link)))
     where
       either : (line : ℕ) (first : Bool) → cond (first && false) (Close line ∷ []) [] ≡ []
@@ -36,18 +36,18 @@ module _ (b : BookValue) (number link : ℕ) (n : NodeContents) (N : IsNodeOf b 
           ap (λ recorded. cond (is_first (on_line b.state.lines line) Marker && recorded) (Close line ∷ []) []) not ∙ either line (is_first (on_line b.state.lines line) Marker)
 
   -- where no line comes in
-  pub front_unwired : back b.state.start (4 * number + link) ≡ None → Done number (ClosesFront number link) (moment b n) (moment b n)
+  pub front_unwired : back b.state.start (4 * number + link) ≡ None → Done number (ClosesFront number link) (moment_of b n) (moment_of b n)
   front_unwired to = nothing_closed (ap (close_acts b number) to)
 
   module _ (line : ℕ) (to : back b.state.start (4 * number + link) ≡ Some line) where
     -- where no Marker is in front
-    pub front_open : is_first (on_line b.state.lines line) Marker ≡ false → Done number (ClosesFront number link) (moment b n) (moment b n)
+    pub front_open : is_first (on_line b.state.lines line) Marker ≡ false → Done number (ClosesFront number link) (moment_of b n) (moment_of b n)
     front_open shut =
         nothing_closed (ap (close_acts b number) to ∙ ap (λ first. cond (first && has_recorded_in b.state.snapshot number) (Close line ∷ []) []) shut)
 
     -- where one is
     pub front_closed : (new : BookValue) → new ≡ after_close b line → is_first (on_line b.state.lines line) Marker ≡ true → has_recorded_in b.state.snapshot number ≡ true
-        → happens t414 (world_of b) (Close line) ≡ Some (world_of new) → Done number (ClosesFront number link) (moment b n) (moment new n)
+        → happens t414 (world_of b) (Close line) ≡ Some (world_of new) → Done number (ClosesFront number link) (moment_of b n) (moment_of new n)
     front_closed new is first recorded act =
         let added = closed_added b new line number n is N act in
         let both = and_from (is_first (on_line b.state.lines line) Marker) (has_recorded_in b.state.snapshot number) first recorded in
@@ -58,7 +58,7 @@ module _ (b : BookValue) (number link : ℕ) (n : NodeContents) (N : IsNodeOf b 
         }
 
 -- one part, parts in order behind it, and one more of these
-pub behind_more : (number : ℕ) (one : Moment → List Act → Moment → Type 0) (part : ℕ → Moment → List Act → Moment → Type 0) (count : ℕ) (a b c : Moment)
+pub behind_more : (number : ℕ) (one : TurnMoment → List Act → TurnMoment → Type 0) (part : ℕ → TurnMoment → List Act → TurnMoment → Type 0) (count : ℕ) (a b c : TurnMoment)
     → Done number (Then one (InOrder part count)) a b → Done number (part count) b c → Done number (Then one (InOrder part (count + 1))) a c
 unfolding InOrder
 behind_more number one part count a b c D E =

@@ -14,15 +14,15 @@ use Rattle.tp_model.specs.SharedPages.{LacksFrames}
 use Rattle.tp_model.specs.Acts.{Act, Close, Journal, Record}
 use Rattle.tp_model.specs.Turn.{received}
 use Rattle.tp_law_network.specs.Reserved.{turn_entries}
-use Rattle.tp_node.specs.NodeContents.{NodeContents, kept_of}
+use Rattle.tp_node.specs.NodeContents.{NodeContents, memory_kept}
 use Rattle.tp_node.proofs.Answered.{why_most, why_fewer, lacking_frozen}
 use Rattle.tp_book.specs.Needs.{has_recorded_in, is_asked}
-use Rattle.tp_book.specs.Book.{BookValue, agreed, next_number}
+use Rattle.tp_book.specs.Book.{BookValue, agreed, next_in_book}
 use Rattle.tp_book.specs.Dropped.{network_now}
 use Rattle.tp_book.specs.Refusals.{IsAnswer}
 use Rattle.tp_book.specs.declared.refusal.Refusal.{Refusal}
 use Rattle.tp_book.specs.declared.refusal.Refusal.TheVariants.{Memory}
-use Rattle.tp_turn.specs.Moments.{Moment}
+use Rattle.tp_turn.specs.Moments.{TurnMoment}
 use Rattle.tp_turn.specs.Receiving.{IsAtEnd, ReceivesOf, offered, offered_on}
 use Rattle.tp_turn.specs.Settled.{Records, frozen_now}
 use Rattle.tp_turn.specs.Turns.{InOrder}
@@ -32,31 +32,31 @@ use Rattle.tp_turn.specs.declared.take.TheConstants.{TURN_ENTRIES}
 use Rattle.tp_turn.proofs.Ahead.{order_part}
 use Rattle.tp_turn.proofs.Answering.{each_kept}
 use Rattle.tp_turn.proofs.Entering.{entries_either}
-use Rattle.tp_turn.specs.Lone.{IsLoneBook, LoneValue, Made, value_of}
+use Rattle.tp_turn.specs.Lone.{IsLoneBook, LoneValue, Made, lone_value}
 use Rattle.tp_turn.specs.TrialTurns.{standing_on, IsNodeTurn}
 use Rattle.tp_turn.proofs.Calm.{Goes, goes_one, goes_none, nothing_refused, run_refused, same_value, back_now}
 
 -- the book, and the node, which isn't frozen
-pub record IsCalm (m : Moment) : Type 0 where
+pub record IsCalm (m : TurnMoment) : Type 0 where
   pub book : IsLoneBook m.book
   pub thawed : m.node.frozen ≡ None
 
 -- nothing was done that changes what the book stands for
-record Rests (s t : Moment) : Type 0 where
+record Rests (s t : TurnMoment) : Type 0 where
   calm : IsCalm t
-  value : value_of s.book ≡ value_of t.book
+  value : lone_value s.book ≡ lone_value t.book
 
 -- a node that isn't frozen lacks no frame
-never_lacks : (n : NodeContents) (ranges : List (ℕ × ℕ)) → n.frozen ≡ None → LacksFrames (kept_of n) ranges → ⊥
+never_lacks : (n : NodeContents) (ranges : List (ℕ × ℕ)) → n.frozen ≡ None → LacksFrames (memory_kept n) ranges → ⊥
 never_lacks n ranges thawed lacks = true≢false (sym (lacking_frozen n ranges lacks) ∙ ap is_some thawed)
 
 -- ## No snapshot runs
 
-rests : (s t : Moment) (acts : List Act) → IsCalm s → Goes [] s.book t.book → t.node.frozen ≡ None → Rests s t
+rests : (s t : TurnMoment) (acts : List Act) → IsCalm s → Goes [] s.book t.book → t.node.frozen ≡ None → Rests s t
 rests s t acts C G thawed = record { calm = record { book = G.book; thawed = thawed }; value = same_value s.book t.book G }
 
 -- so the node doesn't record
-records : (s t : Moment) (acts : List Act) → IsCalm s → Records 0 s acts t → Rests s t
+records : (s t : TurnMoment) (acts : List Act) → IsCalm s → Records 0 s acts t → Rests s t
 records s t acts C R =
     let not : is_asked s.book.state.snapshot 0 ≡ false = ap (λ o. is_asked o 0) C.book.idle in
     let none : acts ≡ [] = R.are ∙ ap (λ asked. cond asked (Record 0 ∷ []) []) not in
@@ -75,13 +75,13 @@ none_closed b L (Some line) =
     either true = refl
     either false = refl
 
-closes : (link : ℕ) (s t : Moment) (acts : List Act) → IsCalm s → ClosesFront 0 link s acts t → Rests s t
+closes : (link : ℕ) (s t : TurnMoment) (acts : List Act) → IsCalm s → ClosesFront 0 link s acts t → Rests s t
 closes link s t acts C D =
     rests s t acts C
     (goes_none s.book t.book C.book acts D.added.did D.added.grew (ap length D.added.nodes ∙ length-set (agreed s.book.state) 0 t.node.live) (D.are ∙ none_closed s.book C.book (back s.book.state.start (4 * 0 + link))))
     (ap (λ (n : NodeContents). n.frozen) D.node ∙ C.thawed)
 
-all_close : (n : ℕ) (s t : Moment) (acts : List Act) → IsCalm s → InOrder (λ link. ClosesFront 0 link) n s acts t → Rests s t
+all_close : (n : ℕ) (s t : TurnMoment) (acts : List Act) → IsCalm s → InOrder (λ link. ClosesFront 0 link) n s acts t → Rests s t
 unfolding InOrder
 all_close zero s t acts C D = subst (Rests s) (sym D.1) (record { calm = C; value = refl })
 all_close (suc n) s t acts C D =
@@ -89,7 +89,7 @@ all_close (suc n) s t acts C D =
     let B = closes n D.between t D.second A.calm D.other_did in
     record { calm = B.calm; value = A.value ∙ B.value }
 
-at_markers : (s t : Moment) (acts : List Act) → IsCalm s → Closes 0 s acts t → Rests s t
+at_markers : (s t : TurnMoment) (acts : List Act) → IsCalm s → Closes 0 s acts t → Rests s t
 at_markers s t acts C D =
     let A = records s D.between D.first C D.one_did in
     let B = all_close 4 D.between t D.second A.calm D.other_did in
@@ -105,7 +105,7 @@ offered_all b L link = same (back b.state.start (4 * 0 + link)) ∙ ap (standing
     same None = refl
     same (Some line) = refl
 
-module _ (quantum : ℕ) (turn : Turn) (s t : Moment) (acts : List Act) (C : IsCalm s) (D : TurnsOnce 0 quantum turn s acts t) (there : slice_get (agreed t.book.state) 0 ≡ Some t.node.live) where
+module _ (quantum : ℕ) (turn : Turn) (s t : TurnMoment) (acts : List Act) (C : IsCalm s) (D : TurnsOnce 0 quantum turn s acts t) (there : slice_get (agreed t.book.state) 0 ≡ Some t.node.live) where
   -- it lacks no frame, so all was received
   receives_all : (link : ℕ) → link < 4 → received (get_or D.takes link Nothing) ≡ standing_on (network_now s.book) (back (network_now s.book) (4 * 0 + link))
   receives_all link four =
@@ -124,10 +124,10 @@ module _ (quantum : ℕ) (turn : Turn) (s t : Moment) (acts : List Act) (C : IsC
 
   least : turn.ran.count < quantum → node_step t.node.live ≡ None
   least less =
-      why_fewer turn.ran.why quantum turn.ran.count (LacksFrames (kept_of t.node) (node_ranges t.node.live)) t.node.live D.why (never_lacks t.node _ thawed) less
+      why_fewer turn.ran.why quantum turn.ran.count (LacksFrames (memory_kept t.node) (node_ranges t.node.live)) t.node.live D.why (never_lacks t.node _ thawed) less
 
   most : turn.ran.count ≤ quantum
-  most = why_most turn.ran.why quantum turn.ran.count (LacksFrames (kept_of t.node) (node_ranges t.node.live)) t.node.live D.why
+  most = why_most turn.ran.why quantum turn.ran.count (LacksFrames (memory_kept t.node) (node_ranges t.node.live)) t.node.live D.why
 
   abbrev entries : List Entry
   entries = turn_entries 0 D.takes turn.ran.count
@@ -148,7 +148,7 @@ module _ (quantum : ℕ) (turn : Turn) (s t : Moment) (acts : List Act) (C : IsC
     )
   ]
 
-  turns : IsCalm t × Made (IsNodeTurn quantum 0) TURN_ENTRIES (value_of s.book) (value_of t.book)
+  turns : IsCalm t × Made (IsNodeTurn quantum 0) TURN_ENTRIES (lone_value s.book) (lone_value t.book)
   turns = (
     record { book = goes.0.book; thawed = thawed },
     record {
@@ -172,22 +172,22 @@ module _ (quantum : ℕ) (turn : Turn) (s t : Moment) (acts : List Act) (C : IsC
 
 -- ## A whole turn
 
-pub node_turned : (quantum : ℕ) (turn : Turn) (s t : Moment) (acts : List Act) → IsCalm s → TurnsWhole 0 quantum (Ok turn) s acts t
-    → slice_get (agreed t.book.state) 0 ≡ Some t.node.live → IsCalm t × Made (IsNodeTurn quantum 0) TURN_ENTRIES (value_of s.book) (value_of t.book)
+pub node_turned : (quantum : ℕ) (turn : Turn) (s t : TurnMoment) (acts : List Act) → IsCalm s → TurnsWhole 0 quantum (Ok turn) s acts t
+    → slice_get (agreed t.book.state) 0 ≡ Some t.node.live → IsCalm t × Made (IsNodeTurn quantum 0) TURN_ENTRIES (lone_value s.book) (lone_value t.book)
 node_turned quantum turn s t acts C D there =
     let A = at_markers s D.between D.first C D.one_did in
     let B = turns quantum turn D.between t D.second A.calm D.other_did there in
-    (B.0, subst (λ v. Made (IsNodeTurn quantum 0) TURN_ENTRIES v (value_of t.book)) (sym A.value) B.1)
+    (B.0, subst (λ v. Made (IsNodeTurn quantum 0) TURN_ENTRIES v (lone_value t.book)) (sym A.value) B.1)
 
 -- ## A turn that is refused
 
 -- only memory is wanting
-pub node_refused : (quantum : ℕ) (e : Refusal) (s t : Moment) (acts : List Act) → IsCalm s → next_number s.book + TURN_ENTRIES + 1 < NUMBER_LIMIT → TurnsWhole 0 quantum (Err e) s acts t → e ≡ Memory
+pub node_refused : (quantum : ℕ) (e : Refusal) (s t : TurnMoment) (acts : List Act) → IsCalm s → next_in_book s.book + TURN_ENTRIES + 1 < NUMBER_LIMIT → TurnsWhole 0 quantum (Err e) s acts t → e ≡ Memory
 node_refused quantum e s t acts C left D =
     let A = at_markers s D.between D.first C D.one_did in
     let b = D.between.book in
-    let number : next_number s.book ≡ next_number b = ap (λ (v : LoneValue). v.entries) A.value in
-    let few : next_number b + 1 < NUMBER_LIMIT = omega (arith, left, number) in
+    let number : next_in_book s.book ≡ next_in_book b = ap (λ (v : LoneValue). v.entries) A.value in
+    let few : next_in_book b + 1 < NUMBER_LIMIT = omega (arith, left, number) in
     elim D.other_did [
       | inl U ↦ run_refused b A.calm.book few (Unit {0}) e (subst (λ recorded. IsAnswer {A = Unit {0}} (turn_refusal b recorded) (Err e)) (ap (λ o. has_recorded_in o 0) A.calm.book.idle) U.answer)
       | inr N ↦ absurd (let none = nothing_refused b A.calm.book few in let full = N.full in cc)

@@ -31,7 +31,7 @@ use Rattle.tp_replay.proofs.Impossible.{take_behind, take_marker, port_takes_non
 use Rattle.tp_turn.specs.declared.take.TheConstants.{TAKES}
 use Rattle.tp_turn.specs.Tried.{lone_network}
 use Rattle.tp_turn.specs.Turns.{Then, InOrder}
-use Rattle.tp_turn.specs.TrialTurns.{IsLeft, port_there, TookAll, TookBack, TookIn, IsNodeTurn, IsTurnOf, AreTurns}
+use Rattle.tp_turn.specs.TrialTurns.{StaysOnLine, port_there, TookAll, TookBack, TookIn, IsNodeTurn, IsTurnOf, AreTurns}
 use Rattle.tp_book.specs.Refusals.{takeable_of, is_full_for}
 use Rattle.tp_turn.specs.Output.{IsOutput}
 
@@ -82,7 +82,7 @@ module _ (s v : Network NodeState) (line : ℕ) (token : Token) (h : next t414 s
   full_end (Some (Link i k)) to full = cc
   full_end (Some (AtPort p)) to full = full_at p to (slice_get s.ports p) refl full
 
-  not_left : IsLeft s line → ⊥
+  not_left : StaysOnLine s line → ⊥
   not_left (inl none) = untakeable token (drop 1 (on_line s.lines line)) refl (ap takeable_of (sym stands) ∙ none)
   not_left (inr full) =
       full_end (receiver s.wires line) refl
@@ -90,17 +90,17 @@ module _ (s v : Network NodeState) (line : ℕ) (token : Token) (h : next t414 s
 
 -- the tokens that leave nothing which can be taken, up to a number
 same_takes : (line most : ℕ) (s t u : Network NodeState) (xs ys : List Token) → length xs ≤ most → length ys ≤ most → after t414 s (map (λ token. Take line token) xs) ≡ Some t → after t414 s (map (λ token. Take line token) ys) ≡ Some u
-    → (length xs < most → IsLeft t line) → (length ys < most → IsLeft u line) → xs ≡ ys
+    → (length xs < most → StaysOnLine t line) → (length ys < most → StaysOnLine u line) → xs ≡ ys
 unfolding after
 same_takes line most s t u [] [] few less a b all none = refl
 same_takes line most s t u [] (y ∷ ys) few less a b all none =
     let is : s ≡ t = cc in
     let N = first_possible t414 s u (Take line y) (map (λ token. Take line token) ys) b in
-    absurd (not_left s N.0 line y N.1 (subst (λ x. IsLeft x line) (sym is) (all (omega arith))))
+    absurd (not_left s N.0 line y N.1 (subst (λ x. StaysOnLine x line) (sym is) (all (omega arith))))
 same_takes line most s t u (x ∷ xs) [] few less a b all none =
     let is : s ≡ u = cc in
     let N = first_possible t414 s t (Take line x) (map (λ token. Take line token) xs) a in
-    absurd (not_left s N.0 line x N.1 (subst (λ x. IsLeft x line) (sym is) (none (omega arith))))
+    absurd (not_left s N.0 line x N.1 (subst (λ x. StaysOnLine x line) (sym is) (none (omega arith))))
 same_takes line zero s t u (x ∷ xs) (y ∷ ys) few less a b all none = absurd (omega (arith, few))
 same_takes line (suc most) s t u (x ∷ xs) (y ∷ ys) few less a b all none =
     let N = first_possible t414 s t (Take line x) (map (λ token. Take line token) xs) a in

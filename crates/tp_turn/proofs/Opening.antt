@@ -22,9 +22,9 @@ use Rattle.tp_book.specs.Book.{BookValue, world_of}
 use Rattle.tp_book.specs.Refusals.{else_if, is_full_for_take, IsAnswer}
 use Rattle.tp_turn.specs.declared.opened.Opened.{Opened}
 use Rattle.tp_turn.specs.declared.opened.Opened.TheVariants.{Apart, Whole}
-use Rattle.tp_turn.specs.Moments.{Moment, IsNodeOf}
+use Rattle.tp_turn.specs.Moments.{TurnMoment, IsNodeOf}
 use Rattle.tp_turn.specs.Whole.{BreaksWhole, EndsWhole}
-use Rattle.tp_turn.specs.Opened.{HasTurnedBy, IsOpenedIn, OpensIn, sent_in, takes_in, tokens_in}
+use Rattle.tp_turn.specs.Opened.{HasTurnedBy, IsOpenedIn, OpensIn, sent_in, turn_received, tokens_in}
 
 -- ## Why it is refused
 
@@ -34,18 +34,18 @@ module _ (P : Refusal → Type 0) (full : P JournalFull) (broken : P StoreBroken
   refused_for false true e h = subst P (sym h) full
   refused_for false false e h = subst P (sym h) memory
 
-  ends_refused : (number : ℕ) (e : Refusal) (s t : Moment) (acts : List Act) → EndsWhole number e s acts t → P e
+  ends_refused : (number : ℕ) (e : Refusal) (s t : TurnMoment) (acts : List Act) → EndsWhole number e s acts t → P e
   ends_refused number e s t acts (inl D) = refused_for s.book.broken (is_full_for_take s.book (has_recorded_in s.book.state.snapshot number)) e D.answer
   ends_refused number e s t acts (inr D) = subst P (sym D.answer) full
 
   -- a whole turn, where it is to be reserved
-  pub whole_refused : (number : ℕ) (e : Refusal) (s t : Moment) (acts : List Act) → BreaksWhole number e s acts t → P e
+  pub whole_refused : (number : ℕ) (e : Refusal) (s t : TurnMoment) (acts : List Act) → BreaksWhole number e s acts t → P e
   whole_refused number e s t acts D = ends_refused number e D.between t D.second D.other_did
 
 -- ## A node that is behind what it received
 
 -- one entry is for a book with turns
-pub opens_form : (form : Form) (number : ℕ) (opened : Opened) (s t : Moment) → OpensIn form number (Ok opened) s t → (takes : List Received) → takes_in opened ≡ Some takes → form ≡ Turns
+pub opens_form : (form : Form) (number : ℕ) (opened : Opened) (s t : TurnMoment) → OpensIn form number (Ok opened) s t → (takes : List Received) → turn_received opened ≡ Some takes → form ≡ Turns
 opens_form Plain number (Apart taken) s t O takes e = cc
 opens_form Plain number (Whole taken) s t O takes e = absurd O
 opens_form Turns number opened s t O takes e = refl
@@ -54,8 +54,8 @@ opens_form Turns number opened s t O takes e = refl
 pub record IsBehind (b : BookValue) (number : ℕ) (opened : Opened) (node : NodeContents) : Type 0 where
   pub before : NodeContents
   pub is : IsNodeOf b number before
-  pub received : (takes : List Received) → takes_in opened ≡ Some takes → IsReceived (world_of b).live number takes
-  pub took : took_all t414 (tokens_in (takes_in opened)) before.live ≡ Some (node.live, sent_in opened)
+  pub received : (takes : List Received) → turn_received opened ≡ Some takes → IsReceived (world_of b).live number takes
+  pub took : took_all t414 (tokens_in (turn_received opened)) before.live ≡ Some (node.live, sent_in opened)
   pub kept : node.frozen ≡ before.frozen
   pub image : IsNodeOfBytes node.live
 
@@ -98,8 +98,8 @@ nothing_sent before ahead sent took = let pair : ◌≡◌ {A = NodeState × Lis
 
 -- The node is behind what it received for the turn, and then it ran.
 pub turned_by : (b : BookValue) (number : ℕ) (opened : Opened) (count : ℕ) (tokens : List (ℕ × Token)) (before ahead node : NodeContents) → IsNodeOf b number before
-    → ((takes : List Received) → takes_in opened ≡ Some takes → (b.form ≡ Turns) × IsReceived (world_of b).live number takes)
-    → took_all t414 (tokens_in (takes_in opened)) before.live ≡ Some (ahead.live, sent_in opened) → ahead.frozen ≡ before.frozen → IsNodeOfBytes ahead.live
+    → ((takes : List Received) → turn_received opened ≡ Some takes → (b.form ≡ Turns) × IsReceived (world_of b).live number takes)
+    → took_all t414 (tokens_in (turn_received opened)) before.live ≡ Some (ahead.live, sent_in opened) → ahead.frozen ≡ before.frozen → IsNodeOfBytes ahead.live
     → count ≤ MAX_STEPS → steps t414 count ahead.live ≡ Some (node.live, tokens) → node.frozen ≡ ahead.frozen → HasTurnedBy b number opened count tokens node
 turned_by b number (Apart taken) count tokens before ahead node N received took kept image few ran same = record {
   before = before;

@@ -19,7 +19,7 @@ use Rattle.tp_law_machine.proofs.Taking.{takes_data, takes_ack}
 use Rattle.tp_law_network.proofs.Lines.{for_line-here, for_line-other}
 use Rattle.tp_node.specs.NodeContents.{NodeContents}
 use Rattle.tp_book.specs.Book.{BookValue, agreed}
-use Rattle.tp_book.specs.Kept.{Keeps}
+use Rattle.tp_book.specs.Kept.{BookKeeps}
 use Rattle.tp_book.specs.Refusals.{needs_take}
 use Rattle.tp_book.proofs.Commit.{length-agreed}
 use Rattle.tp_turn.specs.Receiving.{Answered, HasPlace, ReceivesOf, TakesEach, offered, offered_on}
@@ -78,7 +78,7 @@ placed_none : (link : ℕ) (node : NodeState) → HasPlace link [] node
 placed_none link node = record { free = omega (arith, bit_small (holds node link)); awaited = omega arith }
 
 -- there is place for what a line has for its node
-pub placed_offered : (b : BookValue) → Keeps b.state → (all : Bool) (number link : ℕ) (node : NodeState) → number < length (agreed b.state) → link < 4 → slice_get (agreed b.state) number ≡ Some node
+pub placed_offered : (b : BookValue) → BookKeeps b.state → (all : Bool) (number link : ℕ) (node : NodeState) → number < length (agreed b.state) → link < 4 → slice_get (agreed b.state) number ≡ Some node
     → HasPlace link (offered_on b all number link) node
 placed_offered b K all number link node below four there = go (back b.state.start (4 * number + link)) refl
   where

@@ -23,7 +23,7 @@ use Rattle.tp_law_network.proofs.Flight.{owner_node}
 use Rattle.tp_law_network.proofs.Room.{on_line-plain, datas-plain, acks-plain}
 use Rattle.tp_law_network.proofs.Sound.{end_waits_is, end_holds_is}
 use Rattle.tp_book.specs.Book.{agreed}
-use Rattle.tp_book.specs.Kept.{Keeps}
+use Rattle.tp_book.specs.Kept.{BookKeeps}
 
 -- what stands in front of the first Marker is part of it
 datas_before : (ts : List Token) → datas (before ts) ≤ datas ts
@@ -38,7 +38,7 @@ acks_before (Data byte ∷ ts) = omega (arith, acks_before ts)
 acks_before (Ack ∷ ts) = omega (arith, acks_before ts)
 acks_before (Marker ∷ ts) = omega arith
 
-module _ (b : BookState NodeState) (K : Keeps b) (line number link : ℕ) (node : NodeState) (goes : receiver b.start.wires line ≡ Some (Link number link)) (there : slice_get (agreed b) number ≡ Some node) where
+module _ (b : BookState NodeState) (K : BookKeeps b) (line number link : ℕ) (node : NodeState) (goes : receiver b.start.wires line ≡ Some (Link number link)) (there : slice_get (agreed b) number ≡ Some node) where
   abbrev s : Network NodeState
   s = plain_network (live b (agreed b))
 
@@ -95,7 +95,7 @@ module _ (b : BookState NodeState) (K : Keeps b) (line number link : ℕ) (node 
       omega (arith, flight, acks_here, ap bit waits_is, acks_before (on_line b.lines line))
 
 -- the line that comes back to a link leads to it
-pub comes_in : (b : BookState NodeState) (K : Keeps b) (number link line : ℕ) → number < length (agreed b) → link < 4
+pub comes_in : (b : BookState NodeState) (K : BookKeeps b) (number link line : ℕ) → number < length (agreed b) → link < 4
     → option_map (line_of (length (agreed b))) (receiver b.start.wires (4 * number + link)) ≡ Some line → receiver b.start.wires line ≡ Some (Link number link)
 comes_in b K number link line below four to =
     let again = K.sound.wires.both_ways (4 * number + link) line to in
@@ -111,7 +111,7 @@ comes_in b K number link line below four to =
     same (AtPort p) at is = absurd (omega (arith, below, four, is))
 
 -- the line that comes back to a port leads to it
-pub comes_to : (b : BookState NodeState) (K : Keeps b) (port line : ℕ)
+pub comes_to : (b : BookState NodeState) (K : BookKeeps b) (port line : ℕ)
     → option_map (line_of (length (agreed b))) (receiver b.start.wires (4 * length (agreed b) + port)) ≡ Some line → receiver b.start.wires line ≡ Some (AtPort port)
 comes_to b K port line to =
     let again = K.sound.wires.both_ways (4 * length (agreed b) + port) line to in
@@ -125,7 +125,7 @@ comes_to b K port line to =
     same (AtPort p) at is = let one : p ≡ port = omega (arith, is) in ap AtPort one
 
 -- a wired line is there
-pub line_within : (b : BookState NodeState) → Keeps b → (line : ℕ) (end : WireEnd) → receiver b.start.wires line ≡ Some end → line < length b.lines
+pub line_within : (b : BookState NodeState) → BookKeeps b → (line : ℕ) (end : WireEnd) → receiver b.start.wires line ≡ Some end → line < length b.lines
 line_within b K line end goes =
     let below : line < length (map plain b.lines) = K.sound.there line (ap is_wired goes) in
     subst (λ n. line < n) (length-map {B = List Token} b.lines plain) below

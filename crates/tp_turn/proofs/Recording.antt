@@ -14,7 +14,7 @@ use Rattle.tp_book.specs.Book.{BookValue, agreed, world_of}
 use Rattle.tp_book.specs.Marked.{after_record}
 use Rattle.tp_book.proofs.Stood.{one_act}
 use Rattle.tp_turn.specs.Books.{Grew}
-use Rattle.tp_turn.specs.Moments.{moment, IsNodeOf, Added, Done}
+use Rattle.tp_turn.specs.Moments.{moment_of, IsNodeOf, Added, Done}
 use Rattle.tp_turn.specs.Settled.{frozen_now, Records}
 use Rattle.tp_turn.proofs.Adding.{added_none}
 
@@ -83,7 +83,7 @@ module _ (b new : BookValue) (number : ℕ) (n : NodeContents) (asked : is_asked
     marks = ap (λ x. x.marks) is;
   }
 
-  pub recorded_done : happens t414 (world_of b) (Record number) ≡ Some (world_of new) → Done number (Records number) (moment b n) (moment new m)
+  pub recorded_done : happens t414 (world_of b) (Record number) ≡ Some (world_of new) → Done number (Records number) (moment_of b n) (moment_of new m)
   recorded_done act = record {
     acts = Record number ∷ [];
     added = added act;
@@ -105,7 +105,7 @@ module _ (b new : BookValue) (number : ℕ) (n : NodeContents) (asked : is_asked
   }
 
 -- who isn't asked doesn't record
-pub unasked_done : (b : BookValue) (number : ℕ) (n : NodeContents) → is_asked b.state.snapshot number ≡ false → IsNodeOf b number n → Done number (Records number) (moment b n) (moment b n)
+pub unasked_done : (b : BookValue) (number : ℕ) (n : NodeContents) → is_asked b.state.snapshot number ≡ false → IsNodeOf b number n → Done number (Records number) (moment_of b n) (moment_of b n)
 unasked_done b number n unasked N =
     let nothing = added_none number n.live b N.there in
     record {

@@ -14,7 +14,7 @@ use Rattle.tp_law_machine.proofs.Nodes.{node_steps}
 use Rattle.tp_law_machine.proofs.Partial.{slice_get-set_same}
 use Rattle.tp_model.specs.NodeWrites.{node_ranges, kept_behind_steps}
 use Rattle.tp_model.specs.SharedPages.{LacksFrames}
-use Rattle.tp_node.specs.NodeContents.{NodeContents, kept_of}
+use Rattle.tp_node.specs.NodeContents.{NodeContents, memory_kept}
 use Rattle.tp_node.specs.RunEnd.{RunEnd, IsWhy}
 use Rattle.tp_book.specs.Sends.{on_lines}
 use Rattle.tp_book.specs.Needs.{has_recorded_in}
@@ -24,7 +24,7 @@ use Rattle.tp_book.specs.Calls.{with_run, without_run, with_journalled, after_ru
 use Rattle.tp_book.specs.declared.refusal.Refusal.{Refusal}
 use Rattle.tp_turn.specs.Books.{Grew}
 use Rattle.tp_turn.specs.Turns.{Then}
-use Rattle.tp_turn.specs.Moments.{Moment, IsNodeOf, entries_in, Added, Done}
+use Rattle.tp_turn.specs.Moments.{TurnMoment, IsNodeOf, entries_among, Added, Done}
 use Rattle.tp_turn.specs.Settled.{SettlesWith, SettledAs}
 use Rattle.tp_turn.specs.Stages.{IsOpen, Breaks, HasRunOn, Runs}
 use Rattle.tp_turn.proofs.Grown.{grew_none}
@@ -33,7 +33,7 @@ use Rattle.tp_turn.proofs.Fronted.{collected_recorded, node_stays}
 
 -- ## A turn is opened
 
-pub breaks_at : (number : ℕ) (e : Refusal) (s t : Moment) → Done number (SettledAs number (Err e)) s t → Done number (Breaks number e) s t
+pub breaks_at : (number : ℕ) (e : Refusal) (s t : TurnMoment) → Done number (SettledAs number (Err e)) s t → Done number (Breaks number e) s t
 breaks_at number e s t D = record { acts = D.acts; added = D.added; did = inl D.did }
 
 -- ## A run is journalled
@@ -77,9 +77,9 @@ module _ (b new : BookValue) (number count : ℕ) (tokens : List (ℕ × Token))
   pub run_added : Added number m.live (run_acts number count) (without_run b number) new
   run_added = record {
     did = act;
-    grew = either (λ acts x. Grew (entries_in acts) w x) (grew_none w)
+    grew = either (λ acts x. Grew (entries_among acts) w x) (grew_none w)
         (record { start = refl; entries_are = refl; numbers = refl; base = refl; runs = refl; ready = refl; broken = refl; room = refl; history = refl; generation = refl; floor = refl; form = refl });
-    own = either (λ acts x. AllByRecursion (λ e. process b.state.start.wires (length b.state.start.nodes) e ≡ number) (entries_in acts)) tt (run_own b.state.start number count, tt);
+    own = either (λ acts x. AllByRecursion (λ e. process b.state.start.wires (length b.state.start.nodes) e ≡ number) (entries_among acts)) tt (run_own b.state.start number count, tt);
     nodes = nodes;
     recorded = λ other apart. recorded other;
     frozen = λ other apart. ap (λ xs. get_or xs other None) frozen;
@@ -101,14 +101,14 @@ set_twice (z ∷ xs) (suc i) x y e = ap (λ ws. z ∷ ws) (set_twice xs i x y e)
 pub freed : (b : BookValue) (number : ℕ) → slice_get b.runs number ≡ Some false → without_run (with_run b number) number ≡ b
 freed b number free = ap (λ runs. record b { runs = runs }) (set_twice b.runs number false true free)
 
-pub turn_done : (number takes quantum : ℕ) (ran : RunEnd) (s o t : Moment) → slice_get s.book.runs number ≡ Some false → IsOpen number takes s o → Added number t.node.live (run_acts number ran.count) (without_run o.book number) t.book
-    → ran.max ≡ quantum → IsWhy ran.why quantum ran.count (LacksFrames (kept_of t.node) (node_ranges t.node.live)) t.node.live → t.node.frozen ≡ o.node.frozen
-    → kept_of t.node ≡ kept_behind_steps ran.count o.node.live (kept_of o.node) → Done number (Then (SettlesWith number takes) (Runs number quantum ran)) s t
+pub turn_done : (number takes quantum : ℕ) (ran : RunEnd) (s o t : TurnMoment) → slice_get s.book.runs number ≡ Some false → IsOpen number takes s o → Added number t.node.live (run_acts number ran.count) (without_run o.book number) t.book
+    → ran.max ≡ quantum → IsWhy ran.why quantum ran.count (LacksFrames (memory_kept t.node) (node_ranges t.node.live)) t.node.live → t.node.frozen ≡ o.node.frozen
+    → memory_kept t.node ≡ kept_behind_steps ran.count o.node.live (memory_kept o.node) → Done number (Then (SettlesWith number takes) (Runs number quantum ran)) s t
 turn_done number takes quantum ran s o t free O A max why kept shared =
     let b = O.between in
     let there : slice_get b.book.runs number ≡ Some false = ap (λ runs. slice_get runs number) O.settled.added.grew.runs ∙ free in
-    let book : without_run o.book number ≡ b.book = ap (λ (m : Moment). without_run m.book number) O.is ∙ freed b.book number there in
-    let node : o.node ≡ b.node = ap (λ (m : Moment). m.node) O.is in
+    let book : without_run o.book number ≡ b.book = ap (λ (m : TurnMoment). without_run m.book number) O.is ∙ freed b.book number there in
+    let node : o.node ≡ b.node = ap (λ (m : TurnMoment). m.node) O.is in
     let added : Added number t.node.live (run_acts number ran.count) b.book t.book = subst (λ x. Added number t.node.live (run_acts number ran.count) x t.book) book A in
     then_more number (SettlesWith number takes) (Runs number quantum ran) s b t O.settled
     (record {
@@ -120,6 +120,6 @@ turn_done number takes quantum ran s o t free O A max why kept shared =
         max = max;
         why = why;
         kept = kept ∙ ap (λ n. n.frozen) node;
-        shared = shared ∙ ap (λ n. kept_behind_steps ran.count n.live (kept_of n)) node;
+        shared = shared ∙ ap (λ n. kept_behind_steps ran.count n.live (memory_kept n)) node;
       };
     })

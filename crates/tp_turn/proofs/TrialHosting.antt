@@ -5,7 +5,7 @@ use Rattle.tp_model.specs.declared.link.Token.TheVariants.{Marker}
 use Rattle.tp_model.specs.declared.limits.TheConstants.{NUMBER_LIMIT}
 use Rattle.tp_model.specs.Network.{back, on_line, receiver}
 use Rattle.tp_model.specs.Acts.{Act}
-use Rattle.tp_book.specs.Book.{BookValue, agreed, next_number}
+use Rattle.tp_book.specs.Book.{BookValue, agreed, next_in_book}
 use Rattle.tp_book.specs.Calls.{front_of}
 use Rattle.tp_book.specs.Dropped.{network_now}
 use Rattle.tp_book.specs.Refusals.{is_full_for, takeable_of}
@@ -16,8 +16,8 @@ use Rattle.tp_turn.specs.Turns.{InOrder}
 use Rattle.tp_turn.specs.declared.left.Left.{Left}
 use Rattle.tp_turn.specs.declared.left.Left.TheVariants.{NoWire, Enough, Empty, Marked, NoFrame, PortFull, JournalFull}
 use Rattle.tp_turn.specs.declared.take.TheConstants.{TAKES}
-use Rattle.tp_turn.specs.Lone.{IsLoneBook, Made, value_of}
-use Rattle.tp_turn.specs.TrialTurns.{IsLeft, TookSo, TookAll, TookBack, TookIn, IsHostTurn}
+use Rattle.tp_turn.specs.Lone.{IsLoneBook, Made, lone_value}
+use Rattle.tp_turn.specs.TrialTurns.{StaysOnLine, TookSo, TookAll, TookBack, TookIn, IsHostTurn}
 use Rattle.tp_turn.specs.declared.take.TheConstants.{TURN_ENTRIES}
 use Rattle.tp_turn.proofs.Calm.{front_goes, took_goes, host_refused, host_not_full, host_not_broken, marker_stays, port_same, back_now}
 use Rattle.tp_turn.proofs.Made.{Act as Part, took_none, took_more, took_all, made_more, order_none, order_next}
@@ -25,7 +25,7 @@ use Rattle.tp_turn.proofs.Made.{Act as Part, took_none, took_more, took_all, mad
 -- an act was done, and nothing else is changed
 record Leads (act : Part) (most : ℕ) (a b : BookValue) : Type 0 where
   book : IsLoneBook b
-  made : Made act most (value_of a) (value_of b)
+  made : Made act most (lone_value a) (lone_value b)
 
 -- ## Takes from a line
 
@@ -36,20 +36,20 @@ at_front line a b acts L F =
 
 fronts : (line count : ℕ) (a b : BookValue) (acts : List Act) → IsLoneBook a → InOrder (λ at. PortAtFront line) count a acts b → Leads (TookSo line count) count a b
 unfolding InOrder
-fronts line zero a b acts L D = subst (Leads (TookSo line 0) 0 a) (sym D.1) (record { book = L; made = took_none (value_of a) line })
+fronts line zero a b acts L D = subst (Leads (TookSo line 0) 0 a) (sym D.1) (record { book = L; made = took_none (lone_value a) line })
 fronts line (suc count) a b acts L D =
     let A = fronts line count a D.between D.first L D.one_did in
     let B = at_front line D.between b D.second A.book D.other_did in
-    subst (λ n. Leads (TookSo line n) n a b) (add-one count) (record { book = B.book; made = took_more (value_of a) (value_of D.between) (value_of b) line count A.made B.made })
+    subst (λ n. Leads (TookSo line n) n a b) (add-one count) (record { book = B.book; made = took_more (lone_value a) (lone_value D.between) (lone_value b) line count A.made B.made })
 
-full_so : (b : BookValue) → IsLoneBook b → (line : ℕ) → next_number b + 1 < NUMBER_LIMIT → PortIsLeft line PortFull b → IsLeft (network_now b) line
+full_so : (b : BookValue) → IsLoneBook b → (line : ℕ) → next_in_book b + 1 < NUMBER_LIMIT → PortIsLeft line PortFull b → StaysOnLine (network_now b) line
 full_so b L line left h = elim (host_refused b L left line NoRoom h) [
   | inl none ↦ absurd (let is : NoRoom ≡ NothingToTake = none in cc)
   | inr full ↦ inr (ap (λ o. is_full_for o (get_or (on_line b.state.lines line) 0 Marker)) (sym (port_same b (receiver b.state.start.wires line))) ∙ full)
 ]
 
 -- why it was left
-left_so : (line : ℕ) (why : Left) (b : BookValue) → IsLoneBook b → next_number b + 1 < NUMBER_LIMIT → PortIsLeft line why b → IsLeft (network_now b) line
+left_so : (line : ℕ) (why : Left) (b : BookValue) → IsLoneBook b → next_in_book b + 1 < NUMBER_LIMIT → PortIsLeft line why b → StaysOnLine (network_now b) line
 left_so line NoWire b L left h = absurd h
 left_so line Enough b L left h = absurd h
 left_so line Empty b L left h = inl (ap takeable_of h)
@@ -60,10 +60,10 @@ left_so line JournalFull b L left h = absurd (host_not_full b L left line h)
 
 record Ends (line count : ℕ) (why : Left) (b : BookValue) : Type 0 where
   few : count ≤ TAKES
-  all : count < TAKES → IsLeft (network_now b) line
+  all : count < TAKES → StaysOnLine (network_now b) line
   room : is_for_room why ≡ false
 
-ends_so : (line count : ℕ) (why : Left) (b : BookValue) → IsLoneBook b → (count ≤ TAKES → next_number b + 1 < NUMBER_LIMIT) → PortLineEnds line count (Ok why) b → Ends line count why b
+ends_so : (line count : ℕ) (why : Left) (b : BookValue) → IsLoneBook b → (count ≤ TAKES → next_in_book b + 1 < NUMBER_LIMIT) → PortLineEnds line count (Ok why) b → Ends line count why b
 ends_so line count NoWire b L left h = absurd h
 ends_so line count Enough b L left h = record { few = omega (arith, h); all = λ less. absurd (omega (arith, h, less)); room = refl }
 ends_so line count Empty b L left h = record { few = omega (arith, h.0); all = λ less. left_so line Empty b L (left (omega (arith, less))) h.1; room = refl }
@@ -77,18 +77,18 @@ record LeftBy (act : Part) (why : Left) (a b : BookValue) : Type 0 where
   leads : Leads act TAKES a b
   room : is_for_room why ≡ false
 
-line_all : (line : ℕ) (why : Left) (a b : BookValue) (acts : List Act) → IsLoneBook a → next_number a + TAKES + 1 < NUMBER_LIMIT → OnPortLine line (Ok why) a acts b → LeftBy (TookAll line) why a b
+line_all : (line : ℕ) (why : Left) (a b : BookValue) (acts : List Act) → IsLoneBook a → next_in_book a + TAKES + 1 < NUMBER_LIMIT → OnPortLine line (Ok why) a acts b → LeftBy (TookAll line) why a b
 line_all line why a b acts L left O =
     let A = fronts line O.count a b acts L O.did in
     let ends = ends_so line O.count why b A.book (λ few. omega (arith, few, left, A.made.counted, A.made.few)) O.ends in
-    record { leads = record { book = A.book; made = took_all (value_of a) (value_of b) line O.count A.made ends.few ends.all }; room = ends.room }
+    record { leads = record { book = A.book; made = took_all (lone_value a) (lone_value b) line O.count A.made ends.few ends.all }; room = ends.room }
 
 -- ## Takes at ports
 
 no_wire : (why : Left) → why ≡ NoWire → is_for_room why ≡ false
 no_wire why is = ap is_for_room is
 
-on_wire : (o : Option ℕ) (why : Left) (a b : BookValue) (acts : List Act) → IsLoneBook a → next_number a + TAKES + 1 < NUMBER_LIMIT → OnPortWire o (Ok why) a acts b → LeftBy (TookBack o) why a b
+on_wire : (o : Option ℕ) (why : Left) (a b : BookValue) (acts : List Act) → IsLoneBook a → next_in_book a + TAKES + 1 < NUMBER_LIMIT → OnPortWire o (Ok why) a acts b → LeftBy (TookBack o) why a b
 on_wire None why a b acts L left D =
     subst (LeftBy (TookBack None) why a) (sym D.2)
     (record {
@@ -99,7 +99,7 @@ on_wire (Some line) why a b acts L left D =
     let A = line_all line why a b acts L left D in
     record { leads = record { book = A.leads.book; made = record { entries = A.leads.made.entries; few = A.leads.made.few; counted = A.leads.made.counted; did = A.leads.made.did } }; room = A.room }
 
-at_port : (port : ℕ) (why : Left) (a b : BookValue) (acts : List Act) → IsLoneBook a → next_number a + TAKES + 1 < NUMBER_LIMIT → OnPort port (Ok why) a acts b → LeftBy (TookIn (4 * 1 + port)) why a b
+at_port : (port : ℕ) (why : Left) (a b : BookValue) (acts : List Act) → IsLoneBook a → next_in_book a + TAKES + 1 < NUMBER_LIMIT → OnPort port (Ok why) a acts b → LeftBy (TookIn (4 * 1 + port)) why a b
 at_port port why a b acts L left D =
     let A = on_wire (back a.state.start (4 * length a.state.start.nodes + port)) why a b acts L left D in
     let to : back a.state.start (4 * length a.state.start.nodes + port) ≡ back (network_now a) (4 * 1 + port) =
@@ -122,12 +122,12 @@ record Ports (n : ℕ) (full : Bool) (a b : BookValue) : Type 0 where
   leads : Leads (InOrder (λ p. TookIn (4 * 1 + p)) n) (TAKES * n) a b
   room : full ≡ false
 
-ports : (n : ℕ) (full : Bool) (a b : BookValue) (acts : List Act) → IsLoneBook a → next_number a + TAKES * n + 1 < NUMBER_LIMIT → LeavesPorts n full a acts b → Ports n full a b
+ports : (n : ℕ) (full : Bool) (a b : BookValue) (acts : List Act) → IsLoneBook a → next_in_book a + TAKES * n + 1 < NUMBER_LIMIT → LeavesPorts n full a acts b → Ports n full a b
 unfolding LeavesPorts
 ports zero full a b acts L left D =
     subst (Ports 0 full a) (sym D.2)
     (record {
-      leads = record { book = L; made = made_more (InOrder (λ p. TookIn (4 * 1 + p)) 0) 0 (TAKES * 0) (value_of a) (value_of a) (omega arith) (order_none (λ p. TookIn (4 * 1 + p)) (value_of a)) };
+      leads = record { book = L; made = made_more (InOrder (λ p. TookIn (4 * 1 + p)) 0) 0 (TAKES * 0) (lone_value a) (lone_value a) (omega arith) (order_none (λ p. TookIn (4 * 1 + p)) (lone_value a)) };
       room = D.0;
     })
 ports (suc n) full a b acts L left D =
@@ -136,15 +136,15 @@ ports (suc n) full a b acts L left D =
     record {
       leads = record {
         book = B.leads.book;
-        made = order_next (λ p. TookIn (4 * 1 + p)) n (TAKES * n) TAKES (TAKES * suc n) (value_of a) (value_of D.did.between) (value_of b) (omega arith) A.leads.made B.leads.made;
+        made = order_next (λ p. TookIn (4 * 1 + p)) n (TAKES * n) TAKES (TAKES * suc n) (lone_value a) (lone_value D.did.between) (lone_value b) (omega arith) A.leads.made B.leads.made;
       };
       room = D.is ∙ ap (λ x. x || is_for_room D.why) A.room ∙ B.room;
     }
 
 -- ## A whole turn
 
-pub host_turned : (takes : ℕ) (a b : BookValue) (acts : List Act) → IsLoneBook a → next_number a + TURN_ENTRIES + 1 < NUMBER_LIMIT → HostTurns (Ok takes) a acts b
-    → IsLoneBook b × Made IsHostTurn TURN_ENTRIES (value_of a) (value_of b)
+pub host_turned : (takes : ℕ) (a b : BookValue) (acts : List Act) → IsLoneBook a → next_in_book a + TURN_ENTRIES + 1 < NUMBER_LIMIT → HostTurns (Ok takes) a acts b
+    → IsLoneBook b × Made IsHostTurn TURN_ENTRIES (lone_value a) (lone_value b)
 host_turned takes a b acts L left D =
     let P = ports (length a.state.ports) false a b acts L (omega (arith, left, L.ports)) D.did in
     let is : (n : ℕ) → n ≡ 1 → InOrder (λ p. TookIn (4 * n + p)) (length a.state.ports) (network_now a) P.leads.made.entries (network_now b) =
@@ -168,7 +168,7 @@ wire_stop None e a b acts whole D = cc
 wire_stop (Some line) e a b acts whole D = stop_so line e b whole D.ends.1
 
 -- only memory is wanting
-pub host_refused_so : (e : Refusal) (a b : BookValue) (acts : List Act) → IsLoneBook a → next_number a + TURN_ENTRIES + 1 < NUMBER_LIMIT → b.broken ≡ false → HostTurns (Err e) a acts b → e ≡ Memory
+pub host_refused_so : (e : Refusal) (a b : BookValue) (acts : List Act) → IsLoneBook a → next_in_book a + TURN_ENTRIES + 1 < NUMBER_LIMIT → b.broken ≡ false → HostTurns (Err e) a acts b → e ≡ Memory
 host_refused_so Full a b acts L left whole D = let P = ports (length a.state.ports) true a b acts L (omega (arith, left, L.ports)) D in let no = P.room in cc
 host_refused_so StoreBroken a b acts L left whole D = wire_stop _ StoreBroken _ b _ whole D.did.other_did
 host_refused_so Memory a b acts L left whole D = refl

@@ -3,35 +3,35 @@ use Rattle.std.proofs.Common.{◌≡◌, ◌+◌, ◌<◌, ℕ, ◌∙◌}
 use Rattle.std.specs.Prelude.{Ok, Err}
 use Rattle.tp_model.specs.declared.limits.TheConstants.{NUMBER_LIMIT}
 use Rattle.tp_node.specs.NodeContents.{NodeContents}
-use Rattle.tp_book.specs.Book.{BookValue, next_number}
+use Rattle.tp_book.specs.Book.{BookValue, next_in_book}
 use Rattle.tp_book.specs.declared.refusal.Refusal.{Refusal}
 use Rattle.tp_book.specs.declared.refusal.Refusal.TheVariants.{Memory}
 use Rattle.tp_turn.specs.Hosted.{HostDone, HostTurns}
-use Rattle.tp_turn.specs.Moments.{Done, IsNodeOf, moment}
+use Rattle.tp_turn.specs.Moments.{Done, IsNodeOf, moment_of}
 use Rattle.tp_turn.specs.Whole.{TurnsWhole}
 use Rattle.tp_turn.specs.declared.stages.Turn.{Turn}
 use Rattle.tp_turn.proofs.Hosting.{nodes_stay}
-use Rattle.tp_turn.specs.Lone.{IsLone, Went}
+use Rattle.tp_turn.specs.Lone.{IsLone, WentByAct}
 use Rattle.tp_turn.specs.TrialTurns.{IsNodeTurn, IsHostTurn}
 use Rattle.tp_turn.specs.declared.lone.Lone.{Lone}
 use Rattle.tp_turn.specs.declared.take.TheConstants.{TURN_ENTRIES}
 use Rattle.tp_turn.proofs.TrialHosting.{host_turned, host_refused_so}
 use Rattle.tp_turn.proofs.Noding.{IsCalm, node_turned, node_refused}
 
-module _ (a : Lone) (L : IsLone a) (left : next_number a.book + TURN_ENTRIES + 1 < NUMBER_LIMIT) where
-  calm : IsCalm (moment a.book a.node)
+module _ (a : Lone) (L : IsLone a) (left : next_in_book a.book + TURN_ENTRIES + 1 < NUMBER_LIMIT) where
+  calm : IsCalm (moment_of a.book a.node)
   calm = record { book = L.book; thawed = L.thawed }
 
-  pub node_went : (quantum : ℕ) (turn : Turn) (book : BookValue) (node : NodeContents) → Done 0 (TurnsWhole 0 quantum (Ok turn)) (moment a.book a.node) (moment book node) → IsNodeOf book 0 node
-      → Went (IsNodeTurn quantum 0) TURN_ENTRIES a (record { book = book; node = node })
+  pub node_went : (quantum : ℕ) (turn : Turn) (book : BookValue) (node : NodeContents) → Done 0 (TurnsWhole 0 quantum (Ok turn)) (moment_of a.book a.node) (moment_of book node) → IsNodeOf book 0 node
+      → WentByAct (IsNodeTurn quantum 0) TURN_ENTRIES a (record { book = book; node = node })
   node_went quantum turn book node D is =
-      let T = node_turned quantum turn (moment a.book a.node) (moment book node) D.acts calm D.did is.there in
+      let T = node_turned quantum turn (moment_of a.book a.node) (moment_of book node) D.acts calm D.did is.there in
       record { made = T.1; lone = record { book = T.0.book; node = is; thawed = T.0.thawed } }
 
-  pub node_wants : (quantum : ℕ) (e : Refusal) (book : BookValue) (node : NodeContents) → Done 0 (TurnsWhole 0 quantum (Err e)) (moment a.book a.node) (moment book node) → e ≡ Memory
-  node_wants quantum e book node D = node_refused quantum e (moment a.book a.node) (moment book node) D.acts calm left D.did
+  pub node_wants : (quantum : ℕ) (e : Refusal) (book : BookValue) (node : NodeContents) → Done 0 (TurnsWhole 0 quantum (Err e)) (moment_of a.book a.node) (moment_of book node) → e ≡ Memory
+  node_wants quantum e book node D = node_refused quantum e (moment_of a.book a.node) (moment_of book node) D.acts calm left D.did
 
-  pub host_went : (takes : ℕ) (book : BookValue) → HostDone (HostTurns (Ok takes)) a.book book → Went IsHostTurn TURN_ENTRIES a (record a { book = book })
+  pub host_went : (takes : ℕ) (book : BookValue) → HostDone (HostTurns (Ok takes)) a.book book → WentByAct IsHostTurn TURN_ENTRIES a (record a { book = book })
   host_went takes book D =
       let T = host_turned takes a.book book D.acts L.book left D.did in
       record { made = T.1; lone = record { book = T.0; node = nodes_stay 0 a.node D.acts a.book book D.added L.node; thawed = L.thawed } }

@@ -9,7 +9,7 @@ use Rattle.tp_model.specs.SharedPages.{LacksFrames}
 use Rattle.tp_model.specs.Turn.{by_link}
 use Rattle.tp_law_network.specs.Reserved.{turn_acts}
 use Rattle.tp_law_machine.proofs.Partial.{slice_get-set_same}
-use Rattle.tp_node.specs.NodeContents.{NodeContents, kept_of}
+use Rattle.tp_node.specs.NodeContents.{NodeContents, memory_kept}
 use Rattle.tp_node.specs.RunEnd.{IsWhy}
 use Rattle.tp_book.specs.Needs.{has_recorded_in}
 use Rattle.tp_book.specs.declared.refusal.Refusal.{Refusal}
@@ -21,7 +21,7 @@ use Rattle.tp_book.specs.Turning.{takes_refusal}
 use Rattle.tp_book.proofs.TakeRefused.{full_for_any}
 use Rattle.tp_turn.specs.declared.receiving.Taken.{Taken}
 use Rattle.tp_turn.specs.declared.stages.Turn.{Turn}
-use Rattle.tp_turn.specs.Moments.{Moment, moment, Added, Done}
+use Rattle.tp_turn.specs.Moments.{TurnMoment, moment_of, Added, Done}
 use Rattle.tp_turn.specs.Receiving.{Receives}
 use Rattle.tp_turn.specs.Whole.{Closes, EndsWhole, IsOpenWhole, TurnsOnce, TurnsWhole, turn_refusal}
 use Rattle.tp_turn.proofs.Adding.{added_none, then_more}
@@ -55,7 +55,7 @@ why_refused b true e other h = go b.broken h
 module _ (number : ℕ) (b : BookValue) (n : NodeContents) where
   -- nothing could be reserved
   pub unreserved : (e : Refusal) → slice_get (agreed b.state) number ≡ Some n.live → IsAnswer {A = Unit {0}} (turn_refusal b (has_recorded_in b.state.snapshot number)) (Err e)
-      → Done number (EndsWhole number e) (moment b n) (moment b n)
+      → Done number (EndsWhole number e) (moment_of b n) (moment_of b n)
   unreserved e there h = record {
     acts = [];
     added = added_none number n.live b there;
@@ -65,7 +65,7 @@ module _ (number : ℕ) (b : BookValue) (n : NodeContents) where
   -- what the running snapshot needs was received
   pub needed : (new : BookValue) (m : NodeContents) (takes : List Received) (sent : List (ℕ × Token)) → slice_get b.runs number ≡ Some false → reserve_refusal b ≡ Some JournalFull
       → has_recorded_in b.state.snapshot number ≡ true → takes_refusal b ≡ None → Receives b false number takes n sent m
-      → Added number m.live (turn_acts number takes 0) (without_run (with_run b number) number) new → Done number (EndsWhole number JournalFull) (moment b n) (moment new m)
+      → Added number m.live (turn_acts number takes 0) (without_run (with_run b number) number) new → Done number (EndsWhole number JournalFull) (moment_of b n) (moment_of new m)
   needed new m takes sent free full recorded found R A =
       let added : Added number m.live (turn_acts number takes 0) b new = subst (λ x. Added number m.live (turn_acts number takes 0) x new) (freed b number free) A in
       record {
@@ -109,9 +109,9 @@ full_answer A b h = go (reserve_refusal b) h
 
 -- ## A whole turn
 
-pub whole_done : (number quantum : ℕ) (turn : Turn) (taken : Taken) (s o t : Moment) → slice_get s.book.runs number ≡ Some false → IsOpenWhole number taken s o → turn.takes ≡ length (by_link 0 taken.takes) → Added number t.node.live (turn_acts number taken.takes turn.ran.count) (without_run o.book number) t.book
-    → turn.ran.max ≡ quantum → IsWhy turn.ran.why quantum turn.ran.count (LacksFrames (kept_of t.node) (node_ranges t.node.live)) t.node.live → t.node.frozen ≡ o.node.frozen
-    → kept_of t.node ≡ kept_behind_steps turn.ran.count o.node.live (kept_of o.node) → Done number (TurnsWhole number quantum (Ok turn)) s t
+pub whole_done : (number quantum : ℕ) (turn : Turn) (taken : Taken) (s o t : TurnMoment) → slice_get s.book.runs number ≡ Some false → IsOpenWhole number taken s o → turn.takes ≡ length (by_link 0 taken.takes) → Added number t.node.live (turn_acts number taken.takes turn.ran.count) (without_run o.book number) t.book
+    → turn.ran.max ≡ quantum → IsWhy turn.ran.why quantum turn.ran.count (LacksFrames (memory_kept t.node) (node_ranges t.node.live)) t.node.live → t.node.frozen ≡ o.node.frozen
+    → memory_kept t.node ≡ kept_behind_steps turn.ran.count o.node.live (memory_kept o.node) → Done number (TurnsWhole number quantum (Ok turn)) s t
 whole_done number quantum turn taken s o t free O many A max why kept shared =
     let b = O.between in
     let there : slice_get b.book.runs number ≡ Some false = ap (λ runs. slice_get runs number) O.closed.added.grew.runs ∙ free in

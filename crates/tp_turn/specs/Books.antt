@@ -2,13 +2,13 @@
 use Rattle.std.specs.Prelude.{◌≡◌, List, ◌++◌, length}
 use Rattle.std.specs.List.{range_with_len}
 use Rattle.tp_model.specs.declared.entry.Entry.{Entry}
-use Rattle.tp_book.specs.Book.{BookValue, next_number}
+use Rattle.tp_book.specs.Book.{BookValue, next_in_book}
 
 -- The book has `entries` more, under the numbers that come next, and nothing else is changed but lines, ports and nodes.
 pub record Grew (entries : List Entry) (old new : BookValue) : Type 0 where
   pub start : new.state.start ≡ old.state.start
   pub entries_are : new.state.entries ≡ old.state.entries ++ entries
-  pub numbers : new.numbers ≡ old.numbers ++ range_with_len (next_number old) (length entries)
+  pub numbers : new.numbers ≡ old.numbers ++ range_with_len (next_in_book old) (length entries)
   pub base : new.base ≡ old.base
   pub runs : new.runs ≡ old.runs
   pub ready : new.ready ≡ old.ready

@@ -8,7 +8,7 @@ use Rattle.tp_model.specs.Network.{back, on_line, is_first, receiver}
 use Rattle.tp_model.specs.NodeWrites.{took_ranges}
 use Rattle.tp_model.specs.SharedPages.{LacksFrames, kept_behind}
 use Rattle.tp_model.specs.Acts.{Act, Journal, Close}
-use Rattle.tp_node.specs.NodeContents.{kept_of}
+use Rattle.tp_node.specs.NodeContents.{memory_kept}
 use Rattle.tp_book.specs.Needs.{has_recorded_in}
 use Rattle.tp_book.specs.declared.refusal.Refusal.{Refusal}
 use Rattle.tp_book.specs.declared.refusal.Refusal.TheVariants.{JournalFull, StoreBroken, Memory, NothingToTake, SnapshotRunning, PortFull}
@@ -19,7 +19,7 @@ use Rattle.tp_turn.specs.declared.left.Left.{Left}
 use Rattle.tp_turn.specs.declared.left.Left.TheVariants as left
 use Rattle.tp_turn.specs.declared.take.TheConstants.{TAKES}
 use Rattle.tp_turn.specs.Turns.{InOrder}
-use Rattle.tp_turn.specs.Moments.{Moment, Added, Done}
+use Rattle.tp_turn.specs.Moments.{TurnMoment, Added, Done}
 
 -- ## One act
 
@@ -31,27 +31,27 @@ front_act line Marker = Close line
 
 -- That was done, and the node stays frozen as it was, or not frozen. Just the pages that the token was written to are shared
 -- no more.
-pub record AtFront (number line : ℕ) (s : Moment) (acts : List Act) (t : Moment) : Type 0 where
+pub record AtFront (number line : ℕ) (s : TurnMoment) (acts : List Act) (t : TurnMoment) : Type 0 where
   pub are : acts ≡ front_act line (front_of s.book line) ∷ []
   pub added : Added number t.node.live acts s.book t.book
   pub kept : t.node.frozen ≡ s.node.frozen
   pub link : ℕ
   pub goes : receiver s.book.state.start.wires line ≡ Some (Link number link)
-  pub shared : kept_of t.node ≡ kept_behind (kept_of s.node) (took_ranges s.node.live link (front_of s.book line))
+  pub shared : memory_kept t.node ≡ kept_behind (memory_kept s.node) (took_ranges s.node.live link (front_of s.book line))
 
 -- ## Why a line is left
 
 -- The token in front finds no frame, though the journal has room: the shared pages that it would be written to outnumber
 -- the free frames.
-pub record WantsFrame (number line : ℕ) (m : Moment) : Type 0 where
+pub record WantsFrame (number line : ℕ) (m : TurnMoment) : Type 0 where
   pub room : ready_refusal m.book line ≡ None
   pub link : ℕ
   pub goes : receiver m.book.state.start.wires line ≡ Some (Link number link)
-  pub wants : LacksFrames (kept_of m.node) (took_ranges m.node.live link (front_of m.book line))
+  pub wants : LacksFrames (memory_kept m.node) (took_ranges m.node.live link (front_of m.book line))
 
 -- The line is empty; a Marker is in front, and no snapshot runs in which the node has recorded; the token in front finds no
 -- frame; the journal is full.
-abbrev pub IsLeft : ℕ → ℕ → Left → Moment → Type 0
+abbrev pub IsLeft : ℕ → ℕ → Left → TurnMoment → Type 0
 IsLeft number line left.NoWire m = ⊥
 IsLeft number line left.Enough m = ⊥
 IsLeft number line left.Empty m = on_line m.book.state.lines line ≡ []
@@ -63,24 +63,24 @@ IsLeft number line left.JournalFull m = ready_refusal m.book line ≡ Some Journ
 
 -- A token is in front that can't be taken, and the turn ends: the store is broken, or memory was refused, which is told
 -- only where nothing else is in the way.
-abbrev pub IsStop : ℕ → Refusal → BookValue → Type 0
-IsStop line JournalFull b = ⊥
-IsStop line StoreBroken b = ready_refusal b line ≡ Some StoreBroken
-IsStop line Memory b = ready_refusal b line ≡ None
-IsStop line NothingToTake b = ⊥
-IsStop line SnapshotRunning b = ⊥
-IsStop line PortFull b = ⊥
+abbrev pub EndsTurn : ℕ → Refusal → BookValue → Type 0
+EndsTurn line JournalFull b = ⊥
+EndsTurn line StoreBroken b = ready_refusal b line ≡ Some StoreBroken
+EndsTurn line Memory b = ready_refusal b line ≡ None
+EndsTurn line NothingToTake b = ⊥
+EndsTurn line SnapshotRunning b = ⊥
+EndsTurn line PortFull b = ⊥
 
 -- One act was done at the front of a line; or none, and the line is left, or the turn ends.
-abbrev pub FrontAnswers : ℕ → ℕ → Result (Option Left) Refusal → Moment → Moment → Type 0
+abbrev pub FrontAnswers : ℕ → ℕ → Result (Option Left) Refusal → TurnMoment → TurnMoment → Type 0
 FrontAnswers number line (Ok None) s t = Done number (AtFront number line) s t
 FrontAnswers number line (Ok (Some why)) s t = (t ≡ s) × IsLeft number line why s
-FrontAnswers number line (Err e) s t = (t ≡ s) × IsStop line e s.book
+FrontAnswers number line (Err e) s t = (t ≡ s) × EndsTurn line e s.book
 
 -- ## A line in a turn
 
 -- why `count` acts were done at the front of a line, and no more
-abbrev pub LineEnds : ℕ → ℕ → ℕ → Result Left Refusal → Moment → Type 0
+abbrev pub LineEnds : ℕ → ℕ → ℕ → Result Left Refusal → TurnMoment → Type 0
 LineEnds number line count (Ok left.Enough) m = count ≡ TAKES
 LineEnds number line count (Ok left.NoWire) m = ⊥
 LineEnds number line count (Ok left.Empty) m = (count < TAKES) × IsLeft number line left.Empty m
@@ -88,19 +88,19 @@ LineEnds number line count (Ok left.Marked) m = (count < TAKES) × IsLeft number
 LineEnds number line count (Ok left.NoFrame) m = (count < TAKES) × IsLeft number line left.NoFrame m
 LineEnds number line count (Ok left.PortFull) m = ⊥
 LineEnds number line count (Ok left.JournalFull) m = (count < TAKES) × IsLeft number line left.JournalFull m
-LineEnds number line count (Err e) m = (count < TAKES) × IsStop line e m.book
+LineEnds number line count (Err e) m = (count < TAKES) × EndsTurn line e m.book
 
 -- Acts one after another at the front of a line: three, or as many as there are up to a reason why there are no more.
-pub record OnLine (number line : ℕ) (answer : Result Left Refusal) (s : Moment) (acts : List Act) (t : Moment) : Type 0 where
+pub record OnLine (number line : ℕ) (answer : Result Left Refusal) (s : TurnMoment) (acts : List Act) (t : TurnMoment) : Type 0 where
   pub count : ℕ
   pub did : InOrder (λ at. AtFront number line) count s acts t
   pub ends : LineEnds number line count answer t
 
 -- So on a wire; where there is none, nothing is done.
-abbrev pub OnWire : ℕ → Option ℕ → Result Left Refusal → Moment → List Act → Moment → Type 0
+abbrev pub OnWire : ℕ → Option ℕ → Result Left Refusal → TurnMoment → List Act → TurnMoment → Type 0
 OnWire number None answer s acts t = (answer ≡ Ok left.NoWire) × (acts ≡ []) × (t ≡ s)
 OnWire number (Some line) answer s acts t = OnLine number line answer s acts t
 
 -- on the line that comes in on a link
-abbrev pub OnLink : ℕ → ℕ → Result Left Refusal → Moment → List Act → Moment → Type 0
+abbrev pub OnLink : ℕ → ℕ → Result Left Refusal → TurnMoment → List Act → TurnMoment → Type 0
 OnLink number link answer s acts t = OnWire number (back s.book.state.start (4 * number + link)) answer s acts t

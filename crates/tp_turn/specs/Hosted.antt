@@ -17,15 +17,15 @@ use Rattle.tp_turn.specs.declared.left.Left.TheVariants as left
 use Rattle.tp_turn.specs.declared.take.TheConstants.{TAKES}
 use Rattle.tp_turn.specs.Books.{Grew}
 use Rattle.tp_turn.specs.Turns.{Then, InOrder}
-use Rattle.tp_turn.specs.Moments.{entries_in}
+use Rattle.tp_turn.specs.Moments.{entries_among}
 use Rattle.tp_turn.specs.Fronts.{front_act}
 
 -- `acts` of the host were done, and nothing else: the entries among them are the host's. The agreed nodes and the
 -- frozen ones stay, and who has recorded.
 pub record HostAdded (acts : List Act) (old new : BookValue) : Type 0 where
   pub did : acted t414 (world_of old) acts ≡ Some (world_of new)
-  pub grew : Grew (entries_in acts) old new
-  pub own : AllByRecursion (λ e. process old.state.start.wires (length old.state.start.nodes) e ≡ length old.state.start.nodes) (entries_in acts)
+  pub grew : Grew (entries_among acts) old new
+  pub own : AllByRecursion (λ e. process old.state.start.wires (length old.state.start.nodes) e ≡ length old.state.start.nodes) (entries_among acts)
   pub nodes : agreed new.state ≡ agreed old.state
   pub recorded : (process : ℕ) → has_recorded_in new.state.snapshot process ≡ has_recorded_in old.state.snapshot process
   pub frozen : new.frozen ≡ old.frozen
@@ -126,7 +126,7 @@ pub record StopsAtPort (e : Refusal) (s : BookValue) (acts : List Act) (t : Book
 
 -- all ports were left, with `takes` takes
 pub record TakesAtPorts (takes : ℕ) (s : BookValue) (acts : List Act) (t : BookValue) : Type 0 where
-  pub many : takes ≡ length (entries_in acts)
+  pub many : takes ≡ length (entries_among acts)
   pub did : LeavesPorts (length s.state.ports) false s acts t
 
 -- The host's turn, and what it answers: that the journal was full for a port is told at the end, once all ports were left.

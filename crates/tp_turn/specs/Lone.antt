@@ -6,7 +6,7 @@ use Rattle.tp_model.specs.NodeState.{NodeState}
 use Rattle.tp_model.specs.Network.{Network, Port}
 use Rattle.tp_node.specs.Standing.{standing}
 use Rattle.tp_node.specs.declared.standing.Standing.{Standing}
-use Rattle.tp_book.specs.Book.{BookValue, agreed, next_number}
+use Rattle.tp_book.specs.Book.{BookValue, agreed, next_in_book}
 use Rattle.tp_book.specs.Dropped.{network_now}
 use Rattle.tp_turn.specs.Moments.{IsNodeOf}
 use Rattle.tp_turn.specs.Tried.{lone_network}
@@ -17,11 +17,11 @@ pub record LoneValue : Type 0 where
   pub network : Network NodeState
   pub entries : ℕ
 
-abbrev pub value_of : BookValue → LoneValue
-value_of b = record { network = network_now b; entries = next_number b }
+abbrev pub lone_value : BookValue → LoneValue
+lone_value b = record { network = network_now b; entries = next_in_book b }
 
 abbrev pub lone_of : Lone → LoneValue
-lone_of t = value_of t.book
+lone_of t = lone_value t.book
 
 -- A book of one node and one port: it has no device, so it may hold every entry; no snapshot runs, nothing is reserved or made ready, and
 -- its store isn't broken.
@@ -46,7 +46,7 @@ pub record IsLone (t : Lone) : Type 0 where
 pub record Begins (node : NodeState) (t : Lone) : Type 0 where
   pub lone : IsLone t
   pub network : network_now t.book ≡ lone_network node
-  pub first : next_number t.book ≡ 0
+  pub first : next_in_book t.book ≡ 0
 
 -- An act of at most `most` entries was done, and they were numbered.
 pub record Made (act : Network NodeState → List Entry → Network NodeState → Type 0) (most : ℕ) (old new : LoneValue) : Type 0 where
@@ -56,7 +56,7 @@ pub record Made (act : Network NodeState → List Entry → Network NodeState �
   pub did : act old.network entries new.network
 
 -- Such an act was done, and a node with its book has gone on by it.
-pub record Went (act : Network NodeState → List Entry → Network NodeState → Type 0) (most : ℕ) (old new : Lone) : Type 0 where
+pub record WentByAct (act : Network NodeState → List Entry → Network NodeState → Type 0) (most : ℕ) (old new : Lone) : Type 0 where
   pub made : Made act most (lone_of old) (lone_of new)
   pub lone : IsLone new
 

@@ -14,7 +14,7 @@ use Rattle.tp_book.specs.Acts.{run_entries}
 use Rattle.tp_book.specs.Book.{BookValue}
 use Rattle.tp_turn.specs.declared.opened.Opened.{Opened}
 use Rattle.tp_turn.specs.declared.opened.Opened.TheVariants.{Apart, Whole}
-use Rattle.tp_turn.specs.Moments.{Moment, IsNodeOf}
+use Rattle.tp_turn.specs.Moments.{TurnMoment, IsNodeOf}
 use Rattle.tp_turn.specs.Receiving.{IsAhead}
 use Rattle.tp_turn.specs.Stages.{Opens, HasRunOn}
 use Rattle.tp_turn.specs.Whole.{OpensWhole, HasTurnedOn}
@@ -22,9 +22,9 @@ use Rattle.tp_turn.specs.Whole.{OpensWhole, HasTurnedOn}
 -- ## What was taken
 
 -- what the node received for the turn's one entry, by link; none where each token that it took is an entry
-abbrev pub takes_in : Opened → Option (List Received)
-takes_in (Apart taken) = None
-takes_in (Whole taken) = Some taken.takes
+abbrev pub turn_received : Opened → Option (List Received)
+turn_received (Apart taken) = None
+turn_received (Whole taken) = Some taken.takes
 
 -- the tokens that are on their lines until the commit, each with its link
 abbrev pub tokens_in : Option (List Received) → List (ℕ × Token)
@@ -44,7 +44,7 @@ taken_in (Whole taken) = length (by_link 0 taken.takes)
 -- ## A turn is opened
 
 -- In a book of form Plain it is opened with an entry for each token, in one of form Turns for one entry in all.
-abbrev pub OpensIn : Form → ℕ → Result Opened Refusal → Moment → Moment → Type 0
+abbrev pub OpensIn : Form → ℕ → Result Opened Refusal → TurnMoment → TurnMoment → Type 0
 OpensIn Plain number (Ok (Apart taken)) s t = Opens number (Ok taken) s t
 OpensIn Plain number (Ok (Whole taken)) s t = ⊥
 OpensIn Plain number (Err e) s t = Opens number (Err e) s t

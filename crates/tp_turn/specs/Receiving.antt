@@ -15,7 +15,7 @@ use Rattle.tp_model.specs.Turn.{by_link, received, took_all}
 use Rattle.tp_model.specs.Word.{bit}
 use Rattle.tp_law_network.specs.Reserved.{IsReceived}
 use Rattle.tp_law_machine.specs.NodeOfBytes.{IsNodeOfBytes}
-use Rattle.tp_node.specs.NodeContents.{NodeContents, kept_of}
+use Rattle.tp_node.specs.NodeContents.{NodeContents, memory_kept}
 use Rattle.tp_book.specs.declared.refusal.Refusal.{Refusal}
 use Rattle.tp_book.specs.Book.{BookValue, world_of}
 use Rattle.tp_book.specs.Refusals.{needs_take}
@@ -36,14 +36,14 @@ pub record Answered (part : NodeContents → List (ℕ × Token) → NodeContent
 pub record TakesOne (link : ℕ) (token : Token) (s : NodeContents) (answers : List (ℕ × Token)) (t : NodeContents) : Type 0 where
   pub took : took s.live link token ≡ Some (t.live, answers)
   pub kept : t.frozen ≡ s.frozen
-  pub shared : kept_of t ≡ kept_behind (kept_of s) (took_ranges s.live link token)
+  pub shared : memory_kept t ≡ kept_behind (memory_kept s) (took_ranges s.live link token)
 
 -- It was taken; or memory has no frame for it, and nothing is changed: the shared pages that it would be written to outnumber the free
 -- frames.
 abbrev pub TakesOrLacks : ℕ → Token → Bool → NodeContents → List (ℕ × Token) → NodeContents → List (ℕ × Token) → Type 0
 TakesOrLacks link token true old first new all = Answered (TakesOne link token) old first new all
 TakesOrLacks link token false old first new all =
-    (new ≡ old) × (all ≡ first) × LacksFrames (kept_of old) (took_ranges old.live link token)
+    (new ≡ old) × (all ≡ first) × LacksFrames (memory_kept old) (took_ranges old.live link token)
 
 -- it takes tokens on a link, one after the other
 unfoldable pub TakesEach : ℕ → List Token → NodeContents → List (ℕ × Token) → NodeContents → Type 0
@@ -61,7 +61,7 @@ pub record HasPlace (link : ℕ) (tokens : List Token) (node : NodeState) : Type
 -- nothing more stood there, or the next token finds no frame
 abbrev pub IsAtEnd : ℕ → List Token → NodeContents → Type 0
 IsAtEnd link [] node = Unit {0}
-IsAtEnd link (token ∷ rest) node = LacksFrames (kept_of node) (took_ranges node.live link token)
+IsAtEnd link (token ∷ rest) node = LacksFrames (memory_kept node) (took_ranges node.live link token)
 
 -- Of what stood on a link's line these were received: all, or what is in front of a token that finds no frame.
 pub record ReceivesOf (link : ℕ) (there : List Token) (one : Received) (s : NodeContents) (answers : List (ℕ × Token)) (t : NodeContents) : Type 0 where

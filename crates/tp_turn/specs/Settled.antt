@@ -7,7 +7,7 @@ use Rattle.tp_book.specs.declared.refusal.Refusal.{Refusal}
 use Rattle.tp_book.specs.Book.{BookValue}
 use Rattle.tp_turn.specs.declared.left.Left.{Left}
 use Rattle.tp_turn.specs.Turns.{Then, InOrder}
-use Rattle.tp_turn.specs.Moments.{Moment, Added, entries_in}
+use Rattle.tp_turn.specs.Moments.{TurnMoment, Added, entries_among}
 use Rattle.tp_turn.specs.Fronts.{OnLink}
 
 -- a node records once, where it is asked to
@@ -24,32 +24,32 @@ recorded_node b number node =
     if is_asked b.state.snapshot number then frozen_now node else node
 
 -- The node records where it is asked to.
-pub record Records (number : ℕ) (s : Moment) (acts : List Act) (t : Moment) : Type 0 where
+pub record Records (number : ℕ) (s : TurnMoment) (acts : List Act) (t : TurnMoment) : Type 0 where
   pub are : acts ≡ record_acts s.book number
   pub added : Added number t.node.live acts s.book t.book
   pub node : t.node ≡ recorded_node s.book number s.node
 
 -- The node does what it may at a link's line, and leaves it for a reason.
-pub record LeavesLink (number link : ℕ) (s : Moment) (acts : List Act) (t : Moment) : Type 0 where
+pub record LeavesLink (number link : ℕ) (s : TurnMoment) (acts : List Act) (t : TurnMoment) : Type 0 where
   pub why : Left
   pub did : OnLink number link (Ok why) s acts t
 
 -- The node records where it is asked to, and then does what it may on links 0 to 3 in order.
-abbrev pub Settles : ℕ → Moment → List Act → Moment → Type 0
+abbrev pub Settles : ℕ → TurnMoment → List Act → TurnMoment → Type 0
 Settles number = Then (Records number) (InOrder (λ link. LeavesLink number link) 4)
 
 -- Its turn ends at a link: what comes before in it was done whole, and nothing that comes after.
-pub record StopsAt (number : ℕ) (e : Refusal) (s : Moment) (acts : List Act) (t : Moment) : Type 0 where
+pub record EndsAtLink (number : ℕ) (e : Refusal) (s : TurnMoment) (acts : List Act) (t : TurnMoment) : Type 0 where
   pub link : ℕ
   pub there : link < 4
   pub did : Then (Records number) (Then (InOrder (λ link. LeavesLink number link) link) (OnLink number link (Err e))) s acts t
 
 -- `takes` of the acts are takes
-pub record SettlesWith (number takes : ℕ) (s : Moment) (acts : List Act) (t : Moment) : Type 0 where
-  pub many : takes ≡ length (entries_in acts)
+pub record SettlesWith (number takes : ℕ) (s : TurnMoment) (acts : List Act) (t : TurnMoment) : Type 0 where
+  pub many : takes ≡ length (entries_among acts)
   pub did : Settles number s acts t
 
 -- the open part is done, with `takes` takes; or the turn ends within it
-abbrev pub SettledAs : ℕ → Result ℕ Refusal → Moment → List Act → Moment → Type 0
+abbrev pub SettledAs : ℕ → Result ℕ Refusal → TurnMoment → List Act → TurnMoment → Type 0
 SettledAs number (Ok takes) = SettlesWith number takes
-SettledAs number (Err e) = StopsAt number e
+SettledAs number (Err e) = EndsAtLink number e

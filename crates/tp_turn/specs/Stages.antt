@@ -7,7 +7,7 @@ use Rattle.tp_model.specs.Network.{steps}
 use Rattle.tp_model.specs.Acts.{Act}
 use Rattle.tp_model.specs.NodeWrites.{node_ranges, kept_behind_steps}
 use Rattle.tp_model.specs.SharedPages.{LacksFrames}
-use Rattle.tp_node.specs.NodeContents.{NodeContents, kept_of}
+use Rattle.tp_node.specs.NodeContents.{NodeContents, memory_kept}
 use Rattle.tp_node.specs.RunEnd.{RunEnd, IsWhy}
 use Rattle.tp_book.specs.declared.refusal.Refusal.{Refusal}
 use Rattle.tp_book.specs.Acts.{run_acts}
@@ -16,28 +16,28 @@ use Rattle.tp_book.specs.Calls.{with_run}
 use Rattle.tp_book.specs.Refusals.{reserve_refusal, IsAnswer}
 use Rattle.tp_turn.specs.declared.stages.Turn.{Turn}
 use Rattle.tp_turn.specs.Turns.{Then}
-use Rattle.tp_turn.specs.Moments.{Moment, moment, IsNodeOf, Added, Done}
-use Rattle.tp_turn.specs.Settled.{Settles, SettlesWith, StopsAt}
+use Rattle.tp_turn.specs.Moments.{TurnMoment, moment_of, IsNodeOf, Added, Done}
+use Rattle.tp_turn.specs.Settled.{Settles, SettlesWith, EndsAtLink}
 
 -- ## A turn is opened
 
 -- the open part is done with `takes` takes, and a run of the node is reserved
-pub record IsOpen (number takes : ℕ) (s t : Moment) : Type 0 where
-  pub between : Moment
+pub record IsOpen (number takes : ℕ) (s t : TurnMoment) : Type 0 where
+  pub between : TurnMoment
   pub settled : Done number (SettlesWith number takes) s between
   pub free : reserve_refusal between.book ≡ None
-  pub is : t ≡ moment (with_run between.book number) between.node
+  pub is : t ≡ moment_of (with_run between.book number) between.node
 
 -- the open part is done, and no run can be reserved
-pub record IsRefused (number : ℕ) (e : Refusal) (s : Moment) (acts : List Act) (t : Moment) : Type 0 where
+pub record IsRefused (number : ℕ) (e : Refusal) (s : TurnMoment) (acts : List Act) (t : TurnMoment) : Type 0 where
   pub did : Settles number s acts t
   pub answer : IsAnswer {A = Unit {0}} (reserve_refusal t.book) (Err e)
 
 -- The turn ended at a link, or where its run was to be reserved. Nothing ran.
-abbrev pub Breaks : ℕ → Refusal → Moment → List Act → Moment → Type 0
-Breaks number e s acts t = StopsAt number e s acts t ⊎ IsRefused number e s acts t
+abbrev pub Breaks : ℕ → Refusal → TurnMoment → List Act → TurnMoment → Type 0
+Breaks number e s acts t = EndsAtLink number e s acts t ⊎ IsRefused number e s acts t
 
-abbrev pub Opens : ℕ → Result ℕ Refusal → Moment → Moment → Type 0
+abbrev pub Opens : ℕ → Result ℕ Refusal → TurnMoment → TurnMoment → Type 0
 Opens number (Ok takes) s t = IsOpen number takes s t
 Opens number (Err e) s t = Done number (Breaks number e) s t
 
@@ -53,17 +53,17 @@ pub record HasRunOn (b : BookValue) (number count : ℕ) (tokens : List (ℕ × 
 
 -- The node ran on as far as it may, and that is one entry; none without a step. It ended for want of a frame only before a
 -- step that would write shared pages which outnumber the free frames. Just the pages that were written are shared no more.
-pub record Runs (number quantum : ℕ) (ran : RunEnd) (s : Moment) (acts : List Act) (t : Moment) : Type 0 where
+pub record Runs (number quantum : ℕ) (ran : RunEnd) (s : TurnMoment) (acts : List Act) (t : TurnMoment) : Type 0 where
   pub are : acts ≡ run_acts number ran.count
   pub added : Added number t.node.live acts s.book t.book
   pub max : ran.max ≡ quantum
-  pub why : IsWhy ran.why quantum ran.count (LacksFrames (kept_of t.node) (node_ranges t.node.live)) t.node.live
+  pub why : IsWhy ran.why quantum ran.count (LacksFrames (memory_kept t.node) (node_ranges t.node.live)) t.node.live
   pub kept : t.node.frozen ≡ s.node.frozen
-  pub shared : kept_of t.node ≡ kept_behind_steps ran.count s.node.live (kept_of s.node)
+  pub shared : memory_kept t.node ≡ kept_behind_steps ran.count s.node.live (memory_kept s.node)
 
 -- ## A whole turn
 
 -- the open part and the run; or it broke off before the run
-abbrev pub TurnsAs : ℕ → ℕ → Result Turn Refusal → Moment → List Act → Moment → Type 0
+abbrev pub TurnsAs : ℕ → ℕ → Result Turn Refusal → TurnMoment → List Act → TurnMoment → Type 0
 TurnsAs number quantum (Ok turn) = Then (SettlesWith number turn.takes) (Runs number quantum turn.ran)
 TurnsAs number quantum (Err e) = Breaks number e

@@ -30,8 +30,8 @@ port_there ports (Some (AtPort p)) = slice_get ports p
 
 -- Nothing can be taken from the line: it is empty, a Marker stands in front, or Data stands in front for a port that has
 -- no room for another output.
-abbrev pub IsLeft : Network NodeState → ℕ → Type 0
-IsLeft s line =
+abbrev pub StaysOnLine : Network NodeState → ℕ → Type 0
+StaysOnLine s line =
     (takeable_of (on_line s.lines line) ≡ None)
     ⊎ (is_full_for (port_there s.ports (receiver s.wires line)) (get_or (on_line s.lines line) 0 Marker) ≡ true)
 
@@ -47,7 +47,7 @@ pub record TookAll (line : ℕ) (s : Network NodeState) (entries : List Entry) (
   pub count : ℕ
   pub few : count ≤ TAKES
   pub took : TookSo line count s entries t
-  pub all : count < TAKES → IsLeft t line
+  pub all : count < TAKES → StaysOnLine t line
 
 -- That was done on the line that comes back on a wire; where there is no wire, nothing was.
 abbrev pub TookBack : Option ℕ → Network NodeState → List Entry → Network NodeState → Type 0

@@ -12,7 +12,7 @@ use Rattle.tp_model.specs.SharedPages.{LacksFrames}
 use Rattle.tp_model.specs.Turn.{by_link, turned}
 use Rattle.tp_law_network.specs.Reserved.{IsReceived, turn_acts}
 use Rattle.tp_law_machine.specs.NodeOfBytes.{IsNodeOfBytes}
-use Rattle.tp_node.specs.NodeContents.{NodeContents, kept_of}
+use Rattle.tp_node.specs.NodeContents.{NodeContents, memory_kept}
 use Rattle.tp_node.specs.RunEnd.{IsWhy}
 use Rattle.tp_book.specs.Needs.{has_recorded_in}
 use Rattle.tp_book.specs.declared.refusal.Refusal.{Refusal}
@@ -24,7 +24,7 @@ use Rattle.tp_book.specs.Turning.{takes_refusal}
 use Rattle.tp_turn.specs.declared.receiving.Taken.{Taken}
 use Rattle.tp_turn.specs.declared.stages.Turn.{Turn}
 use Rattle.tp_turn.specs.Turns.{Then, InOrder}
-use Rattle.tp_turn.specs.Moments.{Moment, IsNodeOf, Added, Done}
+use Rattle.tp_turn.specs.Moments.{TurnMoment, IsNodeOf, Added, Done}
 use Rattle.tp_turn.specs.Settled.{Records}
 use Rattle.tp_turn.specs.Receiving.{Receives}
 
@@ -37,13 +37,13 @@ close_acts b number (Some line) =
     if is_first (on_line b.state.lines line) Marker && has_recorded_in b.state.snapshot number then Close line ∷ [] else []
 
 -- So is the line that comes in on a link, and the node stays as it is. What stands behind the Marker stays on the line.
-pub record ClosesFront (number link : ℕ) (s : Moment) (acts : List Act) (t : Moment) : Type 0 where
+pub record ClosesFront (number link : ℕ) (s : TurnMoment) (acts : List Act) (t : TurnMoment) : Type 0 where
   pub are : acts ≡ close_acts s.book number (back s.book.state.start (4 * number + link))
   pub added : Added number t.node.live acts s.book t.book
   pub node : t.node ≡ s.node
 
 -- The node records where it is asked to, and then the lines on links 0 to 3 are closed where they can be.
-abbrev pub Closes : ℕ → Moment → List Act → Moment → Type 0
+abbrev pub Closes : ℕ → TurnMoment → List Act → TurnMoment → Type 0
 Closes number = Then (Records number) (InOrder (λ link. ClosesFront number link) 4)
 
 -- ## A turn is opened
@@ -54,22 +54,22 @@ abbrev pub turn_refusal : BookValue → Bool → Option Refusal
 turn_refusal b recorded = take_refusal b recorded (else_if None b.broken StoreBroken)
 
 -- the turn is reserved, and the node received all that stood there
-pub record IsOpenWhole (number : ℕ) (taken : Taken) (s t : Moment) : Type 0 where
-  pub between : Moment
+pub record IsOpenWhole (number : ℕ) (taken : Taken) (s t : TurnMoment) : Type 0 where
+  pub between : TurnMoment
   pub closed : Done number (Closes number) s between
   pub free : reserve_refusal between.book ≡ None
   pub book : t.book ≡ with_run between.book number
   pub received : Receives between.book true number taken.takes between.node taken.sent.items t.node
 
 -- nothing could be reserved, and nothing was received
-pub record IsUnreserved (number : ℕ) (e : Refusal) (s : Moment) (acts : List Act) (t : Moment) : Type 0 where
+pub record IsUnreserved (number : ℕ) (e : Refusal) (s : TurnMoment) (acts : List Act) (t : TurnMoment) : Type 0 where
   pub answer : IsAnswer {A = Unit {0}} (turn_refusal s.book (has_recorded_in s.book.state.snapshot number)) (Err e)
   pub are : acts ≡ []
   pub same : t ≡ s
 
 -- The journal is full for a turn, and that is answered. The node has recorded, and received what the running snapshot needs: one entry of
 -- no steps; none where there was nothing.
-pub record TakesNeeded (number : ℕ) (e : Refusal) (s : Moment) (acts : List Act) (t : Moment) : Type 0 where
+pub record TakesNeeded (number : ℕ) (e : Refusal) (s : TurnMoment) (acts : List Act) (t : TurnMoment) : Type 0 where
   pub answer : e ≡ JournalFull
   pub full : reserve_refusal s.book ≡ Some JournalFull
   pub recorded : has_recorded_in s.book.state.snapshot number ≡ true
@@ -81,14 +81,14 @@ pub record TakesNeeded (number : ℕ) (e : Refusal) (s : Moment) (acts : List Ac
   pub added : Added number t.node.live acts s.book t.book
 
 -- so it ends where no turn can be reserved
-abbrev pub EndsWhole : ℕ → Refusal → Moment → List Act → Moment → Type 0
+abbrev pub EndsWhole : ℕ → Refusal → TurnMoment → List Act → TurnMoment → Type 0
 EndsWhole number e s acts t = IsUnreserved number e s acts t ⊎ TakesNeeded number e s acts t
 
 -- The turn ended where it was to be reserved. Nothing ran.
-abbrev pub BreaksWhole : ℕ → Refusal → Moment → List Act → Moment → Type 0
+abbrev pub BreaksWhole : ℕ → Refusal → TurnMoment → List Act → TurnMoment → Type 0
 BreaksWhole number e = Then (Closes number) (EndsWhole number e)
 
-abbrev pub OpensWhole : ℕ → Result Taken Refusal → Moment → Moment → Type 0
+abbrev pub OpensWhole : ℕ → Result Taken Refusal → TurnMoment → TurnMoment → Type 0
 OpensWhole number (Ok taken) s t = IsOpenWhole number taken s t
 OpensWhole number (Err e) s t = Done number (BreaksWhole number e) s t
 
@@ -110,7 +110,7 @@ pub record HasTurnedOn (b : BookValue) (number : ℕ) (takes : List Received) (c
 -- The node received all that stood there and ran on as far as it may, and that is one entry: a Run where nothing stood there, none
 -- where it made no step, either. It ended for want of a frame only before a step that would write shared pages which outnumber the free
 -- frames.
-pub record TurnsOnce (number quantum : ℕ) (turn : Turn) (s : Moment) (acts : List Act) (t : Moment) : Type 0 where
+pub record TurnsOnce (number quantum : ℕ) (turn : Turn) (s : TurnMoment) (acts : List Act) (t : TurnMoment) : Type 0 where
   pub takes : List Received
   pub sent : List (ℕ × Token)
   pub ahead : NodeContents
@@ -119,11 +119,11 @@ pub record TurnsOnce (number quantum : ℕ) (turn : Turn) (s : Moment) (acts : L
   pub are : acts ≡ turn_acts number takes turn.ran.count
   pub added : Added number t.node.live acts s.book t.book
   pub max : turn.ran.max ≡ quantum
-  pub why : IsWhy turn.ran.why quantum turn.ran.count (LacksFrames (kept_of t.node) (node_ranges t.node.live)) t.node.live
+  pub why : IsWhy turn.ran.why quantum turn.ran.count (LacksFrames (memory_kept t.node) (node_ranges t.node.live)) t.node.live
   pub kept : t.node.frozen ≡ s.node.frozen
-  pub shared : kept_of t.node ≡ kept_behind_steps turn.ran.count ahead.live (kept_of ahead)
+  pub shared : memory_kept t.node ≡ kept_behind_steps turn.ran.count ahead.live (memory_kept ahead)
 
 -- it closed at Markers and turned; or it ended before it turned
-abbrev pub TurnsWhole : ℕ → ℕ → Result Turn Refusal → Moment → List Act → Moment → Type 0
+abbrev pub TurnsWhole : ℕ → ℕ → Result Turn Refusal → TurnMoment → List Act → TurnMoment → Type 0
 TurnsWhole number quantum (Ok turn) = Then (Closes number) (TurnsOnce number quantum turn)
 TurnsWhole number quantum (Err e) = BreaksWhole number e

@@ -4,7 +4,7 @@ ghost use Rattle.std.specs.Prelude.{◌≡◌, ◌<◌, Some, None};
 ghost use Rattle.tp_model.specs.Network.{receiver};
 ghost use Rattle.tp_model.specs.declared.wire.WireEnd.TheVariants.{Link};
 ghost use Rattle.tp_turn.specs.Fronts.{FrontAnswers, OnLine, OnLink};
-ghost use Rattle.tp_turn.specs.Moments.{IsNodeOf, Done, moment};
+ghost use Rattle.tp_turn.specs.Moments.{IsNodeOf, Done, moment_of};
 
 use crate::left::Left;
 use crate::take::TAKES;
@@ -25,7 +25,7 @@ fn act_on_front(
     requires goes { receiver book.old.state.start.wires line ≡ Some (Link number link) }
     requires idle { book.old.ready ≡ None }
     requires is { IsNodeOf book.old number node.old }
-    ensures answer { FrontAnswers number line result (moment book.old node.old) (moment book.new node.new) }
+    ensures answer { FrontAnswers number line result (moment_of book.old node.old) (moment_of book.new node.new) }
     ensures is { IsNodeOf book.new number node.new }
 {
     book.known();
@@ -67,7 +67,7 @@ fn act_on_line(
     requires goes { receiver book.old.state.start.wires line ≡ Some (Link number link) }
     requires idle { book.old.ready ≡ None }
     requires is { IsNodeOf book.old number node.old }
-    ensures done { Done number (OnLine number line result) (moment book.old node.old) (moment book.new node.new) }
+    ensures done { Done number (OnLine number line result) (moment_of book.old node.old) (moment_of book.new node.new) }
     ensures is { IsNodeOf book.new number node.new }
 {
     for _done in 0..TAKES {
@@ -88,7 +88,7 @@ pub(crate) fn act_on_link(
     requires link { link < 4 }
     requires idle { book.old.ready ≡ None }
     requires is { IsNodeOf book.old number node.old }
-    ensures done { Done number (OnLink number link result) (moment book.old node.old) (moment book.new node.new) }
+    ensures done { Done number (OnLink number link result) (moment_of book.old node.old) (moment_of book.new node.new) }
     ensures is { IsNodeOf book.new number node.new }
 {
     book.known();

@@ -2,15 +2,14 @@
 
 ghost use Rattle.std.specs.Prelude.{◌≡◌, IfOk};
 ghost use Rattle.tp_model.specs.Image.{node_at};
-ghost use Rattle.tp_book.specs.Parts.{network_of};
+ghost use Rattle.tp_book.specs.Parts.{network_made};
 ghost use Rattle.tp_turn.specs.Tried.{ReadsFresh, lone_network};
 
 use std::alloc::{AllocError, Global};
 use thiserror::Error;
-use tp_book::NetParts;
+use tp_book::{NetParts, PortParts};
 use tp_model::WireEnd;
 use tp_node::{ImageFault, Node, has_idle_links};
-use tp_book::PortParts;
 
 /// Line 0 leads to the port, line 4 to the link, and links 1 to 3 have no wire.
 pub const ONE_WIRE: [Option<WireEnd>; 5] = [
@@ -48,7 +47,7 @@ pub fn lone_node(alloc: Global, image: &[u8]) -> Result<Node, TryFault>
 
 /// The network of the node of an image, before its first entry.
 pub(crate) fn lone_parts(alloc: Global, image: &[u8]) -> Result<NetParts, AllocError>
-    ensures { IfOk result (λ net. network_of net ≡ lone_network (node_at image.now)) }
+    ensures { IfOk result (λ net. network_made net ≡ lone_network (node_at image.now)) }
 {
     let port = PortParts {
         pending: Vec::new(alloc),

@@ -1,7 +1,7 @@
 //! Lines that are closed at the Markers in front of them.
 
 ghost use Rattle.std.specs.Prelude.{◌≡◌, ◌<◌};
-ghost use Rattle.tp_turn.specs.Moments.{IsNodeOf, Done, moment};
+ghost use Rattle.tp_turn.specs.Moments.{IsNodeOf, Done, moment_of};
 ghost use Rattle.tp_turn.specs.Whole.{ClosesFront, Closes};
 
 use crate::settling::record_asked;
@@ -14,7 +14,7 @@ use tp_node::Node;
 fn close_front(book: &mut Book, node: &Node, number: u8, link: u8)
     requires link { link < 4 }
     requires is { IsNodeOf book.old number node.now }
-    ensures done { Done number (ClosesFront number link) (moment book.old node.now) (moment book.new node.now) }
+    ensures done { Done number (ClosesFront number link) (moment_of book.old node.now) (moment_of book.new node.now) }
     ensures is { IsNodeOf book.new number node.now }
 {
     let _node = node;
@@ -35,7 +35,7 @@ fn close_front(book: &mut Book, node: &Node, number: u8, link: u8)
 /// of it and the node has recorded. Nothing is taken, and nothing runs.
 pub(crate) fn answer_markers(book: &mut Book, node: &mut Node, number: u8)
     requires is { IsNodeOf book.old number node.old }
-    ensures done { Done number (Closes number) (moment book.old node.old) (moment book.new node.new) }
+    ensures done { Done number (Closes number) (moment_of book.old node.old) (moment_of book.new node.new) }
     ensures is { IsNodeOf book.new number node.new }
 {
     record_asked(book, node, number);

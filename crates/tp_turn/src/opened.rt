@@ -3,16 +3,15 @@
 
 ghost use Rattle.std.specs.Prelude.{◌≡◌, Some, None, true, false, slice_get};
 ghost use Rattle.tp_book.specs.Calls.{without_run};
-ghost use Rattle.tp_turn.specs.Moments.{IsNodeOf, Added, moment};
+ghost use Rattle.tp_turn.specs.Moments.{IsNodeOf, Added, moment_of};
 ghost use Rattle.tp_turn.specs.Opened.{HasTurnedBy, IsOpenedIn, OpensIn, opened_acts, taken_in};
 
 use crate::receiving::Taken;
 use crate::stages::{Stretch, commit_turn, open_turn};
 use crate::whole::{commit_whole, open_whole};
-use tp_book::{Book, Refusal};
+use tp_book::{Book, Refusal, tokens_of};
 use tp_model::Form;
 use tp_node::{Node, Ran};
-use tp_book::tokens_of;
 
 /// How a node's turn was opened.
 #[derive(Drop)]
@@ -43,7 +42,7 @@ pub fn open_in_form(book: &mut Book, node: &mut Node, number: u8) -> Result<Open
     requires free { slice_get book.old.runs number ≡ Some false }
     requires idle { book.old.ready ≡ None }
     requires is { IsNodeOf book.old number node.old }
-    ensures opens { OpensIn book.old.form number result (moment book.old node.old) (moment book.new node.new) }
+    ensures opens { OpensIn book.old.form number result (moment_of book.old node.old) (moment_of book.new node.new) }
     ensures is { IsOpenedIn result book.new number node.new }
 {
     match book.form() {

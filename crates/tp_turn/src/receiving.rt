@@ -4,7 +4,7 @@ ghost use Rattle.std.specs.Prelude.{◌≡◌, ◌<◌, ◌≤◌, ◌+◌, IsSo
 ghost use Rattle.tp_law_machine.specs.NodeOfBytes.{IsNodeOfBytes};
 ghost use Rattle.tp_model.specs.Node.{took};
 ghost use Rattle.tp_model.specs.Turn.{received};
-ghost use Rattle.tp_book.specs.Book.{node_count};
+ghost use Rattle.tp_book.specs.Book.{count_of_nodes};
 ghost use Rattle.tp_turn.specs.Moments.{IsNodeOf};
 ghost use Rattle.tp_turn.specs.Receiving.{Answered, HasPlace, IsAhead, Receives, ReceivesOf, TakesOrLacks, offered, offered_on};
 
@@ -110,7 +110,7 @@ fn offered(book: &Book, line: u16, all: bool) -> Received
 
 /// What a line has for the node that it leads to on a link; nothing where no line does.
 fn offered_on(book: &Book, number: u8, link: u8, all: bool) -> Received
-    requires number { number < node_count book.now }
+    requires number { number < count_of_nodes book.now }
     requires link { link < 4 }
     ensures { received result ≡ offered_on book.now all number link }
 {

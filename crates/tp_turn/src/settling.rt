@@ -1,7 +1,7 @@
 //! The open part of a node's turn: it records, takes and closes, and makes no run.
 
 ghost use Rattle.std.specs.Prelude.{◌≡◌, None};
-ghost use Rattle.tp_turn.specs.Moments.{IsNodeOf, Done, moment};
+ghost use Rattle.tp_turn.specs.Moments.{IsNodeOf, Done, moment_of};
 ghost use Rattle.tp_turn.specs.Settled.{Records, SettledAs};
 
 use crate::front::act_on_link;
@@ -12,7 +12,7 @@ use tp_node::Node;
 /// runs.
 pub fn record_asked(book: &mut Book, node: &mut Node, number: u8)
     requires is { IsNodeOf book.old number node.old }
-    ensures done { Done number (Records number) (moment book.old node.old) (moment book.new node.new) }
+    ensures done { Done number (Records number) (moment_of book.old node.old) (moment_of book.new node.new) }
     ensures is { IsNodeOf book.new number node.new }
 {
     book.known();
@@ -30,7 +30,7 @@ pub fn record_asked(book: &mut Book, node: &mut Node, number: u8)
 pub fn settle(book: &mut Book, node: &mut Node, number: u8) -> Result<u64, Refusal>
     requires idle { book.old.ready ≡ None }
     requires is { IsNodeOf book.old number node.old }
-    ensures done { Done number (SettledAs number result) (moment book.old node.old) (moment book.new node.new) }
+    ensures done { Done number (SettledAs number result) (moment_of book.old node.old) (moment_of book.new node.new) }
     ensures is { IsNodeOf book.new number node.new }
 {
     book.known();

@@ -6,11 +6,11 @@ ghost use Rattle.tp_model.specs.Network.{steps};
 ghost use Rattle.tp_model.specs.Node.{t414};
 ghost use Rattle.tp_model.specs.NodeWrites.{node_ranges, kept_behind_steps};
 ghost use Rattle.tp_model.specs.SharedPages.{LacksFrames};
-ghost use Rattle.tp_node.specs.NodeContents.{kept_of};
+ghost use Rattle.tp_node.specs.NodeContents.{memory_kept};
 ghost use Rattle.tp_node.specs.RunEnd.{IsWhy};
 ghost use Rattle.tp_book.specs.Acts.{run_acts};
 ghost use Rattle.tp_book.specs.Calls.{without_run};
-ghost use Rattle.tp_turn.specs.Moments.{IsNodeOf, Added, Done, moment};
+ghost use Rattle.tp_turn.specs.Moments.{IsNodeOf, Added, Done, moment_of};
 ghost use Rattle.tp_turn.specs.Stages.{Opens, HasRunOn, TurnsAs};
 
 use crate::settling::settle;
@@ -40,7 +40,7 @@ pub fn open_turn(book: &mut Book, node: &mut Node, number: u8) -> Result<u64, Re
     requires free { slice_get book.old.runs number ≡ Some false }
     requires idle { book.old.ready ≡ None }
     requires is { IsNodeOf book.old number node.old }
-    ensures opens { Opens number result (moment book.old node.old) (moment book.new node.new) }
+    ensures opens { Opens number result (moment_of book.old node.old) (moment_of book.new node.new) }
     ensures is { IsNodeOf book.new number node.new }
 {
     let takes = settle(book, node, number)?;
@@ -53,9 +53,9 @@ pub fn open_turn(book: &mut Book, node: &mut Node, number: u8) -> Result<u64, Re
 pub fn run_node(node: &mut Node, quantum: u16) -> Stretch
     ensures asked { result.ran.max ≡ quantum }
     ensures steps { steps t414 result.ran.count node.old.live ≡ Some (node.new.live, result.sent.items) }
-    ensures why { IsWhy result.ran.why quantum result.ran.count (LacksFrames (kept_of node.new) (node_ranges node.new.live)) node.new.live }
+    ensures why { IsWhy result.ran.why quantum result.ran.count (LacksFrames (memory_kept node.new) (node_ranges node.new.live)) node.new.live }
     ensures kept { node.new.frozen ≡ node.old.frozen }
-    ensures shared { kept_of node.new ≡ kept_behind_steps result.ran.count node.old.live (kept_of node.old) }
+    ensures shared { memory_kept node.new ≡ kept_behind_steps result.ran.count node.old.live (memory_kept node.old) }
 {
     let mut sent = ArrayVec::new();
     let ran = node.run(quantum, &mut sent);
@@ -92,7 +92,7 @@ pub fn node_turn(
     requires free { slice_get book.old.runs number ≡ Some false }
     requires idle { book.old.ready ≡ None }
     requires is { IsNodeOf book.old number node.old }
-    ensures done { Done number (TurnsAs number quantum result) (moment book.old node.old) (moment book.new node.new) }
+    ensures done { Done number (TurnsAs number quantum result) (moment_of book.old node.old) (moment_of book.new node.new) }
     ensures is { IsNodeOf book.new number node.new }
 {
     let takes = open_turn(book, node, number)?;

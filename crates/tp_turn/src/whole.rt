@@ -7,7 +7,7 @@ ghost use Rattle.tp_law_network.specs.Reserved.{turn_acts};
 ghost use Rattle.tp_book.specs.Calls.{without_run};
 ghost use Rattle.tp_book.specs.Refusals.{reserve_refusal};
 ghost use Rattle.tp_book.specs.declared.refusal.Refusal.TheVariants.{JournalFull};
-ghost use Rattle.tp_turn.specs.Moments.{IsNodeOf, Added, Done, moment};
+ghost use Rattle.tp_turn.specs.Moments.{IsNodeOf, Added, Done, moment_of};
 ghost use Rattle.tp_turn.specs.Receiving.{IsAheadBy};
 ghost use Rattle.tp_turn.specs.Whole.{EndsWhole, HasTurnedOn, OpensWhole, TurnsWhole};
 
@@ -15,10 +15,9 @@ use crate::markers::answer_markers;
 use crate::receiving::{Taken, receive};
 use crate::stages::{Stretch, Turn, run_node};
 use arrayvec::ArrayVec;
-use tp_book::{Book, Refusal};
+use tp_book::{Book, Refusal, tokens_of};
 use tp_model::{Received, Token};
 use tp_node::{Node, Ran};
-use tp_book::tokens_of;
 
 /// Journals a turn for which room was reserved, and in which `node` took `takes`, made `count` steps and sent `tokens` for all of it.
 fn commit(
@@ -49,7 +48,7 @@ fn take_needed(book: &mut Book, node: &mut Node, number: u8) -> Refusal
     requires form { book.old.form ≡ Turns }
     requires full { reserve_refusal book.old ≡ Some JournalFull }
     requires is { IsNodeOf book.old number node.old }
-    ensures done { Done number (EndsWhole number result) (moment book.old node.old) (moment book.new node.new) }
+    ensures done { Done number (EndsWhole number result) (moment_of book.old node.old) (moment_of book.new node.new) }
     ensures is { IsNodeOf book.new number node.new }
 {
     if !book.recorded(number as usize) {
@@ -76,7 +75,7 @@ pub fn open_whole(book: &mut Book, node: &mut Node, number: u8) -> Result<Taken,
     requires idle { book.old.ready ≡ None }
     requires form { book.old.form ≡ Turns }
     requires is { IsNodeOf book.old number node.old }
-    ensures opens { OpensWhole number result (moment book.old node.old) (moment book.new node.new) }
+    ensures opens { OpensWhole number result (moment_of book.old node.old) (moment_of book.new node.new) }
     ensures ahead { IsAheadBy result book.new number node.new }
 {
     answer_markers(book, node, number);
@@ -134,7 +133,7 @@ pub fn whole_turn(
     requires idle { book.old.ready ≡ None }
     requires form { book.old.form ≡ Turns }
     requires is { IsNodeOf book.old number node.old }
-    ensures done { Done number (TurnsWhole number quantum result) (moment book.old node.old) (moment book.new node.new) }
+    ensures done { Done number (TurnsWhole number quantum result) (moment_of book.old node.old) (moment_of book.new node.new) }
     ensures is { IsNodeOf book.new number node.new }
 {
     let taken = open_whole(book, node, number)?;

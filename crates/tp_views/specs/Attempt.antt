@@ -10,7 +10,7 @@ use Rattle.tp_views.specs.declared.refusal.Refusal.TheVariants.{Trial, DeviceFai
 use Rattle.tp_views.specs.declared.commands.TheConstants.{TRY_QUANTUM}
 
 -- The node of the image was tried for `turns` turns, and exactly what its port put out was appended.
-pub record Shows (image : List ℕ) (turns : ℕ) (was now : Option (List ℕ)) : Type 0 where
+pub record PrintsTrial (image : List ℕ) (turns : ℕ) (was now : Option (List ℕ)) : Type 0 where
   pub node : NodeState
   pub is : fresh_image image ≡ Some node
   pub output : List ℕ
@@ -18,9 +18,9 @@ pub record Shows (image : List ℕ) (turns : ℕ) (was now : Option (List ℕ)) 
   pub shown : Appends was now output
 
 -- The answer: an image that is none is refused, and nothing was written then, nor where memory was wanting.
-abbrev pub Answers : List ℕ → ℕ → Option (List ℕ) → Option (List ℕ) → Result (Unit {0}) Refusal → Type 0
-Answers image turns was now (Ok done) = Shows image turns was now
-Answers image turns was now (Err (Trial BadImage)) = (fresh_image image ≡ None) × (now ≡ was)
-Answers image turns was now (Err DeviceFailed) = IsSome (fresh_image image)
-Answers image turns was now (Err (Trial Memory)) = IsSome (fresh_image image) × (now ≡ was)
-Answers image turns was now (Err other) = ⊥
+abbrev pub TryAnswer : List ℕ → ℕ → Option (List ℕ) → Option (List ℕ) → Result (Unit {0}) Refusal → Type 0
+TryAnswer image turns was now (Ok done) = PrintsTrial image turns was now
+TryAnswer image turns was now (Err (Trial BadImage)) = (fresh_image image ≡ None) × (now ≡ was)
+TryAnswer image turns was now (Err DeviceFailed) = IsSome (fresh_image image)
+TryAnswer image turns was now (Err (Trial Memory)) = IsSome (fresh_image image) × (now ≡ was)
+TryAnswer image turns was now (Err other) = ⊥

@@ -10,7 +10,7 @@ use Rattle.tp_node.specs.declared.standing.Standing.{Standing}
 use Rattle.tp_node.specs.declared.standing.Standing.TheVariants.{Halted, Waits, Free}
 use Rattle.tp_views.specs.Json.{json_items}
 use Rattle.tp_views.specs.Names.{fault_name, form_name}
-use Rattle.tp_views.specs.Status.{accepted, accepted_before, millis_since, next_before, out_before, percent, port_before, put_out, room_of, status_line}
+use Rattle.tp_views.specs.Status.{bytes_accepted, accepted_before, millis_since, next_before, out_before, percent, port_before, bytes_put_out, entries_room, status_line}
 use Rattle.tp_views.specs.declared.status.PortSeen.{PortSeen}
 use Rattle.tp_views.specs.declared.status.Seen.{Seen}
 use Rattle.tp_views.specs.declared.status.Since.{Since}
@@ -67,8 +67,8 @@ out_json now since unconfirmed = out_front now ++ (rate now since ++ unconfirmed
 
 abbrev pub port_item : ℕ → Option PortSeen → Port → List ℕ
 port_item millis before port =
-    accepted_json (accepted port) (accepted_before millis before) (length port.pending)
-    ++ out_json (put_out port) (out_before millis before) (length port.outputs)
+    accepted_json (bytes_accepted port) (accepted_before millis before) (length port.pending)
+    ++ out_json (bytes_put_out port) (out_before millis before) (length port.outputs)
 
 -- each port stands at its number
 abbrev pub port_items : ℕ → ℕ → Option Seen → List Port → List (List ℕ)
@@ -94,7 +94,7 @@ halts_json nodes = codes "],\"halted\":[" ++ (json_items 0 (all_halted_items 0 n
 abbrev pub status_json : Bool → ℕ → Option Seen → Opened → List ℕ
 status_json held at before o =
     front_json held o.generation o.form (next_of o) (next_before at before)
-    ++ (journal_json (length o.kept) (room_of o) ++ (json_items 0 (port_items 0 at before o.now.ports) ++ halts_json o.now.nodes))
+    ++ (journal_json (length o.kept) (entries_room o) ++ (json_items 0 (port_items 0 at before o.now.ports) ++ halts_json o.now.nodes))
 
 -- What is printed of it, as JSON or not.
 abbrev pub look_text : Bool → Bool → ℕ → Option Seen → Opened → List ℕ

@@ -63,11 +63,11 @@ output_line link OutIdle = idle_line (codes "out") link
 output_line link (Waits t) = working_line (codes "out") link (codes "waits") t
 
 -- an input end may hold a byte; of an alternative there is its process alone
-abbrev pub input_line : ℕ → InEnd → List ℕ
-input_line link (InIdle None) = idle_line (codes "in") link
-input_line link (InIdle (Some byte)) = codes "in " ++ (decimal link ++ (codes " idle held " ++ (hex_byte byte ++ 10 ∷ [])))
-input_line link (Inputs t) = working_line (codes "in") link (codes "inputs") t
-input_line link (Enabled process) = working_line (codes "in") link (codes "enabled") (record { process = process; pointer = 0; left = 0 })
+abbrev pub input_end_line : ℕ → InEnd → List ℕ
+input_end_line link (InIdle None) = idle_line (codes "in") link
+input_end_line link (InIdle (Some byte)) = codes "in " ++ (decimal link ++ (codes " idle held " ++ (hex_byte byte ++ 10 ∷ [])))
+input_end_line link (Inputs t) = working_line (codes "in") link (codes "inputs") t
+input_end_line link (Enabled process) = working_line (codes "in") link (codes "enabled") (record { process = process; pointer = 0; left = 0 })
 
 abbrev pub output_lines : ℕ → List OutEnd → List ℕ
 output_lines link [] = []
@@ -75,15 +75,15 @@ output_lines link (end ∷ ends) = output_line link end ++ output_lines (link + 
 
 abbrev pub input_lines : ℕ → List InEnd → List ℕ
 input_lines link [] = []
-input_lines link (end ∷ ends) = input_line link end ++ input_lines (link + 1) ends
+input_lines link (end ∷ ends) = input_end_line link end ++ input_lines (link + 1) ends
 
 -- ## The node
 
 -- the node with this number, by its pages, its processor and its ends
-abbrev pub node_lines : ℕ → ℕ → Cpu → List OutEnd → List InEnd → List ℕ
-node_lines number pages cpu outputs inputs =
+abbrev pub node_as_lines : ℕ → ℕ → Cpu → List OutEnd → List InEnd → List ℕ
+node_as_lines number pages cpu outputs inputs =
     number_line number pages cpu.halt ++ (cpu_lines cpu ++ (output_lines 0 outputs ++ input_lines 0 inputs))
 
 -- All that is printed of it.
 abbrev pub node_text : ℕ → NodeState → List ℕ
-node_text number node = node_lines number (page_count node.memory) node.cpu node.outputs node.inputs
+node_text number node = node_as_lines number (page_count node.memory) node.cpu node.outputs node.inputs

@@ -8,8 +8,8 @@ use Rattle.tp_views.specs.JsonShow.{show_json}
 use Rattle.tp_views.specs.Shown.{shown_text, next_line}
 
 -- what is said of an opened device beside its network
-abbrev pub front_of : Opened → Front
-front_of o = record {
+abbrev pub front_said : Opened → Front
+front_said o = record {
   area = o.head.areas.length;
   second = o.second;
   generation = o.generation;
@@ -24,7 +24,7 @@ recovered o = next_line (next_of o)
 
 -- its lines, or one line of JSON
 abbrev pub shown : Bool → Opened → List ℕ
-shown json o = if json then show_json (front_of o) o.now else shown_text (front_of o) o.now
+shown json o = if json then show_json (front_said o) o.now else shown_text (front_said o) o.now
 
 -- The device opens, and exactly that is printed of it.
 pub record Prints (text : Opened → List ℕ) (bytes : List ℕ) (was now : Option (List ℕ)) : Type 0 where

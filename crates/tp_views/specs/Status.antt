@@ -17,15 +17,15 @@ use Rattle.tp_views.specs.declared.status.Seen.{Seen}
 use Rattle.tp_views.specs.declared.status.Since.{Since}
 
 -- how many bytes a port has accepted, and how many it has put out
-abbrev pub accepted : Port → ℕ
-accepted port = port.in_base + length port.pending
+abbrev pub bytes_accepted : Port → ℕ
+bytes_accepted port = port.in_base + length port.pending
 
-abbrev pub put_out : Port → ℕ
-put_out port = port.out_base + length port.outputs
+abbrev pub bytes_put_out : Port → ℕ
+bytes_put_out port = port.out_base + length port.outputs
 
 -- what a look sees of a port
 abbrev pub port_seen : Port → PortSeen
-port_seen port = record { accepted = accepted port; out = put_out port }
+port_seen port = record { accepted = bytes_accepted port; out = bytes_put_out port }
 
 -- what a look sees that the next one compares with
 pub record IsSeen (at : ℕ) (o : Opened) (seen : Seen) : Type 0 where
@@ -92,8 +92,8 @@ out_part now since unconfirmed = codes " out " ++ (count_part now since ++ (code
 
 abbrev pub port_part : ℕ → ℕ → Option PortSeen → Port → List ℕ
 port_part number millis before port =
-    accepted_part number (accepted port) (accepted_before millis before) (length port.pending)
-    ++ out_part (put_out port) (out_before millis before) (length port.outputs)
+    accepted_part number (bytes_accepted port) (accepted_before millis before) (length port.pending)
+    ++ out_part (bytes_put_out port) (out_before millis before) (length port.outputs)
 
 abbrev pub port_parts : ℕ → ℕ → Option Seen → List Port → List ℕ
 port_parts number at before [] = []
@@ -116,12 +116,12 @@ halted_or_none [] = codes " halted none"
 halted_or_none (byte ∷ bytes) = byte ∷ bytes
 
 -- How many entries the journal has room for.
-abbrev pub room_of : Opened → ℕ
-room_of o = capacity (journal_of o.head.topology o.head.areas.length)
+abbrev pub entries_room : Opened → ℕ
+entries_room o = capacity (journal_of o.head.topology o.head.areas.length)
 
 -- The line of a device that opened, where a process held it or none did, at a time in milliseconds, behind what a look before saw.
 abbrev pub status_line : Bool → ℕ → Option Seen → Opened → List ℕ
 status_line held at before o =
     front_part held o.generation o.form (next_of o) (next_before at before)
-    ++ (journal_part (length o.kept) (room_of o)
+    ++ (journal_part (length o.kept) (entries_room o)
     ++ (port_parts 0 at before o.now.ports ++ (halted_or_none (halted_parts 0 o.now.nodes) ++ 10 ∷ [])))

@@ -22,9 +22,9 @@ fronts_in areas bytes = record {
 }
 
 -- what a look finds, where that is what is said of the head
-abbrev pub looked : Result Head OpenFault → List ℕ → Option Fronts
-looked (Ok head) bytes = Some (fronts_in head.areas bytes)
-looked (Err fault) bytes = None
+abbrev pub look_finds : Result Head OpenFault → List ℕ → Option Fronts
+look_finds (Ok head) bytes = Some (fronts_in head.areas bytes)
+look_finds (Err fault) bytes = None
 
 -- the first of two areas counts: its gate is open, and the other one's isn't, or has a lower generation
 abbrev pub is_above : AreaFront → AreaFront → Bool
@@ -35,21 +35,21 @@ abbrev pub counting : Fronts → Option Bool
 counting fronts =
     if is_above fronts.first fronts.second then Some false else if is_above fronts.second fronts.first then Some true else None
 
-abbrev pub front_of : Bool → Fronts → AreaFront
-front_of second fronts = if second then fronts.second else fronts.first
+abbrev pub front_seen : Bool → Fronts → AreaFront
+front_seen second fronts = if second then fronts.second else fronts.first
 
 -- The area that counted at one look has at another one the gate and the generation that it had; or none counted, and the other look
 -- finds the same.
-abbrev pub HasStayed : Option Bool → Fronts → Fronts → Type 0
-HasStayed (Some second) before after = front_of second after ≡ front_of second before
-HasStayed None before after = after ≡ before
+abbrev pub StayedOpen : Option Bool → Fronts → Fronts → Type 0
+StayedOpen (Some second) before after = front_seen second after ≡ front_seen second before
+StayedOpen None before after = after ≡ before
 
 -- What counted at the first look still counts at the second one.
-abbrev pub IsStill : Option Fronts → Option Fronts → Type 0
-IsStill None None = Unit {0}
-IsStill None (Some after) = ⊥
-IsStill (Some before) None = ⊥
-IsStill (Some before) (Some after) = (after.areas ≡ before.areas) × HasStayed (counting before) before after
+abbrev pub CountsStill : Option Fronts → Option Fronts → Type 0
+CountsStill None None = Unit {0}
+CountsStill None (Some after) = ⊥
+CountsStill (Some before) None = ⊥
+CountsStill (Some before) (Some after) = (after.areas ≡ before.areas) × StayedOpen (counting before) before after
 
 -- The answer is one of a moment, and P holds of it.
 abbrev pub OfSteady : (Result Opened Unopened → Type 0) → Tried → Type 0

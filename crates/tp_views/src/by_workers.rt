@@ -5,7 +5,7 @@ ghost use Rattle.tp_model.specs.Device.{areas_end};
 ghost use Rattle.tp_model.specs.Disk.{Sync, done};
 ghost use Rattle.tp_model.specs.DiskHistory.{Counts};
 ghost use Rattle.tp_model.specs.Opening.{verdict};
-ghost use Rattle.tp_recover.specs.Reading.{has_read, Answers, IsKept, LeavesNothingNew};
+ghost use Rattle.tp_recover.specs.Reading.{has_read, ReadAnswer, LeavesAlone, LeavesNothingNew};
 ghost use Rattle.tp_views.specs.Steady.{OfSteady};
 
 use crate::steady::{MAX_TRIES, Tried, is_still, look};
@@ -25,11 +25,11 @@ pub fn open_by<D: Disk, R: Threads + Sync>(
     workers: u8,
 ) -> Result<Opened, Unopened>
     ensures counts { Counts (has_read result) (D.size_of disk.old) (D.size_of disk.new) (D.failures_of disk.old) (D.failures_of disk.new) }
-    ensures kept { D.keeps → IsKept result (done Sync (D.state disk.old).now) (D.state disk.new).now }
+    ensures kept { D.keeps → LeavesAlone result (done Sync (D.state disk.old).now) (D.state disk.new).now }
     ensures leaves { D.keeps → LeavesNothingNew (D.state disk.old) (D.state disk.new) }
     ensures whole { IfOk result (λ opened. areas_end opened.head.areas ≤ D.size_of disk.old) }
     ensures counted { IfOk result (λ opened. D.size_of disk.old < 2 ^ 64) }
-    ensures is { D.keeps → Answers (λ opened. opened) (verdict (D.state disk.old).now.bytes) result }
+    ensures is { D.keeps → ReadAnswer (λ opened. opened) (verdict (D.state disk.old).now.bytes) result }
 {
     if 1 < workers && workers <= MAX_WORKERS {
         open_parallel(alloc, disk, workers, &NoGate, rt)
@@ -47,8 +47,8 @@ fn open_once_by<D: Disk, R: Threads + Sync>(
 ) -> Tried
     ensures leaves { D.keeps → LeavesNothingNew (D.state disk.old) (D.state disk.new) }
     ensures counts { D.keeps → OfSteady (λ answer. Counts (has_read answer) (D.size_of disk.old) (D.size_of disk.new) (D.failures_of disk.old) (D.failures_of disk.new)) result }
-    ensures kept { D.keeps → OfSteady (λ answer. IsKept answer (done Sync (D.state disk.old).now) (D.state disk.new).now) result }
-    ensures is { D.keeps → OfSteady (Answers (λ opened. opened) (verdict (D.state disk.old).now.bytes)) result }
+    ensures kept { D.keeps → OfSteady (λ answer. LeavesAlone answer (done Sync (D.state disk.old).now) (D.state disk.new).now) result }
+    ensures is { D.keeps → OfSteady (ReadAnswer (λ opened. opened) (verdict (D.state disk.old).now.bytes)) result }
 {
     let before = match look(disk) {
         Ok(before) => before,
@@ -74,8 +74,8 @@ pub fn open_steady_by<D: Disk, R: Threads + Sync>(
 ) -> Tried
     ensures leaves { D.keeps → LeavesNothingNew (D.state disk.old) (D.state disk.new) }
     ensures counts { D.keeps → OfSteady (λ answer. Counts (has_read answer) (D.size_of disk.old) (D.size_of disk.new) (D.failures_of disk.old) (D.failures_of disk.new)) result }
-    ensures kept { D.keeps → OfSteady (λ answer. IsKept answer (done Sync (D.state disk.old).now) (D.state disk.new).now) result }
-    ensures is { D.keeps → OfSteady (Answers (λ opened. opened) (verdict (D.state disk.old).now.bytes)) result }
+    ensures kept { D.keeps → OfSteady (λ answer. LeavesAlone answer (done Sync (D.state disk.old).now) (D.state disk.new).now) result }
+    ensures is { D.keeps → OfSteady (ReadAnswer (λ opened. opened) (verdict (D.state disk.old).now.bytes)) result }
 {
     let mut left = MAX_TRIES;
     while left > 0 {

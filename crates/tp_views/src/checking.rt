@@ -15,9 +15,8 @@ use crate::refusal::Refusal;
 use std::alloc::{AllocError, Global};
 use std::fmt::Write as Push;
 use std::io::Write;
-use tp_area::{FormatFault, format};
+use tp_area::{FormatFault, area_for, format, version_for};
 use tp_disk::MemDisk;
-use tp_area::{area_for, version_for};
 use tp_model::Form;
 use tp_net::Topology;
 

@@ -3,7 +3,7 @@
 ghost use Rattle.std.specs.Prelude.{◌≡◌, ◌≤◌, None, OnOk, IfErr};
 ghost use Rattle.std.specs.Io.KnownBytes.{Appends};
 ghost use Rattle.tp_turn.specs.Tried.{fresh_image};
-ghost use Rattle.tp_views.specs.Attempt.{Shows, Answers};
+ghost use Rattle.tp_views.specs.Attempt.{PrintsTrial, TryAnswer};
 ghost use Rattle.tp_views.specs.Front.{AppendsFront};
 
 use crate::refusal::Refusal;
@@ -57,7 +57,7 @@ pub fn print_help<O: Write, E: Write>(text: &str, out: &mut O, err: &mut E) -> u
 /// Runs the node of an image for `turns` turns, its own and the host's in turns, and shows what its port puts out. It takes no
 /// more memory for more turns.
 fn attempt<O: Write>(alloc: Global, image: &[u8], turns: u32, out: &mut O) -> Result<(), Refusal>
-    ensures { Answers image.now turns (O.contents out.old) (O.contents out.new) result }
+    ensures { TryAnswer image.now turns (O.contents out.old) (O.contents out.new) result }
 {
     match try_output(alloc, image, turns, TRY_QUANTUM) {
         Ok(output) => put(out, output.as_slice()),
@@ -75,7 +75,7 @@ pub fn try_on<O: Write, E: Write>(
     err: &mut E,
 ) -> u8
     ensures status { result ≤ 1 }
-    ensures done { result ≡ 0 → Shows image.now turns (O.contents out.old) (O.contents out.new) }
+    ensures done { result ≡ 0 → PrintsTrial image.now turns (O.contents out.old) (O.contents out.new) }
     ensures refused { fresh_image image.now ≡ None → (result ≡ 1) × (O.contents out.new ≡ O.contents out.old) }
 {
     match attempt(alloc, image, turns, out) {

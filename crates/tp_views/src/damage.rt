@@ -5,9 +5,9 @@ use crate::image_rules::broken_rule;
 use crate::places::{Layout, Record, layout_of};
 use std::alloc::{AllocError, Global};
 use std::fmt::Write;
-use tp_disk::Disk;
 use tp_area::head_places::VERSION_PLACE;
 use tp_area::{FIELDS_BYTES, head_version, image_length};
+use tp_disk::Disk;
 use tp_model::limits::{
     GATE_OPEN, NARROW_HEAD_BYTES, NARROW_VERSION, PLAIN_FORM, TURNS_FORM, WIDE_HEAD_BYTES,
     WIDE_VERSION,

@@ -8,8 +8,8 @@ use crate::json::{comma, push};
 use crate::shown::{Front, area_number};
 use std::alloc::{AllocError, Global};
 use std::fmt::Write;
-use tp_node::{Node, halt_byte};
 use tp_book::HostPort;
+use tp_node::{Node, halt_byte};
 use tp_replay::FlatNetwork;
 
 /// Appends the item of a node that has `before` nodes before it.

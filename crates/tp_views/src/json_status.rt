@@ -14,9 +14,9 @@ use crate::status::{
 };
 use std::alloc::{AllocError, Global};
 use std::fmt::Write;
+use tp_book::HostPort;
 use tp_model::Form;
 use tp_node::{Node, Standing};
-use tp_book::HostPort;
 use tp_recover::Opened;
 
 /// Appends by how much a count grew in a second, or null.

@@ -4,7 +4,7 @@ ghost use Rattle.std.specs.Prelude.{◌≡◌, ◌≤◌, IfOk, IsErr, OnOk, str
 ghost use Rattle.tp_model.specs.Opening.{verdict};
 ghost use Rattle.tp_recover.specs.Reading.{LeavesNothingNew};
 ghost use Rattle.tp_views.specs.Front.{PrintsFront};
-ghost use Rattle.tp_views.specs.Opens.{IsUnwritten, Prints, front_of, recovered, shown};
+ghost use Rattle.tp_views.specs.Opens.{IsUnwritten, Prints, front_said, recovered, shown};
 
 use crate::by_workers::open_steady_by;
 use crate::commands::{put, refuse};
@@ -20,7 +20,7 @@ use tp_recover::Opened;
 
 /// What is said of an opened device beside its network.
 fn front_of(opened: &Opened) -> Front
-    ensures { result ≡ front_of opened.now }
+    ensures { result ≡ front_said opened.now }
 {
     Front {
         area: opened.head().areas().length,

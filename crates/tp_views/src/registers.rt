@@ -2,7 +2,7 @@
 
 ghost use Rattle.std.specs.Prelude.{◌≡◌, ◌++◌, IfOk, OnOk, string_bytes};
 ghost use Rattle.tp_model.specs.Image.{node_at};
-ghost use Rattle.tp_views.specs.NodeText.{cpu_lines, idle_line, input_line, input_lines, node_lines, node_text, number_line, output_line, output_lines, pointer_line, queue_line, stack_line, state_line, working_line};
+ghost use Rattle.tp_views.specs.NodeText.{cpu_lines, idle_line, input_end_line, input_lines, node_as_lines, node_text, number_line, output_line, output_lines, pointer_line, queue_line, stack_line, state_line, working_line};
 
 use crate::formats::{halt_name, state_name};
 use crate::image_fields::{cpu_in, inputs_in, outputs_in, pages_in};
@@ -99,7 +99,7 @@ fn push_output(text: &mut String, link: usize, end: OutEnd) -> Result<(), AllocE
 }
 
 fn push_input(text: &mut String, link: usize, end: InEnd) -> Result<(), AllocError>
-    ensures { OnOk result (string_bytes text.new ≡ string_bytes text.old ++ input_line link end) }
+    ensures { OnOk result (string_bytes text.new ≡ string_bytes text.old ++ input_end_line link end) }
 {
     match end {
         InEnd::Idle(None) => push_idle(text, "in", link),
@@ -143,7 +143,7 @@ fn node_lines(
     outputs: &[OutEnd],
     inputs: &[InEnd],
 ) -> Result<String, AllocError>
-    ensures { IfOk result (λ text. string_bytes text ≡ node_lines number pages cpu.now outputs.now inputs.now) }
+    ensures { IfOk result (λ text. string_bytes text ≡ node_as_lines number pages cpu.now outputs.now inputs.now) }
 {
     let mut text = String::new(alloc);
     push_number(&mut text, number, pages, cpu.halt)?;

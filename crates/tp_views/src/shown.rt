@@ -6,8 +6,8 @@ ghost use Rattle.tp_views.specs.Shown.{area_number, head_line, next_line, node_l
 
 use std::alloc::{AllocError, Global};
 use std::fmt::Write;
-use tp_node::{Node, halt_byte};
 use tp_book::HostPort;
+use tp_node::{Node, halt_byte};
 use tp_replay::FlatNetwork;
 
 /// What is said of a device beside its network: the bytes of an area, which one is open, its generation, the entries in its

@@ -1,16 +1,16 @@
 //! The line of `tpnet status`, and what a look sees that the next one compares with.
 
 ghost use Rattle.std.specs.Prelude.{◌≡◌, ◌++◌, ◌∷◌, ◌<◌, ◌^◌, [], IfOk, OnOk, codes, map, string_bytes};
-ghost use Rattle.tp_views.specs.Status.{IsSeen, accepted, accepted_before, accepted_part, count_part, front_part, growth_part, halted_or_none, halted_part, halted_parts, journal_part, millis_since, next_before, out_before, out_part, percent, port_before, port_part, port_parts, port_seen, put_out, room_of, status_line, yes_or_no};
+ghost use Rattle.tp_views.specs.Status.{IsSeen, bytes_accepted, accepted_before, accepted_part, count_part, front_part, growth_part, halted_or_none, halted_part, halted_parts, journal_part, millis_since, next_before, out_before, out_part, percent, port_before, port_part, port_parts, port_seen, bytes_put_out, entries_room, status_line, yes_or_no};
 ghost use Rattle.tp_node.specs.Standing.{standing};
 
 use crate::formats::{fault_name, form_name};
 use std::alloc::{AllocError, Global};
 use std::fmt::Write;
 use tp_area::JournalRoom;
+use tp_book::HostPort;
 use tp_model::Form;
 use tp_node::{Node, Standing};
-use tp_book::HostPort;
 use tp_recover::Opened;
 
 /// What a look sees of a port: how many bytes it has accepted, and how many it has put out.
@@ -37,7 +37,7 @@ pub(crate) struct Since {
 
 /// How many bytes a port has accepted.
 pub(crate) fn accepted(port: &HostPort) -> u128
-    ensures value { result ≡ accepted port.now.port }
+    ensures value { result ≡ bytes_accepted port.now.port }
     ensures bound { result < 2 ^ 65 }
 {
     port.in_base() as u128 + port.pending().len() as u128
@@ -45,7 +45,7 @@ pub(crate) fn accepted(port: &HostPort) -> u128
 
 /// How many bytes a port has put out.
 pub(crate) fn put_out(port: &HostPort) -> u128
-    ensures value { result ≡ put_out port.now.port }
+    ensures value { result ≡ bytes_put_out port.now.port }
     ensures bound { result < 2 ^ 65 }
 {
     port.out_base() as u128 + port.outputs().len() as u128
@@ -315,7 +315,7 @@ fn push_halts(alloc: Global, text: &mut String, nodes: &[Node]) -> Result<(), Al
 
 /// How many entries the journal of an opened device has room for.
 pub(crate) fn room_of(opened: &Opened) -> u64
-    ensures { result ≡ room_of opened.now }
+    ensures { result ≡ entries_room opened.now }
 {
     let head = opened.head();
     JournalRoom::of(head.topology(), head.areas().length).capacity()

@@ -33,12 +33,12 @@ ghost use Rattle.tp_model.specs.Disk.{Sync, done};
 ghost use Rattle.tp_model.specs.DiskHistory.{Counts};
 ghost use Rattle.tp_model.specs.Head.{head_of};
 ghost use Rattle.tp_model.specs.Opening.{verdict};
-ghost use Rattle.tp_views.specs.Steady.{HasStayed, IsStill, OfSteady, counting, front_of, fronts_in, is_above, looked};
-ghost use Rattle.tp_recover.specs.Reading.{has_read, found, Answers, IsKept, LeavesNothingNew};
+ghost use Rattle.tp_views.specs.Steady.{StayedOpen, CountsStill, OfSteady, counting, front_seen, fronts_in, is_above, look_finds};
+ghost use Rattle.tp_recover.specs.Reading.{has_read, found, ReadAnswer, LeavesAlone, LeavesNothingNew};
 
 use std::alloc::Global;
-use tp_disk::Disk;
 use tp_area::{AREA_FRONT_BYTES, AreaFront, area_front, area_start};
+use tp_disk::Disk;
 use tp_model::TwoAreas;
 use tp_recover::{Opened, Unopened, open, read_head};
 
@@ -78,7 +78,7 @@ impl Fronts {
 
     /// The front of an area.
     fn front(&self, second: bool) -> AreaFront
-        ensures { result ≡ front_of second self.now }
+        ensures { result ≡ front_seen second self.now }
     {
         if second { self.second } else { self.first }
     }
@@ -88,7 +88,7 @@ impl Fronts {
 fn read_front<D: Disk>(disk: &mut D, start: u64) -> Result<AreaFront, Unopened>
     requires { start + 9 ≤ D.size_of disk.old }
     ensures counts { Counts (has_read result) (D.size_of disk.old) (D.size_of disk.new) (D.failures_of disk.old) (D.failures_of disk.new) }
-    ensures kept { D.keeps → IsKept result (D.state disk.old).now (D.state disk.new).now }
+    ensures kept { D.keeps → LeavesAlone result (D.state disk.old).now (D.state disk.new).now }
     ensures leaves { D.keeps → LeavesNothingNew (D.state disk.old) (D.state disk.new) }
     ensures refused { IfErr result (λ unopened. unopened ≡ Unopened.ReadFailed) }
     ensures is { D.keeps → IfOk result (λ front. front ≡ area_front start (D.state disk.old).now.bytes) }
@@ -106,7 +106,7 @@ fn read_fronts<D: Disk>(disk: &mut D, areas: TwoAreas) -> Result<Fronts, Unopene
     requires inside { areas_end areas ≤ D.size_of disk.old }
     requires counted { areas_end areas < 2 ^ 64 }
     ensures counts { Counts (has_read result) (D.size_of disk.old) (D.size_of disk.new) (D.failures_of disk.old) (D.failures_of disk.new) }
-    ensures kept { D.keeps → IsKept result (D.state disk.old).now (D.state disk.new).now }
+    ensures kept { D.keeps → LeavesAlone result (D.state disk.old).now (D.state disk.new).now }
     ensures leaves { D.keeps → LeavesNothingNew (D.state disk.old) (D.state disk.new) }
     ensures refused { IfErr result (λ unopened. unopened ≡ Unopened.ReadFailed) }
     ensures is { D.keeps → IfOk result (λ fronts. fronts ≡ fronts_in areas (D.state disk.old).now.bytes) }
@@ -126,10 +126,10 @@ fn read_fronts<D: Disk>(disk: &mut D, areas: TwoAreas) -> Result<Fronts, Unopene
 /// Looks at a device: finds the fronts of its areas, or none where it has no head, or one that breaks a rule.
 pub(crate) fn look<D: Disk>(disk: &mut D) -> Result<Option<Fronts>, Unopened>
     ensures counts { Counts (has_read result) (D.size_of disk.old) (D.size_of disk.new) (D.failures_of disk.old) (D.failures_of disk.new) }
-    ensures kept { D.keeps → IsKept result (D.state disk.old).now (D.state disk.new).now }
+    ensures kept { D.keeps → LeavesAlone result (D.state disk.old).now (D.state disk.new).now }
     ensures leaves { D.keeps → LeavesNothingNew (D.state disk.old) (D.state disk.new) }
     ensures refused { IfErr result (λ unopened. unopened ≡ Unopened.ReadFailed) }
-    ensures is { D.keeps → IfOk result (λ found. found ≡ looked (head_of (D.state disk.old).now.bytes) (D.state disk.old).now.bytes) }
+    ensures is { D.keeps → IfOk result (λ found. found ≡ look_finds (head_of (D.state disk.old).now.bytes) (D.state disk.old).now.bytes) }
 {
     match read_head(disk) {
         Ok(head) => {
@@ -144,7 +144,7 @@ pub(crate) fn look<D: Disk>(disk: &mut D) -> Result<Option<Fronts>, Unopened>
 
 /// Whether the area that counted at the look `before` has its front at the look `after`; where none counted, whether nothing is otherwise.
 fn has_stayed(second: Option<bool>, before: Fronts, after: Fronts) -> bool
-    ensures { IsTrue result ↔ HasStayed second before after }
+    ensures { IsTrue result ↔ StayedOpen second before after }
 {
     match second {
         Some(second) => after.front(second) == before.front(second),
@@ -154,7 +154,7 @@ fn has_stayed(second: Option<bool>, before: Fronts, after: Fronts) -> bool
 
 /// Whether what counted at the look `before` still counts at the look `after`.
 pub(crate) fn is_still(before: Option<Fronts>, after: Option<Fronts>) -> bool
-    ensures { IsTrue result ↔ IsStill before after }
+    ensures { IsTrue result ↔ CountsStill before after }
 {
     match (before, after) {
         (Some(before), Some(after)) => {
@@ -176,8 +176,8 @@ pub enum Tried {
 fn open_once<D: Disk>(alloc: Global, disk: &mut D) -> Tried
     ensures leaves { D.keeps → LeavesNothingNew (D.state disk.old) (D.state disk.new) }
     ensures counts { D.keeps → OfSteady (λ answer. Counts (has_read answer) (D.size_of disk.old) (D.size_of disk.new) (D.failures_of disk.old) (D.failures_of disk.new)) result }
-    ensures kept { D.keeps → OfSteady (λ answer. IsKept answer (done Sync (D.state disk.old).now) (D.state disk.new).now) result }
-    ensures is { D.keeps → OfSteady (Answers (λ opened. opened) (verdict (D.state disk.old).now.bytes)) result }
+    ensures kept { D.keeps → OfSteady (λ answer. LeavesAlone answer (done Sync (D.state disk.old).now) (D.state disk.new).now) result }
+    ensures is { D.keeps → OfSteady (ReadAnswer (λ opened. opened) (verdict (D.state disk.old).now.bytes)) result }
 {
     let before = match look(disk) {
         Ok(before) => before,
@@ -200,8 +200,8 @@ fn open_once<D: Disk>(alloc: Global, disk: &mut D) -> Tried
 pub fn open_steady<D: Disk>(alloc: Global, disk: &mut D) -> Tried
     ensures leaves { D.keeps → LeavesNothingNew (D.state disk.old) (D.state disk.new) }
     ensures counts { D.keeps → OfSteady (λ answer. Counts (has_read answer) (D.size_of disk.old) (D.size_of disk.new) (D.failures_of disk.old) (D.failures_of disk.new)) result }
-    ensures kept { D.keeps → OfSteady (λ answer. IsKept answer (done Sync (D.state disk.old).now) (D.state disk.new).now) result }
-    ensures is { D.keeps → OfSteady (Answers (λ opened. opened) (verdict (D.state disk.old).now.bytes)) result }
+    ensures kept { D.keeps → OfSteady (λ answer. LeavesAlone answer (done Sync (D.state disk.old).now) (D.state disk.new).now) result }
+    ensures is { D.keeps → OfSteady (ReadAnswer (λ opened. opened) (verdict (D.state disk.old).now.bytes)) result }
 {
     let mut left = MAX_TRIES;
     while left > 0 {

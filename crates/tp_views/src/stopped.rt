@@ -9,8 +9,7 @@ use tp_disk::{Counted, Disk, NotedFile, RawFile};
 use tp_model::limits::MAX_NODES;
 use tp_node::{Node, Standing};
 use tp_recover::open;
-use tp_stream_files::Stopped;
-use tp_stream_files::say_stopped;
+use tp_stream_files::{Stopped, say_stopped};
 use tp_turn::try_standing;
 use tp_words::Asked;
 

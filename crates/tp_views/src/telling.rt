@@ -5,7 +5,7 @@ ghost use Rattle.std.specs.Io.KnownBytes.{Appends};
 ghost use Rattle.tp_model.specs.Opening.{verdict};
 ghost use Rattle.tp_recover.specs.Reading.{LeavesNothingNew};
 ghost use Rattle.tp_views.specs.Front.{AppendsFront, PrintsFront};
-ghost use Rattle.tp_views.specs.Looks.{Tells};
+ghost use Rattle.tp_views.specs.Looks.{StatusTells};
 ghost use Rattle.tp_views.specs.Opens.{IsUnwritten};
 ghost use Rattle.tp_views.specs.JsonStatus.{look_text};
 ghost use Rattle.tp_views.specs.Status.{IsSeen};
@@ -69,7 +69,7 @@ fn look<D: Disk, O: Write>(
     json: bool,
     out: &mut O,
 ) -> Result<Seen, Refusal>
-    ensures done { D.keeps → IfOk result (Tells json held at before.now (D.state disk.old).now.bytes (O.contents out.old) (O.contents out.new)) }
+    ensures done { D.keeps → IfOk result (StatusTells json held at before.now (D.state disk.old).now.bytes (O.contents out.old) (O.contents out.new)) }
     ensures leaves { D.keeps → LeavesNothingNew (D.state disk.old) (D.state disk.new) }
     ensures front { D.keeps → PrintsFront (look_text json held at before.now) (D.state disk.old).now.bytes (O.contents out.old) (O.contents out.new) }
     ensures kept { D.keeps → IsUnwritten (D.failures_of disk.old) (D.failures_of disk.new) (D.state disk.old).now (D.state disk.new).now }
@@ -97,7 +97,7 @@ pub fn status_on<D: Disk, O: Write, E: Write>(
     err: &mut E,
 ) -> Result<Seen, u8>
     ensures status { IfErr result (λ status. status ≡ 1) }
-    ensures done { D.keeps → IfOk result (Tells json held at before.now (D.state disk.old).now.bytes (O.contents out.old) (O.contents out.new)) }
+    ensures done { D.keeps → IfOk result (StatusTells json held at before.now (D.state disk.old).now.bytes (O.contents out.old) (O.contents out.new)) }
     ensures leaves { D.keeps → LeavesNothingNew (D.state disk.old) (D.state disk.new) }
     ensures front { D.keeps → PrintsFront (look_text json held at before.now) (D.state disk.old).now.bytes (O.contents out.old) (O.contents out.new) }
     ensures kept { D.keeps → IsUnwritten (D.failures_of disk.old) (D.failures_of disk.new) (D.state disk.old).now (D.state disk.new).now }

@@ -14,12 +14,12 @@ abbrev pub places : Ends → ℕ → ℕ
 places ends port = count_by (λ file. file.port == port) ends.outs.items + count_by (λ other. other == port) ends.discards.items
 
 -- how many inputs it has
-abbrev pub inputs : Ends → ℕ → ℕ
-inputs ends port = count_by (λ file. file.port == port) ends.ins.items
+abbrev pub input_count : Ends → ℕ → ℕ
+input_count ends port = count_by (λ file. file.port == port) ends.ins.items
 
 -- No port below a bound has two places for its output, or two inputs.
 abbrev pub AreApart : ℕ → Ends → Type 0
-AreApart bound ends = (port : ℕ) → port < bound → (places ends port ≤ 1) × (inputs ends port ≤ 1)
+AreApart bound ends = (port : ℕ) → port < bound → (places ends port ≤ 1) × (input_count ends port ≤ 1)
 
 -- Each port is one that a device may have, with one place for its output and one input at most.
 pub record AreEnds (ends : Ends) : Type 0 where

@@ -1,7 +1,7 @@
 //! What was typed of the ends of a stream's ports.
 
 ghost use Rattle.std.specs.Prelude.{◌≡◌, ◌<◌, ◌≤◌, ◌==◌, All, IfOk, IfSome, None, count_by};
-ghost use Rattle.tp_words.specs.Ends.{AreApart, AreEnds, HavePorts, inputs, places};
+ghost use Rattle.tp_words.specs.Ends.{AreApart, AreEnds, HavePorts, input_count, places};
 ghost use Rattle.tp_model.specs.declared.limits.TheConstants.{MAX_PORTS};
 
 use crate::numbers::number_of;
@@ -169,7 +169,7 @@ fn standards(files: &[PortFile]) -> usize {
 
 /// What is wrong with the ends of a port that has two places for its output, or two inputs.
 fn fault_at(ends: &Ends, port: u8) -> Option<EndsFault>
-    ensures { result ≡ None → (places ends.now port ≤ 1) × (inputs ends.now port ≤ 1) }
+    ensures { result ≡ None → (places ends.now port ≤ 1) × (input_count ends.now port ≤ 1) }
 {
     let discards = ends.discards.iter().filter(|other| **other == port).count();
     if count_of(&ends.outs, port).saturating_add(discards) > 1 {

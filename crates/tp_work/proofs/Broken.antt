@@ -7,10 +7,10 @@ use Rattle.tp_book.specs.declared.refusal.Refusal.{Refusal}
 use Rattle.tp_book.specs.declared.refusal.Refusal.TheVariants as refusal
 use Rattle.tp_ready.specs.Numbers.{Numbers}
 use Rattle.tp_ready.specs.declared.answers.Answer.{Answer}
-use Rattle.tp_shared.specs.Entries.{IsTurnRefusal, Takes, TookAlone}
+use Rattle.tp_shared.specs.Entries.{IsTurnRefusal, AreTakes, TookAlone}
 use Rattle.tp_shared.specs.Gains.{Gained}
 use Rattle.tp_shared.specs.Holds.{InHand}
-use Rattle.tp_work.specs.Turns.{Refused, fault_of, Handed, RefusedAt, RefusedFor, RefusedBy, TookBefore}
+use Rattle.tp_work.specs.Turns.{Refused, turn_fault, Handed, RefusedAt, RefusedFor, RefusedBy, TookBefore}
 use Rattle.tp_work.specs.declared.fault.TurnFault.{TurnFault}
 use Rattle.tp_work.specs.declared.fault.TurnFault.TheVariants.{Empty, JournalFull, StoreBroken, Memory}
 
@@ -29,15 +29,15 @@ node_took start process old new there G = gained_as (TookAlone start process) (T
     either entries (inr once) = inr (there, once)
 
 -- by the host
-pub host_took : (start : Network NodeState) (process : ℕ) (old new : List (ℕ × Entry)) → process ≡ length start.nodes → Gained (Takes start (length start.nodes)) old new
+pub host_took : (start : Network NodeState) (process : ℕ) (old new : List (ℕ × Entry)) → process ≡ length start.nodes → Gained (AreTakes start (length start.nodes)) old new
     → Gained (TookBefore start process) old new
 host_took start process old new is G =
-    gained_as (Takes start (length start.nodes)) (TookBefore start process) old new (λ entries took. inl (subst (λ p. Takes start p entries) (sym is) took)) G
+    gained_as (AreTakes start (length start.nodes)) (TookBefore start process) old new (λ entries took. inl (subst (λ p. AreTakes start p entries) (sym is) took)) G
 
 -- ## Refused
 
 pub broken_off : (start : Network NodeState) (process : ℕ) (old new : List (ℕ × Entry)) (r : Refusal) → process ≤ length start.nodes → Gained (TookBefore start process) old new
-    → Refused start (fault_of r) old new
+    → Refused start (turn_fault r) old new
 broken_off start process old new refusal.JournalFull there took = record { process = process; there = there; took = took }
 broken_off start process old new refusal.StoreBroken there took = record { process = process; there = there; took = took }
 broken_off start process old new refusal.Memory there took = record { process = process; there = there; took = took }
@@ -47,7 +47,7 @@ broken_off start process old new refusal.PortFull there took = record { process 
 
 -- what was told of the refusal is told of the fault
 pub refused_for : (start : Network NodeState) (process : ℕ) (old new : InHand) (r : Refusal) → IsTurnRefusal r → Gained (TookBefore start process) old.slips new.slips
-    → RefusedAt start process r old new → RefusedFor start process (fault_of r) old new
+    → RefusedAt start process r old new → RefusedFor start process (turn_fault r) old new
 refused_for start process old new refusal.JournalFull is took went = (took, went)
 refused_for start process old new refusal.StoreBroken is took went = (took, went)
 refused_for start process old new refusal.Memory is took went = (took, went)

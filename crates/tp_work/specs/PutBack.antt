@@ -2,7 +2,7 @@
 use Rattle.std.specs.Prelude.{◌≡◌, ℕ, List, [], ◌∷◌, ◌++◌, Some}
 use Rattle.tp_ready.specs.Answered.{answer}
 use Rattle.tp_ready.specs.Numbers.{Numbers}
-use Rattle.tp_ready.specs.Past.{Past, Did}
+use Rattle.tp_ready.specs.Past.{Past, HasCalled}
 use Rattle.tp_ready.specs.declared.answers.Answer.{Answer}
 use Rattle.tp_ready.specs.declared.call.Step.TheVariants.{Took, Put}
 use Rattle.tp_work.specs.declared.fault.TurnFault.{TurnFault}
@@ -11,8 +11,8 @@ use Rattle.tp_work.specs.declared.fault.TurnFault.TheVariants.{Empty, JournalFul
 -- A hand took a number, which waited longest then, and put it back behind all others. It called nothing else.
 pub record PutBack (queue : Numbers) (number : ℕ) (old new : Past) : Type 0 where
   pub between : Past
-  pub took : Did queue.count queue.hands (Took number) old between
-  pub put : Did queue.count queue.hands (Put number) between new
+  pub took : HasCalled queue.count queue.hands (Took number) old between
+  pub put : HasCalled queue.count queue.hands (Put number) between new
 
 -- the number that the queue handed out was put back
 abbrev pub PutBackOne : Numbers → List Answer → List Answer → Past → Past → Type 0

@@ -9,7 +9,7 @@ use Rattle.tp_book.specs.declared.refusal.Refusal.TheVariants as refusal
 use Rattle.tp_ready.specs.Answered.{answer}
 use Rattle.tp_ready.specs.Numbers.{Numbers}
 use Rattle.tp_ready.specs.declared.answers.Answer.{Answer}
-use Rattle.tp_shared.specs.Entries.{Takes, CountedTakes, TookAtOnce}
+use Rattle.tp_shared.specs.Entries.{AreTakes, CountedTakes, TookAtOnce}
 use Rattle.tp_shared.specs.Gains.{Gained}
 use Rattle.tp_shared.specs.Holds.{InHand}
 use Rattle.tp_shared.specs.NodeTurned.{NodeTurned}
@@ -31,7 +31,7 @@ Turned start quantum turn old new = TurnedAs start quantum turn.process turn.tak
 
 -- what a process took before its turn was refused: an entry for each token; or, of a node, one for all
 abbrev pub TookBefore : Network NodeState → ℕ → List Entry → Type 0
-TookBefore start process entries = Takes start process entries ⊎ ((process < length start.nodes) × TookAtOnce process entries)
+TookBefore start process entries = AreTakes start process entries ⊎ ((process < length start.nodes) × TookAtOnce process entries)
 
 -- Some process took tokens before its turn was refused, and the seat has the slips of their entries.
 pub record BrokenOff (start : Network NodeState) (old new : List (ℕ × Entry)) : Type 0 where
@@ -47,13 +47,13 @@ Refused start StoreBroken old new = BrokenOff start old new
 Refused start Memory old new = BrokenOff start old new
 
 -- the fault of a turn that the book refused
-abbrev pub fault_of : Refusal → TurnFault
-fault_of refusal.JournalFull = JournalFull
-fault_of refusal.StoreBroken = StoreBroken
-fault_of refusal.Memory = Memory
-fault_of refusal.NothingToTake = Memory
-fault_of refusal.SnapshotRunning = Memory
-fault_of refusal.PortFull = Memory
+abbrev pub turn_fault : Refusal → TurnFault
+turn_fault refusal.JournalFull = JournalFull
+turn_fault refusal.StoreBroken = StoreBroken
+turn_fault refusal.Memory = Memory
+turn_fault refusal.NothingToTake = Memory
+turn_fault refusal.SnapshotRunning = Memory
+turn_fault refusal.PortFull = Memory
 
 -- ## Whose turn it was, and how it went
 
@@ -66,8 +66,8 @@ abbrev pub WentAs : Network NodeState → ℕ → ℕ → ℕ → Option RunEnd 
 WentAs start quantum process takes (Some ran) old new = TurnMade start process quantum (record { taken = takes; ran = ran }) old new
 WentAs start quantum process takes None old new = HostTurnMade start (Ok takes) old new
 
-abbrev pub Went : Network NodeState → ℕ → Turn → InHand → InHand → Type 0
-Went start quantum turn old new = WentAs start quantum turn.process turn.takes turn.ran old new
+abbrev pub TurnWent : Network NodeState → ℕ → Turn → InHand → InHand → Type 0
+TurnWent start quantum turn old new = WentAs start quantum turn.process turn.takes turn.ran old new
 
 -- how a turn of this process was refused, in the book that was seen
 abbrev pub RefusedAt : Network NodeState → ℕ → Refusal → InHand → InHand → Type 0

@@ -1,11 +1,11 @@
 //! Outputs that a host confirms.
 
 ghost use Rattle.std.specs.Prelude.{◌≡◌, ◌<◌, ◌≤◌, [], length, IsOk, IfOk, OnErr};
-ghost use Rattle.tp_book.specs.Book.{next_number};
+ghost use Rattle.tp_book.specs.Book.{next_in_book};
 ghost use Rattle.tp_book.specs.Host.{after_confirm, port_in};
 ghost use Rattle.tp_book.specs.Acts.{confirm_entries};
-ghost use Rattle.tp_shared.specs.Gains.{Noted};
-ghost use Rattle.tp_work.specs.Answers.{Answers};
+ghost use Rattle.tp_shared.specs.Gains.{HoldNoted};
+ghost use Rattle.tp_work.specs.Answers.{RefusesFor};
 ghost use Rattle.tp_work.specs.Outputs.{confirm_fault};
 ghost use Rattle.tp_work.specs.Receipts.{IsFor};
 
@@ -21,11 +21,11 @@ pub fn confirm<J: Naming>(
     upto: u64,
 ) -> Result<Receipt<J>, ConfirmFault>
     requires there { port < length held.old.book.state.ports }
-    ensures answer { Answers ConfirmFault.Memory (confirm_fault held.old.book port mark upto) result }
+    ensures answer { RefusesFor ConfirmFault.Memory (confirm_fault held.old.book port mark upto) result }
     ensures nothing { upto ≤ (port_in held.old.book port).out_base → IsOk result }
     ensures book { IfOk result (λ receipt. held.new.book ≡ after_confirm held.old.book port upto) }
-    ensures number { IfOk result (λ receipt. receipt.number ≡ next_number held.new.book) }
-    ensures noted { IfOk result (λ receipt. Noted (λ entries. entries ≡ confirm_entries held.old.book port upto) J.first held.old held.new [] receipt.seat) }
+    ensures number { IfOk result (λ receipt. receipt.number ≡ next_in_book held.new.book) }
+    ensures noted { IfOk result (λ receipt. HoldNoted (λ entries. entries ≡ confirm_entries held.old.book port upto) J.first held.old held.new [] receipt.seat) }
     ensures receipt { IfOk result (IsFor (confirm_entries held.old.book port upto)) }
     ensures err { OnErr result (held.new ≡ held.old) }
 {

@@ -1,7 +1,7 @@
 //! Why a turn is refused.
 
 ghost use Rattle.std.specs.Prelude.{◌≡◌};
-ghost use Rattle.tp_work.specs.Turns.{fault_of};
+ghost use Rattle.tp_work.specs.Turns.{turn_fault};
 ghost use Rattle.tp_shared.specs.Entries.{IsTurnRefusal};
 
 use thiserror::Error;
@@ -29,7 +29,7 @@ impl TurnFault {
     /// The fault of a turn that the book refused.
     pub(crate) fn of(refusal: Refusal) -> TurnFault
         requires { IsTurnRefusal refusal }
-        ensures { result ≡ fault_of refusal }
+        ensures { result ≡ turn_fault refusal }
     {
         match refusal {
             Refusal::JournalFull => TurnFault::JournalFull,

@@ -4,7 +4,7 @@ ghost use Rattle.std.specs.Prelude.{◌≡◌, ◌≤◌, ◌+◌, Some, length,
 ghost use Rattle.tp_model.specs.declared.limits.TheConstants.{MAX_STEPS};
 ghost use Rattle.tp_shared.specs.Holds.{in_hand};
 ghost use Rattle.tp_work.specs.PutBack.{PutBack, PutBackBehind};
-ghost use Rattle.tp_work.specs.Turns.{Turned, Refused, Handed, Went, RefusedFor, RefusedBy};
+ghost use Rattle.tp_work.specs.Turns.{Turned, Refused, Handed, TurnWent, RefusedFor, RefusedBy};
 
 use crate::fault::TurnFault;
 use crate::seat::Seat;
@@ -41,7 +41,7 @@ impl<J: Naming, G: Gate> Net<J, G> {
         ensures back { MatchResult result (λ turn. PutBack self.now.queue turn.process seat.old.hand.past seat.new.hand.past) (λ fault. PutBackBehind self.now.queue fault seat.old.answers seat.new.answers seat.old.hand.past seat.new.hand.past) }
         ensures turned { MatchResult result (λ turn. Turned J.start self.now.quantum turn seat.old.slips seat.new.slips) (λ fault. Refused J.start fault seat.old.slips seat.new.slips) }
         ensures handed { MatchResult result (λ turn. Handed self.now.queue (Some turn.process) seat.old.answers seat.new.answers) (λ fault. RefusedBy J.start self.now.queue fault seat.old.answers seat.new.answers (in_hand seat.old.seen seat.old.slips) (in_hand seat.new.seen seat.new.slips)) }
-        ensures went { IfOk result (λ turn. Went J.start self.now.quantum turn (in_hand seat.old.seen seat.old.slips) (in_hand seat.new.seen seat.new.slips)) }
+        ensures went { IfOk result (λ turn. TurnWent J.start self.now.quantum turn (in_hand seat.old.seen seat.old.slips) (in_hand seat.new.seen seat.new.slips)) }
     {
         let Seat {
             hand,
@@ -69,7 +69,7 @@ impl<J: Naming, G: Gate> Net<J, G> {
         requires there { process ≤ length J.start.nodes }
         ensures process { IfOk result (λ turn. turn.process ≡ process) }
         ensures turned { MatchResult result (λ turn. Turned J.start self.now.quantum turn slips.old slips.new) (λ fault. Refused J.start fault slips.old slips.new) }
-        ensures went { MatchResult result (λ turn. Went J.start self.now.quantum turn (in_hand seen.old slips.old) (in_hand seen.new slips.new)) (λ fault. RefusedFor J.start process fault (in_hand seen.old slips.old) (in_hand seen.new slips.new)) }
+        ensures went { MatchResult result (λ turn. TurnWent J.start self.now.quantum turn (in_hand seen.old slips.old) (in_hand seen.new slips.new)) (λ fault. RefusedFor J.start process fault (in_hand seen.old slips.old) (in_hand seen.new slips.new)) }
     {
         if process == self.shared.nodes() {
             return match self.shared.host_turn(rt, &self.gate, slips, seen) {

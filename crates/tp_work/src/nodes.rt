@@ -1,7 +1,7 @@
 //! The nodes of an opened device.
 
 ghost use Rattle.std.specs.Prelude.{◌≡◌, ℕ, Some, None, map, slice_get, IfOk};
-ghost use Rattle.tp_book.specs.Opened.{now_of, IsOpened};
+ghost use Rattle.tp_book.specs.Opened.{now_of, IsWellOpen};
 ghost use Rattle.tp_law_machine.specs.NodeOfBytes.{IsNodeOfBytes};
 ghost use Rattle.tp_model.specs.Image.{node_at, node_of};
 ghost use Rattle.tp_node.specs.FromImage.{HasFrames};
@@ -28,7 +28,7 @@ fn node_in(alloc: Global, image: &[u8], spare: usize) -> Result<Node, AllocError
 /// The nodes of an opened device, as the kept entries left them. Each has `spare` frames, but no more than it has pages, for pages
 /// that it writes while it is frozen. An image goes as soon as its node is made, so that the memory holds few pages twice.
 pub fn nodes_of(alloc: Global, state: NetState, spare: usize) -> Result<Vec<Node>, AllocError>
-    requires { IsOpened state }
+    requires { IsWellOpen state }
     ensures live { IfOk result (λ nodes. map (λ node. node.live) nodes.items ≡ (now_of state).nodes) }
     ensures each { IfOk result (λ nodes. (i : ℕ) (node : NodeContents) → slice_get nodes.items i ≡ Some node → IsNodeOfBytes node.live × (node.frozen ≡ None)) }
     ensures frames { IfOk result (λ nodes. (i : ℕ) (node : NodeContents) → slice_get nodes.items i ≡ Some node → HasFrames spare node) }

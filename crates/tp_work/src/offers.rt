@@ -1,12 +1,12 @@
 //! Bytes that a host offers to a port.
 
 ghost use Rattle.std.specs.Prelude.{◌≡◌, ◌<◌, [], length, map, Some, IsOk, IfOk, IfErr, OnErr};
-ghost use Rattle.tp_book.specs.Book.{next_number};
-ghost use Rattle.tp_book.specs.Host.{accepted_of, after_input, input_refusal, port_in, room_of};
+ghost use Rattle.tp_book.specs.Book.{next_in_book};
+ghost use Rattle.tp_book.specs.Host.{accepted_of, after_inputs, input_refusal, port_in, room_of};
 ghost use Rattle.tp_book.specs.Refusals.{IsAnswer};
 ghost use Rattle.tp_model.specs.declared.entry.Entry.TheVariants.{HostIn};
-ghost use Rattle.tp_shared.specs.Gains.{Noted};
-ghost use Rattle.tp_work.specs.Answers.{Answers};
+ghost use Rattle.tp_shared.specs.Gains.{HoldNoted};
+ghost use Rattle.tp_work.specs.Answers.{RefusesFor};
 ghost use Rattle.tp_work.specs.Offers.{IsReason, offer_fault};
 ghost use Rattle.tp_work.specs.Receipts.{IsFor};
 
@@ -22,12 +22,12 @@ pub fn offer<J: Naming>(
     bytes: &[u8],
 ) -> Result<Receipt<J>, OfferFault>
     requires there { port < length held.old.book.state.ports }
-    ensures answer { Answers OfferFault.Memory (offer_fault held.old.book port at (length bytes.now)) result }
+    ensures answer { RefusesFor OfferFault.Memory (offer_fault held.old.book port at (length bytes.now)) result }
     ensures nothing { length bytes.now ≡ 0 → at ≡ accepted_of (port_in held.old.book port) → IsOk result }
-    ensures book { IfOk result (λ receipt. held.new.book ≡ after_input held.old.book port bytes.now) }
-    ensures number { IfOk result (λ receipt. receipt.number ≡ next_number held.new.book) }
+    ensures book { IfOk result (λ receipt. held.new.book ≡ after_inputs held.old.book port bytes.now) }
+    ensures number { IfOk result (λ receipt. receipt.number ≡ next_in_book held.new.book) }
     ensures position { IfOk result (λ receipt. receipt.position ≡ Some at) }
-    ensures noted { IfOk result (λ receipt. Noted (λ entries. entries ≡ map (HostIn port) bytes.now) J.first held.old held.new [] receipt.seat) }
+    ensures noted { IfOk result (λ receipt. HoldNoted (λ entries. entries ≡ map (HostIn port) bytes.now) J.first held.old held.new [] receipt.seat) }
     ensures receipt { IfOk result (IsFor (map (HostIn port) bytes.now)) }
     ensures reason { IfErr result (IsReason at (length bytes.now)) }
     ensures err { OnErr result (held.new ≡ held.old) }

@@ -2,7 +2,7 @@
 
 ghost use Rattle.std.specs.Prelude.{◌≡◌, ◌<◌, ◌+◌, length, vec_len, IfOk};
 ghost use Rattle.tp_book.specs.Host.{shown_from, port_in, ShowsUpto};
-ghost use Rattle.tp_work.specs.Answers.{Answers};
+ghost use Rattle.tp_work.specs.Answers.{RefusesFor};
 ghost use Rattle.tp_work.specs.Outputs.{shown_fault};
 
 use crate::host_fault::ShownFault;
@@ -18,7 +18,7 @@ pub fn shown(
     from: u64,
 ) -> Result<Vec<u8>, ShownFault>
     requires there { port < length book.now.state.ports }
-    ensures answer { Answers ShownFault.Memory (shown_fault book.now port mark from) result }
+    ensures answer { RefusesFor ShownFault.Memory (shown_fault book.now port mark from) result }
     ensures value { IfOk result (λ bytes. bytes.items ≡ shown_from book.now port mark from) }
     ensures exactly { IfOk result (λ bytes. ShowsUpto book.now port mark (from + vec_len bytes)) }
 {

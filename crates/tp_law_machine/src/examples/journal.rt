@@ -12,7 +12,7 @@ ghost use Rattle.tp_model.specs.Replay.{row_entry};
 ghost use Rattle.tp_model.specs.Group.{rows_of, group_bytes, group_at};
 ghost use Rattle.tp_model.specs.Image.{image_head};
 ghost use Rattle.tp_model.specs.Journal.{cut_length, room, is_full, is_full_for_cut};
-ghost use Rattle.tp_law_machine.specs.Transfers.{sends};
+ghost use Rattle.tp_law_machine.specs.Transfers.{sending_node};
 ghost use Rattle.tp_law_machine.specs.OneNode.{one_node};
 ghost use Rattle.tp_law_machine.specs.OneGroup.{short_run};
 
@@ -66,7 +66,7 @@ pub fn a_group_is_read()
 /// The head of the image of a node that runs a low process: version and pages, the instruction pointer, the workspace,
 /// three registers, four words of queues, Error, the state, the slice count, and eight ends of links.
 pub fn an_image_begins()
-    ensures { image_head sends ≡ 1 ∷ 0 ∷ 4 ∷ 0 ∷ 0 ∷ 1 ∷ 0 ∷ 0x80 ∷ 0 ∷ 2 ∷ 0 ∷ 0x80 ∷ (zeros 12
+    ensures { image_head sending_node ≡ 1 ∷ 0 ∷ 4 ∷ 0 ∷ 0 ∷ 1 ∷ 0 ∷ 0x80 ∷ 0 ∷ 2 ∷ 0 ∷ 0x80 ∷ (zeros 12
         ++ (0 ∷ 0 ∷ 0 ∷ 0x80 ∷ 0 ∷ 0 ∷ 0 ∷ 0x80 ∷ 0 ∷ 0 ∷ 0 ∷ 0x80 ∷ 0 ∷ 0 ∷ 0 ∷ 0x80 ∷ [])
         ++ (0 ∷ 2 ∷ 0 ∷ 0 ∷ zeros 128)) }
 {}

@@ -8,12 +8,12 @@ ghost use Rattle.tp_model.specs.declared.link.InEnd.TheVariants.{Idle, Enabled};
 ghost use Rattle.tp_model.specs.Network.{steps};
 ghost use Rattle.tp_model.specs.Node.{t414, took, halted};
 ghost use Rattle.tp_law_machine.specs.Start.{queue};
-ghost use Rattle.tp_law_machine.specs.Transfers.{sends, awaits, has_sent, jumps, has_jumped, gets, has_got_one, has_got_first, has_got_both, has_got_none, puts};
+ghost use Rattle.tp_law_machine.specs.Transfers.{sending_node, awaits, has_sent, jumps, has_jumped, gets, has_got_one, has_got_first, has_got_both, has_got_none, puts};
 ghost use Rattle.tp_law_machine.specs.Choosing.{hears, has_heard, cannot_queue};
 
 /// The node sends a byte, has no step until the acknowledge comes, and then has its process in the queue.
 pub fn a_byte_goes_out()
-    ensures out { steps t414 3 sends ≡ Some (awaits, (0, Data 0x41) ∷ []) }
+    ensures out { steps t414 3 sending_node ≡ Some (awaits, (0, Data 0x41) ∷ []) }
     ensures idle { steps t414 1 awaits ≡ None }
     ensures acknowledged { took awaits 0 Ack ≡ Some (has_sent, []) }
 {}

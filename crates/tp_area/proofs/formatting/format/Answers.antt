@@ -3,7 +3,7 @@ use Rattle.std.specs.Prelude.{sum_by}
 use Rattle.tp_model.specs.Journal.{image_length}
 use Rattle.tp_area.specs.Formatting.{Checks, Formatted, IsOldOrNew}
 use Rattle.tp_model.specs.Format.{fresh_nodes}
-use Rattle.tp_model.specs.Device.{fits}
+use Rattle.tp_model.specs.Device.{fits_device}
 use Rattle.tp_model.specs.DiskHistory.{LeavesOnly}
 use Rattle.tp_model.specs.Head.{areas_of_length, head_bytes, version_for}
 use Rattle.tp_model.specs.declared.areas.TwoAreas.{TwoAreas}
@@ -24,9 +24,9 @@ returns-clause-answer g c =
     let images = map items c.args.images.now in
     let are = c.areas_of_length-areas.ensures ∙ ap (λ v. areas_of_length v c.args.area) c.version_for-version.ensures.value in
     let size = g.D.Disk.size_of c.args.disk.now in
-    let large : fits size t (areas_of_length (version_for t) c.args.area) ≡ true =
-    ap (fits size t) (sym are) ∙ ap (λ n. fits n t c.areas_of_length-areas.result) (sym c.size.ensures) ∙ sym c.fits.ensures ∙ c.if-not-fits.false in
-    answers_done (fresh_nodes t.pages images) (start_with t) (fits size t (areas_of_length (version_for t) c.args.area))
+    let large : fits_device size t (areas_of_length (version_for t) c.args.area) ≡ true =
+    ap (fits_device size t) (sym are) ∙ ap (λ n. fits_device n t c.areas_of_length-areas.result) (sym c.size.ensures) ∙ sym c.fits.ensures ∙ c.if-not-fits.false in
+    answers_done (fresh_nodes t.pages images) (start_with t) (fits_device size t (areas_of_length (version_for t) c.args.area))
     (subst (λ pages. Checks (fresh_nodes pages images) (Ok tt)) c.pages.ensures.value c.in_ok-check_images.ensures) large
 
 pub returns-clause-formatted : goal.returns-clause-formatted
@@ -36,7 +36,7 @@ returns-clause-formatted g c k =
     let old = g.D.Disk.state c.args.disk.now in
     let new = g.D.Disk.state c.write_all.new.disk in
     let areas = c.areas_of_length-areas.result in
-    let large : fits c.size.result t areas ≡ true = sym c.fits.ensures ∙ c.if-not-fits.false in
+    let large : fits_device c.size.result t areas ≡ true = sym c.fits.ensures ∙ c.if-not-fits.false in
     let are = c.areas_of_length-areas.ensures ∙ ap (λ v. areas_of_length v c.args.area) c.version_for-version.ensures.value in
     subst (λ a. Formatted t (map items c.args.images.now) a old new) are
     (formatted_by items t c.args.images.now c.pages.result.now c.as_slice.result.now areas c.size.result c.lengths_of-lengths.result.cut c.lengths_of-lengths.result.rest old new

@@ -3,7 +3,7 @@ use Rattle.std.proofs.lemmas.List.{get_or_at}
 use Rattle.std.proofs.lemmas.Result.{IfOk-weaker}
 use Rattle.tp_model.specs.NodeState.{NodeState}
 use Rattle.tp_model.specs.Network.{Network}
-use Rattle.tp_pieces.specs.Apart.{whole_of}
+use Rattle.tp_pieces.specs.Apart.{network_apart}
 use Rattle.tp_pieces.specs.Dealing.{AgreeAll, no_part}
 use Rattle.tp_pieces.specs.Inside.{AreLive}
 use Rattle.tp_pieces.specs.Joining.{AreBefore, HoldsFrom}
@@ -31,7 +31,7 @@ returns-clause-is c =
     let rest = c.pop.new.self.items in
     let a = c.in_ok-apart-in-Some-Host.apart in
     let before = all_before c.args.parts.items c.requires rest c.in-Some-Host.field-0 c.in-Some-Host.host c.in-Some-Host.ensures.items c.in-Some-Host.field-0-is a c.in_ok-apart-in-Some-Host.ensures in
-    IfOk-weaker c.with_runs.result (λ now. (t : Network NodeState) → AreBefore t rest a → HoldsFrom t 0 now) (λ now. (t : Network NodeState) → AgreeAll c.args.parts.items t → whole_of now ≡ t)
+    IfOk-weaker c.with_runs.result (λ now. (t : Network NodeState) → AreBefore t rest a → HoldsFrom t 0 now) (λ now. (t : Network NodeState) → AgreeAll c.args.parts.items t → network_apart now ≡ t)
     (λ now holds t agree. holds_all t now (holds t (before t agree))) c.with_runs.ensures
 
 pub returns-clause-live : goal.returns-clause-live

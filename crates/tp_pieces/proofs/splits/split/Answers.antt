@@ -1,10 +1,10 @@
 use Rattle.std.proofs.Common.{◌≡◌, ◌++◌, ◌∷◌, ◌≤◌, [], refl, sym, ap, subst, ◌∙◌, arith, length, map}
 use Rattle.std.specs.Prelude.{All}
 use Rattle.tp_law_network.proofs.Room.{line_room}
-use Rattle.tp_pieces.specs.Whole.{IsWhole}
+use Rattle.tp_pieces.specs.Whole.{AreWhole}
 use Rattle.tp_pieces.specs.declared.host.HostPart.TheInside.{Inside}
 use Rattle.tp_pieces.specs.declared.net_part.NetPart.TheVariants.{Host}
-use Rattle.tp_pieces.specs.Apart.{whole_of}
+use Rattle.tp_pieces.specs.Apart.{network_apart}
 use Rattle.tp_pieces.specs.Counts.{room_of}
 use Rattle.tp_pieces.specs.Dealing.{networks_of, pieces_of, run_part}
 use Rattle.tp_pieces.specs.HostInside.{host_held}
@@ -22,8 +22,8 @@ returns-clause-whole c =
     let w = c.args.workers in
     let h : Inside = record { nodes = c.len.result; ports = a.ports; lanes = record { wires = a.wires.items; lines = a.lines } } in
     let are = c.in_ok-push.ensures.items ∙ ap (λ ps. ps ++ Host (host_held h) ∷ []) (c.in_ok-parts.ensures ∙ ap (λ n. map (run_part (host_held h).network a.nodes.items) (runs n w w)) a.nodes.ok.0) in
-    subst (λ n. IsWhole (whole_of a) n (pieces_of c.push.new.self.items) (networks_of c.push.new.self.items)) (sym c.push.new.self.ok.0)
-    (subst (λ ps. IsWhole (whole_of a) (length ps) (pieces_of ps) (networks_of ps)) (sym are) (parts_whole a h w c.requires.can c.requires.some (c.len.ensures ∙ a.nodes.ok.0) refl refl refl))
+    subst (λ n. AreWhole (network_apart a) n (pieces_of c.push.new.self.items) (networks_of c.push.new.self.items)) (sym c.push.new.self.ok.0)
+    (subst (λ ps. AreWhole (network_apart a) (length ps) (pieces_of ps) (networks_of ps)) (sym are) (parts_whole a h w c.requires.can c.requires.some (c.len.ensures ∙ a.nodes.ok.0) refl refl refl))
 
 pub returns-clause-dealt : goal.returns-clause-dealt
 returns-clause-dealt c =
@@ -41,4 +41,4 @@ returns-clause-room c =
     let w = c.args.workers in
     let h : Inside = record { nodes = c.len.result; ports = a.ports; lanes = record { wires = a.wires.items; lines = a.lines } } in
     let are = c.in_ok-push.ensures.items ∙ ap (λ ps. ps ++ Host (host_held h) ∷ []) (c.in_ok-parts.ensures ∙ ap (λ n. map (run_part (host_held h).network a.nodes.items) (runs n w w)) a.nodes.ok.0) in
-    subst (λ ps. All (λ part. room_of (whole_of a).ports ≤ net_room part) ps) (sym are) (parts_room a h w c.requires.can c.requires.some (c.len.ensures ∙ a.nodes.ok.0) refl refl refl)
+    subst (λ ps. All (λ part. room_of (network_apart a).ports ≤ net_room part) ps) (sym are) (parts_room a h w c.requires.can c.requires.some (c.len.ensures ∙ a.nodes.ok.0) refl refl refl)

@@ -1,6 +1,6 @@
 use Rattle.std.proofs.Common.{◌≡◌, ap, subst, sym, List, ℕ, Option, Some, None, Ok, Err, Result}
 use Rattle.std.specs.Prelude.{IfOk, IsSomeAnd}
-use Rattle.tp_recover.specs.Copies.{Answers, HasStayed, IsCopy, kept_of}
+use Rattle.tp_recover.specs.Copies.{CopyAnswer, HasStayed, IsCopy, area_kept}
 use Rattle.tp_model.specs.Disk.{Moment}
 use Rattle.tp_model.specs.Opening.{Opened, verdict}
 use Rattle.tp_recover.proofs.Leaving.{then_leaves}
@@ -9,14 +9,14 @@ use Rattle.tp_program.proofs.Stayed.{opened_stays}
 use Rattle.tp_program.proofs.backing_up.copy_once.Goals as goal
 
 -- a copy of what was opened is one of the device
-backed_up : (o : Opened) (source mid : List ℕ) (old new : Moment) (r : Result (Option ℕ) ℕ) → verdict source ≡ Ok o → mid ≡ source → IfOk r (Answers (kept_of o) mid old new)
+backed_up : (o : Opened) (source mid : List ℕ) (old new : Moment) (r : Result (Option ℕ) ℕ) → verdict source ≡ Ok o → mid ≡ source → IfOk r (CopyAnswer (area_kept o) mid old new)
     → IfOk r (λ found. IsSomeAnd found (IsBackup source old.bytes new))
 backed_up o source mid old new (Ok (Some next)) is same answers = record {
   opened = o;
   is = is;
-  copied = subst (λ (bytes : List ℕ). IsCopy (kept_of o) bytes old.bytes new next) same answers;
+  copied = subst (λ (bytes : List ℕ). IsCopy (area_kept o) bytes old.bytes new next) same answers;
 }
-backed_up o source mid old new (Ok None) is same answers = absurd (answers.0 (subst (λ (bytes : List ℕ). HasStayed (kept_of o) bytes) (sym same) (opened_stays source o is)))
+backed_up o source mid old new (Ok None) is same answers = absurd (answers.0 (subst (λ (bytes : List ℕ). HasStayed (area_kept o) bytes) (sym same) (opened_stays source o is)))
 backed_up o source mid old new (Err status) is same answers = tt
 
 pub returns-in-Ok-clause-copied : goal.returns-in-Ok-clause-copied

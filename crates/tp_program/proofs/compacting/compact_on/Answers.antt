@@ -4,7 +4,7 @@ use Rattle.tp_recover.specs.declared.unopened.Unopened.{Unopened}
 use Rattle.tp_run.specs.declared.compacting.Compaction.{Compaction}
 use Rattle.tp_run.specs.declared.compacting.CompactFault.{CompactFault}
 use Rattle.tp_run.specs.declared.compacting.CompactFault.TheVariants.{Opening}
-use Rattle.tp_run.specs.Compacted.{IsUnbegun}
+use Rattle.tp_run.specs.Compacted.{StaysUnopened}
 use Rattle.tp_program.proofs.compacting.compact_on.Goals as goal
 
 pub returns-clause-done : goal.returns-clause-done
@@ -16,7 +16,7 @@ returns-clause-done g c = record {
   printed = c.report.ensures.printed;
 }
 
-unopened_done : (done : Result Compaction CompactFault) → (unopened : Unopened) × (done ≡ Err (Opening unopened)) → IsErr done × IsUnbegun done
+unopened_done : (done : Result Compaction CompactFault) → (unopened : Unopened) × (done ≡ Err (Opening unopened)) → IsErr done × StaysUnopened done
 unopened_done done (unopened, same) = rw same (refl, tt)
 
 pub returns-clause-unopened : goal.returns-clause-unopened

@@ -1,6 +1,6 @@
 use Rattle.std.proofs.Common.{◌≡◌, ◌+◌, ◌∙◌, ap, sym, subst, arith, rules, length, map, true, Ok, Err}
 use Rattle.tp_model.specs.Spelling.{are_lines}
-use Rattle.tp_book.specs.PortParts.{port_of}
+use Rattle.tp_book.specs.PortParts.{port_made}
 use Rattle.std.proofs.lemmas.List.{length-map}
 use Rattle.tp_model.specs.Device.{area_start, content_of}
 use Rattle.tp_model.specs.Flight.{flights_in}
@@ -8,9 +8,9 @@ use Rattle.tp_model.specs.Node.{t414_ends}
 use Rattle.tp_model.specs.Opening.{base_of, cut_in}
 use Rattle.tp_model.specs.Results.{◌>>=◌}
 use Rattle.tp_model.specs.Topology.{is_topology, line_count}
-use Rattle.tp_recover.specs.Cuts.{cut_network, records_at}
+use Rattle.tp_recover.specs.Cuts.{network_of_cut, records_at}
 use Rattle.tp_recover.proofs.Cuts.{cut_in-records, cut_ok, cut_fault, cut_error, tested}
-use Rattle.tp_recover.specs.Nodes.{live, HaveImages}
+use Rattle.tp_recover.specs.Nodes.{live_node, HaveImages}
 use Rattle.tp_recover.proofs.ReadParts.{parts_cut}
 use Rattle.tp_recover.proofs.Room.{area_room}
 use Rattle.tp_net.proofs.Topologies.{HasShape, has_shape}
@@ -61,7 +61,7 @@ is_cut g c k base =
 pub returns-in_err-cut-clause-is : goal.returns-in_err-cut-clause-is
 returns-in_err-cut-clause-is g c k base =
     let told : c.from_residual.result ≡ Err c.in_err-cut.field-0.0 = search rules in
-    cut_error (cut_network c.args.head.now.topology.wires) t414_ends c.places_in-places.result.lines (line_count c.args.head.now.topology) _
+    cut_error (network_of_cut c.args.head.now.topology.wires) t414_ends c.places_in-places.result.lines (line_count c.args.head.now.topology) _
     (records_at c.pages.result.now c.wires.result.now c.port_count.result c.args.base c.places_in-places.result (g.D.Disk.state c.args.disk.now).now.bytes) c.in_err-cut.field-0.0 c.from_residual.result
     (is_cut g (goal.at.returns-in_err-cut-clause-is g c).After-read_records k base) (c.in_err-cut.ensures.is k) told
 
@@ -75,26 +75,26 @@ returns-in-Ok-clause-is g c k base =
     let t = c.args.head.now.topology in
     let shape = has_shape t c.topology-topology.ensures.valid in
     let wires = wires_are g (goal.at.returns-in-Ok-clause-is g c).After-wires-2 in
-    cut_ok t414_ends c.places_in-places.result.lines (line_count t) (cut_network c.wires.result.now c.in_ok-cut.cut) _
+    cut_ok t414_ends c.places_in-places.result.lines (line_count t) (network_of_cut c.wires.result.now c.in_ok-cut.cut) _
     (records_at c.pages.result.now c.wires.result.now c.port_count.result c.args.base c.places_in-places.result (g.D.Disk.state c.args.disk.now).now.bytes)
     (is_cut g (goal.at.returns-in-Ok-clause-is g c).After-read_records k base) (c.in_ok-cut.ensures.is k) c.in-Ok.field-0
-    (ap (λ ws. flights_in t414_ends (cut_network ws c.in_ok-cut.cut) c.places_in-places.result.lines 0 (line_count t)) wires.0
-    ∙ ap (λ n. flights_in t414_ends (cut_network t.wires c.in_ok-cut.cut) c.places_in-places.result.lines 0 n) (sym shape.lines)
-    ∙ ap (λ ws. flights_in t414_ends (cut_network ws c.in_ok-cut.cut) c.places_in-places.result.lines 0 (length ws)) (sym wires.1)
+    (ap (λ ws. flights_in t414_ends (network_of_cut ws c.in_ok-cut.cut) c.places_in-places.result.lines 0 (line_count t)) wires.0
+    ∙ ap (λ n. flights_in t414_ends (network_of_cut t.wires c.in_ok-cut.cut) c.places_in-places.result.lines 0 n) (sym shape.lines)
+    ∙ ap (λ ws. flights_in t414_ends (network_of_cut ws c.in_ok-cut.cut) c.places_in-places.result.lines 0 (length ws)) (sym wires.1)
     ∙ sym c.check_flights.ensures ∙ c.in-Ok.is)
-    ∙ ap (λ ws. Ok (cut_network ws c.in_ok-cut.cut)) wires.0
+    ∙ ap (λ ws. Ok (network_of_cut ws c.in_ok-cut.cut)) wires.0
 
 pub returns-in-Err-clause-is : goal.returns-in-Err-clause-is
 returns-in-Err-clause-is g c k base =
     let t = c.args.head.now.topology in
     let shape = has_shape t c.topology-topology.ensures.valid in
     let wires = wires_are g (goal.at.returns-in-Err-clause-is g c).After-wires-2 in
-    cut_fault t414_ends c.places_in-places.result.lines (line_count t) (cut_network c.wires.result.now c.in_ok-cut.cut) _
+    cut_fault t414_ends c.places_in-places.result.lines (line_count t) (network_of_cut c.wires.result.now c.in_ok-cut.cut) _
     (records_at c.pages.result.now c.wires.result.now c.port_count.result c.args.base c.places_in-places.result (g.D.Disk.state c.args.disk.now).now.bytes) c.in-Err.fault
     (is_cut g (goal.at.returns-in-Err-clause-is g c).After-read_records k base) (c.in_ok-cut.ensures.is k)
-    (ap (λ ws. flights_in t414_ends (cut_network ws c.in_ok-cut.cut) c.places_in-places.result.lines 0 (line_count t)) wires.0
-    ∙ ap (λ n. flights_in t414_ends (cut_network t.wires c.in_ok-cut.cut) c.places_in-places.result.lines 0 n) (sym shape.lines)
-    ∙ ap (λ ws. flights_in t414_ends (cut_network ws c.in_ok-cut.cut) c.places_in-places.result.lines 0 (length ws)) (sym wires.1)
+    (ap (λ ws. flights_in t414_ends (network_of_cut ws c.in_ok-cut.cut) c.places_in-places.result.lines 0 (line_count t)) wires.0
+    ∙ ap (λ n. flights_in t414_ends (network_of_cut t.wires c.in_ok-cut.cut) c.places_in-places.result.lines 0 n) (sym shape.lines)
+    ∙ ap (λ ws. flights_in t414_ends (network_of_cut ws c.in_ok-cut.cut) c.places_in-places.result.lines 0 (length ws)) (sym wires.1)
     ∙ sym c.check_flights.ensures ∙ c.in-Err.is)
 
 -- the wires and the counts of what was read, which no device has to answer for
@@ -114,8 +114,8 @@ returns-in-Ok-clause-sound g c =
     let shape = has_shape t c.topology-topology.ensures.valid in
     let wires : c.wires-2.result.now ≡ t.wires = c.wires-2.ensures.value ∙ ap (λ s. s.wires) c.topology-topology.ensures.value in (
       c.places_in-places.result.lines,
-      ap (λ n. flights_in t414_ends (cut_network t.wires c.in_ok-cut.cut) c.places_in-places.result.lines 0 n) (sym shape.lines)
-          ∙ ap (λ ws. flights_in t414_ends (cut_network ws c.in_ok-cut.cut) c.places_in-places.result.lines 0 (length ws)) (sym wires)
+      ap (λ n. flights_in t414_ends (network_of_cut t.wires c.in_ok-cut.cut) c.places_in-places.result.lines 0 n) (sym shape.lines)
+          ∙ ap (λ ws. flights_in t414_ends (network_of_cut ws c.in_ok-cut.cut) c.places_in-places.result.lines 0 (length ws)) (sym wires)
           ∙ sym c.check_flights.ensures ∙ c.in-Ok.is,
     )
 
@@ -125,12 +125,12 @@ returns-in-Ok-clause-cut g c few =
     let shape = has_shape t c.topology-topology.ensures.valid in
     let wires = wires_are g (goal.at.returns-in-Ok-clause-cut g c).After-wires-2 in
     let cut = c.in_ok-cut.cut in
-    parts_cut t414_ends t c.args.base c.places_in-places.result.lines (map live cut.nodes.items) (map (λ line. line.items) cut.lines.items) (map port_of cut.ports.items)
-    (subst (λ pages. HaveImages pages (map live cut.nodes.items)) (c.pages.ensures.value ∙ ap (λ s. s.pages) c.topology-topology.ensures.value) c.in_ok-cut.ensures.images)
+    parts_cut t414_ends t c.args.base c.places_in-places.result.lines (map live_node cut.nodes.items) (map (λ line. line.items) cut.lines.items) (map port_made cut.ports.items)
+    (subst (λ pages. HaveImages pages (map live_node cut.nodes.items)) (c.pages.ensures.value ∙ ap (λ s. s.pages) c.topology-topology.ensures.value) c.in_ok-cut.ensures.images)
     (ap (λ ws. are_lines ws (map (λ line. line.items) cut.lines.items)) (sym wires.0) ∙ c.in_ok-cut.ensures.lines)
-    (length-map cut.ports.items port_of ∙ c.in_ok-cut.ensures.ports ∙ c.port_count.ensures.value ∙ ap (λ s. s.ports) c.topology-topology.ensures.value)
+    (length-map cut.ports.items port_made ∙ c.in_ok-cut.ensures.ports ∙ c.port_count.ensures.value ∙ ap (λ s. s.ports) c.topology-topology.ensures.value)
     c.in_ok-cut.ensures.reached
-    (ap (λ n. flights_in t414_ends (cut_network t.wires cut) c.places_in-places.result.lines 0 n) (sym shape.lines)
-    ∙ ap (λ ws. flights_in t414_ends (cut_network ws cut) c.places_in-places.result.lines 0 (length ws)) (sym wires.1)
+    (ap (λ n. flights_in t414_ends (network_of_cut t.wires cut) c.places_in-places.result.lines 0 n) (sym shape.lines)
+    ∙ ap (λ ws. flights_in t414_ends (network_of_cut ws cut) c.places_in-places.result.lines 0 (length ws)) (sym wires.1)
     ∙ sym c.check_flights.ensures ∙ c.in-Ok.is)
     few

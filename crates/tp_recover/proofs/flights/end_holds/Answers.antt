@@ -2,7 +2,7 @@ use Rattle.std.proofs.Common.{◌∙◌, ◌%◌, ◌/◌, sym, refl, arith, ap,
 use Rattle.std.proofs.lemmas.List.{length-map}
 use Rattle.std.proofs.lemmas.Option.{slice_get-map, slice_get_read}
 use Rattle.tp_model.specs.Node.{t414_ends}
-use Rattle.tp_recover.specs.Parts.{network_in}
+use Rattle.tp_recover.specs.Parts.{network_of_parts}
 use Rattle.tp_law_network.proofs.InPlace.{end_holds-link, end_holds-port}
 use Rattle.tp_recover.proofs.flights.end_holds.Goals as goal
 
@@ -10,10 +10,10 @@ pub returns-then-line-links : goal.returns-then-line-links
 returns-then-line-links c =
     let nodes = c.args.parts.nodes.now in
     let n = c.index-parts-line.result in
-    c.holds.ensures ∙ ap (λ m. t414_ends.holds m.live (c.args.line % 4)) (sym c.index-parts-line.is) ∙ sym (end_holds-link t414_ends (network_in c.args.parts) c.args.line n.live
+    c.holds.ensures ∙ ap (λ m. t414_ends.holds m.live (c.args.line % 4)) (sym c.index-parts-line.is) ∙ sym (end_holds-link t414_ends (network_of_parts c.args.parts) c.args.line n.live
     (omega (arith, length-map nodes (λ m. m.live), c.if-line-links.true, c.port_line-links.ensures))
     (slice_get-map (λ m. m.live) nodes (c.args.line / 4) ∙ ap (option_map (λ m. m.live)) (slice_get_read nodes (length nodes) (c.args.line / 4) n refl (omega (arith, c.if-line-links.true, c.port_line-links.ensures)) c.index-parts-line.is)))
 
 pub returns-else-line-links : goal.returns-else-line-links
 returns-else-line-links c =
-    sym (end_holds-port t414_ends (network_in c.args.parts) c.args.line (omega (arith, length-map c.args.parts.nodes.now (λ m. m.live), c.if-line-links.false, c.port_line-links.ensures)))
+    sym (end_holds-port t414_ends (network_of_parts c.args.parts) c.args.line (omega (arith, length-map c.args.parts.nodes.now (λ m. m.live), c.if-line-links.false, c.port_line-links.ensures)))

@@ -4,8 +4,8 @@ use Rattle.std.proofs.lemmas.Bool.{ne_eqb}
 use Rattle.std.proofs.lemmas.Option.{slice_get-map, slice_get_read}
 use Rattle.tp_model.specs.Node.{t414_ends}
 use Rattle.tp_model.specs.Sound.{is_pending, is_some_byte}
-use Rattle.tp_book.specs.PortParts.{port_of}
-use Rattle.tp_recover.specs.Parts.{network_in}
+use Rattle.tp_book.specs.PortParts.{port_made}
+use Rattle.tp_recover.specs.Parts.{network_of_parts}
 use Rattle.tp_law_network.proofs.InPlace.{end_waits-link, end_waits-port}
 use Rattle.tp_recover.proofs.flights.end_waits.Goals as goal
 
@@ -17,7 +17,7 @@ pub returns-then-line-links : goal.returns-then-line-links
 returns-then-line-links c =
     let nodes = c.args.parts.nodes.now in
     let n = c.index-parts-line.result in
-    c.waits.ensures ∙ ap (λ m. t414_ends.waits m.live (c.args.line % 4)) (sym c.index-parts-line.is) ∙ sym (end_waits-link t414_ends (network_in c.args.parts) c.args.line n.live
+    c.waits.ensures ∙ ap (λ m. t414_ends.waits m.live (c.args.line % 4)) (sym c.index-parts-line.is) ∙ sym (end_waits-link t414_ends (network_of_parts c.args.parts) c.args.line n.live
     (omega (arith, length-map nodes (λ m. m.live), c.if-line-links.true, c.port_line-links.ensures))
     (slice_get-map (λ m. m.live) nodes (c.args.line / 4) ∙ ap (option_map (λ m. m.live)) (slice_get_read nodes (length nodes) (c.args.line / 4) n refl (omega (arith, c.if-line-links.true, c.port_line-links.ensures)) c.index-parts-line.is)))
 
@@ -27,6 +27,6 @@ returns-else-line-links c =
     let ports = c.args.parts.ports.now in
     let p = c.index-parts-line-else-line-links.result in
     let first : c.port_line-links.result ≡ 4 * length nodes = omega (arith, c.port_line-links.ensures) in
-    let at = slice_get-map port_of ports (c.args.line - c.port_line-links.result) ∙ ap (option_map port_of) (slice_get_read ports (length ports) (c.args.line - c.port_line-links.result) p refl (omega (arith, c.if-line-links.false, c.port_line-links.ensures, c.requires.there)) c.index-parts-line-else-line-links.is) in
-    ap not c.is_empty.ensures ∙ ap (λ q. not (vec_len q.pending == 0)) (sym c.index-parts-line-else-line-links.is) ∙ ap (λ n. not (n == 0)) p.pending.ok.0 ∙ some_byte p.pending.items ∙ ap is_pending (sym at) ∙ ap (λ n. is_pending (slice_get (map port_of ports) (c.args.line - n))) first ∙ ap (λ n. is_pending (slice_get (map port_of ports) (c.args.line - 4 * n))) (sym (length-map nodes (λ m. m.live)))
-    ∙ sym (end_waits-port t414_ends (network_in c.args.parts) c.args.line (omega (arith, length-map nodes (λ m. m.live), c.if-line-links.false, c.port_line-links.ensures)))
+    let at = slice_get-map port_made ports (c.args.line - c.port_line-links.result) ∙ ap (option_map port_made) (slice_get_read ports (length ports) (c.args.line - c.port_line-links.result) p refl (omega (arith, c.if-line-links.false, c.port_line-links.ensures, c.requires.there)) c.index-parts-line-else-line-links.is) in
+    ap not c.is_empty.ensures ∙ ap (λ q. not (vec_len q.pending == 0)) (sym c.index-parts-line-else-line-links.is) ∙ ap (λ n. not (n == 0)) p.pending.ok.0 ∙ some_byte p.pending.items ∙ ap is_pending (sym at) ∙ ap (λ n. is_pending (slice_get (map port_made ports) (c.args.line - n))) first ∙ ap (λ n. is_pending (slice_get (map port_made ports) (c.args.line - 4 * n))) (sym (length-map nodes (λ m. m.live)))
+    ∙ sym (end_waits-port t414_ends (network_of_parts c.args.parts) c.args.line (omega (arith, length-map nodes (λ m. m.live), c.if-line-links.false, c.port_line-links.ensures)))

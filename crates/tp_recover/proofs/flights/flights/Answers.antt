@@ -3,31 +3,31 @@ use Rattle.tp_model.specs.declared.limits.TheConstants.{LINE_BYTES}
 use Rattle.tp_model.specs.declared.opening.OpenFault.TheVariants.{Damaged}
 use Rattle.tp_model.specs.NodeState.{NodeState}
 use Rattle.tp_model.specs.Network.{Network, back}
-use Rattle.tp_model.specs.Sound.{Ends}
+use Rattle.tp_model.specs.Sound.{EndsSeen}
 use Rattle.tp_model.specs.Node.{t414_ends}
 use Rattle.tp_model.specs.Flight.{is_in_one_place, flights_in}
-use Rattle.tp_recover.specs.Parts.{network_in}
+use Rattle.tp_recover.specs.Parts.{network_of_parts}
 use Rattle.tp_recover.proofs.flights.flights.Goals as goal
 
-flights_in-next : (E : Ends NodeState) (s : Network NodeState) (at line count : ℕ) → is_in_one_place E s line (back s line) ≡ true → flights_in E s at line (suc count) ≡ flights_in E s (at + LINE_BYTES) (line + 1) count
+flights_in-next : (E : EndsSeen NodeState) (s : Network NodeState) (at line count : ℕ) → is_in_one_place E s line (back s line) ≡ true → flights_in E s at line (suc count) ≡ flights_in E s (at + LINE_BYTES) (line + 1) count
 unfolding flights_in
 flights_in-next E s at line count h = ap (λ b. cond b (flights_in E s (at + LINE_BYTES) (line + 1) count) (Err (Damaged at))) h
 
-flights_in-fault : (E : Ends NodeState) (s : Network NodeState) (at line count : ℕ) → is_in_one_place E s line (back s line) ≡ false → flights_in E s at line (suc count) ≡ Err (Damaged at)
+flights_in-fault : (E : EndsSeen NodeState) (s : Network NodeState) (at line count : ℕ) → is_in_one_place E s line (back s line) ≡ false → flights_in E s at line (suc count) ≡ Err (Damaged at)
 unfolding flights_in
 flights_in-fault E s at line count h = ap (λ b. cond b (flights_in E s (at + LINE_BYTES) (line + 1) count) (Err (Damaged at))) h
 
-flights_in-done : (E : Ends NodeState) (s : Network NodeState) (at line count : ℕ) → count ≡ 0 → flights_in E s at line count ≡ Ok tt
+flights_in-done : (E : EndsSeen NodeState) (s : Network NodeState) (at line count : ℕ) → count ≡ 0 → flights_in E s at line count ≡ Ok tt
 unfolding flights_in
 flights_in-done E s at line count h = ap (flights_in E s at line) h
 
 -- what is left of the lines is this one and those behind it
-left : (E : Ends NodeState) (s : Network NodeState) (at line many : ℕ) (rest : ℕ) → many ≡ suc rest → flights_in E s at line many ≡ flights_in E s at line (suc rest)
+left : (E : EndsSeen NodeState) (s : Network NodeState) (at line many : ℕ) (rest : ℕ) → many ≡ suc rest → flights_in E s at line many ≡ flights_in E s at line (suc rest)
 left E s at line many rest h = ap (flights_in E s at line) h
 
 pub returns-then-not-is_in_one_place : goal.returns-then-not-is_in_one_place
 returns-then-not-is_in_one_place c =
-    let s = network_in c.args.parts in
+    let s = network_of_parts c.args.parts in
     let many = length c.args.parts.wires.now in
     let line = c.loop-line.line in
     sym (sym c.loop-line.invariant
@@ -36,7 +36,7 @@ returns-then-not-is_in_one_place c =
 
 pub loop-line-preserved : goal.loop-line-preserved
 loop-line-preserved c =
-    let s = network_in c.args.parts in
+    let s = network_of_parts c.args.parts in
     let many = length c.args.parts.wires.now in
     let line = c.loop-line.line in
     ap (λ m. flights_in t414_ends s m (line + 1) (many - (line + 1))) (omega arith)
@@ -47,7 +47,7 @@ loop-line-preserved c =
 
 pub returns : goal.returns
 returns c =
-    let s = network_in c.args.parts in
+    let s = network_of_parts c.args.parts in
     let many = length c.args.parts.wires.now in
     let line = c.loop-line.line in
     sym (sym c.loop-line.invariant ∙ flights_in-done t414_ends s (c.args.at + LINE_BYTES * line) line (many - line) (omega (arith, c.loop-line-test.false)))

@@ -2,10 +2,10 @@ use Rattle.std.proofs.Common.{◌≡◌, ◌+◌, ◌*◌, ◌-◌, length}
 use Rattle.tp_model.specs.declared.limits.TheConstants.{LINE_BYTES}
 use Rattle.tp_model.specs.Node.{t414_ends}
 use Rattle.tp_model.specs.Flight.{flights_in}
-use Rattle.tp_recover.specs.Parts.{network_in}
+use Rattle.tp_recover.specs.Parts.{network_of_parts}
 use Rattle.tp_recover.proofs.flights.flights.Given as goal
 
 abbrev pub invariant-loop-line : goal.invariant-loop-line
 invariant-loop-line l =
-    flights_in t414_ends (network_in l.parts) (l.at + LINE_BYTES * l.line) l.line (length l.parts.wires.now - l.line)
-    ≡ flights_in t414_ends (network_in l.parts) l.at 0 (length l.parts.wires.now)
+    flights_in t414_ends (network_of_parts l.parts) (l.at + LINE_BYTES * l.line) l.line (length l.parts.wires.now - l.line)
+    ≡ flights_in t414_ends (network_of_parts l.parts) l.at 0 (length l.parts.wires.now)

@@ -3,7 +3,7 @@ use Rattle.tp_model.specs.Head.{Head, head_of}
 use Rattle.tp_model.specs.declared.head.HeadVersion.TheVariants.{Narrow, Wide}
 use Rattle.tp_model.specs.declared.limits.TheConstants.{NARROW_HEAD_BYTES}
 use Rattle.tp_model.specs.Disk.{Moment}
-use Rattle.tp_recover.specs.Reading.{Answers}
+use Rattle.tp_recover.specs.Reading.{ReadAnswer}
 use Rattle.tp_recover.proofs.Passing.{found_is, told_fault}
 use Rattle.tp_area.proofs.Heads.{head_of-faulty, head_of-read, head_of-short}
 use Rattle.tp_area.specs.Heads.{version_in}
@@ -24,12 +24,12 @@ returns-clause-is g c k =
     let same = c.in_ok-bytes.ensures.kept k in
     elim c.match-head_version.branch [
       | in-Ok-Narrow w ↦
-          subst (Answers (λ (head : Head). head) (head_of xs)) (sym w.result-is)
-          (subst (λ given. Answers (λ (head : Head). head) given w.decoded.result)
+          subst (ReadAnswer (λ (head : Head). head) (head_of xs)) (sym w.result-is)
+          (subst (λ given. ReadAnswer (λ (head : Head). head) given w.decoded.result)
           (sym (head_of-read Narrow xs _ c.in_ok-bytes.bytes c.size-len.result size (omega (arith, long)) front (sym c.head_version.ensures ∙ w.in-Ok-Narrow.is ∙ ap Ok w.in-Ok-Narrow.field-0-is) front)) w.decoded.ensures.is)
       | in-Ok-Wide w ↦
-          subst (Answers (λ (head : Head). head) (head_of xs)) (sym w.result-is)
-          (subst (λ (m : Moment). version_in (take NARROW_HEAD_BYTES m.bytes) ≡ Ok Wide → Answers (λ (head : Head). head) (head_of m.bytes) w.read_wide.result) same
+          subst (ReadAnswer (λ (head : Head). head) (head_of xs)) (sym w.result-is)
+          (subst (λ (m : Moment). version_in (take NARROW_HEAD_BYTES m.bytes) ≡ Ok Wide → ReadAnswer (λ (head : Head). head) (head_of m.bytes) w.read_wide.result) same
           (w.read_wide.ensures.is k) (ap version_in (sym front) ∙ sym c.head_version.ensures ∙ w.in-Ok-Wide.is ∙ ap Ok w.in-Ok-Wide.field-0-is))
       | in-Err w ↦
           told_fault (λ head. head) (head_of xs) _ _

@@ -2,7 +2,7 @@ use Rattle.std.proofs.Common.{◌∙◌, refl, sym, subst, arith}
 use Rattle.tp_model.specs.Head.{Head, head_of}
 use Rattle.tp_model.specs.declared.head.HeadVersion.TheVariants.{Wide}
 use Rattle.tp_area.proofs.Heads.{head_of-cut_off, head_of-read}
-use Rattle.tp_recover.specs.Reading.{Answers}
+use Rattle.tp_recover.specs.Reading.{ReadAnswer}
 use Rattle.tp_recover.proofs.Leaving.{none_leaves}
 use Rattle.tp_recover.proofs.Passing.{found_is, still_counts, still_kept}
 use Rattle.tp_recover.proofs.head.read_wide.Goals as goal
@@ -27,4 +27,4 @@ returns-clause-is g c k said =
     let xs = (g.D.Disk.state c.args.disk.now).now.bytes in
     let whole = g.met.D.Disk.whole k c.args.disk.now in
     let read = head_of-read Wide xs _ c.in_ok-bytes.bytes c.args.len (whole ∙ c.requires.size) (omega arith) refl said (sym (found_is _ _ (c.in_ok-bytes.ensures.bytes k))) in
-    subst (λ given. Answers (λ (head : Head). head) given c.decoded.result) (sym read) c.decoded.ensures.is
+    subst (λ given. ReadAnswer (λ (head : Head). head) given c.decoded.result) (sym read) c.decoded.ensures.is

@@ -1,6 +1,6 @@
 use Rattle.std.proofs.Common.{◌≡◌, ◌+◌, ◌∙◌, ap, sym, arith, length, map, rules, Err, subst}
 use Rattle.std.proofs.lemmas.List.{length_push, map_push}
-use Rattle.tp_recover.specs.Nodes.{live, AreThawed}
+use Rattle.tp_recover.specs.Nodes.{live_node, AreAllThawed}
 use Rattle.tp_recover.proofs.Nodes.{nodes_in-step, nodes_in-error, nodes_in-end, place_more, place_inside, thawed_push}
 use Rattle.tp_recover.proofs.ReadParts.{imaged_more, imaged_all}
 use Rattle.tp_recover.proofs.Leaving.{none_leaves, then_leaves}
@@ -9,7 +9,7 @@ use Rattle.tp_recover.proofs.node.read_nodes.Goals as goal
 pub returns-in_err-read-clause-is : goal.returns-in_err-read-clause-is
 returns-in_err-read-clause-is g c k =
     let told : c.from_residual.result ≡ Err c.in_err-read.field-0.0 = search rules in
-    nodes_in-error live _ c.args.at c.loop-count.place c.loop-count.count-index c.args.pages.now (g.D.Disk.state c.args.disk.now).now (g.D.Disk.state c.loop-count.disk).now (map live c.loop-count.nodes.items) c.in_err-read.field-0.0 c.from_residual.result
+    nodes_in-error live_node _ c.args.at c.loop-count.place c.loop-count.count-index c.args.pages.now (g.D.Disk.state c.args.disk.now).now (g.D.Disk.state c.loop-count.disk).now (map live_node c.loop-count.nodes.items) c.in_err-read.field-0.0 c.from_residual.result
     c.loop-count-test.true (c.loop-count.invariant.read k) (c.loop-count.invariant.kept k) (c.in_err-read.ensures.is k) told
 
 pub overflow_add-place : goal.overflow_add-place
@@ -26,24 +26,24 @@ loop-count-preserved g c = record {
   leaves = λ k s before. then_leaves _ _ _ (c.loop-count.invariant.leaves k s before) (c.read_node.ensures.leaves k);
   place = ap (λ n. c.loop-count.place + n) c.image_length.ensures ∙ place_more c.args.at c.loop-count.place c.loop-count.count-index c.args.pages.now c.loop-count-test.true c.loop-count.invariant.place;
   count = ap length c.in-Ok.ensures.items ∙ length_push c.loop-count.nodes.items c.in_ok-read.read ∙ ap (λ n. n + 1) c.loop-count.invariant.count;
-  thawed = subst AreThawed (sym c.in-Ok.ensures.items) (thawed_push c.loop-count.nodes.items c.in_ok-read.read c.loop-count.invariant.thawed c.in_ok-read.ensures.thawed);
+  thawed = subst AreAllThawed (sym c.in-Ok.ensures.items) (thawed_push c.loop-count.nodes.items c.in_ok-read.read c.loop-count.invariant.thawed c.in_ok-read.ensures.thawed);
   images =
-      imaged_more c.loop-count.count-index c.args.pages.now (map live c.loop-count.nodes.items) (map live c.push.new.self.items) (live c.in_ok-read.read) c.loop-count-test.true c.loop-count.invariant.images c.in_ok-read.ensures.image
-      (ap (map live) c.in-Ok.ensures.items ∙ map_push live c.loop-count.nodes.items c.in_ok-read.read);
+      imaged_more c.loop-count.count-index c.args.pages.now (map live_node c.loop-count.nodes.items) (map live_node c.push.new.self.items) (live_node c.in_ok-read.read) c.loop-count-test.true c.loop-count.invariant.images c.in_ok-read.ensures.image
+      (ap (map live_node) c.in-Ok.ensures.items ∙ map_push live_node c.loop-count.nodes.items c.in_ok-read.read);
   read = λ k.
       nodes_in-step c.args.at c.loop-count.place (c.loop-count.place + c.image_length.result) c.loop-count.count-index c.args.pages.now (g.D.Disk.state c.args.disk.now).now (g.D.Disk.state c.loop-count.disk).now
-      (map live c.loop-count.nodes.items) (map live c.push.new.self.items) (live c.in_ok-read.read)
+      (map live_node c.loop-count.nodes.items) (map live_node c.push.new.self.items) (live_node c.in_ok-read.read)
       c.loop-count-test.true (c.loop-count.invariant.read k) (c.loop-count.invariant.kept k) (c.in_ok-read.ensures.is k)
-      (ap (map live) c.in-Ok.ensures.items ∙ map_push live c.loop-count.nodes.items c.in_ok-read.read)
+      (ap (map live_node) c.in-Ok.ensures.items ∙ map_push live_node c.loop-count.nodes.items c.in_ok-read.read)
       (ap (λ n. c.loop-count.place + n) c.image_length.ensures);
 }
 
 pub returns-clause-is : goal.returns-clause-is
 returns-clause-is g c k =
-    nodes_in-end c.args.at c.loop-count.place c.loop-count.count-index c.args.pages.now (g.D.Disk.state c.args.disk.now).now.bytes (map live c.loop-count.nodes.items) c.loop-count-test.false (c.loop-count.invariant.read k)
+    nodes_in-end c.args.at c.loop-count.place c.loop-count.count-index c.args.pages.now (g.D.Disk.state c.args.disk.now).now.bytes (map live_node c.loop-count.nodes.items) c.loop-count-test.false (c.loop-count.invariant.read k)
 
 pub returns-clause-images : goal.returns-clause-images
-returns-clause-images g c = imaged_all c.loop-count.count-index c.args.pages.now (map live c.loop-count.nodes.items) c.loop-count-test.false c.loop-count.invariant.images
+returns-clause-images g c = imaged_all c.loop-count.count-index c.args.pages.now (map live_node c.loop-count.nodes.items) c.loop-count-test.false c.loop-count.invariant.images
 
 pub returns-in_err-read-clause-leaves : goal.returns-in_err-read-clause-leaves
 returns-in_err-read-clause-leaves g c k = then_leaves _ _ _ (c.loop-count.invariant.leaves k _ (none_leaves _)) (c.read_node.ensures.leaves k)

@@ -4,7 +4,7 @@ use Rattle.std.specs.Prelude.{sum_by}
 use Rattle.tp_model.specs.CutImage.{nodes_in}
 use Rattle.tp_model.specs.DiskHistory.{State, Counts}
 use Rattle.tp_model.specs.Journal.{image_length}
-use Rattle.tp_recover.specs.Nodes.{live, AreThawed, HaveImages}
+use Rattle.tp_recover.specs.Nodes.{live_node, AreAllThawed, HaveImages}
 use Rattle.tp_recover.specs.Reading.{LeavesNothingNew}
 use Rattle.tp_recover.proofs.Records.{behind}
 use Rattle.tp_recover.proofs.node.read_nodes.Given as goal
@@ -16,8 +16,8 @@ invariant-loop-count g l = record {
   leaves : g.D.Disk.keeps → (s : State) → LeavesNothingNew s (g.D.Disk.state l.fn.disk) → LeavesNothingNew s (g.D.Disk.state l.disk);
   place : l.place ≡ l.at + sum_by image_length (take l.count-index l.pages);
   count : length l.nodes.items ≡ l.count-index;
-  thawed : AreThawed l.nodes.items;
-  images : HaveImages (take l.count-index l.pages) (map live l.nodes.items);
+  thawed : AreAllThawed l.nodes.items;
+  images : HaveImages (take l.count-index l.pages) (map live_node l.nodes.items);
   read : g.D.Disk.keeps → nodes_in l.at l.pages (drop l.at (g.D.Disk.state l.fn.disk).now.bytes)
-      ≡ behind (map live l.nodes.items) (nodes_in l.place (drop l.count-index l.pages) (drop l.place (g.D.Disk.state l.fn.disk).now.bytes));
+      ≡ behind (map live_node l.nodes.items) (nodes_in l.place (drop l.count-index l.pages) (drop l.place (g.D.Disk.state l.fn.disk).now.bytes));
 }

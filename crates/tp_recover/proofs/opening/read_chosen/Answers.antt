@@ -2,7 +2,7 @@ use Rattle.std.proofs.Common.{◌≡◌, ◌∙◌, Bool, rules, ap, subst, Ok, 
 use Rattle.tp_model.specs.Head.{Head, head_of}
 use Rattle.tp_model.specs.Opening.{chosen_area}
 use Rattle.tp_recover.specs.Chosen.{chosen_in}
-use Rattle.tp_recover.specs.Reading.{Answers}
+use Rattle.tp_recover.specs.Reading.{ReadAnswer}
 use Rattle.tp_recover.proofs.Leaving.{sync_leaves, then_leaves}
 use Rattle.tp_recover.proofs.TakenRows.{choice_told, choice_untold, head_untold}
 use Rattle.tp_recover.proofs.opening.read_chosen.Goals as goal
@@ -12,17 +12,17 @@ use Rattle.tp_recover.proofs.opening.read_chosen.Goals as goal
 pub returns-in_err-head-clause-is : goal.returns-in_err-head-clause-is
 returns-in_err-head-clause-is g c k =
     let told : c.from_residual.result ≡ Err c.in_err-head.field-0.0 = search rules in
-    subst (λ xs. Answers (λ (chosen : Head × Bool). chosen) (chosen_in xs) c.from_residual.result) (ap (λ m. m.bytes) (c.in-Ok.ensures.after k))
+    subst (λ xs. ReadAnswer (λ (chosen : Head × Bool). chosen) (chosen_in xs) c.from_residual.result) (ap (λ m. m.bytes) (c.in-Ok.ensures.after k))
     (head_untold (λ (chosen : Head × Bool). chosen) (g.D.Disk.state c.sync.new.self).now.bytes c.in_err-head.field-0.0 c.from_residual.result (c.in_err-head.ensures.is k) told)
 
 pub returns-in_err-second-clause-is : goal.returns-in_err-second-clause-is
 returns-in_err-second-clause-is g c k =
     let told : c.from_residual-in_err-second.result ≡ Err c.in_err-second.field-0.0 = search rules in
     let chosen =
-    subst (λ areas. Answers (λ (second : Bool). second) (chosen_area areas (g.D.Disk.state c.read_head.new.disk).now.bytes) (Err c.in_err-second.field-0.0)) c.areas.ensures.value (c.in_err-second.ensures.is k) in
+    subst (λ areas. ReadAnswer (λ (second : Bool). second) (chosen_area areas (g.D.Disk.state c.read_head.new.disk).now.bytes) (Err c.in_err-second.field-0.0)) c.areas.ensures.value (c.in_err-second.ensures.is k) in
     let here =
-    subst (λ m. Answers (λ (second : Bool). second) (chosen_area c.in_ok-head.head.areas m.bytes) (Err c.in_err-second.field-0.0)) (c.in_ok-head.ensures.kept k) chosen in
-    subst (λ xs. Answers (λ (chosen : Head × Bool). chosen) (chosen_in xs) c.from_residual-in_err-second.result) (ap (λ m. m.bytes) (c.in-Ok.ensures.after k))
+    subst (λ m. ReadAnswer (λ (second : Bool). second) (chosen_area c.in_ok-head.head.areas m.bytes) (Err c.in_err-second.field-0.0)) (c.in_ok-head.ensures.kept k) chosen in
+    subst (λ xs. ReadAnswer (λ (chosen : Head × Bool). chosen) (chosen_in xs) c.from_residual-in_err-second.result) (ap (λ m. m.bytes) (c.in-Ok.ensures.after k))
     (choice_untold (λ (chosen : Head × Bool). chosen) c.in_ok-head.head (g.D.Disk.state c.sync.new.self).now.bytes c.in_err-second.field-0.0 c.from_residual-in_err-second.result (c.in_ok-head.ensures.is k) here told)
 
 pub returns-clause-is : goal.returns-clause-is

@@ -1,6 +1,6 @@
 use Rattle.std.proofs.Common.{◌≡◌, ◌+◌, ◌∙◌, length, ap, arith, map, rules, Err}
 use Rattle.std.proofs.lemmas.List.{length_push, map_push}
-use Rattle.tp_book.specs.PortParts.{port_of}
+use Rattle.tp_book.specs.PortParts.{port_made}
 use Rattle.tp_recover.proofs.Ports.{ports_in-step, ports_in-error, ports_in-end}
 use Rattle.tp_recover.proofs.ReadParts.{reached_more}
 use Rattle.tp_recover.proofs.Leaving.{none_leaves, then_leaves}
@@ -9,7 +9,7 @@ use Rattle.tp_recover.proofs.port.read_ports.Goals as goal
 pub returns-in_err-read-clause-is : goal.returns-in_err-read-clause-is
 returns-in_err-read-clause-is g c k =
     let told : c.from_residual.result ≡ Err c.in_err-read.field-0.0 = search rules in
-    ports_in-error port_of _ c.args.base c.args.at c.loop-port.port c.args.count (g.D.Disk.state c.args.disk.now).now (g.D.Disk.state c.loop-port.disk).now (map port_of c.loop-port.ports.items) c.in_err-read.field-0.0 c.from_residual.result
+    ports_in-error port_made _ c.args.base c.args.at c.loop-port.port c.args.count (g.D.Disk.state c.args.disk.now).now (g.D.Disk.state c.loop-port.disk).now (map port_made c.loop-port.ports.items) c.in_err-read.field-0.0 c.from_residual.result
     (omega arith) (c.loop-port.invariant.read k) (c.loop-port.invariant.kept k) (c.in_err-read.ensures.is k) told
 
 pub loop-port-preserved : goal.loop-port-preserved
@@ -22,17 +22,17 @@ loop-port-preserved g c = record {
   leaves = λ k s before. then_leaves _ _ _ (c.loop-port.invariant.leaves k s before) (c.read_port.ensures.leaves k);
   count = ap length c.in-Ok.ensures.items ∙ length_push c.loop-port.ports.items c.in_ok-read.read ∙ ap (λ n. n + 1) c.loop-port.invariant.count;
   ports =
-      reached_more c.args.base (map port_of c.loop-port.ports.items) (map port_of c.push.new.self.items) (port_of c.in_ok-read.read) c.loop-port.invariant.ports c.in_ok-read.ensures.port
-      (ap (map port_of) c.in-Ok.ensures.items ∙ map_push port_of c.loop-port.ports.items c.in_ok-read.read);
+      reached_more c.args.base (map port_made c.loop-port.ports.items) (map port_made c.push.new.self.items) (port_made c.in_ok-read.read) c.loop-port.invariant.ports c.in_ok-read.ensures.port
+      (ap (map port_made) c.in-Ok.ensures.items ∙ map_push port_made c.loop-port.ports.items c.in_ok-read.read);
   read = λ k.
-      ports_in-step c.args.base c.args.at c.loop-port.port c.args.count (g.D.Disk.state c.args.disk.now).now (g.D.Disk.state c.loop-port.disk).now (map port_of c.loop-port.ports.items) (map port_of c.push.new.self.items) (port_of c.in_ok-read.read)
+      ports_in-step c.args.base c.args.at c.loop-port.port c.args.count (g.D.Disk.state c.args.disk.now).now (g.D.Disk.state c.loop-port.disk).now (map port_made c.loop-port.ports.items) (map port_made c.push.new.self.items) (port_made c.in_ok-read.read)
       (omega arith) (c.loop-port.invariant.read k) (c.loop-port.invariant.kept k) (c.in_ok-read.ensures.is k)
-      (ap (map port_of) c.in-Ok.ensures.items ∙ map_push port_of c.loop-port.ports.items c.in_ok-read.read);
+      (ap (map port_made) c.in-Ok.ensures.items ∙ map_push port_made c.loop-port.ports.items c.in_ok-read.read);
 }
 
 pub returns-clause-is : goal.returns-clause-is
 returns-clause-is g c k =
-    ports_in-end c.args.base c.args.at c.loop-port.port c.args.count (g.D.Disk.state c.args.disk.now).now.bytes (map port_of c.loop-port.ports.items) (omega arith) (c.loop-port.invariant.read k)
+    ports_in-end c.args.base c.args.at c.loop-port.port c.args.count (g.D.Disk.state c.args.disk.now).now.bytes (map port_made c.loop-port.ports.items) (omega arith) (c.loop-port.invariant.read k)
 
 pub returns-in_err-read-clause-leaves : goal.returns-in_err-read-clause-leaves
 returns-in_err-read-clause-leaves g c k = then_leaves _ _ _ (c.loop-port.invariant.leaves k _ (none_leaves _)) (c.read_port.ensures.leaves k)

@@ -1,6 +1,6 @@
 -- The ports that were read, and those that stand behind them, are all.
 use Rattle.std.proofs.Common.{◌≡◌, ◌+◌, ◌*◌, ◌-◌, drop, length, map, true}
-use Rattle.tp_book.specs.PortParts.{port_of}
+use Rattle.tp_book.specs.PortParts.{port_made}
 use Rattle.tp_model.specs.declared.limits.TheConstants.{PORT_BYTES}
 use Rattle.tp_model.specs.CutImage.{ports_in}
 use Rattle.tp_model.specs.DiskHistory.{State, Counts}
@@ -15,7 +15,7 @@ invariant-loop-port g l = record {
   kept : g.D.Disk.keeps → (g.D.Disk.state l.disk).now ≡ (g.D.Disk.state l.fn.disk).now;
   leaves : g.D.Disk.keeps → (s : State) → LeavesNothingNew s (g.D.Disk.state l.fn.disk) → LeavesNothingNew s (g.D.Disk.state l.disk);
   count : length l.ports.items ≡ l.port;
-  ports : ArePorts l.base (map port_of l.ports.items);
+  ports : ArePorts l.base (map port_made l.ports.items);
   read : g.D.Disk.keeps → ports_in l.base l.at l.count (drop l.at (g.D.Disk.state l.fn.disk).now.bytes)
-      ≡ behind (map port_of l.ports.items) (ports_in l.base (l.at + PORT_BYTES * l.port) (l.count - l.port) (drop (l.at + PORT_BYTES * l.port) (g.D.Disk.state l.fn.disk).now.bytes));
+      ≡ behind (map port_made l.ports.items) (ports_in l.base (l.at + PORT_BYTES * l.port) (l.count - l.port) (drop (l.at + PORT_BYTES * l.port) (g.D.Disk.state l.fn.disk).now.bytes));
 }

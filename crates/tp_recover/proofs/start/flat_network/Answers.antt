@@ -1,5 +1,5 @@
 use Rattle.std.proofs.Common.{◌∙◌, ap, sym, subst, map}
-use Rattle.tp_book.specs.PortParts.{port_of}
+use Rattle.tp_book.specs.PortParts.{port_made}
 use Rattle.tp_book.specs.Ports.{opened_port}
 use Rattle.tp_replay.specs.Flat.{IsFlat}
 use Rattle.tp_recover.proofs.Starts.{network_again, thawed_at}
@@ -10,7 +10,7 @@ new-requires-clause-flat c =
     subst IsFlat
     (sym (network_again c.args.cut c.args.wires.now c.in_ok-wires.wires.items c.in_ok-lines.lines c.in_ok-ports.ports.items c.in_ok-wires.ensures.items
     (c.in_ok-lines.ensures ∙ ap (map (λ line. line.items)) c.deref.ensures.value)
-    (c.in_ok-ports.ensures ∙ ap (map (λ port. opened_port (port_of port))) c.deref-2.ensures.value)))
+    (c.in_ok-ports.ensures ∙ ap (map (λ port. opened_port (port_made port))) c.deref-2.ensures.value)))
     c.requires.flat
 
 pub new-requires-clause-thawed : goal.new-requires-clause-thawed
@@ -21,4 +21,4 @@ returns c =
     c.new.ensures
     ∙ network_again c.args.cut c.args.wires.now c.in_ok-wires.wires.items c.in_ok-lines.lines c.in_ok-ports.ports.items c.in_ok-wires.ensures.items
     (c.in_ok-lines.ensures ∙ ap (map (λ line. line.items)) c.deref.ensures.value)
-    (c.in_ok-ports.ensures ∙ ap (map (λ port. opened_port (port_of port))) c.deref-2.ensures.value)
+    (c.in_ok-ports.ensures ∙ ap (map (λ port. opened_port (port_made port))) c.deref-2.ensures.value)

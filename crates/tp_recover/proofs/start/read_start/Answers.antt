@@ -4,7 +4,7 @@ use Rattle.tp_model.specs.Node.{t414_ends}
 use Rattle.tp_model.specs.NodeState.{NodeState}
 use Rattle.tp_book.specs.Counted.{AreCounted}
 use Rattle.tp_replay.specs.Flat.{IsFlat}
-use Rattle.tp_recover.specs.Cuts.{cut_network}
+use Rattle.tp_recover.specs.Cuts.{network_of_cut}
 use Rattle.tp_recover.proofs.CutsAreFlat.{cut_flat, cut_counted, cut_held}
 use Rattle.tp_recover.proofs.Starts.{cut_unread, lines_few, pending_few, outputs_few}
 use Rattle.tp_recover.proofs.Leaving.{then_leaves}
@@ -13,8 +13,8 @@ use Rattle.tp_recover.proofs.start.read_start.Goals as goal
 pub flat_network-requires-clause-flat : goal.flat_network-requires-clause-flat
 flat_network-requires-clause-flat g c =
     let t = c.args.head.now.topology in
-    subst (λ wires. IsFlat (cut_network wires c.in_ok-cut.cut)) (sym (c.wires.ensures.value ∙ ap (λ s. s.wires) c.topology.ensures.value))
-    (cut_flat t c.in_ok-front.front.base (cut_network t.wires c.in_ok-cut.cut) c.topology.ensures.valid (c.in_ok-cut.ensures.cut c.in_ok-front.ensures.few) c.in_ok-cut.ensures.images)
+    subst (λ wires. IsFlat (network_of_cut wires c.in_ok-cut.cut)) (sym (c.wires.ensures.value ∙ ap (λ s. s.wires) c.topology.ensures.value))
+    (cut_flat t c.in_ok-front.front.base (network_of_cut t.wires c.in_ok-cut.cut) c.topology.ensures.valid (c.in_ok-cut.ensures.cut c.in_ok-front.ensures.few) c.in_ok-cut.ensures.images)
 
 pub flat_network-requires-clause-few : goal.flat_network-requires-clause-few
 flat_network-requires-clause-few g c = lines_few c.args.head.now.topology.wires c.in_ok-cut.cut.lines.items (c.in_ok-cut.ensures.cut c.in_ok-front.ensures.few).lines
@@ -22,18 +22,18 @@ flat_network-requires-clause-few g c = lines_few c.args.head.now.topology.wires 
 pub flat_network-requires-clause-pending : goal.flat_network-requires-clause-pending
 flat_network-requires-clause-pending g c =
     let t = c.args.head.now.topology in
-    pending_few c.in_ok-cut.cut.ports.items (cut_held t414_ends t c.in_ok-front.front.base (cut_network t.wires c.in_ok-cut.cut) (c.in_ok-cut.ensures.cut c.in_ok-front.ensures.few))
+    pending_few c.in_ok-cut.cut.ports.items (cut_held t414_ends t c.in_ok-front.front.base (network_of_cut t.wires c.in_ok-cut.cut) (c.in_ok-cut.ensures.cut c.in_ok-front.ensures.few))
 
 pub flat_network-requires-clause-outputs : goal.flat_network-requires-clause-outputs
 flat_network-requires-clause-outputs g c =
     let t = c.args.head.now.topology in
-    outputs_few c.in_ok-cut.cut.ports.items (cut_held t414_ends t c.in_ok-front.front.base (cut_network t.wires c.in_ok-cut.cut) (c.in_ok-cut.ensures.cut c.in_ok-front.ensures.few))
+    outputs_few c.in_ok-cut.cut.ports.items (cut_held t414_ends t c.in_ok-front.front.base (network_of_cut t.wires c.in_ok-cut.cut) (c.in_ok-cut.ensures.cut c.in_ok-front.ensures.few))
 
 pub start-replay-requires-clause-counted : goal.start-replay-requires-clause-counted
 start-replay-requires-clause-counted g c =
     let t = c.args.head.now.topology in
     subst (λ (s : Network NodeState). AreCounted c.in_ok-front.front.base s.ports) (sym c.in-Ok.ensures)
-    (cut_counted t414_ends t c.in_ok-front.front.base (cut_network t.wires c.in_ok-cut.cut) (c.in_ok-cut.ensures.cut c.in_ok-front.ensures.few))
+    (cut_counted t414_ends t c.in_ok-front.front.base (network_of_cut t.wires c.in_ok-cut.cut) (c.in_ok-cut.ensures.cut c.in_ok-front.ensures.few))
 
 pub returns-in_err-cut-clause-leaves : goal.returns-in_err-cut-clause-leaves
 returns-in_err-cut-clause-leaves g c k = then_leaves _ _ _ (c.read_front.ensures.leaves k) (c.read_cut.ensures.leaves k)

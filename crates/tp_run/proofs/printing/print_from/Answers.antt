@@ -1,5 +1,5 @@
 use Rattle.std.proofs.Common.{◌≡◌, ◌≤◌, length, sym, ap, subst, ◌∙◌, IfOk}
-use Rattle.tp_book.specs.Book.{next_number}
+use Rattle.tp_book.specs.Book.{next_in_book}
 use Rattle.tp_book.specs.Host.{port_in, shown_of}
 use Rattle.tp_run.specs.Output.{AreOutputs, IsForOutput, ShowsAll}
 use Rattle.tp_run.proofs.Shown.{are_outputs, if_made, output_like, printed_of}
@@ -23,7 +23,7 @@ returns-clause-all g c =
     if_made c.print_shown.result (ShowsAll b port c.args.mark c.args.outset.confirmed) (record {
       base = ap (λ d. (port_in d port).out_base) (sym c.book.ensures) ∙ c.in_ok-is_confirmed_in.ensures.confirmed;
       all = subst (λ d. shown_of d port c.args.mark ≡ length (port_in d port).outputs) c.book-2.ensures c.in_ok-is_all_shown.ensures.all;
-      stored = subst (λ d. next_number d ≤ c.args.mark) c.book-2.ensures c.in_ok-is_all_shown.ensures.stored;
+      stored = subst (λ d. next_in_book d ≤ c.args.mark) c.book-2.ensures c.in_ok-is_all_shown.ensures.stored;
     })
 
 pub returns-clause-printed : goal.returns-clause-printed
@@ -33,4 +33,4 @@ returns-clause-printed g c =
     printed_of b port c.args.mark c.args.outset.confirmed (g.O.Write.contents c.args.out.now) (g.O.Write.contents c.print_shown.new.out) c.print_shown.result
     (ap (λ d. (port_in d port).out_base) (sym c.book.ensures) ∙ c.in_ok-is_confirmed_in.ensures.confirmed)
     (subst (λ d. shown_of d port c.args.mark ≡ length (port_in d port).outputs) c.book-2.ensures c.in_ok-is_all_shown.ensures.all)
-    (subst (λ d. next_number d ≤ c.args.mark) c.book-2.ensures c.in_ok-is_all_shown.ensures.stored) c.print_shown.ensures.printed
+    (subst (λ d. next_in_book d ≤ c.args.mark) c.book-2.ensures c.in_ok-is_all_shown.ensures.stored) c.print_shown.ensures.printed

@@ -1,6 +1,6 @@
 use Rattle.std.proofs.Common.{sym, subst}
 use Rattle.tp_shared.specs.Seals.{Stage}
-use Rattle.tp_flush.specs.Ahead.{IsAhead}
+use Rattle.tp_flush.specs.Ahead.{IsAheadOf}
 use Rattle.tp_run.proofs.Shown.{may_show, output_shown}
 use Rattle.tp_run.proofs.serving.print_settled.Goals as goal
 
@@ -8,7 +8,7 @@ pub returns-clause-shown : goal.returns-clause-shown
 returns-clause-shown g c k began =
     let start = g.J.Naming.formatted in
     let w = c.args.flusher.now.world in
-    let ahead = subst (λ (stage : Stage). IsAhead start w stage.book) (sym c.settle_book.ensures.same.1) (c.settle_book.ensures.ahead k began) in
+    let ahead = subst (λ (stage : Stage). IsAheadOf start w stage.book) (sym c.settle_book.ensures.same.1) (c.settle_book.ensures.ahead k began) in
     may_show start w c.settle_book.new.held.book c.args.outset.port c.args.mark c.args.outset.confirmed (g.O.Write.contents c.args.out.now) (g.O.Write.contents c.print_from.new.out) ahead
     c.requires.mark c.print_from.ensures.printed
 
@@ -18,5 +18,5 @@ returns-clause-receipt g c =
     let w = c.args.flusher.now.world in
     output_shown g.D.Disk.keeps _ start w c.settle_book.new.held.book c.args.outset.port c.args.mark c.args.outset.confirmed (g.O.Write.contents c.args.out.now)
     (g.O.Write.contents c.print_from.new.out) c.print_from.result
-    (λ k began. subst (λ (stage : Stage). IsAhead start w stage.book) (sym c.settle_book.ensures.same.1) (c.settle_book.ensures.ahead k began))
+    (λ k began. subst (λ (stage : Stage). IsAheadOf start w stage.book) (sym c.settle_book.ensures.same.1) (c.settle_book.ensures.ahead k began))
     c.requires.mark c.print_from.ensures.all c.print_from.ensures.receipt

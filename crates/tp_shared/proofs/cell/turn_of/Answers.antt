@@ -2,7 +2,7 @@ use Rattle.std.proofs.Common.{◌≡◌, ◌∙◌, sym, ap, subst, rules, true}
 use Rattle.std.specs.Prelude.{Result, Err, MatchResult}
 use Rattle.tp_node.specs.RunEnd.{RunEnd}
 use Rattle.tp_book.specs.declared.refusal.Refusal.{Refusal}
-use Rattle.tp_turn.specs.Opened.{sent_in, takes_in}
+use Rattle.tp_turn.specs.Opened.{sent_in, turn_received}
 use Rattle.tp_shared.specs.declared.node_turn.NodeTurn.{NodeTurn}
 use Rattle.tp_shared.specs.Holds.{in_hand}
 use Rattle.tp_shared.specs.NodeTurned.{NodeTurned}
@@ -11,7 +11,7 @@ use Rattle.tp_shared.proofs.Gaining.{node_turned}
 use Rattle.tp_shared.proofs.cell.turn_of.Goals as goal
 
 pub run-stretch-requires : goal.run-stretch-requires
-run-stretch-requires g c = record { turn = record { takes = takes_in c.in_ok-opened.opened; sent = sent_in c.in_ok-opened.opened; shows = c.in_ok-opened.ensures.shows } }
+run-stretch-requires g c = record { turn = record { takes = turn_received c.in_ok-opened.opened; sent = sent_in c.in_ok-opened.opened; shows = c.in_ok-opened.ensures.shows } }
 
 pub commit-ran-requires-clause-ran : goal.commit-ran-requires-clause-ran
 commit-ran-requires-clause-ran g c =
@@ -20,7 +20,7 @@ commit-ran-requires-clause-ran g c =
     record {
       before = O.before;
       ahead = c.begin.new.place.node.live;
-      shown = ap (λ k. k.value.state) c.run-stretch.ensures.key ∙ O.shown ∙ ap (λ f. record { node = O.before; frozen = f; reserved = true; takes = takes_in opened }) (sym c.run-stretch.ensures.kept);
+      shown = ap (λ k. k.value.state) c.run-stretch.ensures.key ∙ O.shown ∙ ap (λ f. record { node = O.before; frozen = f; reserved = true; takes = turn_received opened }) (sym c.run-stretch.ensures.kept);
       was = O.was;
       took = O.took;
       image = O.image;

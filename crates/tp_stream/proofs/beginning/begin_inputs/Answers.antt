@@ -2,7 +2,7 @@ use Rattle.std.proofs.Common.{◌≤◌, ◌<◌, inl, inr, length, map, ap, sub
 use Rattle.std.proofs.lemmas.List.{length-map}
 use Rattle.tp_stream.specs.declared.fault.StreamFault.TheVariants.{Port as Absent}
 use Rattle.tp_stream_files.specs.Inputs.{HasAtLeast, given_input}
-use Rattle.tp_stream.specs.Standing.{accepted}
+use Rattle.tp_stream.specs.Standing.{accepted_at}
 use Rattle.tp_stream.proofs.Standings.{all_have_accepted, have_accepted_more, input_at}
 use Rattle.tp_stream.proofs.beginning.begin_inputs.Goals as goal
 
@@ -29,19 +29,19 @@ returns-in-Some-clause-refused g c =
       given = given_input x.port (g.I.Source.input x.source);
       there = input_at (λ i. given_input i.port (g.I.Source.input i.source)) c.args.inputs.now c.loop-input.input-index x within c.input-item.is;
       before = c.loop-input.invariant;
-      why = inl (c.port-port.ensures, c.accepted-accepted.ensures ∙ ap (accepted c.args.book.now) c.port-port.ensures, short.0, short.1);
+      why = inl (c.port-port.ensures, c.accepted-accepted.ensures ∙ ap (accepted_at c.args.book.now) c.port-port.ensures, short.0, short.1);
     }
 
 pub loop-input-preserved : goal.loop-input-preserved
 loop-input-preserved g c =
     let x = c.input-item.result in
     let within : c.loop-input.input-index < length c.args.inputs.now = omega arith in
-    have_accepted_more (accepted c.args.book.now) _ c.loop-input.input-index (given_input x.port (g.I.Source.input x.source)) c.loop-input.invariant
+    have_accepted_more (accepted_at c.args.book.now) _ c.loop-input.input-index (given_input x.port (g.I.Source.input x.source)) c.loop-input.invariant
     (input_at (λ i. given_input i.port (g.I.Source.input i.source)) c.args.inputs.now c.loop-input.input-index x within c.input-item.is)
-    (subst (λ n. HasAtLeast n (g.I.Source.input x.source)) (c.accepted-accepted.ensures ∙ ap (accepted c.args.book.now) c.port-port.ensures) c.in_default.ensures.none)
+    (subst (λ n. HasAtLeast n (g.I.Source.input x.source)) (c.accepted-accepted.ensures ∙ ap (accepted_at c.args.book.now) c.port-port.ensures) c.in_default.ensures.none)
 
 pub returns-clause-begun : goal.returns-clause-begun
 returns-clause-begun g c =
     let many : length (map (λ i. given_input i.port (g.I.Source.input i.source)) c.args.inputs.now) ≤ c.loop-input.input-index =
     let same = length-map c.args.inputs.now (λ i. given_input i.port (g.I.Source.input i.source)) in omega arith in
-    all_have_accepted (accepted c.args.book.now) _ c.loop-input.input-index many c.loop-input.invariant
+    all_have_accepted (accepted_at c.args.book.now) _ c.loop-input.input-index many c.loop-input.invariant

@@ -3,7 +3,7 @@ use Rattle.std.proofs.lemmas.List.{length-map}
 use Rattle.tp_stream.specs.declared.fault.StreamFault.TheVariants.{Port as Absent}
 use Rattle.tp_stream_files.specs.Outputs.{given_of}
 use Rattle.tp_stream.proofs.Standings.{all_may_begin, given_at, given_set, may_begin_more, put_out_few}
-use Rattle.tp_stream.specs.Standing.{standing}
+use Rattle.tp_stream.specs.Standing.{port_standing}
 use Rattle.tp_stream.specs.Steps.{IsSetOut}
 use Rattle.tp_stream.proofs.Puts.{each_all, each_more}
 use Rattle.tp_stream.proofs.beginning.begin_outputs.Goals as goal
@@ -51,7 +51,7 @@ loop-output-preserved g c =
     let within : c.loop-output.output-index < length xs = omega arith in
     record {
       same = given_set xs c.loop-output.output-index c.output-item.result c.begin.new.output c.begin.ensures.same ∙ I.same;
-      set = each_more (IsSetOut (standing c.args.book.now c.args.mark)) c.loop-output.output-index c.args.outputs.now xs c.output-item.result c.begin.new.output within I.set c.in-Ok.ensures.set;
+      set = each_more (IsSetOut (port_standing c.args.book.now c.args.mark)) c.loop-output.output-index c.args.outputs.now xs c.output-item.result c.begin.new.output within I.set c.in-Ok.ensures.set;
       begun = may_begin_more _ _ c.loop-output.output-index _ I.begun (given_at xs _ c.loop-output.output-index c.output-item.result I.same within) c.in-Ok.ensures.begun;
     }
 
@@ -62,6 +62,6 @@ returns-clause-begun g c =
 
 pub returns-clause-set : goal.returns-clause-set
 returns-clause-set g c =
-    each_all (IsSetOut (standing c.args.book.now c.args.mark)) c.loop-output.output-index c.args.outputs.now c.loop-output.outputs
+    each_all (IsSetOut (port_standing c.args.book.now c.args.mark)) c.loop-output.output-index c.args.outputs.now c.loop-output.outputs
     (let same = ap length c.loop-output.invariant.same in let one = length-map c.args.outputs.now given_of in let other = length-map c.loop-output.outputs given_of in omega (arith, same, one, other))
     c.loop-output.invariant.set

@@ -1,7 +1,7 @@
 -- The outputs so far may begin, and are set out; all are given as they were, and the others are as they were.
 use Rattle.std.proofs.Common.{◌≡◌, map}
 use Rattle.tp_stream_files.specs.Outputs.{given_of}
-use Rattle.tp_stream.specs.Standing.{MayBeginBelow, standing}
+use Rattle.tp_stream.specs.Standing.{MayBeginBelow, port_standing}
 use Rattle.tp_stream.specs.Steps.{IsSetOut}
 use Rattle.tp_stream.proofs.Puts.{EachTo}
 use Rattle.tp_stream.proofs.beginning.begin_outputs.Given as goal
@@ -9,6 +9,6 @@ use Rattle.tp_stream.proofs.beginning.begin_outputs.Given as goal
 abbrev pub invariant-loop-output : goal.invariant-loop-output
 invariant-loop-output g l = record {
   same : map given_of l.outputs ≡ map given_of l.fn.outputs;
-  set : EachTo (IsSetOut (standing l.book l.mark)) l.output-index l.fn.outputs l.outputs;
-  begun : MayBeginBelow l.output-index (standing l.book l.mark) (map given_of l.fn.outputs);
+  set : EachTo (IsSetOut (port_standing l.book l.mark)) l.output-index l.fn.outputs l.outputs;
+  begun : MayBeginBelow l.output-index (port_standing l.book l.mark) (map given_of l.fn.outputs);
 }

@@ -1,7 +1,7 @@
 use Rattle.std.proofs.Common.{◌≡◌, ◌≤◌, sym, ap, subst, ◌∙◌, arith}
-use Rattle.tp_book.specs.Book.{next_number}
+use Rattle.tp_book.specs.Book.{next_in_book}
 use Rattle.tp_shared.specs.Seals.{Stage}
-use Rattle.tp_flush.specs.Ahead.{IsAhead}
+use Rattle.tp_flush.specs.Ahead.{IsAheadOf}
 use Rattle.tp_flush.specs.Flushing.{Flushing}
 use Rattle.tp_stream.proofs.Puts.{all_in_journal}
 use Rattle.tp_stream.proofs.flushing.last_under.Goals as goal
@@ -12,8 +12,8 @@ returns-clause-last g c k began =
     let f = c.args.flusher.now in
     let S = c.settle_book.ensures in
     let b = c.settle_book.new.held.book in
-    let ahead = subst (λ (stage : Stage). IsAhead start f.world stage.book) (sym S.same.1) (S.ahead k began) in
+    let ahead = subst (λ (stage : Stage). IsAheadOf start f.world stage.book) (sym S.same.1) (S.ahead k began) in
     let mark : c.mark-mark.result ≡ f.world.mark = c.mark-mark.ensures ∙ ap (λ (g : Flushing). g.world.mark) S.same.0 in
-    let next : c.next-next.result ≡ next_number b = c.next-next.ensures ∙ ap next_number c.book.ensures in
-    let stored : next_number b ≤ f.world.mark = let test = c.if-mark-next.false in omega (arith, mark, next, test) in
+    let next : c.next-next.result ≡ next_in_book b = c.next-next.ensures ∙ ap next_in_book c.book.ensures in
+    let stored : next_in_book b ≤ f.world.mark = let test = c.if-mark-next.false in omega (arith, mark, next, test) in
     next ∙ sym ((all_in_journal start f.world b ahead stored).1)

@@ -1,10 +1,10 @@
 use Rattle.std.proofs.Common.{◌≡◌, length, map, inr, Some, sym, ap, subst, ◌∙◌}
 use Rattle.tp_book.specs.Counted.{AreCounted}
-use Rattle.tp_book.specs.Book.{BookValue, next_number}
+use Rattle.tp_book.specs.Book.{BookValue, next_in_book}
 use Rattle.tp_flush.proofs.Made.{kept_is, stands}
 use Rattle.tp_stream_files.specs.Inputs.{given_input}
 use Rattle.tp_stream_files.specs.Outputs.{given_of}
-use Rattle.tp_stream.specs.Standing.{AllHaveAccepted, AllMayBegin, accepted, accepted_opened, standing, stands_opened}
+use Rattle.tp_stream.specs.Standing.{AllHaveAccepted, AllMayBegin, accepted_at, accepted_opened, port_standing, stands_opened}
 use Rattle.tp_stream.specs.Put.{EachWith}
 use Rattle.tp_stream.specs.Steps.{IsSetOut}
 use Rattle.tp_stream.proofs.Standings.{not_begun_as, opened_accepted, opened_stands}
@@ -19,11 +19,11 @@ returns-in-Err-clause-refused g c =
     let o = c.args.opened in
     let fault = c.in-Err.fault in
     let gs = map given_of c.args.streams.now.outputs.items in
-    let where_ : standing c.in-Ok-open.book s.next ≡ stands_opened o =
-    ap (λ (b : BookValue). standing b s.next) c.in-Ok-open.ensures ∙ opened_stands s (Some c.journal_room-room.result) o s.next c.in-Ok.ensures.now in
+    let where_ : port_standing c.in-Ok-open.book s.next ≡ stands_opened o =
+    ap (λ (b : BookValue). port_standing b s.next) c.in-Ok-open.ensures ∙ opened_stands s (Some c.journal_room-room.result) o s.next c.in-Ok.ensures.now in
     let many : length c.in-Ok-open.book.state.ports ≡ length o.now.ports = ap (λ (b : BookValue). length b.state.ports) c.in-Ok-open.ensures ∙ ap (λ net. length net.ports) c.in-Ok.ensures.now in
-    let taken : accepted c.in-Ok-open.book ≡ accepted_opened o =
-    ap accepted c.in-Ok-open.ensures ∙ opened_accepted s (Some c.journal_room-room.result) o c.in-Ok.ensures.now in
+    let taken : accepted_at c.in-Ok-open.book ≡ accepted_opened o =
+    ap accepted_at c.in-Ok-open.ensures ∙ opened_accepted s (Some c.journal_room-room.result) o c.in-Ok.ensures.now in
     inr (not_begun_as _ _ _ _ _ _ gs _ fault many where_ taken c.in-Err.ensures.refused)
 
 pub returns-in-Ok-parts_with-clause-parts : goal.returns-in-Ok-parts_with-clause-parts
@@ -34,7 +34,7 @@ returns-in-Ok-parts_with-clause-parts g c =
     let E = c.in-Ok.ensures in
     let P = c.in-Ok-parts_with.ensures in
     stands s o room c.in-Ok-parts_with.made.0 c.in-Ok-parts_with.made.1 E.now E.base E.form E.next E.kept c.known.ensures.cut c.known.ensures.leads
-    (c.opened_books_begin.ensures.runs s room o E.opened E.cut (kept_is s o E.kept) E.now) (P.book ∙ c.in-Ok-open.ensures) (P.first ∙ ap next_number c.in-Ok-open.ensures) P.raiser
+    (c.opened_books_begin.ensures.runs s room o E.opened E.cut (kept_is s o E.kept) E.now) (P.book ∙ c.in-Ok-open.ensures) (P.first ∙ ap next_in_book c.in-Ok-open.ensures) P.raiser
 
 pub returns-in-Ok-parts_with-clause-begun : goal.returns-in-Ok-parts_with-clause-begun
 returns-in-Ok-parts_with-clause-begun g c =
@@ -42,7 +42,7 @@ returns-in-Ok-parts_with-clause-begun g c =
     let o = c.args.opened in
     let gs = map given_of c.args.streams.now.outputs.items in
     subst (λ at. AllMayBegin at gs)
-    (ap (λ (b : BookValue). standing b s.next) c.in-Ok-open.ensures ∙ opened_stands s (Some c.journal_room-room.result) o s.next c.in-Ok.ensures.now) c.in-Ok-begin_all.ensures.begun
+    (ap (λ (b : BookValue). port_standing b s.next) c.in-Ok-open.ensures ∙ opened_stands s (Some c.journal_room-room.result) o s.next c.in-Ok.ensures.now) c.in-Ok-begin_all.ensures.begun
 
 pub returns-in-Ok-parts_with-clause-inputs : goal.returns-in-Ok-parts_with-clause-inputs
 returns-in-Ok-parts_with-clause-inputs g c =
@@ -50,11 +50,11 @@ returns-in-Ok-parts_with-clause-inputs g c =
     let o = c.args.opened in
     let is = map (λ i. given_input i.port (g.I.Source.input i.source)) c.args.streams.now.inputs.items in
     subst (λ at. AllHaveAccepted at is)
-    (ap accepted c.in-Ok-open.ensures ∙ opened_accepted s (Some c.journal_room-room.result) o c.in-Ok.ensures.now) c.in-Ok-begin_all.ensures.inputs
+    (ap accepted_at c.in-Ok-open.ensures ∙ opened_accepted s (Some c.journal_room-room.result) o c.in-Ok.ensures.now) c.in-Ok-begin_all.ensures.inputs
 
 pub returns-in-Ok-parts_with-clause-set : goal.returns-in-Ok-parts_with-clause-set
 returns-in-Ok-parts_with-clause-set g c =
     let s = c.in-Ok.state in
     let o = c.args.opened in
     subst (λ at. EachWith (IsSetOut at) c.args.streams.now.outputs.items c.begin_all.new.streams.outputs.items)
-    (ap (λ (b : BookValue). standing b s.next) c.in-Ok-open.ensures ∙ opened_stands s (Some c.journal_room-room.result) o s.next c.in-Ok.ensures.now) c.in-Ok-begin_all.ensures.set
+    (ap (λ (b : BookValue). port_standing b s.next) c.in-Ok-open.ensures ∙ opened_stands s (Some c.journal_room-room.result) o s.next c.in-Ok.ensures.now) c.in-Ok-begin_all.ensures.set

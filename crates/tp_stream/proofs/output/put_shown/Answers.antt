@@ -1,6 +1,6 @@
 use Rattle.std.proofs.Common.{◌≡◌, ◌≤◌, ap, subst, ◌∙◌, arith}
 use Rattle.tp_book.specs.Host.{port_in, shown_from}
-use Rattle.tp_stream_files.specs.Outputs.{Grew}
+use Rattle.tp_stream_files.specs.Outputs.{WasPutSafely}
 use Rattle.tp_stream.proofs.Puts.{puts_grew}
 use Rattle.tp_stream.proofs.output.put_shown.Goals as goal
 
@@ -17,4 +17,4 @@ returns-in-Ok-clause-puts g c =
     let shown : c.shown-bytes.result.now ≡ shown_from b old.port mark old.next =
     c.shown-bytes.ensures.value ∙ ap (λ p. shown_from b p c.mark-mark.result c.put-from.result) port
     ∙ ap (λ m. shown_from b old.port m c.put-from.result) c.mark-mark.ensures ∙ ap (shown_from b old.port mark) from in
-    puts_grew b mark old new low (subst (λ xs. Grew xs old new) shown c.in-Ok.ensures.put)
+    puts_grew b mark old new low (subst (λ xs. WasPutSafely xs old new) shown c.in-Ok.ensures.put)

@@ -1,13 +1,13 @@
 use Rattle.std.proofs.Common.{◌≡◌, ℕ, Bool, false, sym, ap, ◌∙◌}
 use Rattle.tp_book.specs.Needs.{has_recorded_in}
-use Rattle.tp_book.specs.Book.{BookValue, node_count}
+use Rattle.tp_book.specs.Book.{BookValue, count_of_nodes}
 use Rattle.tp_stream.proofs.rounds.look_at.Goals as goal
 
 -- the host hasn't recorded in the book that was seen
-seen_still : (seen one other : BookValue) (nodes : ℕ) (running : Bool) → one ≡ seen → other ≡ seen → nodes ≡ node_count other
-    → running ≡ has_recorded_in one.state.snapshot nodes → running ≡ false → has_recorded_in seen.state.snapshot (node_count seen) ≡ false
+seen_still : (seen one other : BookValue) (nodes : ℕ) (running : Bool) → one ≡ seen → other ≡ seen → nodes ≡ count_of_nodes other
+    → running ≡ has_recorded_in one.state.snapshot nodes → running ≡ false → has_recorded_in seen.state.snapshot (count_of_nodes seen) ≡ false
 seen_still seen one other nodes running first second many is still =
-    ap (has_recorded_in seen.state.snapshot) (sym (many ∙ ap node_count second)) ∙ sym (ap (λ (b : BookValue). has_recorded_in b.state.snapshot nodes) first) ∙ sym is ∙ still
+    ap (has_recorded_in seen.state.snapshot) (sym (many ∙ ap count_of_nodes second)) ∙ sym (ap (λ (b : BookValue). has_recorded_in b.state.snapshot nodes) first) ∙ sym is ∙ still
 
 pub returns : goal.returns
 returns g c still = record {

@@ -4,7 +4,7 @@ use Rattle.tp_flush.specs.Flushing.{IsSameProcess, Walked}
 use Rattle.tp_stream.specs.Looks.{HaveLooked}
 use Rattle.tp_stream.specs.Quiet.{HaveRested, IsWhyEnded}
 use Rattle.tp_stream.specs.Steps.{AllStepped}
-use Rattle.tp_stream.specs.Streamed.{IsBegun}
+use Rattle.tp_stream.specs.Streamed.{CameBegun}
 use Rattle.tp_stream.proofs.serving.cycles.Given as goal
 
 abbrev pub invariant-loop : goal.invariant-loop
@@ -17,5 +17,5 @@ invariant-loop g l = record {
   why : IfOk l.last (λ ended. IfSome ended (IsWhyEnded g.J.Naming.start l.pace.task));
   looks : IfOk l.last (HaveLooked l.pace.task (g.P.Stop.answers l.fn.stop) (g.P.Stop.answers l.stop));
   rested : OnOk l.last (HaveRested g.J.Naming.start l.going.turns.whose l.going.turns.idle);
-  begun : IfErr l.last IsBegun;
+  begun : IfErr l.last CameBegun;
 }

@@ -1,5 +1,5 @@
 use Rattle.std.proofs.Common.{◌<◌, arith, ap, sym, ◌∙◌, length, get_or}
-use Rattle.tp_stream_files.specs.Named.{fresh, output_to}
+use Rattle.tp_stream_files.specs.Named.{fresh_output, output_to}
 use Rattle.tp_stream_files.proofs.Pushed.{map_more, pushed}
 use Rattle.tp_stream_files.proofs.Keeping.{keeps_then}
 use Rattle.tp_stream_files.proofs.opening.outputs_of.Goals as goal
@@ -19,7 +19,7 @@ loop-end-preserved g c = record {
       let haves = c.args.ends.now.haves.items in
       let outs = c.args.ends.now.outs.items in
       let same = c.deref-end-items.ensures.value in
-      let made = c.new.ensures ∙ ap (λ have. fresh end.port have) c.have_of-have.ensures in
+      let made = c.new.ensures ∙ ap (λ have. fresh_output end.port have) c.have_of-have.ensures in
       let long = ap length same in
       let test = c.loop-end-test.true in
       let low : index < length outs = omega (arith, test, long) in

@@ -4,7 +4,7 @@ use Rattle.std.proofs.lemmas.Option.{slice_get_within}
 use Rattle.tp_model.specs.Network.{line_of}
 use Rattle.tp_book.specs.Book.{agreed}
 use Rattle.tp_book.proofs.Commit.{length-agreed}
-use Rattle.tp_turn.specs.Moments.{moment}
+use Rattle.tp_turn.specs.Moments.{moment_of}
 use Rattle.tp_turn.proofs.Possible.{comes_in}
 use Rattle.tp_turn.proofs.Lining.{link_wired, link_unwired}
 use Rattle.tp_turn.proofs.front.act_on_link.Goals as goal
@@ -29,7 +29,7 @@ act_on_line-requires-clause-goes c =
 pub returns-in-Some-clause-done : goal.returns-in-Some-clause-done
 returns-in-Some-clause-done c =
     let b = c.args.book.now.state in
-    link_wired c.args.number c.args.link c.line_of-line.result c.act_on_line.result (moment c.args.book.now c.args.node.now) (moment c.act_on_line.new.book c.act_on_line.new.node)
+    link_wired c.args.number c.args.link c.line_of-line.result c.act_on_line.result (moment_of c.args.book.now c.args.node.now) (moment_of c.act_on_line.new.book c.act_on_line.new.node)
     (ap (option_map (line_of (length b.start.nodes))) (sym c.receiver.ensures ∙ c.in-Some.is)
     ∙ ap (λ n. option_map (line_of n) (Some c.in-Some.end)) (c.known.ensures.shaped.count ∙ sym c.nodes.ensures)
     ∙ ap Some (sym c.line_of-line.ensures.value))
@@ -38,5 +38,5 @@ returns-in-Some-clause-done c =
 pub returns-in-None-clause-done : goal.returns-in-None-clause-done
 returns-in-None-clause-done c =
     let b = c.args.book.now.state in
-    link_unwired c.args.number c.args.link (moment c.args.book.now c.args.node.now)
+    link_unwired c.args.number c.args.link (moment_of c.args.book.now c.args.node.now)
     (ap (option_map (line_of (length b.start.nodes))) (sym c.receiver.ensures ∙ c.in-None.is)) c.requires.is.there

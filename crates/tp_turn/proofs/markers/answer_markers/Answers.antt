@@ -1,5 +1,5 @@
 use Rattle.tp_turn.specs.Turns.{InOrder}
-use Rattle.tp_turn.specs.Moments.{moment}
+use Rattle.tp_turn.specs.Moments.{moment_of}
 use Rattle.tp_turn.specs.Settled.{Records}
 use Rattle.tp_turn.specs.Whole.{ClosesFront}
 use Rattle.tp_turn.proofs.Adding.{order_none, then_more}
@@ -8,16 +8,16 @@ use Rattle.tp_turn.proofs.markers.answer_markers.Goals as goal
 
 pub loop-link-init : goal.loop-link-init
 loop-link-init c =
-    let here = moment c.record_asked.new.book c.record_asked.new.node in
+    let here = moment_of c.record_asked.new.book c.record_asked.new.node in
     record {
-      done = then_more c.args.number (Records c.args.number) (InOrder (λ k. ClosesFront c.args.number k) 0) (moment c.args.book.now c.args.node.now) here here c.record_asked.ensures.done
+      done = then_more c.args.number (Records c.args.number) (InOrder (λ k. ClosesFront c.args.number k) 0) (moment_of c.args.book.now c.args.node.now) here here c.record_asked.ensures.done
           (order_none c.args.number (λ k. ClosesFront c.args.number k) here c.record_asked.ensures.is.there);
       is = c.record_asked.ensures.is;
     }
 
 pub loop-link-preserved : goal.loop-link-preserved
 loop-link-preserved c = record {
-  done = behind_more c.args.number (Records c.args.number) (λ k. ClosesFront c.args.number k) c.loop-link.link (moment c.args.book.now c.args.node.now) (moment c.loop-link.book c.record_asked.new.node)
-      (moment c.close_front.new.book c.record_asked.new.node) c.loop-link.invariant.done c.close_front.ensures.done;
+  done = behind_more c.args.number (Records c.args.number) (λ k. ClosesFront c.args.number k) c.loop-link.link (moment_of c.args.book.now c.args.node.now) (moment_of c.loop-link.book c.record_asked.new.node)
+      (moment_of c.close_front.new.book c.record_asked.new.node) c.loop-link.invariant.done c.close_front.ensures.done;
   is = c.close_front.ensures.is;
 }

@@ -3,7 +3,7 @@ use Rattle.std.proofs.lemmas.Option.{slice_get_within}
 use Rattle.tp_book.specs.Needs.{is_asked}
 use Rattle.tp_book.specs.Book.{agreed}
 use Rattle.tp_book.proofs.Commit.{length-agreed}
-use Rattle.tp_turn.specs.Moments.{moment, IsNodeOf, Done}
+use Rattle.tp_turn.specs.Moments.{moment_of, IsNodeOf, Done}
 use Rattle.tp_turn.specs.Settled.{Records}
 use Rattle.tp_turn.proofs.Recording.{asked_thawed, recorded_done, recorded_is, unasked_done}
 use Rattle.tp_turn.proofs.settling.record_asked.Goals as goal
@@ -28,7 +28,7 @@ record-requires-clause-there c =
 pub returns-then-asked-clause-done : goal.returns-then-asked-clause-done
 returns-then-asked-clause-done c =
     let asked : is_asked c.args.book.now.state.snapshot c.args.number ≡ true = search rules in
-    subst (λ m. Done c.args.number (Records c.args.number) (moment c.args.book.now c.args.node.now) (moment c.record.new.self m)) (sym c.freeze.ensures.frozen)
+    subst (λ m. Done c.args.number (Records c.args.number) (moment_of c.args.book.now c.args.node.now) (moment_of c.record.new.self m)) (sym c.freeze.ensures.frozen)
     (recorded_done c.args.book.now c.record.new.self c.args.number c.args.node.now asked c.record.ensures.book c.requires.is c.record.ensures.act)
 
 pub returns-then-asked-clause-is : goal.returns-then-asked-clause-is

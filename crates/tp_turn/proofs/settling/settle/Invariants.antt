@@ -1,10 +1,10 @@
 use Rattle.tp_turn.specs.Turns.{Then, InOrder}
-use Rattle.tp_turn.specs.Moments.{moment, IsNodeOf, Done}
+use Rattle.tp_turn.specs.Moments.{moment_of, IsNodeOf, Done}
 use Rattle.tp_turn.specs.Settled.{Records, LeavesLink}
 use Rattle.tp_turn.proofs.settling.settle.Given as goal
 
 abbrev pub invariant-loop-link : goal.invariant-loop-link
 invariant-loop-link l = record {
-  done : Done l.number (Then (Records l.number) (InOrder (λ k. LeavesLink l.number k) l.link)) (moment l.fn.book l.fn.node) (moment l.book l.node);
+  done : Done l.number (Then (Records l.number) (InOrder (λ k. LeavesLink l.number k) l.link)) (moment_of l.fn.book l.fn.node) (moment_of l.book l.node);
   is : IsNodeOf l.book l.number l.node;
 }

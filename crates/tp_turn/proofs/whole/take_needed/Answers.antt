@@ -4,7 +4,7 @@ use Rattle.tp_book.specs.Needs.{has_recorded_in}
 use Rattle.tp_book.specs.Calls.{without_run}
 use Rattle.tp_book.specs.declared.refusal.Refusal.TheVariants.{JournalFull}
 use Rattle.tp_book.specs.Turning.{takes_refusal}
-use Rattle.tp_turn.specs.Moments.{moment, Added, Done}
+use Rattle.tp_turn.specs.Moments.{moment_of, Added, Done}
 use Rattle.tp_turn.specs.Whole.{EndsWhole}
 use Rattle.tp_turn.proofs.Ahead.{rests_ahead}
 use Rattle.tp_turn.proofs.Wholes.{full_unrecorded, full_recorded, is_reserved, made_free, needed, receives_before, unreserved}
@@ -38,6 +38,6 @@ pub returns-in-Err-clause-done : goal.returns-in-Err-clause-done
 returns-in-Err-clause-done c =
     let b = c.args.book.now in
     let recorded : has_recorded_in b.state.snapshot c.args.number ≡ true = search rules in
-    subst (λ x. Done c.args.number (EndsWhole c.args.number c.in-Err.refusal) (moment b c.args.node.now) (moment x c.args.node.now)) (sym c.in-Err.ensures.err)
+    subst (λ x. Done c.args.number (EndsWhole c.args.number c.in-Err.refusal) (moment_of b c.args.node.now) (moment_of x c.args.node.now)) (sym c.in-Err.ensures.err)
     (unreserved c.args.number b c.args.node.now c.in-Err.refusal c.requires.is.there
     (full_recorded b (has_recorded_in b.state.snapshot c.args.number) c.in-Err.refusal recorded c.in-Err.ensures.answer))

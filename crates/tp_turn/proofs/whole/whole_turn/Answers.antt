@@ -1,6 +1,6 @@
 use Rattle.std.proofs.Common.{length, ap, arith}
 use Rattle.tp_node.proofs.Answered.{why_most}
-use Rattle.tp_turn.specs.Moments.{moment}
+use Rattle.tp_turn.specs.Moments.{moment_of}
 use Rattle.tp_turn.proofs.Ahead.{ran_ahead}
 use Rattle.tp_turn.proofs.Wholes.{whole_done}
 use Rattle.tp_turn.proofs.whole.whole_turn.Goals as goal
@@ -16,6 +16,6 @@ commit_whole-ran-requires-clause-turned c =
 pub returns-clause-done : goal.returns-clause-done
 returns-clause-done c =
     rw c.commit_whole-ran.ensures.ran
-    (whole_done c.args.number c.args.quantum (record { takes = c.len-takes.result; ran = c.run_node-stretch.result.ran }) c.in_ok-taken.taken (moment c.args.book.now c.args.node.now) (moment c.open_whole.new.book c.open_whole.new.node)
-    (moment c.commit_whole-ran.new.book c.run_node-stretch.new.node) c.requires.free c.in_ok-taken.ensures.opens (omega (arith, c.len-takes.ensures.value, ap length c.tokens_of.ensures.tokens)) c.commit_whole-ran.ensures.added
+    (whole_done c.args.number c.args.quantum (record { takes = c.len-takes.result; ran = c.run_node-stretch.result.ran }) c.in_ok-taken.taken (moment_of c.args.book.now c.args.node.now) (moment_of c.open_whole.new.book c.open_whole.new.node)
+    (moment_of c.commit_whole-ran.new.book c.run_node-stretch.new.node) c.requires.free c.in_ok-taken.ensures.opens (omega (arith, c.len-takes.ensures.value, ap length c.tokens_of.ensures.tokens)) c.commit_whole-ran.ensures.added
     c.run_node-stretch.ensures.asked c.run_node-stretch.ensures.why c.run_node-stretch.ensures.kept c.run_node-stretch.ensures.shared)

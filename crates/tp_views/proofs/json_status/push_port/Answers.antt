@@ -1,6 +1,6 @@
 use Rattle.std.proofs.Common.{◌≡◌, ◌∙◌, ◌++◌, List, ℕ, ap, append_assoc, length, string_bytes, Ok, Err, Result, OnOk}
 use Rattle.tp_views.specs.JsonStatus.{accepted_json, out_json}
-use Rattle.tp_views.specs.Status.{accepted, accepted_before, out_before, put_out}
+use Rattle.tp_views.specs.Status.{bytes_accepted, accepted_before, out_before, bytes_put_out}
 use Rattle.tp_views.proofs.json_status.push_port.Goals as goal
 
 on_ok : {T E : Type 0} (P Q : Type 0) (r : Result T E) → (P → Q) → OnOk r P → OnOk r Q
@@ -11,8 +11,8 @@ pub returns : goal.returns
 returns c =
     let port = c.args.port.now.port in
     let text : List ℕ = string_bytes c.args.text.now in
-    let first : List ℕ = accepted_json (accepted port) (accepted_before c.args.millis c.args.before) (length port.pending) in
-    let second : List ℕ = out_json (put_out port) (out_before c.args.millis c.args.before) (length port.outputs) in
+    let first : List ℕ = accepted_json (bytes_accepted port) (accepted_before c.args.millis c.args.before) (length port.pending) in
+    let second : List ℕ = out_json (bytes_put_out port) (out_before c.args.millis c.args.before) (length port.outputs) in
     let took : string_bytes c.push_accepted.new.text ≡ text ++ first =
     c.in_ok-push_accepted.ensures
     ∙ (λ i. text ++ accepted_json (c.accepted.ensures.value i) (c.accepted_before-then_accepted.ensures i) (length (c.pending.ensures i))) in

@@ -2,7 +2,7 @@ use Rattle.std.proofs.Common.{◌≡◌, ◌∙◌, ◌++◌, List, ℕ, ap, app
 use Rattle.tp_model.specs.Opening.{next_of}
 use Rattle.tp_views.specs.Json.{json_items}
 use Rattle.tp_views.specs.JsonStatus.{front_json, halts_json, journal_json, port_items}
-use Rattle.tp_views.specs.Status.{next_before, room_of}
+use Rattle.tp_views.specs.Status.{next_before, entries_room}
 use Rattle.tp_views.proofs.json_status.status_json.Goals as goal
 
 pub returns : goal.returns
@@ -12,7 +12,7 @@ returns c =
     let at = c.args.at in
     let before = c.args.before.now in
     let front : List ℕ = front_json held o.generation o.form (next_of o) (next_before at before) in
-    let journal : List ℕ = journal_json (length o.kept) (room_of o) in
+    let journal : List ℕ = journal_json (length o.kept) (entries_room o) in
     let ports : List ℕ = json_items 0 (port_items 0 at before o.now.ports) in
     let halts : List ℕ = halts_json o.now.nodes in
     let fronted : string_bytes c.push_front.new.text ≡ front =

@@ -4,7 +4,7 @@ use Rattle.tp_model.specs.WholeCut.{whole, whole_of}
 use Rattle.tp_law_machine.proofs.LinkLaws.{has_four_links}
 use Rattle.tp_law_network.proofs.Whole.{whole_holds, whole_only, whole_there}
 use Rattle.tp_book.specs.Book.{world_of}
-use Rattle.tp_book.specs.Whole.{book_of}
+use Rattle.tp_book.specs.Whole.{book_inside}
 use Rattle.tp_book.proofs.book.Book.whole.Goals as goal
 
 pub returns-clause-value : goal.returns-clause-value
@@ -15,10 +15,10 @@ returns-clause-value c =
     ∙ ap (λ wires. whole_of wires (length c.self.inside.journal.state.lines) c.self.inside.snapshots.snapshot) c.wires.ensures.value)
 
 pub returns-clause-holds : goal.returns-clause-holds
-returns-clause-holds c = rw (← c.self.view_is) (whole_holds t414 has_four_links (world_of (book_of c.self.inside)) c.self.invariant.holds)
+returns-clause-holds c = rw (← c.self.view_is) (whole_holds t414 has_four_links (world_of (book_inside c.self.inside)) c.self.invariant.holds)
 
 pub returns-clause-only : goal.returns-clause-only
-returns-clause-only c = rw (← c.self.view_is) (whole_only t414 (world_of (book_of c.self.inside)) c.self.invariant.holds)
+returns-clause-only c = rw (← c.self.view_is) (whole_only t414 (world_of (book_inside c.self.inside)) c.self.invariant.holds)
 
 pub returns-clause-there : goal.returns-clause-there
-returns-clause-there c = rw (← c.self.view_is) (whole_there t414 (world_of (book_of c.self.inside)) c.self.invariant.holds)
+returns-clause-there c = rw (← c.self.view_is) (whole_there t414 (world_of (book_inside c.self.inside)) c.self.invariant.holds)

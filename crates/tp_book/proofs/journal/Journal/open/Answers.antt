@@ -1,7 +1,7 @@
 use Rattle.std.proofs.Common.{◌<◌, ◌≤◌, false, sym, refl, ap, subst, ◌∙◌, None, length, map, replicate}
 use Rattle.std.specs.Prelude.{vec_len}
 use Rattle.std.specs.Prelude.{slice_index_or}
-use Rattle.tp_book.specs.PortParts.{port_of}
+use Rattle.tp_book.specs.PortParts.{port_made}
 use Rattle.tp_book.specs.Ports.{opened_port}
 use Rattle.tp_book.specs.declared.journal.Journal.TheInside.{Inside}
 use Rattle.tp_book.proofs.Opened.{vec_few, opened_fields, opened_value}
@@ -17,7 +17,7 @@ invariant_of-result c =
     opened_fields b c.args.state.now c.requires c.again.ensures
     (c.in_ok-from_slice.ensures.items ∙ c.deref.ensures.value)
     (c.in_ok-lines_with.ensures ∙ ap (map (λ line. line.items)) c.deref-2.ensures.value)
-    (c.in_ok-ports_with.ensures ∙ ap (map (λ port. opened_port (port_of port))) c.deref-3.ensures.value)
+    (c.in_ok-ports_with.ensures ∙ ap (map (λ port. opened_port (port_made port))) c.deref-3.ensures.value)
     (c.in_ok-from_elem.ensures.items_if_clones_equal (λ y e. cc) ∙ ap (λ n. replicate n false) c.len.ensures)
     (c.in_ok-from_slice-2.ensures.items ∙ c.deref-4.ensures.value) refl c.book_form.ensures
 
@@ -27,6 +27,6 @@ returns c =
     opened_value b c.args.state.now c.requires c.again.ensures
     (c.in_ok-from_slice.ensures.items ∙ c.deref.ensures.value)
     (c.in_ok-lines_with.ensures ∙ ap (map (λ line. line.items)) c.deref-2.ensures.value)
-    (c.in_ok-ports_with.ensures ∙ ap (map (λ port. opened_port (port_of port))) c.deref-3.ensures.value)
+    (c.in_ok-ports_with.ensures ∙ ap (map (λ port. opened_port (port_made port))) c.deref-3.ensures.value)
     (c.in_ok-from_elem.ensures.items_if_clones_equal (λ y e. cc) ∙ ap (λ n. replicate n false) c.len.ensures)
     (c.in_ok-from_slice-2.ensures.items ∙ c.deref-4.ensures.value) refl c.book_form.ensures

@@ -16,7 +16,7 @@ use Rattle.tp_area.specs.Tails.{content_beside}
 use Rattle.tp_flush.specs.Copying.{IsPartOut}
 use Rattle.tp_flush.specs.Progress.{is_out}
 use Rattle.tp_flush.specs.Known.{Began, Known}
-use Rattle.tp_flush.specs.Flushing.{Copies, Flushing, Goes, HeadSays, IsOfDevice, Keeps}
+use Rattle.tp_flush.specs.Flushing.{KeepsCopy, Flushing, FlushedOn, HeadSays, IsOfDevice, KeepsWorld}
 use Rattle.tp_flush.specs.Ends.{Tried}
 use Rattle.tp_flush.proofs.Appends.{opens, rests_unbroken}
 use Rattle.tp_flush.proofs.Closed.{clear_content, put_copies}
@@ -30,7 +30,7 @@ use Rattle.tp_flush.proofs.flusher.Flusher.clear.Goals as goal
 
 pub returns-then-parts-clause-goes : goal.returns-then-parts-clause-goes
 returns-then-parts-clause-goes g c =
-    subst (λ (v : Flushing). Goes g.D.Disk.keeps g.J.Naming.formatted g.J.Naming.before c.args.self.now v) (sym c.self.view_is)
+    subst (λ (v : Flushing). FlushedOn g.D.Disk.keeps g.J.Naming.formatted g.J.Naming.before c.args.self.now v) (sym c.self.view_is)
     (goes_still g.D.Disk.keeps g.J.Naming.formatted g.J.Naming.before c.args.self.now c.known.ensures.disk)
 
 resting : (g : given.Over) (c : goal.After-answer_of g) → c.self.inside.parts.whole.known.world.at ≡ Resting
@@ -69,15 +69,15 @@ invariant_of-self-2 g c =
     let a = c.clear_other-done in
     let s : State = g.D.Disk.state p.store.disk in
     let new : State = g.D.Disk.state a.new.self.disk in
-    let K = subst (λ broken. Keeps g.D.Disk.keeps g.J.Naming.formatted g.J.Naming.before p.whole.known s p.store.place broken p.raiser.at) (unbroken g c) c.self.invariant.3 in (
+    let K = subst (λ broken. KeepsWorld g.D.Disk.keeps g.J.Naming.formatted g.J.Naming.before p.whole.known s p.store.place broken p.raiser.at) (unbroken g c) c.self.invariant.3 in (
       c.self.invariant.0,
       c.self.invariant.1,
       subst (λ (k : Known). IsFirst p.key.value k.world) (sym c.of-parts.ensures) (told_put p.key.value a.new.self.broken p.whole.known.world new.now c.self.invariant.2),
-      subst (λ (k : Known). Keeps g.D.Disk.keeps g.J.Naming.formatted g.J.Naming.before k new a.new.self.place a.new.self.broken p.raiser.at) (sym c.of-parts.ensures)
-          (subst (λ place. Keeps g.D.Disk.keeps g.J.Naming.formatted g.J.Naming.before (put_known p.whole.known a.new.self.broken new) new place a.new.self.broken p.raiser.at) (sym a.ensures.place)
+      subst (λ (k : Known). KeepsWorld g.D.Disk.keeps g.J.Naming.formatted g.J.Naming.before k new a.new.self.place a.new.self.broken p.raiser.at) (sym c.of-parts.ensures)
+          (subst (λ place. KeepsWorld g.D.Disk.keeps g.J.Naming.formatted g.J.Naming.before (put_known p.whole.known a.new.self.broken new) new place a.new.self.broken p.raiser.at) (sym a.ensures.place)
           (put_keeps g.D.Disk.keeps g.J.Naming.formatted g.J.Naming.before p.whole.known s p.store.place p.raiser.at K new a.new.self.broken (walked g c))),
-      subst (λ (k : Known). Copies g.D.Disk.keeps k.world.net new a.new.self.place a.new.self.broken p.topology (record p.progress { cleared = true })) (sym c.of-parts.ensures)
-          (subst (λ net. Copies g.D.Disk.keeps net new a.new.self.place a.new.self.broken p.topology (record p.progress { cleared = true })) (sym (put_net a.new.self.broken p.whole.known.world new.now))
+      subst (λ (k : Known). KeepsCopy g.D.Disk.keeps k.world.net new a.new.self.place a.new.self.broken p.topology (record p.progress { cleared = true })) (sym c.of-parts.ensures)
+          (subst (λ net. KeepsCopy g.D.Disk.keeps net new a.new.self.place a.new.self.broken p.topology (record p.progress { cleared = true })) (sym (put_net a.new.self.broken p.whole.known.world new.now))
           (put_copies g.D.Disk.keeps p.whole.known.world.net new p.store.place a.new.self.place p.topology (record p.progress { cleared = true }) a.result a.new.self.broken (g.D.Disk.failures_of p.store.disk) (g.D.Disk.failures_of a.new.self.disk) c.self.invariant.4.roomy (answered g c) a.ensures.place
           (λ k. on_ok a.result (Cleared p.store.place s new) (OtherIsClosed p.store.place new) (λ P. P.closed) (a.ensures.cleared k))
           (λ k. on_ok a.result (Cleared p.store.place s new) ((i : ℕ) → i < length p.topology.pages → is_out (record p.progress { cleared = true }) i ≡ true → IsPartOut p.topology p.whole.known.world.net (content_beside p.store.place new) i (get_or p.topology.pages i 0))
@@ -138,7 +138,7 @@ returns-clause-goes g c =
     let a = c.clear_other-done in
     let s : State = g.D.Disk.state p.store.disk in
     let new : State = g.D.Disk.state a.new.self.disk in
-    subst (λ (v : Flushing). Goes g.D.Disk.keeps g.J.Naming.formatted g.J.Naming.before v (behind g c)) c.self.view_is (record {
+    subst (λ (v : Flushing). FlushedOn g.D.Disk.keeps g.J.Naming.formatted g.J.Naming.before v (behind g c)) c.self.view_is (record {
       walks = λ k began. subst (λ (x : Known). Walks t414 device_areas p.whole.known.world x.world s new) (sym c.of-parts.ensures) (walked g c k began);
       process = record { opened = ap (λ (k : Known). k.opened) c.of-parts.ensures; size = a.ensures.size; topology = refl };
     })

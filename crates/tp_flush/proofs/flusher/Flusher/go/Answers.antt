@@ -1,7 +1,7 @@
 use Rattle.std.proofs.Common.{[], length, inl, subst, sym, ◌∙◌, arith, rules}
 use Rattle.tp_flush.proofs.Imaging.{imaged_between}
 use Rattle.tp_flush.specs.CopiedIn.{CopiedIn}
-use Rattle.tp_flush.specs.Flushing.{Goes}
+use Rattle.tp_flush.specs.Flushing.{FlushedOn}
 use Rattle.tp_flush.specs.Ends.{WaitsBehind}
 use Rattle.tp_flush.proofs.Endings.{looked_waits, stored_ended, waits_then}
 use Rattle.tp_flush.proofs.Goings.{behind_ended, done_generation, done_rested, goes_looked, goes_then, raised_behind, went_on_mark}
@@ -48,7 +48,7 @@ raised_failed g c =
     (waits_then c.args.self.now c.copy_under.new.self c.append_all.new.self (looked_waits c.args.self.now c.copy_under.new.self c.requires.rests c.copy_under.ensures.looked c.copy_under.ensures.mark) S.0)
     R.looked (omega (arith, R.up, R.mark)) (omega (arith, R.reaches, R.mark))
 
-went_on_failed : (g : given.Over) (c : goal.After-drop-backlog-in_err-done g) → Goes g.D.Disk.keeps g.J.Naming.formatted g.J.Naming.before c.args.self.now c.raise.new.self
+went_on_failed : (g : given.Over) (c : goal.After-drop-backlog-in_err-done g) → FlushedOn g.D.Disk.keeps g.J.Naming.formatted g.J.Naming.before c.args.self.now c.raise.new.self
 went_on_failed g c =
     goes_then g.D.Disk.keeps g.J.Naming.formatted g.J.Naming.before c.args.self.now c.append_all.new.self c.raise.new.self
     (goes_then g.D.Disk.keeps g.J.Naming.formatted g.J.Naming.before c.args.self.now c.copy_under.new.self c.append_all.new.self
@@ -78,7 +78,7 @@ raised g c =
     (waits_then c.args.self.now c.copy_under.new.self c.append_all.new.self (looked_waits c.args.self.now c.copy_under.new.self c.requires.rests c.copy_under.ensures.looked c.copy_under.ensures.mark) S.0)
     R.looked (omega (arith, R.up, R.mark)) (omega (arith, R.reaches, R.mark))
 
-went_on : (g : given.Over) (c : goal.After-drop-backlog-2 g) → Goes g.D.Disk.keeps g.J.Naming.formatted g.J.Naming.before c.args.self.now c.raise.new.self
+went_on : (g : given.Over) (c : goal.After-drop-backlog-2 g) → FlushedOn g.D.Disk.keeps g.J.Naming.formatted g.J.Naming.before c.args.self.now c.raise.new.self
 went_on g c =
     goes_then g.D.Disk.keeps g.J.Naming.formatted g.J.Naming.before c.args.self.now c.append_all.new.self c.raise.new.self
     (goes_then g.D.Disk.keeps g.J.Naming.formatted g.J.Naming.before c.args.self.now c.copy_under.new.self c.append_all.new.self

@@ -5,7 +5,7 @@ use Rattle.tp_model.specs.Journal.{is_roomy}
 use Rattle.tp_flush.specs.declared.progress.Progress.{Progress}
 use Rattle.tp_flush.specs.Progress.{not_begun}
 use Rattle.tp_flush.specs.Known.{Known}
-use Rattle.tp_flush.specs.Flushing.{IsOfDevice, Keeps}
+use Rattle.tp_flush.specs.Flushing.{IsOfDevice, KeepsWorld}
 use Rattle.tp_model.specs.NodeState.{NodeState}
 use Rattle.tp_model.specs.Snapshot.{MarkedNetwork}
 use Rattle.std.proofs.lemmas.Bool.{true≢false}
@@ -25,7 +25,7 @@ invariant_of-result g c =
       c.requires.name,
       ap (λ (r : RaiserValue). r.mark) c.requires.raiser,
       subst (λ (k : Known). IsFirst key k.world) (sym c.of-whole.ensures) (record { net = refl; base = refl; journal = refl }),
-      subst (λ (k : Known). Keeps g.D.Disk.keeps g.J.Naming.formatted g.J.Naming.before k s place broken raiser.at) (sym c.of-whole.ensures)
+      subst (λ (k : Known). KeepsWorld g.D.Disk.keeps g.J.Naming.formatted g.J.Naming.before k s place broken raiser.at) (sym c.of-whole.ensures)
           (first_keeps g.J.Naming.before key.net key.base key.journal c.args.opened.value s.now.bytes place.next c.requires.told.net c.requires.told.base c.requires.told.journal c.requires.next
           g.D.Disk.keeps g.J.Naming.formatted s place broken raiser.at refl refl c.requires.unbroken (ap (λ (r : RaiserValue). r.at) c.requires.raiser ∙ sym c.requires.next) c.requires.read c.requires.synced),
       record {

@@ -1,5 +1,5 @@
 use Rattle.std.proofs.Common.{get_or, ap, subst, sym}
-use Rattle.tp_flush.specs.Flushing.{Copies, Flushing}
+use Rattle.tp_flush.specs.Flushing.{KeepsCopy, Flushing}
 use Rattle.tp_area.specs.Tails.{content_beside}
 use Rattle.tp_flush.specs.declared.progress.Progress.{Progress}
 use Rattle.tp_flush.specs.Copying.{IsPartOut}
@@ -19,7 +19,7 @@ invariant_of-self g c =
       c.self.invariant.1,
       c.self.invariant.2,
       c.self.invariant.3,
-      subst (λ (q : Progress). Copies g.D.Disk.keeps p.whole.known.world.net (g.D.Disk.state p.store.disk) p.store.place p.store.broken p.topology q) (sym c.put_out.ensures.with)
+      subst (λ (q : Progress). KeepsCopy g.D.Disk.keeps p.whole.known.world.net (g.D.Disk.state p.store.disk) p.store.place p.store.broken p.topology q) (sym c.put_out.ensures.with)
           (out_more g.D.Disk.keeps p.whole.known.world.net (g.D.Disk.state p.store.disk) p.store.place p.store.broken p.topology p.progress c.args.node c.self.invariant.4
           (λ k. subst (λ (v : Flushing). IsPartOut v.topology v.world.net (content_beside v.place v.state) c.args.node (get_or v.topology.pages c.args.node 0)) (sym c.self.view_is) (c.requires.stands k))),
       c.self.invariant.5,

@@ -4,10 +4,10 @@ use Rattle.tp_ready.specs.Seen.{RaiserValue}
 use Rattle.tp_model.specs.DiskHistory.{State}
 use Rattle.tp_model.specs.Node.{t414}
 use Rattle.tp_model.specs.DeviceAreas.{device_areas}
-use Rattle.tp_model.specs.Walks.{Leads}
+use Rattle.tp_model.specs.Walks.{RunLeads}
 use Rattle.tp_shared.specs.Told.{IsFirst}
 use Rattle.tp_flush.specs.Known.{Known}
-use Rattle.tp_flush.specs.Flushing.{Copies, Flushing, IsOfDevice, Keeps, Looked}
+use Rattle.tp_flush.specs.Flushing.{KeepsCopy, Flushing, IsOfDevice, KeepsWorld, OnlyLooked}
 use Rattle.tp_flush.proofs.Devices.{raise_device}
 use Rattle.tp_flush.proofs.Kept.{raise_keeps}
 use Rattle.tp_flush.proofs.Goings.{goes_looked}
@@ -19,12 +19,12 @@ pub raise-requires : goal.raise-requires
 raise-requires g c = c.self.invariant.1 ∙ sym c.mark.ensures
 
 kept : (g : given.Over) (c : goal.After-raised g)
-    → Keeps g.D.Disk.keeps g.J.Naming.formatted g.J.Naming.before c.of-parts.result.known (g.D.Disk.state c.self.inside.parts.store.disk) c.self.inside.parts.store.place c.self.inside.parts.store.broken c.raise.new.raiser.at
+    → KeepsWorld g.D.Disk.keeps g.J.Naming.formatted g.J.Naming.before c.of-parts.result.known (g.D.Disk.state c.self.inside.parts.store.disk) c.self.inside.parts.store.place c.self.inside.parts.store.broken c.raise.new.raiser.at
 kept g c =
     let p = c.self.inside.parts in
     let s : State = g.D.Disk.state p.store.disk in
-    subst (λ (k : Known). Keeps g.D.Disk.keeps g.J.Naming.formatted g.J.Naming.before k s p.store.place p.store.broken c.raise.new.raiser.at) (sym c.of-parts.ensures)
-    (subst (Keeps g.D.Disk.keeps g.J.Naming.formatted g.J.Naming.before (record { world = record p.whole.known.world { mark = max p.whole.known.world.mark p.whole.known.world.stored }; opened = p.whole.known.opened }) s p.store.place p.store.broken)
+    subst (λ (k : Known). KeepsWorld g.D.Disk.keeps g.J.Naming.formatted g.J.Naming.before k s p.store.place p.store.broken c.raise.new.raiser.at) (sym c.of-parts.ensures)
+    (subst (KeepsWorld g.D.Disk.keeps g.J.Naming.formatted g.J.Naming.before (record { world = record p.whole.known.world { mark = max p.whole.known.world.mark p.whole.known.world.stored }; opened = p.whole.known.opened }) s p.store.place p.store.broken)
     (sym (ap (λ (r : RaiserValue). r.at) c.raise.ensures))
     (raise_keeps g.D.Disk.keeps g.J.Naming.formatted g.J.Naming.before p.whole.known s p.store.place p.store.broken p.raiser.at c.self.invariant.3))
 
@@ -36,7 +36,7 @@ invariant_of-self g c =
       ap (λ (r : RaiserValue). r.mark) c.raise.ensures ∙ c.self.invariant.1,
       subst (λ (k : Known). IsFirst p.key.value k.world) (sym c.of-parts.ensures) (record { net = F.net; base = F.base; journal = F.journal }),
       kept g c,
-      subst (λ (k : Known). Copies g.D.Disk.keeps k.world.net (g.D.Disk.state p.store.disk) p.store.place p.store.broken p.topology p.progress) (sym c.of-parts.ensures) c.self.invariant.4,
+      subst (λ (k : Known). KeepsCopy g.D.Disk.keeps k.world.net (g.D.Disk.state p.store.disk) p.store.place p.store.broken p.topology p.progress) (sym c.of-parts.ensures) c.self.invariant.4,
       subst (λ (k : Known). IsOfDevice g.D.Disk.keeps g.J.Naming.room k.world (g.D.Disk.state p.store.disk) p.store.place p.store.broken p.topology) (sym c.of-parts.ensures)
           (raise_device g.D.Disk.keeps g.J.Naming.room p.whole.known.world (g.D.Disk.state p.store.disk) p.store.place p.store.broken p.topology c.self.invariant.5),
       subst (λ (k : Known). g.J.Naming.first ≤ k.world.stored) (sym c.of-parts.ensures) c.self.invariant.6,
@@ -66,11 +66,11 @@ flushing g c k =
       progress = p.progress;
     }
 
-looked : (g : given.Over) (c : goal.After-raised g) → Looked c.args.self.now (flushing g c c.of-parts.result.known)
+looked : (g : given.Over) (c : goal.After-raised g) → OnlyLooked c.args.self.now (flushing g c c.of-parts.result.known)
 looked g c =
     let p = c.self.inside.parts in
-    let L : Looked (flushing g c p.whole.known) (flushing g c c.of-parts.result.known) = record {
-      led = subst (λ (k : Known). Leads t414 device_areas p.whole.known.world k.world) (sym c.of-parts.ensures) (raises p.whole.known.world);
+    let L : OnlyLooked (flushing g c p.whole.known) (flushing g c c.of-parts.result.known) = record {
+      led = subst (λ (k : Known). RunLeads t414 device_areas p.whole.known.world k.world) (sym c.of-parts.ensures) (raises p.whole.known.world);
       at = ap (λ (k : Known). k.world.at) c.of-parts.ensures;
       stored = ap (λ (k : Known). k.world.stored) c.of-parts.ensures;
       disk = ap (λ (k : Known). k.world.disk) c.of-parts.ensures;
@@ -82,7 +82,7 @@ looked g c =
       topology = refl;
       progress = refl;
     } in
-    subst (λ (v : Flushing). Looked v (flushing g c c.of-parts.result.known)) c.self.view_is L
+    subst (λ (v : Flushing). OnlyLooked v (flushing g c c.of-parts.result.known)) c.self.view_is L
 
 pub returns-clause-looked : goal.returns-clause-looked
 returns-clause-looked g c = looked g c

@@ -3,7 +3,7 @@ use Rattle.tp_model.specs.DiskHistory.{State}
 use Rattle.tp_shared.specs.Told.{IsFirst}
 use Rattle.tp_shared.specs.Pieces.{IsFrozenPage}
 use Rattle.tp_flush.specs.Known.{Known}
-use Rattle.tp_flush.specs.Flushing.{Copies, Flushing, IsOfDevice, Keeps, Looked}
+use Rattle.tp_flush.specs.Flushing.{KeepsCopy, Flushing, IsOfDevice, KeepsWorld, OnlyLooked}
 use Rattle.tp_model.specs.FrozenAs.{IsFrozenAs}
 use Rattle.tp_flush.proofs.Closed.{frozen_told, look_copies}
 use Rattle.tp_flush.proofs.Devices.{look_device}
@@ -21,9 +21,9 @@ invariant_of-self g c =
       c.frozen_page-found.ensures.name ∙ c.self.invariant.0,
       c.self.invariant.1,
       subst (λ (k : Known). IsFirst now k.world) (sym c.of-parts.ensures) (record { net = refl; base = refl; journal = refl }),
-      subst (λ (k : Known). Keeps g.D.Disk.keeps g.J.Naming.formatted g.J.Naming.before k s p.store.place p.store.broken p.raiser.at) (sym c.of-parts.ensures)
+      subst (λ (k : Known). KeepsWorld g.D.Disk.keeps g.J.Naming.formatted g.J.Naming.before k s p.store.place p.store.broken p.raiser.at) (sym c.of-parts.ensures)
           (learn_keeps g.D.Disk.keeps g.J.Naming.formatted g.J.Naming.before p.whole.known s p.store.place p.store.broken p.raiser.at c.self.invariant.3 p.key.value now c.self.invariant.2 c.frozen_page-found.ensures.since),
-      subst (λ (k : Known). Copies g.D.Disk.keeps k.world.net s p.store.place p.store.broken p.topology p.progress) (sym c.of-parts.ensures)
+      subst (λ (k : Known). KeepsCopy g.D.Disk.keeps k.world.net s p.store.place p.store.broken p.topology p.progress) (sym c.of-parts.ensures)
           (look_copies g.D.Disk.keeps p.whole.known.world p.key.value now s p.store.place p.store.broken p.topology p.progress c.self.invariant.2 c.frozen_page-found.ensures.since c.self.invariant.4),
       subst (λ (k : Known). IsOfDevice g.D.Disk.keeps g.J.Naming.room k.world s p.store.place p.store.broken p.topology) (sym c.of-parts.ensures)
           (look_device g.D.Disk.keeps g.J.Naming.room p.whole.known.world p.key.value now s p.store.place p.store.broken p.topology c.self.invariant.2 c.frozen_page-found.ensures.since c.self.invariant.5),
@@ -47,11 +47,11 @@ flushing g c k =
       progress = p.progress;
     }
 
-looked : (g : given.Over) (c : goal.After-parts-2-1 g) → Looked c.args.self.now (flushing g c c.of-parts.result.known)
+looked : (g : given.Over) (c : goal.After-parts-2-1 g) → OnlyLooked c.args.self.now (flushing g c c.of-parts.result.known)
 looked g c =
     let p = c.self.inside.parts in
-    subst (λ (v : Flushing). Looked v (flushing g c c.of-parts.result.known)) c.self.view_is
-    (subst (λ (k : Known). Looked (flushing g c p.whole.known) (flushing g c k)) (sym c.of-parts.ensures)
+    subst (λ (v : Flushing). OnlyLooked v (flushing g c c.of-parts.result.known)) c.self.view_is
+    (subst (λ (k : Known). OnlyLooked (flushing g c p.whole.known) (flushing g c k)) (sym c.of-parts.ensures)
     (learned_looked p.whole.known.world p.key.value c.frozen_page-found.new.key.value c.self.invariant.2 c.frozen_page-found.ensures.since (g.D.Disk.state p.store.disk) (g.D.Disk.size_of p.store.disk) (g.D.Disk.failures_of p.store.disk) p.whole.known.opened p.store.place p.topology p.progress))
 
 pub returns-clause-went : goal.returns-clause-went

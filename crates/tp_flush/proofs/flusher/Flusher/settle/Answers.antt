@@ -2,7 +2,7 @@ use Rattle.std.proofs.Common.{sym, subst, arith}
 use Rattle.tp_model.specs.Disk.{MayBe}
 use Rattle.tp_flush.specs.Flushing.{Flushing}
 use Rattle.tp_flush.specs.Known.{Began}
-use Rattle.tp_flush.specs.Settled.{Stand}
+use Rattle.tp_flush.specs.Settled.{SlipsStand}
 use Rattle.tp_flush.proofs.Settling.{below_more, now_recovers, recovers_with}
 use Rattle.tp_flush.proofs.flusher.Flusher.settle.Goals as goal
 
@@ -14,5 +14,5 @@ returns-clause-recovers g c k began seen left may =
     recovers_with g.J.Naming.formatted w.journal w.mark c.args.receipt.now.seat left
     (now_recovers g.J.Naming.formatted w reached left (subst (λ m. MayBe m left) (sym (c.known.ensures.disk k)) may))
     (below_more c.args.receipt.now.number w.mark c.args.receipt.now.seat (omega (arith, seen, c.settle_pass.ensures.mark)) c.settle_under.ensures.below)
-    (subst (λ (v : Flushing). Stand v.world.journal c.args.receipt.now.seat) same
+    (subst (λ (v : Flushing). SlipsStand v.world.journal c.args.receipt.now.seat) same
     (c.settle_under.ensures.stand k (subst (λ (v : Flushing). Began g.J.Naming.formatted g.J.Naming.before v.opened) (sym same) began)))

@@ -1,8 +1,8 @@
 use Rattle.std.proofs.Common.{◌≡◌, ◌∙◌, ap, sym, subst, arith}
 use Rattle.std.proofs.lemmas.Bool.{leb-true}
-use Rattle.tp_book.specs.Book.{next_number}
+use Rattle.tp_book.specs.Book.{next_in_book}
 use Rattle.tp_shared.specs.Seals.{Stage}
-use Rattle.tp_shared.specs.Told.{IsFirst, Since, told_of}
+use Rattle.tp_shared.specs.Told.{IsFirst, ToldSince, told_of}
 use Rattle.tp_flush.specs.Flushing.{Flushing}
 use Rattle.tp_flush.proofs.All.{slips_are_all}
 use Rattle.tp_flush.proofs.flusher.Flusher.settle_all.Goals.{then-has_all, else-has_all}
@@ -11,14 +11,14 @@ use Rattle.tp_flush.proofs.flusher.Flusher.settle_all.Goals as goal
 pub returns-clause-all : goal.returns-clause-all
 returns-clause-all g c is k began =
     let w = c.args.self.now.world in
-    let next : c.next.result ≡ next_number c.args.held.now.book = c.next.ensures ∙ ap next_number (c.book.ensures ∙ ap (λ (s : Stage). s.book) c.has_all-has_all.ensures.same.0) in
+    let next : c.next.result ≡ next_in_book c.args.held.now.book = c.next.ensures ∙ ap next_in_book (c.book.ensures ∙ ap (λ (s : Stage). s.book) c.has_all-has_all.ensures.same.0) in
     let mark = c.mark.ensures in
     elim c.if-has_all.branch [
       | then-has_all b ↦
           let up = leb-true c.next.result c.mark.result (sym b.result-is ∙ is) in
           slips_are_all g.J.Naming.formatted g.J.Naming.before g.J.Naming.first c.args.held.now c.self.inside.parts.key.value w c.args.seat.now (c.known.ensures.reached k began)
           (subst (λ (v : Flushing). IsFirst c.self.inside.parts.key.value v.world) c.self.view_is c.self.invariant.2)
-          (subst (λ stage. Since c.self.inside.parts.key.value (told_of g.J.Naming.before g.J.Naming.first stage)) c.has_all-has_all.ensures.same.0 c.compare.ensures.since) c.known-2.ensures.tied
+          (subst (λ stage. ToldSince c.self.inside.parts.key.value (told_of g.J.Naming.before g.J.Naming.first stage)) c.has_all-has_all.ensures.same.0 c.compare.ensures.since) c.known-2.ensures.tied
           (omega (arith, up, next, mark)) (c.has_all-has_all.ensures.each b.if-has_all.true)
       | else-has_all b ↦ let bad = sym b.if-has_all.false ∙ sym b.result-is ∙ is in absurd (cc)
     ]

@@ -1,6 +1,6 @@
 use Rattle.std.proofs.Common.{arith, sym, ◌∙◌}
 use Rattle.std.proofs.lemmas.Option.{slice_get_past}
-use Rattle.tp_replay.specs.Inside.{state_of}
+use Rattle.tp_replay.specs.Inside.{replay_state}
 use Rattle.tp_replay.proofs.Applied.{refused, applied, node_count}
 use Rattle.tp_replay.proofs.Impossible.{run_nowhere, run_uncounted}
 use Rattle.tp_replay.proofs.Ran.{ran_all, ran_not, ran_cut}
@@ -9,12 +9,12 @@ use Rattle.tp_replay.proofs.network.FlatNetwork.run.Goals as goal
 pub returns-then-node-len-clause-applies : goal.returns-then-node-len-clause-applies
 returns-then-node-len-clause-applies c =
     let n = c.self.inside in
-    rw (← c.self.view_is) (refused _ _ _ (run_nowhere (state_of n) c.args.node c.args.count
-    (slice_get_past (state_of n).nodes c.args.node (omega (arith, node_count n c.self.invariant, n.nodes.ok.0)))))
+    rw (← c.self.view_is) (refused _ _ _ (run_nowhere (replay_state n) c.args.node c.args.count
+    (slice_get_past (replay_state n).nodes c.args.node (omega (arith, node_count n c.self.invariant, n.nodes.ok.0)))))
 
 pub returns-then-not-is_count-clause-applies : goal.returns-then-not-is_count-clause-applies
 returns-then-not-is_count-clause-applies c =
-    rw (← c.self.view_is) (refused _ _ _ (run_uncounted (state_of c.self.inside) c.args.node c.args.count (sym c.is_count.ensures.value ∙ c.if-not-is_count.true)))
+    rw (← c.self.view_is) (refused _ _ _ (run_uncounted (replay_state c.self.inside) c.args.node c.args.count (sym c.is_count.ensures.value ∙ c.if-not-is_count.true)))
 
 pub returns-then-run_upto-count-clause-applies : goal.returns-then-run_upto-count-clause-applies
 returns-then-run_upto-count-clause-applies c =

@@ -9,7 +9,7 @@ use Rattle.tp_model.specs.Network.{Network, is_first, on_line}
 use Rattle.tp_model.specs.Entries.{next}
 use Rattle.tp_model.specs.declared.entry.Entry.TheVariants.{Take}
 use Rattle.tp_model.specs.Markers.{is_marker}
-use Rattle.tp_replay.specs.Inside.{state_of}
+use Rattle.tp_replay.specs.Inside.{replay_state}
 use Rattle.tp_replay.proofs.Applied.{refused}
 use Rattle.tp_replay.proofs.Impossible.{take_unwired, take_behind, take_marker}
 use Rattle.tp_replay.proofs.network.FlatNetwork.take.Goals as goal
@@ -17,7 +17,7 @@ use Rattle.tp_replay.proofs.network.FlatNetwork.take.Goals as goal
 pub returns-then-at-len-clause-applies : goal.returns-then-at-len-clause-applies
 returns-then-at-len-clause-applies c =
     let n = c.self.inside in
-    rw (← c.self.view_is) (refused _ _ _ (take_unwired (state_of n) c.args.line c.args.token (get_or_past n.wires.items c.args.line None (omega (arith, n.wires.ok.0)))))
+    rw (← c.self.view_is) (refused _ _ _ (take_unwired (replay_state n) c.args.line c.args.token (get_or_past n.wires.items c.args.line None (omega (arith, n.wires.ok.0)))))
 
 -- a token that isn't in front, or is a Marker
 not_there : (s : Network NodeState) (line : _) (token : Token) → (is_first (on_line s.lines line) token && not (is_marker token)) ≡ false → next t414 s (Take line token) ≡ None
@@ -35,4 +35,4 @@ pub returns-then-not-stands_in_front-clause-applies : goal.returns-then-not-stan
 returns-then-not-stands_in_front-clause-applies c =
     let n = c.self.inside in
     let is = sym (c.stands_in_front.ensures (on_line n.lines c.args.line) (sym c.front.ensures)) ∙ c.if-not-stands_in_front.true in
-    rw (← c.self.view_is) (refused _ _ _ (not_there (state_of n) c.args.line c.args.token is))
+    rw (← c.self.view_is) (refused _ _ _ (not_there (replay_state n) c.args.line c.args.token is))

@@ -5,7 +5,7 @@ use Rattle.std.proofs.lemmas.Option.{slice_get_read}
 use Rattle.tp_model.specs.declared.entry.Entry.TheVariants.{Take}
 use Rattle.tp_model.specs.Node.{on_link}
 use Rattle.tp_law_machine.proofs.Nodes.{carries}
-use Rattle.tp_replay.specs.Inside.{state_of}
+use Rattle.tp_replay.specs.Inside.{replay_state}
 use Rattle.tp_replay.proofs.Applied.{node_count, node_at, room, node_inside, node_next}
 use Rattle.tp_replay.proofs.Fronts.{front_taken}
 use Rattle.tp_node.proofs.Answered.{takes_ok, takes_err, lacking_frozen}
@@ -20,7 +20,7 @@ take-requires c =
     let front = rw (← c.self.view_is) at c.requires.front in
     let below : c.args.node < length n.nodes.items = omega (arith, node_count n c.self.invariant, (c.self.invariant.flat.sound.wires.links c.args.line c.args.node c.args.link to).0) in
     let at = node_at n c.self.invariant c.args.node c.index_mut.result.now below c.index_mut.ensures.value in
-    front_taken (state_of n) c.self.invariant.flat c.args.line c.args.node c.args.link c.index_mut.result.now.live to at c.args.token c.requires.plain front
+    front_taken (replay_state n) c.self.invariant.flat c.args.line c.args.node c.args.link c.index_mut.result.now.live to at c.args.token c.requires.plain front
 
 pub unreachable-requires : goal.unreachable-requires
 unreachable-requires c =
@@ -42,7 +42,7 @@ send_some-requires-clause-room c =
     let at = node_at n c.self.invariant c.args.node c.index_mut.result.now below c.index_mut.ensures.value in
     let there = slice_get_read n.nodes.items (length n.nodes.items) c.args.node c.index_mut.result.now refl below c.index_mut.ensures.value in
     let did = takes_ok _ _ c.args.link c.index_mut.result.now.live c.take.new.self.live c.in-Ok.answer c.in-Ok.ensures.takes in
-    let M = node_takes (state_of n) c.args.line c.args.node c.args.link c.args.token c.index_mut.result.now.live c.take.new.self.live (on_link c.args.link c.in-Ok.answer) to front at did in
+    let M = node_takes (replay_state n) c.args.line c.args.node c.args.link c.args.token c.index_mut.result.now.live c.take.new.self.live (on_link c.args.link c.in-Ok.answer) to front at did in
     let back : c.link_line-reply.result ≡ 4 * c.args.node + c.args.link = omega (arith, c.link_line-reply.ensures, c.from.ensures) in
     rw (back, c.deref.ensures.value, c.pop.ensures.after, answer_on c.args.node c.args.link c.in-Ok.answer) (room n c.self.invariant (Take c.args.line c.args.token) (without_front n.lines c.args.line) _ _ M)
 
@@ -55,7 +55,7 @@ invariant_of-self c =
     let at = node_at n c.self.invariant c.args.node c.index_mut.result.now below c.index_mut.ensures.value in
     let there = slice_get_read n.nodes.items (length n.nodes.items) c.args.node c.index_mut.result.now refl below c.index_mut.ensures.value in
     let did = takes_ok _ _ c.args.link c.index_mut.result.now.live c.take.new.self.live c.in-Ok.answer c.in-Ok.ensures.takes in
-    let M = node_takes (state_of n) c.args.line c.args.node c.args.link c.args.token c.index_mut.result.now.live c.take.new.self.live (on_link c.args.link c.in-Ok.answer) to front at did in
+    let M = node_takes (replay_state n) c.args.line c.args.node c.args.link c.args.token c.index_mut.result.now.live c.take.new.self.live (on_link c.args.link c.in-Ok.answer) to front at did in
     let back : c.link_line-reply.result ≡ 4 * c.args.node + c.args.link = omega (arith, c.link_line-reply.ensures, c.from.ensures) in
     let on = rw (back, c.deref.ensures.value, c.pop.ensures.after, answer_on c.args.node c.args.link c.in-Ok.answer) at c.send_some.ensures in
     node_inside n c.self.invariant (Take c.args.line c.args.token) (without_front n.lines c.args.line) c.args.node c.index_mut.result.now c.take.new.self there c.in-Ok.ensures.kept (on_link c.args.link c.in-Ok.answer) M c.send_some.new.lines on
@@ -70,7 +70,7 @@ returns c =
     let at = node_at n c.self.invariant c.args.node c.index_mut.result.now below c.index_mut.ensures.value in
     let there = slice_get_read n.nodes.items (length n.nodes.items) c.args.node c.index_mut.result.now refl below c.index_mut.ensures.value in
     let did = takes_ok _ _ c.args.link c.index_mut.result.now.live c.take.new.self.live c.in-Ok.answer c.in-Ok.ensures.takes in
-    let M = node_takes (state_of n) c.args.line c.args.node c.args.link c.args.token c.index_mut.result.now.live c.take.new.self.live (on_link c.args.link c.in-Ok.answer) to front at did in
+    let M = node_takes (replay_state n) c.args.line c.args.node c.args.link c.args.token c.index_mut.result.now.live c.take.new.self.live (on_link c.args.link c.in-Ok.answer) to front at did in
     let back : c.link_line-reply.result ≡ 4 * c.args.node + c.args.link = omega (arith, c.link_line-reply.ensures, c.from.ensures) in
     let on = rw (back, c.deref.ensures.value, c.pop.ensures.after, answer_on c.args.node c.args.link c.in-Ok.answer) at c.send_some.ensures in
     rw (← c.self.view_is) (node_next n c.self.invariant (Take c.args.line c.args.token) (without_front n.lines c.args.line) c.args.node c.index_mut.result.now c.take.new.self there c.in-Ok.ensures.kept (on_link c.args.link c.in-Ok.answer) M c.send_some.new.lines on)

@@ -1,12 +1,12 @@
 use Rattle.std.proofs.Common.{◌∙◌, ◌<◌, length, ap, sym, subst, arith, Some}
 use Rattle.std.specs.Prelude.{is_some}
 use Rattle.std.proofs.lemmas.List.{length-set}
-use Rattle.tp_turn.specs.Moments.{IsNodeOf, moment}
+use Rattle.tp_turn.specs.Moments.{IsNodeOf, moment_of}
 use Rattle.tp_turn.specs.Opened.{OpensIn}
 use Rattle.tp_shared.specs.Agreement.{Agreement, answered_with}
 use Rattle.tp_shared.specs.Entries.{OpenedEntries}
 use Rattle.tp_shared.specs.Seals.{Stage}
-use Rattle.tp_shared.specs.Gains.{Noted}
+use Rattle.tp_shared.specs.Gains.{HoldNoted}
 use Rattle.tp_shared.specs.Holds.{IsBookOf}
 use Rattle.tp_shared.specs.declared.seal.NodeSeal.{NodeSeal}
 use Rattle.tp_shared.proofs.Holding.{acted_like, answered_form, opened_like}
@@ -71,7 +71,7 @@ invariant_of-self g c =
     acted_written inv c.entries-before.result.now c.entries-before.ensures.entries c.entries-before.ensures.numbers A.grown (ap length A.runs ∙ length-set b.runs c.args.number _) (length-set seals c.args.number _)
     (sealed_after Are g.J.Naming.node seals b new c.args.number a inv.sealed A below now
     (answered_seal (g.J.Naming.node c.args.number) now new c.args.number node done c.begin-done.ensures.is
-    (λ takes given. A.grown.form ∙ answered_form b.form c.args.number done (moment b c.args.place.now.node) (moment new node) c.begin-done.ensures.opens takes given)
+    (λ takes given. A.grown.form ∙ answered_form b.form c.args.number done (moment_of b c.args.place.now.node) (moment_of new node) c.begin-done.ensures.opens takes given)
     (reserved_after Are g.J.Naming.node seals b new c.args.number a inv.sealed A below)
     (c.turn.ensures.names.0 ∙ c.agree.ensures.names.0 ∙ S.named) (ap (λ x. x.state) c.turn.ensures.seal ∙ c.answered-now.ensures) c.is_frozen-here.ensures))
     (thaws_set c.self.inside.told.value seals c.args.number now inv.thawed
@@ -99,8 +99,8 @@ returns-clause-noted g c =
     let many = as_many c.entries-before.result.now b.state.entries c.entries-before.ensures.entries in
     let old_stage : Stage = record { book = b; all = c.self.inside.roll.items; numbered_from = c.self.inside.told.value.numbered_from } in
     let new_stage : Stage = record { book = new; all = c.write_new.new.roll.items; numbered_from = c.self.inside.told.value.numbered_from } in
-    subst (λ stage. Noted Are g.J.Naming.first stage new_stage c.args.seat.now c.write_new.new.slips.items) c.self.view_is
-    (subst (λ seat. Noted Are g.J.Naming.first old_stage new_stage seat c.write_new.new.slips.items) c.seat.view_is
+    subst (λ stage. HoldNoted Are g.J.Naming.first stage new_stage c.args.seat.now c.write_new.new.slips.items) c.self.view_is
+    (subst (λ seat. HoldNoted Are g.J.Naming.first old_stage new_stage seat c.write_new.new.slips.items) c.seat.view_is
     (noted_by Are b new old_stage new_stage g.J.Naming.first c.self.inside.roll.first (length c.entries-before.result.now) c.seat.inside.slips.items c.write_new.new.slips.items
     A.grown many inv.first_is c.write_new.ensures.roll c.write_new.ensures.slips c.write_new.ensures.sound))
 
@@ -118,7 +118,7 @@ returns-clause-is g c =
 
 pub returns-clause-opens : goal.returns-clause-opens
 returns-clause-opens g c =
-    subst (λ stage. OpensIn stage.book.form c.args.number c.begin-done.result (moment stage.book c.args.place.now.node) (moment c.begin-done.new.book c.begin-done.new.node)) c.self.view_is c.begin-done.ensures.opens
+    subst (λ stage. OpensIn stage.book.form c.args.number c.begin-done.result (moment_of stage.book c.args.place.now.node) (moment_of c.begin-done.new.book c.begin-done.new.node)) c.self.view_is c.begin-done.ensures.opens
 
 pub returns-clause-of : goal.returns-clause-of
 returns-clause-of g c = subst (λ stage. IsBookOf g.J.Naming.start stage.book) c.self.view_is (record { wires = c.self.invariant.wires_are; nodes = c.self.invariant.count_is })

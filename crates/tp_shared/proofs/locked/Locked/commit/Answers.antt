@@ -9,7 +9,7 @@ use Rattle.tp_turn.specs.Opened.{opened_acts, opened_entries}
 use Rattle.tp_turn.proofs.Opening.{turned_by}
 use Rattle.tp_shared.specs.Agreement.{Agreement, at_rest}
 use Rattle.tp_shared.specs.Seals.{Stage}
-use Rattle.tp_shared.specs.Gains.{Noted}
+use Rattle.tp_shared.specs.Gains.{HoldNoted}
 use Rattle.tp_shared.specs.Holds.{IsBookOf}
 use Rattle.tp_shared.specs.declared.seal.NodeSeal.{NodeSeal}
 use Rattle.tp_shared.proofs.Sealing.{node_of_seal, noted_by, reserved_after, rest_seal, sealed_after}
@@ -90,8 +90,8 @@ returns-clause-noted g c =
     let many = as_many c.entries-before.result.now b.state.entries c.entries-before.ensures.entries in
     let old_stage : Stage = record { book = b; all = c.self.inside.roll.items; numbered_from = c.self.inside.told.value.numbered_from } in
     let new_stage : Stage = record { book = new; all = c.write_new.new.roll.items; numbered_from = c.self.inside.told.value.numbered_from } in
-    subst (λ stage. Noted Are g.J.Naming.first stage new_stage c.args.seat.now c.write_new.new.slips.items) c.self.view_is
-    (subst (λ seat. Noted Are g.J.Naming.first old_stage new_stage seat c.write_new.new.slips.items) c.seat.view_is
+    subst (λ stage. HoldNoted Are g.J.Naming.first stage new_stage c.args.seat.now c.write_new.new.slips.items) c.self.view_is
+    (subst (λ seat. HoldNoted Are g.J.Naming.first old_stage new_stage seat c.write_new.new.slips.items) c.seat.view_is
     (noted_by Are b new old_stage new_stage g.J.Naming.first c.self.inside.roll.first (length c.entries-before.result.now) c.seat.inside.slips.items c.write_new.new.slips.items
     c.commit-ran.ensures.acted.grown many inv.first_is c.write_new.ensures.roll c.write_new.ensures.slips c.write_new.ensures.sound))
 

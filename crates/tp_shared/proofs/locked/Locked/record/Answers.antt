@@ -3,7 +3,7 @@ use Rattle.std.specs.Prelude.{is_some}
 use Rattle.std.proofs.lemmas.List.{length-set}
 use Rattle.tp_model.specs.declared.entry.Entry.{Entry}
 use Rattle.tp_book.specs.Needs.{is_asked}
-use Rattle.tp_turn.specs.Moments.{Done, IsNodeOf, moment}
+use Rattle.tp_turn.specs.Moments.{Done, IsNodeOf, moment_of}
 use Rattle.tp_turn.specs.Settled.{Records}
 use Rattle.tp_shared.specs.Agreement.{Agreement, at_rest}
 use Rattle.tp_shared.specs.Holds.{IsBookOf}
@@ -75,7 +75,7 @@ invariant_of-self g c =
     ∙ thawed_at c.self.inside.told.value c.self.inside.seals.items c.args.number here thawed at))
 
 pub returns-clause-did : goal.returns-clause-did
-returns-clause-did g c = subst (λ stage. Done c.args.number (Records c.args.number) (moment stage.book c.args.place.now.node) (moment c.record.new.book c.record.new.node)) c.self.view_is c.record.ensures.did
+returns-clause-did g c = subst (λ stage. Done c.args.number (Records c.args.number) (moment_of stage.book c.args.place.now.node) (moment_of c.record.new.book c.record.new.node)) c.self.view_is c.record.ensures.did
 
 pub asked-asked-requires : goal.asked-asked-requires
 asked-asked-requires g c =
