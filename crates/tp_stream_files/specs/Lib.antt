@@ -4,3 +4,5 @@ pub mod Sinks
 pub mod Opening
 pub mod Any
 pub mod Named
+pub mod Lines
+pub mod Said

@@ -1,13 +1,16 @@
 //! Streams on files, and on standard input and output.
 #![tactic(auto)]
 
+mod clock;
 mod ends;
 mod feeds;
 mod held;
+mod lines;
 mod opening;
 mod outside;
 mod pipes;
 mod same;
+mod saying;
 mod sinks;
 mod sources;
 mod system;
@@ -15,6 +18,7 @@ mod telling;
 mod threads;
 mod trace;
 
+pub use clock::{Onlooker, Times};
 pub use ends::{EndFault, Ends, PortFile, PortNumber};
 pub use feeds::{Feed, Plain};
 pub use opening::{open_ends, open_ends_over};
