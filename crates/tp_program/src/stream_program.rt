@@ -12,7 +12,7 @@ use std::io::Write;
 use std::os::unix::fs::FileExt;
 use std::sync::Wait;
 use tp_disk::Counted;
-use tp_stream_files::Feed;
+use tp_stream_files::{Feed, Onlooker};
 use tp_views::{Refusal, is_device_file, print_help, refuse};
 use tp_words::{StreamAsked, StreamRun, has_word, read_stream_args};
 
@@ -53,7 +53,8 @@ fn stream_file<
     I: Feed,
     O: Write,
     E: Write,
->(rt: &R, asked: &StreamRun, feed: &mut I, out: &mut O, err: &mut E) -> Outcome
+    W: Onlooker,
+>(rt: &R, asked: &StreamRun, feed: &mut I, out: &mut O, err: &mut E, onlooker: &mut W) -> Outcome
     requires { IsStreamRun asked.now }
     ensures { result.status ≤ 3 }
 {
@@ -64,11 +65,12 @@ fn stream_file<
         Ok(disk) => disk,
         Err(error) => return unopened(err, Some(error)),
     };
-    let (disk, streamed) = stream_on(rt, asked, disk, feed, out, err);
+    let (disk, streamed) = stream_on(rt, asked, disk, feed, out, err, onlooker);
     outcome_of(streamed, disk.raw().failure().map(said_again))
 }
 
-/// Does what the words of a command line with `--stream` ask for, the program's name first; `feed` is standard input. Answers the
+/// Does what the words of a command line with `--stream` ask for, the program's name first; `feed` is standard input, and `onlooker` looks at
+/// `err` and has the time. Answers the
 /// program's status: that of the stream, 3 where it ended since a node halted, or 2 where the words ask for nothing; no file is opened then.
 /// Asking for help is no fault.
 pub fn answer_stream<
@@ -77,13 +79,14 @@ pub fn answer_stream<
     I: Feed,
     O: Write,
     E: Write,
->(rt: &R, words: &[String], feed: &mut I, out: &mut O, err: &mut E) -> u8
+    W: Onlooker,
+>(rt: &R, words: &[String], feed: &mut I, out: &mut O, err: &mut E, onlooker: &mut W) -> u8
     ensures { result ≤ 3 }
 {
     match read_stream_args(rt.alloc(), words) {
         Ok(StreamAsked::Help(text)) => print_help(text.as_str(), out, err),
         Ok(StreamAsked::Run(asked)) => {
-            let ended = stream_file(rt, &asked, feed, out, err);
+            let ended = stream_file(rt, &asked, feed, out, err, onlooker);
             if ended.status == 1 && has_word(words, "--explain") {
                 explain_stream(rt, &asked, ended.fault, ended.system.as_ref(), err);
             }

@@ -23,9 +23,7 @@ use std::sync::Wait;
 use tp_disk::Disk;
 use tp_flush::Flusher;
 use tp_shared::{Naming, Seat, Shared};
-use tp_stream_ends::{
-    Ended, Ending, Input, Listener, Sink, Source, Stop, Streams,
-};
+use tp_stream_ends::{Ended, Ending, Input, Listener, Sink, Source, Stop, Streams};
 
 /// How a stream goes on: its turns, and the slips of what they journalled.
 #[derive(Drop)]
@@ -141,18 +139,8 @@ fn cycle<J: Naming, D: Disk, S: Sink, I: Source, L: Listener, P: Stop, R: Wait>(
 {
     flush(rt, alloc, shared, flusher)?;
     let made = going.turns.made;
-    tell(
-        rt,
-        shared,
-        pace,
-        flusher,
-        made,
-        &streams.outputs,
-        listener,
-    );
-    go_on(
-        rt, alloc, shared, pace, going, flusher, streams, stop,
-    )
+    tell(rt, shared, pace, flusher, made, &streams.outputs, listener);
+    go_on(rt, alloc, shared, pace, going, flusher, streams, stop)
 }
 
 /// All cycles, until nothing more is to be done or one is refused; and whether each process had nothing to do in its last turn.

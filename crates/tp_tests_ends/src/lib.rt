@@ -7,3 +7,5 @@ mod feeds;
 mod files;
 #[cfg(test)]
 mod outputs;
+#[cfg(test)]
+mod told;

@@ -34,4 +34,6 @@ mod runs;
 #[cfg(test)]
 mod steps;
 #[cfg(test)]
+mod told;
+#[cfg(test)]
 mod waiting;
