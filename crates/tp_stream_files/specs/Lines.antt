@@ -11,7 +11,7 @@ use Rattle.tp_stream_files.specs.declared.lines.Since.{Since}
 -- said then, what is now, and how many have.
 abbrev pub line_behind : ℕ → Heard → ℕ → Progress → Option Line
 line_behind every last at progress =
-    if nat_lt (at - last.at) every then None else Some (record { now = progress; before = last.progress; millis = at - last.at })
+    if nat_lt (at - last.at) every then None else Some (record { told = progress; before = last.progress; millis = at - last.at })
 
 -- The line that is due. None is where none was said and nothing was heard yet.
 abbrev pub due_behind : ℕ → Option Heard → ℕ → Progress → Option Line
@@ -41,12 +41,12 @@ count_part now since = decimal now ++ growth_part now since
 -- how many entries were made, how many of them are durable, how full the journal is, and which checkpoint it belongs to
 abbrev pub front_part : Line → List ℕ
 front_part line =
-    codes "next " ++ (count_part line.now.next (Some (record { count = line.before.next; millis = line.millis }))
-    ++ (codes " mark " ++ (decimal line.now.mark ++ (codes " area " ++ (decimal line.now.used ++ (codes "% generation " ++ decimal line.now.generation))))))
+    codes "next " ++ (count_part line.told.next (Some (record { count = line.before.next; millis = line.millis }))
+    ++ (codes " mark " ++ (decimal line.told.mark ++ (codes " area " ++ (decimal line.told.used ++ (codes "% generation " ++ decimal line.told.generation))))))
 
 -- how many turns were made
 abbrev pub turns_part : Line → List ℕ
-turns_part line = codes " turns " ++ count_part line.now.turns (Some (record { count = line.before.turns; millis = line.millis }))
+turns_part line = codes " turns " ++ count_part line.told.turns (Some (record { count = line.before.turns; millis = line.millis }))
 
 -- up to where the outputs of a port were put before, where a sink was for it
 abbrev pub put_found : Option (Option ℕ) → Option ℕ
@@ -70,4 +70,4 @@ out_parts port millis before (now ∷ more) = out_part port now (since_put milli
 
 -- The line, without an end.
 abbrev pub line_text : Line → List ℕ
-line_text line = front_part line ++ (turns_part line ++ out_parts 0 line.millis line.before.put line.now.put)
+line_text line = front_part line ++ (turns_part line ++ out_parts 0 line.millis line.before.put line.told.put)

@@ -20,8 +20,8 @@ Said on_terminal None was is = is ≡ was
 Said on_terminal (Some line) was is = AppendsFront was is (written on_terminal line)
 
 -- How far a stream has come was heard once, at the time that was answered then, and a line was said just where one was due by that.
-pub record WasHeard (progress : Progress) (on_terminal : Bool) (asked answered : List ℕ) (old new : Meter) (was is : Option (List ℕ)) : Type 0 where
+pub record WasHeard (progress : Progress) (on_terminal : Bool) (times later : List ℕ) (old new : Meter) (was is : Option (List ℕ)) : Type 0 where
   pub now : ℕ
-  pub asked : answered ≡ asked ++ now ∷ []
+  pub asked : later ≡ times ++ now ∷ []
   pub meter : new ≡ heard old now progress
   pub said : Said on_terminal (line_due old now progress) was is

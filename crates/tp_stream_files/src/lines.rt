@@ -20,7 +20,7 @@ pub struct Heard {
 /// A line of how far a stream has come, and how far it had come at the line before it, or where lines begin, so many milliseconds before.
 #[derive(Clone, Copy)]
 pub struct Line {
-    now: Progress,
+    told: Progress,
     before: Progress,
     millis: u64,
 }
@@ -66,7 +66,7 @@ impl Meter {
         }
         self.last = here;
         Some(Line {
-            now: progress,
+            told: progress,
             before: last.progress,
             millis,
         })
@@ -98,13 +98,13 @@ fn push_count(text: &mut String, now: u64, since: Option<Since>) -> Result<(), A
 fn push_front(text: &mut String, line: &Line) -> Result<(), AllocError>
     ensures { OnOk result (string_bytes text.new ≡ string_bytes text.old ++ front_part line.now) }
 {
-    let (mark, used, generation) = (line.now.mark, line.now.used, line.now.generation);
+    let (mark, used, generation) = (line.told.mark, line.told.used, line.told.generation);
     let since = Since {
         count: line.before.next,
         millis: line.millis,
     };
     write!(text, "next ")?;
-    push_count(text, line.now.next, Some(since))?;
+    push_count(text, line.told.next, Some(since))?;
     write!(text, " mark {mark} area {used}% generation {generation}")
 }
 
@@ -117,7 +117,7 @@ fn push_turns(text: &mut String, line: &Line) -> Result<(), AllocError>
         millis: line.millis,
     };
     write!(text, " turns ")?;
-    push_count(text, line.now.turns, Some(since))
+    push_count(text, line.told.turns, Some(since))
 }
 
 /// Up to where the outputs of a port were put, where a sink is for it.
@@ -161,13 +161,13 @@ fn push_out(
 /// Appends this for each port.
 fn push_outs(
     text: &mut String,
-    now: &[Option<u64>],
+    put: &[Option<u64>],
     before: &[Option<u64>],
     millis: u64,
 ) -> Result<(), AllocError>
-    ensures { OnOk result (string_bytes text.new ≡ string_bytes text.old ++ out_parts 0 millis before.now now.now) }
+    ensures { OnOk result (string_bytes text.new ≡ string_bytes text.old ++ out_parts 0 millis before.now put.now) }
 {
-    for (port, position) in now.iter().enumerate() {
+    for (port, position) in put.iter().enumerate() {
         push_out(
             text,
             port,
@@ -185,6 +185,6 @@ pub(crate) fn text_of(alloc: Global, line: &Line) -> Result<String, AllocError>
     let mut text = String::new(alloc);
     push_front(&mut text, line)?;
     push_turns(&mut text, line)?;
-    push_outs(&mut text, &line.now.put, &line.before.put, line.millis)?;
+    push_outs(&mut text, &line.told.put, &line.before.put, line.millis)?;
     Ok(text)
 }

@@ -4,5 +4,5 @@ use Rattle.tp_stream_files.proofs.lines.push_outs.Given as goal
 
 abbrev pub invariant-loop-port : goal.invariant-loop-port
 invariant-loop-port l =
-    string_bytes l.text ++ out_parts l.port l.fn.millis l.fn.before (drop l.port l.now)
-    ≡ string_bytes l.fn.text ++ out_parts 0 l.fn.millis l.fn.before l.fn.now
+    string_bytes l.text ++ out_parts l.port l.fn.millis l.fn.before (drop l.port l.put)
+    ≡ string_bytes l.fn.text ++ out_parts 0 l.fn.millis l.fn.before l.fn.put

@@ -6,5 +6,5 @@ use Rattle.tp_stream_files.proofs.saying.say.Given as goal
 abbrev pub invariant-loop : goal.invariant-loop
 invariant-loop g l = record {
   few : l.written ≤ length l.bytes;
-  front : Appends (g.O.Write.contents l.fn.err) (g.O.Write.contents l.err) (take l.written l.bytes);
+  front : Appends (g.E.Write.contents l.fn.err) (g.E.Write.contents l.err) (take l.written l.bytes);
 }
