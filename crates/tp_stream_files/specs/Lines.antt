@@ -1,5 +1,5 @@
 -- Lines of how far a stream has come: when one is due, and what it says.
-use Rattle.std.specs.Prelude.{◌≡◌, ℕ, ◌+◌, ◌-◌, ◌*◌, ◌/◌, ◌==◌, nat_lt, Bool, if◌then◌else◌, List, [], ◌∷◌, ◌++◌, codes, decimal, Option, Some, None, slice_get}
+use Rattle.std.specs.Prelude.{ℕ, ◌+◌, ◌-◌, ◌*◌, ◌/◌, ◌==◌, nat_lt, if◌then◌else◌, List, [], ◌∷◌, ◌++◌, codes, decimal, Option, Some, None, slice_get}
 use Rattle.std.specs.Option.{option_map}
 use Rattle.tp_stream_ends.specs.declared.listener.Progress.{Progress}
 use Rattle.tp_stream_files.specs.declared.lines.Heard.{Heard}
