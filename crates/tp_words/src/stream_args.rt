@@ -131,10 +131,11 @@ fn progress_of(
     ensures range { IfOk result IsProgressEvery }
     ensures typed { IfOk result (λ seconds. given (codes "progress-every") words.now ≡ option_map decimal seconds) }
 {
-    match option_number(alloc, words, found, "progress-every", 1, MAX_PROGRESS)? {
-        Some(seconds) => Ok(Some(seconds as u32)),
-        None => Ok(None),
-    }
+    let Some(seconds) = option_number(alloc, words, found, "progress-every", 1, MAX_PROGRESS)?
+    else {
+        return Ok(None);
+    };
+    Ok(Some(seconds as u32))
 }
 
 /// The stream that was found among the words.
