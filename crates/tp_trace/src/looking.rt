@@ -1,11 +1,11 @@
 //! Looking at a node: its processor, and what its next step does.
 
-ghost use Rattle.std.specs.Prelude.{◌≡◌, Some, None};
+ghost use Rattle.std.specs.Int.{from_le_bytes, w32};
+ghost use Rattle.std.specs.Prelude.{◌≡◌, Some, None, drop, slice_range};
 ghost use Rattle.tp_law_machine.specs.NodeOfBytes.{IsNodeOfBytes};
 ghost use Rattle.tp_model.specs.Coding.{decoded};
 ghost use Rattle.tp_model.specs.Memory.{byte_at, offset, word_at};
 ghost use Rattle.tp_model.specs.Processor.{kept_at};
-ghost use Rattle.std.specs.Prelude.{drop};
 ghost use Rattle.tp_trace.specs.Act.{act_in, act_of, idle_act, instruction_act, low_act};
 
 use crate::act::Act;
@@ -48,7 +48,8 @@ fn byte_of(node: &Node, address: u32) -> Option<u8>
 
 /// Reads the instruction at an address of a node that is frozen, byte by byte.
 fn instruction_of(node: &Node, address: u32) -> Result<Instr, DecodeFault>
-    requires { node.now.frozen ≡ Some node.now.live }
+    requires frozen { node.now.frozen ≡ Some node.now.live }
+    requires bytes { IsNodeOfBytes node.now.live }
     ensures { result ≡ decoded (drop (offset address) node.now.live.memory) }
 {
     let mut decoder = Decoder::new();
@@ -62,6 +63,18 @@ fn instruction_of(node: &Node, address: u32) -> Result<Instr, DecodeFault>
     Err(DecodeFault::NeedMore)
 }
 
+/// The word that says which low process was interrupted, in the first page of memory.
+fn kept_in(page: &[u8; PAGE_BYTES]) -> u32
+    ensures { result ≡ from_le_bytes w32 (slice_range page.now 44 48) }
+{
+    u32::from_le_bytes([
+        page[KEPT_PLACE],
+        page[KEPT_PLACE + 1],
+        page[KEPT_PLACE + 2],
+        page[KEPT_PLACE + 3],
+    ])
+}
+
 /// The word that says which low process was interrupted, of a node that is frozen.
 fn kept_of(node: &Node) -> Option<u32>
     requires { node.now.frozen ≡ Some node.now.live }
@@ -72,12 +85,7 @@ fn kept_of(node: &Node) -> Option<u32>
     }
     let mut page = [0; PAGE_BYTES];
     node.frozen_page(0, &mut page);
-    Some(u32::from_le_bytes([
-        page[KEPT_PLACE],
-        page[KEPT_PLACE + 1],
-        page[KEPT_PLACE + 2],
-        page[KEPT_PLACE + 3],
-    ]))
+    Some(kept_in(&page))
 }
 
 /// Which low process comes first, where no high one is ready.
@@ -104,7 +112,8 @@ fn idle_act(node: &Node, cpu: &Cpu) -> Act
 
 /// What the next step of a node that is frozen does.
 fn act_in(node: &Node, cpu: &Cpu) -> Act
-    requires { node.now.frozen ≡ Some node.now.live }
+    requires frozen { node.now.frozen ≡ Some node.now.live }
+    requires bytes { IsNodeOfBytes node.now.live }
     ensures { result ≡ act_in cpu.now.state cpu.now node.now.live.memory }
 {
     match cpu.state {
@@ -116,24 +125,24 @@ fn act_in(node: &Node, cpu: &Cpu) -> Act
 
 /// A node between two steps: its processor, and what its next step does, if it has one.
 #[derive(Clone, Copy, Debug, PartialEq, Eq)]
-pub struct Look {
+pub struct Moment {
     pub cpu: Cpu,
     pub act: Act,
 }
 
 /// Looks at a node that is frozen.
-fn look_at(node: &Node) -> Look
+fn look_at(node: &Node) -> Moment
     requires frozen { node.now.frozen ≡ Some node.now.live }
     requires bytes { IsNodeOfBytes node.now.live }
     ensures { result ≡ record { cpu = node.now.live.cpu; act = act_of node.now.live } }
 {
     let cpu = cpu_of(node);
     let act = act_in(node, &cpu);
-    Look { cpu, act }
+    Moment { cpu, act }
 }
 
 /// Looks at a node, which is frozen meanwhile.
-pub fn look(node: &mut Node) -> Look
+pub fn look(node: &mut Node) -> Moment
     requires thawed { node.old.frozen ≡ None }
     requires bytes { IsNodeOfBytes node.old.live }
     ensures look { result ≡ record { cpu = node.old.live.cpu; act = act_of node.old.live } }
