@@ -6,12 +6,13 @@ use Rattle.std.specs.declared.alloc.Global.{Global}
 use Rattle.std.specs.declared.string.String.{String}
 use Rattle.tp_model.specs.declared.limits.TheConstants.{MAX_STEPS}
 use Rattle.tp_words.specs.declared.args.Asked.{Asked}
-use Rattle.tp_words.specs.declared.args.Asked.TheVariants.{Help, Try, Format, Run as Runs, Compact, Recover, Show, Status, Check, View as Views}
+use Rattle.tp_words.specs.declared.args.Asked.TheVariants.{Help, Try, Trace, Format, Run as Runs, Compact, Recover, Show, Status, Check, View as Views}
 use Rattle.tp_words.specs.declared.args.Run.{Run}
-use Rattle.tp_words.specs.declared.args.TheConstants.{MAX_AREA, MAX_WORKERS, QUANTUM}
+use Rattle.tp_words.specs.declared.args.TheConstants.{MAX_AREA, MAX_WORKERS, QUANTUM, STEPS}
 use Rattle.tp_words.specs.declared.views.View.{View}
 use Rattle.tp_words.specs.declared.views.View.TheVariants.{Node, Image, Journal, Pending, Outputs}
 use Rattle.tp_words.specs.Given.{given, IsGivenOr}
+use Rattle.tp_words.specs.Size.{IsArea}
 use Rattle.tp_words.specs.Typed.{has_word, was_typed}
 
 -- a snapshot begins after a number of entries, or a further look is taken after a number of seconds, where one is given
@@ -27,6 +28,7 @@ IsRun run = (run.turns < 2 ^ 32) × (0 < run.workers) × (run.workers ≤ MAX_WO
 abbrev pub IsInRange : Asked → Type 0
 IsInRange (Help text) = Unit {0}
 IsInRange (Try image turns) = turns < 2 ^ 32
+IsInRange (Trace image steps) = (0 < steps) × (steps < 2 ^ 32)
 IsInRange (Format new) = new.area ≤ MAX_AREA
 IsInRange (Runs run) = IsRun run
 IsInRange (Compact device wait_lock) = Unit {0}
@@ -60,8 +62,9 @@ IsTypedRun words run = (has_word (string_bytes run.device) words ≡ true)
 abbrev pub WasTyped : List (String Global) → Asked → Type 0
 WasTyped words (Help text) = Unit {0}
 WasTyped words (Try image turns) = (has_word (string_bytes image) words ≡ true) × (given (codes "turns") words ≡ Some (decimal turns))
+WasTyped words (Trace image steps) = (has_word (string_bytes image) words ≡ true) × IsGivenOr STEPS steps (given (codes "steps") words)
 WasTyped words (Format new) = (has_word (string_bytes new.device) words ≡ true) × (has_word (string_bytes new.topology) words ≡ true)
-    × (has_word (string_bytes new.images) words ≡ true) × (was_typed words (decimal new.area) ≡ true)
+    × (has_word (string_bytes new.images) words ≡ true) × IsArea words new.area (given (codes "area") words)
     × IsGivenOr 0 new.wait_lock (given (codes "wait-lock") words)
 WasTyped words (Runs run) = IsTypedRun words run
 WasTyped words (Compact device wait_lock) = (has_word (string_bytes device) words ≡ true) × IsGivenOr 0 wait_lock (given (codes "wait-lock") words)

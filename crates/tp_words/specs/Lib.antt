@@ -1,5 +1,6 @@
 pub mod Typed
 pub mod Given
+pub mod Size
 pub mod Args
 pub mod Ends
 pub mod StreamArgs

@@ -4,10 +4,12 @@ ghost use Rattle.std.specs.Prelude.{◌≡◌, ◌≤◌, true, Some, IfOk, IfSo
 ghost use Rattle.std.specs.Fmt.{decimal};
 ghost use Rattle.std.specs.Option.{option_map};
 ghost use Rattle.tp_words.specs.Given.{given, IsGivenOr};
+ghost use Rattle.tp_words.specs.Size.{IsArea, IsSize};
 ghost use Rattle.tp_words.specs.Typed.{has_word, was_typed};
 
 use crate::args::{ArgFault, MAX_AREA, MAX_TURNS};
 use crate::numbers::{given, has_word, number_of, was_typed};
+use crate::sizes::size_of;
 use clap::ArgMatches;
 use std::alloc::Global;
 
@@ -121,14 +123,36 @@ pub fn turns_of(alloc: Global, words: &[String], found: &ArgMatches) -> Result<u
     }
 }
 
-/// How many bytes an area has.
-pub fn area_of(alloc: Global, words: &[String], found: &ArgMatches) -> Result<u64, ArgFault>
+/// How many bytes an area has, by the word of it.
+fn word_area(alloc: Global, words: &[String], found: &ArgMatches) -> Result<u64, ArgFault>
     ensures range { IfOk result (λ area. area ≤ MAX_AREA) }
     ensures typed { IfOk result (λ area. was_typed words.now (decimal area) ≡ true) }
 {
     match number_in(alloc, words, found, "AREA", MAX_AREA)? {
         Some(area) => Ok(area),
         None => Err(ArgFault::Area),
+    }
+}
+
+/// How many bytes an area has, by a size that was typed.
+fn size_area(alloc: Global, text: &str) -> Result<u64, ArgFault>
+    ensures range { IfOk result (λ area. area ≤ MAX_AREA) }
+    ensures typed { IfOk result (IsSize text.now) }
+{
+    match size_of(alloc, text)? {
+        Some(size) if size <= MAX_AREA => Ok(size),
+        _ => Err(ArgFault::Size),
+    }
+}
+
+/// How many bytes an area has: by `--area`, and where that isn't given by the word of it.
+pub fn area_of(alloc: Global, words: &[String], found: &ArgMatches) -> Result<u64, ArgFault>
+    ensures range { IfOk result (λ area. area ≤ MAX_AREA) }
+    ensures typed { IfOk result (λ area. IsArea words.now area (given (codes "area") words.now)) }
+{
+    match option_text(alloc, words, found, "area")? {
+        Some(text) => size_area(alloc, text),
+        None => word_area(alloc, words, found),
     }
 }
 

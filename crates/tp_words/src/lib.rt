@@ -6,6 +6,7 @@ mod backup_args;
 mod found;
 mod help;
 mod numbers;
+mod sizes;
 mod stream_args;
 mod stream_ends;
 mod stream_words;

@@ -2,7 +2,7 @@
 
 use crate::help::{
     BACKUP_REFUSALS, CHECK_REFUSALS, COMPACT_REFUSALS, FORMAT_REFUSALS, OPENING_REFUSALS,
-    RUN_REFUSALS, STATUS_REFUSALS, TRY_REFUSALS,
+    RUN_REFUSALS, STATUS_REFUSALS, TRACE_REFUSALS, TRY_REFUSALS,
 };
 use clap::{Arg, ArgAction, Command};
 use std::alloc::{AllocError, Global};
@@ -14,6 +14,8 @@ const VERSION: &str = "0.1.0\nproved with rattle-kit-13f, logic dac8208d650f15bf
 pub enum Word {
     /// A word that has to be there.
     Place(&'static str, &'static str),
+    /// A word that has to be there just where the option of the second name isn't.
+    Instead(&'static str, &'static str, &'static str),
     /// An option without a value.
     Flag(&'static str, &'static str),
     /// An option without a value that has to be there.
@@ -74,6 +76,20 @@ const TRY: Form = Form {
     ],
 };
 
+const TRACE: Form = Form {
+    name: "trace",
+    about: "Runs one node without a device, with nobody at its links, and prints what each step does in a line, with the registers behind it",
+    words: &[
+        EXPLAIN,
+        Word::Place("IMAGE", "the node's image: 172 bytes and its memory"),
+        Word::Value(
+            "steps",
+            "N",
+            "how many steps at most, 1 to 4294967295 (100 where it isn't given)",
+        ),
+    ],
+};
+
 const CHECK: Form = Form {
     name: "check",
     about: "Reads a topology and its images as format does, writes nothing, and says how large an area has to be",
@@ -87,14 +103,20 @@ const FORMAT: Form = Form {
         EXPLAIN,
         Word::Flag("new", "refuse a file that is there already"),
         WAIT_LOCK,
+        Word::Value(
+            "area",
+            "SIZE",
+            "the bytes of each area in place of AREA: a decimal, or one with K, M or G behind it (64K is 65536)",
+        ),
         Word::Place(
             "DEVICE",
             "the file that is made, with 512 + 2 AREA bytes, or 1024 + 2 AREA for more than 16 nodes, or more than 256 pages in one",
         ),
         TOPOLOGY,
         DIR,
-        Word::Place(
+        Word::Instead(
             "AREA",
+            "area",
             "how many bytes each of the two areas has, up to 2^40",
         ),
     ],
@@ -244,6 +266,7 @@ const PORT: Form = Form {
 #[derive(Clone, Copy)]
 enum Name {
     Try,
+    Trace,
     Check,
     Format,
     Run,
@@ -261,6 +284,7 @@ enum Name {
 /// The commands, in the order in which help lists them.
 const NAMES: &[Name] = &[
     Name::Try,
+    Name::Trace,
     Name::Check,
     Name::Format,
     Name::Run,
@@ -279,6 +303,7 @@ const NAMES: &[Name] = &[
 fn form_of(name: Name) -> Form {
     match name {
         Name::Try => TRY,
+        Name::Trace => TRACE,
         Name::Check => CHECK,
         Name::Format => FORMAT,
         Name::Run => RUN,
@@ -298,6 +323,7 @@ fn form_of(name: Name) -> Form {
 fn refusals_of(name: Name) -> &'static str {
     match name {
         Name::Try => TRY_REFUSALS,
+        Name::Trace => TRACE_REFUSALS,
         Name::Check => CHECK_REFUSALS,
         Name::Format => FORMAT_REFUSALS,
         Name::Run => RUN_REFUSALS,
@@ -327,6 +353,17 @@ fn option<'a>(alloc: Global, id: &'a str, value: &'a str, help: &'a str) -> Arg<
         .help(help)
 }
 
+/// A word that has to be there just where an option isn't.
+fn instead<'a>(
+    alloc: Global,
+    id: &'a str,
+    other: &'a str,
+    help: &'a str,
+) -> Result<Arg<'a>, AllocError> {
+    let arg = Arg::new(alloc, id).action(ArgAction::Set).help(help);
+    arg.conflicts_with(other)?.required_unless_present(other)
+}
+
 /// A word as `clap` takes it.
 fn arg_of<'a>(alloc: Global, word: &Word) -> Result<Arg<'a>, AllocError> {
     match *word {
@@ -336,6 +373,7 @@ fn arg_of<'a>(alloc: Global, word: &Word) -> Result<Arg<'a>, AllocError> {
                 .action(ArgAction::Set)
                 .help(help),
         ),
+        Word::Instead(id, other, help) => instead(alloc, id, other, help),
         Word::Flag(id, help) => Ok(flag(alloc, id, help)),
         Word::Mark(id, help) => Ok(flag(alloc, id, help).required(true)),
         Word::Unless(id, other, help) => flag(alloc, id, help).conflicts_with(other),

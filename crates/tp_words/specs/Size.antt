@@ -1,0 +1,34 @@
+-- A number of bytes that was typed, as a decimal or with a letter behind it.
+use Rattle.std.specs.Prelude.{◌≡◌, ◌*◌, ◌++◌, ℕ, true, List, [], Option, Some, None, codes}
+use Rattle.std.specs.Fmt.{decimal}
+use Rattle.std.specs.declared.alloc.Global.{Global}
+use Rattle.std.specs.declared.string.String.{String}
+use Rattle.tp_words.specs.Typed.{was_typed}
+use Rattle.tp_words.specs.declared.sizes.Measure.{Measure}
+use Rattle.tp_words.specs.declared.sizes.Measure.TheVariants.{Bytes, Kilo, Mega, Giga}
+
+-- the letter of a measure
+abbrev pub letter : Measure → List ℕ
+letter Bytes = []
+letter Kilo = codes "K"
+letter Mega = codes "M"
+letter Giga = codes "G"
+
+-- how many bytes one of it is
+abbrev pub bytes_each : Measure → ℕ
+bytes_each Bytes = 1
+bytes_each Kilo = 1024
+bytes_each Mega = 1024 * 1024
+bytes_each Giga = 1024 * 1024 * 1024
+
+-- the text is a decimal with the letter of a measure behind it, and the size is so many bytes
+pub record IsSize (text : List ℕ) (size : ℕ) : Type 0 where
+  pub measure : Measure
+  pub number : ℕ
+  pub spelt : text ≡ decimal number ++ letter measure
+  pub is : size ≡ number * bytes_each measure
+
+-- an area has the bytes that were typed for its option, and where none were the decimal of a word
+abbrev pub IsArea : List (String Global) → ℕ → Option (List ℕ) → Type 0
+IsArea words area None = was_typed words (decimal area) ≡ true
+IsArea words area (Some text) = IsSize text area
