@@ -249,3 +249,53 @@ stay
 # A link to another file does.
 tpnet format to_other net.txt . 65536
 tpnet format also_other net.txt . 65536
+
+story sizes
+# The bytes of an area as a size, in which K, M and G are 1,024s: the device is the one that their number makes.
+text net.txt node a 4\nport h\nwire a.0 h\n
+image a.img
+tpnet format one net.txt . 16384
+tpnet format --area 16384 two net.txt .
+equal one two
+tpnet format --area=16K three net.txt .
+equal one three
+tpnet format large net.txt . --area 1M
+length large
+# The least area, one byte less, and none.
+tpnet format --area 13034 least net.txt .
+tpnet format --area 13033 small net.txt .
+tpnet format --area 12K small net.txt .
+tpnet format --area 0G small net.txt .
+# The greatest area in each measure, and one more. A device is there: so 2^40 bytes are refused for that.
+tpnet format --new --area 1099511627776 one net.txt .
+tpnet format --new --area 1099511627777 one net.txt . 2>err
+tpnet format --new --area 1073741824K one net.txt .
+tpnet format --new --area 1073741825K one net.txt . 2>err
+tpnet format --new --area 1048576M one net.txt .
+tpnet format --new --area 1048577M one net.txt . 2>err
+tpnet format --new --area 1024G one net.txt .
+tpnet format --new --area 1025G one net.txt . 2>err
+has err tpnet: --area takes a decimal
+# 2^64 bytes and more are no smaller number of them.
+tpnet format --new --area 17179869184G one net.txt . 2>err
+tpnet format --new --area 17179869183G one net.txt . 2>err
+tpnet format --new --area 17592186044416M one net.txt . 2>err
+tpnet format --new --area 18014398509481984K one net.txt . 2>err
+tpnet format --new --area 18446744073709551615K one net.txt . 2>err
+tpnet format --new --area 18446744073709551616 one net.txt . 2>err
+tpnet format --new --area 18446744073709551616K one net.txt . 2>err
+# What is no size.
+tpnet format --new --area=K one net.txt . 2>err
+tpnet format --new --area=16k one net.txt . 2>err
+tpnet format --new --area=16KB one net.txt . 2>err
+tpnet format --new --area=016K one net.txt . 2>err
+tpnet format --new --area=+16K one net.txt . 2>err
+tpnet format --new --area=-16K one net.txt . 2>err
+tpnet format --new --area=1.5M one net.txt . 2>err
+tpnet format --new --area=16T one net.txt . 2>err
+tpnet format --new --area '' one net.txt . 2>err
+# The number is given once: by the option or by the word behind DIR.
+tpnet format --new --area 16K one net.txt . 16384 2>err
+tpnet format --new --area 16K --area 16K one net.txt . 2>err
+tpnet format --new one net.txt . 2>err
+equal one three

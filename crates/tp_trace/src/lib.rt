@@ -3,12 +3,13 @@
 
 mod act;
 mod fields;
+mod lines;
 mod looking;
 mod names;
 mod stepping;
 
 pub use act::Act;
 pub use fields::{byte_in, cpu_in, half_in, word_in};
-pub use looking::{Moment, look};
-pub use names::{fun_name, op_name};
+pub use lines::{step_line, stop_line};
+pub use names::{fault_name, state_name};
 pub use stepping::{Seen, trace_step};

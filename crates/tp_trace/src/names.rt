@@ -1,9 +1,9 @@
-//! The names of instructions, as docs/MACHINE.md has them.
+//! The names of instructions, as docs/MACHINE.md has them, of faults and of what runs.
 
 ghost use Rattle.std.specs.Prelude.{◌≡◌};
-ghost use Rattle.tp_trace.specs.Names.{fun_name, op_name};
+ghost use Rattle.tp_trace.specs.Names.{fault_name, fun_name, op_name, state_name};
 
-use tp_model::{Fun, Op};
+use tp_model::{Fault, Fun, Op, State};
 
 /// The name of a function.
 pub fn fun_name(fun: Fun) -> &'static str
@@ -88,5 +88,28 @@ pub fn op_name(op: Op) -> &'static str
         Op::Sum => "sum",
         Op::Mul => "mul",
         Op::Stoperr => "stoperr",
+    }
+}
+
+/// Why a node halted, in a word.
+pub fn fault_name(fault: Fault) -> &'static str
+    ensures { result.now ≡ fault_name fault }
+{
+    match fault {
+        Fault::BadAddress => "BadAddress",
+        Fault::UnknownOp => "UnknownOp",
+        Fault::LongPrefix => "LongPrefix",
+        Fault::LinkBusy => "LinkBusy",
+    }
+}
+
+/// What a processor runs, in a word.
+pub fn state_name(state: State) -> &'static str
+    ensures { result.now ≡ state_name state }
+{
+    match state {
+        State::Idle => "idle",
+        State::High => "high",
+        State::Low => "low",
     }
 }

@@ -1,5 +1,4 @@
 pub mod Front
-pub mod Hex
 pub mod Names
 pub mod Shown
 pub mod Opens
@@ -11,3 +10,4 @@ pub mod Checked
 pub mod Looks
 pub mod Steady
 pub mod Attempt
+pub mod Traced
