@@ -63,9 +63,9 @@ pub fn trace_file<R: Files + AllocGlobal, O: Write, E: Write>(
 ) -> u8
     ensures { result ≤ 1 }
 {
-    match fs::read(rt, image) {
+    match read_file(rt, image) {
         Ok(bytes) => trace_on(rt.alloc(), bytes.as_slice(), steps, out, err),
-        Err(error) => refuse(err, read_refusal(&error)),
+        Err(refusal) => refuse(err, refusal),
     }
 }
 

@@ -53,8 +53,14 @@ fn put_next<O: Write>(
     ensures bytes { IsNodeOfBytes node.new.live }
 {
     match trace_step(node) {
-        Some(seen) => put_step(alloc, number, seen, out).map(|()| true),
-        None => put_stop(alloc, node.standing(), out).map(|()| false),
+        Some(seen) => {
+            put_step(alloc, number, seen, out)?;
+            Ok(true)
+        }
+        None => {
+            put_stop(alloc, node.standing(), out)?;
+            Ok(false)
+        }
     }
 }
 
