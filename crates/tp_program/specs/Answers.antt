@@ -1,5 +1,5 @@
 -- What the program does for the words of a command line.
-use Rattle.std.specs.Prelude.{◌≡◌, ◌⊎◌, ◌≤◌, ℕ, List, Option, string_bytes}
+use Rattle.std.specs.Prelude.{◌≡◌, ◌⊎◌, ◌≤◌, ◌++◌, ℕ, true, false, List, Option, Some, None, string_bytes}
 use Rattle.std.specs.Io.KnownBytes.{Appends}
 use Rattle.std.specs.declared.alloc.Global.{Global}
 use Rattle.std.specs.declared.string.String.{String}
@@ -8,14 +8,14 @@ use Rattle.tp_words.specs.Args.{WasTyped}
 use Rattle.tp_words.specs.BackupArgs.{WasBackupTyped}
 use Rattle.tp_words.specs.StreamArgs.{WasStreamTyped}
 use Rattle.tp_words.specs.declared.args.Asked.{Asked}
-use Rattle.tp_words.specs.declared.args.Asked.TheVariants.{Help, Run as Runs, Compact}
+use Rattle.tp_words.specs.declared.args.Asked.TheVariants.{Help, Format, Run as Runs, Compact}
 use Rattle.tp_words.specs.declared.backup_args.BackupAsked.{BackupAsked}
 use Rattle.tp_words.specs.declared.backup_args.BackupAsked.TheVariants.{Help as BackupHelp, Make}
 use Rattle.tp_words.specs.declared.stream_args.StreamAsked.{StreamAsked}
 use Rattle.tp_words.specs.declared.stream_args.StreamAsked.TheVariants.{Help as StreamHelp, Run as Streams}
 use Rattle.tp_program.specs.Backups.{PrintsCopied}
 use Rattle.tp_program.specs.CompactFile.{CompactedFile}
-use Rattle.tp_program.specs.Devices.{DeviceCall, WasRefused}
+use Rattle.tp_program.specs.Devices.{DeviceCall, WasRefused, asking}
 use Rattle.tp_program.specs.RunFile.{RanFile}
 use Rattle.tp_program.specs.StreamFile.{StreamedFile}
 
@@ -31,9 +31,19 @@ CarriedOut keeps history (Compact device wait_lock) old new was now status = Com
 CarriedOut keeps history (Help text) old new was now status = Helped (string_bytes text) old new was now status
 CarriedOut keeps history _ old new was now status = new ≡ old
 
--- The same, or it was refused before.
+-- the path of the device that is to be written, where one is
+abbrev pub written_path : Asked → Option (List ℕ)
+written_path (Format new) = Some (string_bytes new.device)
+written_path (Runs run) = Some (string_bytes run.device)
+written_path (Compact device wait_lock) = Some (string_bytes device)
+written_path _ = None
+
+-- Another process has the device that is to be written; or it was asked for and got, and then it was refused, or what was asked for was done.
 abbrev pub AnsweredAs : (keeps : Type 0) → History → Asked → (old new : List DeviceCall) → (was now : Option (List ℕ)) → ℕ → Type 0
-AnsweredAs keeps history asked old new was now status = WasRefused old new was now status ⊎ CarriedOut keeps history asked old new was now status
+AnsweredAs keeps history asked old new was now status =
+    WasRefused (old ++ asking (written_path asked) false) new was now status
+    ⊎ (WasRefused (old ++ asking (written_path asked) true) new was now status
+    ⊎ CarriedOut keeps history asked (old ++ asking (written_path asked) true) new was now status)
 
 -- What `backup` printed that was asked for.
 abbrev pub BackedUp : BackupAsked → (was now : Option (List ℕ)) → ℕ → Type 0
@@ -59,10 +69,12 @@ abbrev pub Answered : (keeps : Type 0) → History → List (String Global) → 
 Answered keeps history words old new was now status =
     WasRefused old new was now status ⊎ (IsOfBackup words old new was now status ⊎ Read keeps history words old new was now status)
 
--- What a command line with `--stream` did that was asked for.
+-- What a command line with `--stream` did that was asked for: help; or another process has the device, or it was asked for and got, and streamed.
 abbrev pub StreamCarriedOut : (keeps : Type 0) → History → StreamAsked → (old new : List DeviceCall) → (was now : Option (List ℕ)) → ℕ → Type 0
 StreamCarriedOut keeps history (StreamHelp text) old new was now status = Helped (string_bytes text) old new was now status
-StreamCarriedOut keeps history (Streams run) old new was now status = StreamedFile keeps history run old new was now status
+StreamCarriedOut keeps history (Streams run) old new was now status =
+    WasRefused (old ++ asking (Some (string_bytes run.device)) false) new was now status
+    ⊎ StreamedFile keeps history run (old ++ asking (Some (string_bytes run.device)) true) new was now status
 
 pub record StreamRead (keeps : Type 0) (history : History) (words : List (String Global)) (old new : List DeviceCall) (was now : Option (List ℕ)) (status : ℕ) : Type 0 where
   pub asked : StreamAsked

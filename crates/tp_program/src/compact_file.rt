@@ -1,8 +1,9 @@
 //! `tpnet compact`, on a device's file.
 
-ghost use Rattle.std.specs.Prelude.{◌≤◌, string_bytes};
+ghost use Rattle.std.specs.Prelude.{◌≤◌, Some, string_bytes};
 ghost use Rattle.tp_run.specs.Ran.{History};
 ghost use Rattle.tp_program.specs.CompactFile.{CompactedFile};
+ghost use Rattle.tp_program.specs.Devices.{IsHeld};
 
 use crate::compacting::compact_on;
 use crate::devices::{Devices, refuse_opening};
@@ -30,6 +31,7 @@ pub(crate) fn compact_file<
     err: &mut E,
 ) -> u8
     ghost history: { History }
+    requires { IsHeld (Some (string_bytes device.now)) (S.calls devices.old) }
     ensures few { result ≤ 1 }
     ensures compacted { CompactedFile D.keeps history (string_bytes device.now) (S.calls devices.old) (S.calls devices.new) (O.contents out.old) (O.contents out.new) result }
 {

@@ -2,7 +2,7 @@
 
 ghost use Rattle.std.specs.Prelude.{◌≡◌, List, [], ◌∷◌, ◌++◌};
 ghost use Rattle.std.specs.Borrow.{ftrue};
-ghost use Rattle.tp_program.specs.Devices.{DeviceCall, Opens, Closes};
+ghost use Rattle.tp_program.specs.Devices.{DeviceCall, Holds, Opens, Closes};
 
 use std::marker::Model;
 use tp_disk::Disk;
@@ -31,6 +31,13 @@ impl DeviceCalls {
         ensures { result.told ≡ [] }
     {
         DeviceCalls::of(&())
+    }
+
+    /// The device at a path was asked for.
+    pub(crate) fn held(&self, path: &str, ok: bool) -> DeviceCalls
+        ensures { result.told ≡ self.now.told ++ Holds path.now ok ∷ [] }
+    {
+        DeviceCalls::of(&(self, path, ok))
     }
 
     /// The device at a path was opened.

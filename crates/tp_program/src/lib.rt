@@ -23,13 +23,13 @@ mod watching;
 
 pub use backing_up::backup_on;
 pub use compacting::compact_on;
-pub use devices::{Devices, FileDevices};
+pub use devices::{Devices, FileDevices, InUse, Locks, NoLocks};
 pub use formatting::format_on;
 pub use in_use::refuse_in_use;
-pub use program::{answer, answer_over, answer_watching};
+pub use program::{answer, answer_locking, answer_over, answer_watching};
 pub use running::run_on;
 pub use stop_file::StopFault;
-pub use stream_program::{answer_stream, answer_stream_over};
+pub use stream_program::{answer_stream, answer_stream_locking, answer_stream_over};
 pub use streaming::{FilesFault, Streamed, stream_on};
 pub use tp_views::{
     Seen, TRY_QUANTUM, check_on, is_device_file, recover_on, show_on, status_on, try_on, view_on,

@@ -1,16 +1,18 @@
 //! What the program does for the words of its command line.
 
-ghost use Rattle.std.specs.Prelude.{◌≡◌, ◌≤◌};
+ghost use Rattle.std.specs.Prelude.{◌≡◌, ◌≤◌, ◌⊎◌, ◌++◌, is_ok};
 ghost use Rattle.tp_run.specs.Ran.{History};
 ghost use Rattle.tp_words.specs.Args.{IsInRange};
-ghost use Rattle.tp_program.specs.Answers.{Answered, AnsweredAs, CarriedOut};
+ghost use Rattle.tp_program.specs.Answers.{Answered, AnsweredAs, CarriedOut, written_path};
+ghost use Rattle.tp_program.specs.Devices.{IsHeld, WasRefused, asking};
 
 use crate::backup_program::answer_backup;
 use crate::compact_file::compact_file;
-use crate::devices::{Devices, FileDevices};
+use crate::devices::{Devices, FileDevices, InUse, Locks, NoLocks};
 use crate::files::{
     check_file, format_file, recover_file, show_file, status_file, try_file, view_file,
 };
+use crate::in_use::refuse_in_use;
 use crate::run_file::run_file;
 use crate::watching::{OneLook, Watch};
 use std::fs::{Files, OpenFile};
@@ -44,7 +46,8 @@ fn carry_out<
     err: &mut E,
 ) -> u8
     ghost history: { History }
-    requires { IsInRange asked.now }
+    requires range { IsInRange asked.now }
+    requires held { IsHeld (written_path asked.now) (S.calls devices.old) }
     ensures few { result ≤ 2 }
     ensures done { CarriedOut D.keeps history asked.now (S.calls devices.old) (S.calls devices.new) (O.contents out.old) (O.contents out.new) result }
 {
@@ -128,6 +131,54 @@ fn say_more<R: Files<File = F> + AllocGlobal, F: FileExt + OpenFile + Drop, E: W
 }
 
 /// Does what was asked for, unless what is printed would be written over the device. Answers the program's status.
+fn answer_held<
+    R: Files<File = F> + AllocGlobal + Threads + Wait + Sync,
+    F: FileExt + OpenFile + Drop,
+    S: Devices<Device = D>,
+    D: Disk + Drop + Send,
+    W: Watch,
+    O: Write,
+    E: Write,
+>(
+    rt: &R,
+    devices: &mut S,
+    watch: &mut W,
+    words: &[String],
+    asked: &Asked,
+    out: &mut O,
+    err: &mut E,
+) -> u8
+    ghost history: { History }
+    requires range { IsInRange asked.now }
+    requires held { IsHeld (written_path asked.now) (S.calls devices.old) }
+    ensures few { result ≤ 2 }
+    ensures answered {
+        WasRefused (S.calls devices.old) (S.calls devices.new) (O.contents out.old) (O.contents out.new) result
+        ⊎ CarriedOut D.keeps history asked.now (S.calls devices.old) (S.calls devices.new) (O.contents out.old) (O.contents out.new) result
+    }
+{
+    if prints_into_device(rt, asked) {
+        return refuse_output(err);
+    }
+    let mut system = None;
+    let status = carry_out(rt, devices, watch, asked, &mut system, out, err);
+    say_more(rt, words, asked, status, system.as_ref(), err);
+    status
+}
+
+/// Asks for the device that is to be written, where one is.
+fn hold_written<S: Devices>(devices: &mut S, asked: &Asked) -> Result<(), InUse>
+    ensures asked { S.calls devices.new ≡ S.calls devices.old ++ asking (written_path asked.now) (is_ok result) }
+{
+    match asked {
+        Asked::Format(new) => devices.hold(new.device.as_str(), new.wait_lock),
+        Asked::Run(run) => devices.hold(run.device.as_str(), run.wait_lock),
+        Asked::Compact { device, wait_lock } => devices.hold(device.as_str(), *wait_lock),
+        _ => Ok(()),
+    }
+}
+
+/// Does what was asked for, unless another process has the device that is to be written. Answers the program's status.
 fn answer_asked<
     R: Files<File = F> + AllocGlobal + Threads + Wait + Sync,
     F: FileExt + OpenFile + Drop,
@@ -150,13 +201,10 @@ fn answer_asked<
     ensures few { result ≤ 2 }
     ensures answered { AnsweredAs D.keeps history asked.now (S.calls devices.old) (S.calls devices.new) (O.contents out.old) (O.contents out.new) result }
 {
-    if prints_into_device(rt, asked) {
-        return refuse_output(err);
+    match hold_written(devices, asked) {
+        Ok(()) => answer_held(rt, devices, watch, words, asked, out, err),
+        Err(_) => refuse_in_use(words, err),
     }
-    let mut system = None;
-    let status = carry_out(rt, devices, watch, asked, &mut system, out, err);
-    say_more(rt, words, asked, status, system.as_ref(), err);
-    status
 }
 
 /// Does what the words of a command line ask for, the program's name first. Answers the program's status: that of the
@@ -194,7 +242,43 @@ pub fn answer_over<
     }
 }
 
-/// The same with the devices in files of the system.
+/// The same with devices of which nothing is told.
+fn answer_untold<
+    R: Files<File = F> + AllocGlobal + Threads + Wait + Sync,
+    F: FileExt + OpenFile + Drop,
+    S: Devices<Device = D>,
+    D: Disk + Drop + Send,
+    W: Watch,
+    O: Write,
+    E: Write,
+>(
+    rt: &R,
+    devices: &mut S,
+    watch: &mut W,
+    words: &[String],
+    out: &mut O,
+    err: &mut E,
+) -> u8
+    ensures { result ≤ 2 }
+{
+    answer_over(rt, devices, watch, words, out, err)
+}
+
+/// The same with the devices in files of the system, whose locks are taken so.
+pub fn answer_locking<
+    R: Files<File = F> + AllocGlobal + Threads + Wait + Sync,
+    F: FileExt + OpenFile + Drop + Send,
+    L: Locks + Drop,
+    W: Watch,
+    O: Write,
+    E: Write,
+>(rt: &R, locks: L, watch: &mut W, words: &[String], out: &mut O, err: &mut E) -> u8
+    ensures { result ≤ 2 }
+{
+    answer_untold(rt, &mut FileDevices::new(rt, locks), watch, words, out, err)
+}
+
+/// The same where no lock is taken.
 pub fn answer_watching<
     R: Files<File = F> + AllocGlobal + Threads + Wait + Sync,
     F: FileExt + OpenFile + Drop + Send,
@@ -204,7 +288,7 @@ pub fn answer_watching<
 >(rt: &R, watch: &mut W, words: &[String], out: &mut O, err: &mut E) -> u8
     ensures { result ≤ 2 }
 {
-    answer_over(rt, &mut FileDevices::new(rt), watch, words, out, err)
+    answer_locking(rt, NoLocks, watch, words, out, err)
 }
 
 /// The same where nobody else holds a device, and `status` takes one look.

@@ -1,8 +1,9 @@
 //! `tpnet run`, on a device's file.
 
-ghost use Rattle.std.specs.Prelude.{◌≡◌, ◌≤◌, [], None, IfOk};
+ghost use Rattle.std.specs.Prelude.{◌≡◌, ◌≤◌, [], None, Some, IfOk, string_bytes};
 ghost use Rattle.tp_run.specs.Ran.{History};
 ghost use Rattle.tp_words.specs.Args.{IsRun};
+ghost use Rattle.tp_program.specs.Devices.{IsHeld};
 ghost use Rattle.tp_program.specs.RunFile.{RanFile, RanWith};
 
 use crate::devices::{Devices, refuse_opening};
@@ -44,7 +45,8 @@ fn run_device<
     err: &mut E,
 ) -> u8
     ghost history: { History }
-    requires { IsRun run.now }
+    requires range { IsRun run.now }
+    requires held { IsHeld (Some (string_bytes run.now.device)) (S.calls devices.old) }
     ensures few { result ≤ 2 }
     ensures ran { RanWith D.keeps history run.now input.now (S.calls devices.old) (S.calls devices.new) (O.contents out.old) (O.contents out.new) result }
 {
@@ -77,7 +79,8 @@ pub(crate) fn run_file<
     err: &mut E,
 ) -> u8
     ghost history: { History }
-    requires { IsRun run.now }
+    requires range { IsRun run.now }
+    requires held { IsHeld (Some (string_bytes run.now.device)) (S.calls devices.old) }
     ensures few { result ≤ 2 }
     ensures ran { RanFile D.keeps history run.now (S.calls devices.old) (S.calls devices.new) (O.contents out.old) (O.contents out.new) result }
 {

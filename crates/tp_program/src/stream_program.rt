@@ -1,12 +1,14 @@
 //! What the program does for the words of a command line with `--stream`.
 
-ghost use Rattle.std.specs.Prelude.{◌≡◌, ◌≤◌};
+ghost use Rattle.std.specs.Prelude.{◌≡◌, ◌≤◌, ◌⊎◌, ◌++◌, true, false, Some, string_bytes};
 ghost use Rattle.tp_run.specs.Ran.{History};
 ghost use Rattle.tp_words.specs.StreamArgs.{IsStreamRun};
 ghost use Rattle.tp_program.specs.Answers.{StreamAnswered};
+ghost use Rattle.tp_program.specs.Devices.{IsHeld, WasRefused, asking};
 ghost use Rattle.tp_program.specs.StreamFile.{StreamedFile};
 
-use crate::devices::{Devices, FileDevices};
+use crate::devices::{Devices, FileDevices, Locks, NoLocks};
+use crate::in_use::refuse_in_use;
 use crate::stream_explain::explain_stream;
 use crate::streaming::{FilesFault, Streamed, stream_on};
 use std::fs::{Files, OpenFile};
@@ -67,7 +69,8 @@ fn stream_file<
     err: &mut E,
 ) -> Outcome
     ghost history: { History }
-    requires { IsStreamRun asked.now }
+    requires range { IsStreamRun asked.now }
+    requires held { IsHeld (Some (string_bytes asked.now.device)) (S.calls devices.old) }
     ensures few { result.status ≤ 3 }
     ensures streamed { StreamedFile D.keeps history asked.now (S.calls devices.old) (S.calls devices.new) (O.contents out.old) (O.contents out.new) result.status }
 {
@@ -101,7 +104,8 @@ fn stream_and_explain<
     err: &mut E,
 ) -> u8
     ghost history: { History }
-    requires { IsStreamRun asked.now }
+    requires range { IsStreamRun asked.now }
+    requires held { IsHeld (Some (string_bytes asked.now.device)) (S.calls devices.old) }
     ensures few { result ≤ 3 }
     ensures streamed { StreamedFile D.keeps history asked.now (S.calls devices.old) (S.calls devices.new) (O.contents out.old) (O.contents out.new) result }
 {
@@ -110,6 +114,38 @@ fn stream_and_explain<
         explain_stream(rt, asked, ended.fault, ended.system.as_ref(), err);
     }
     ended.status
+}
+
+/// Asks for the device first, and streams on it where no other process has it. Answers the status.
+fn hold_and_stream<
+    R: Files<File = F> + AllocGlobal + Wait,
+    F: FileExt + OpenFile + Drop,
+    S: Devices<Device = D>,
+    D: Disk + Drop,
+    I: Feed,
+    O: Write,
+    E: Write,
+>(
+    rt: &R,
+    devices: &mut S,
+    words: &[String],
+    asked: &StreamRun,
+    feed: &mut I,
+    out: &mut O,
+    err: &mut E,
+) -> u8
+    ghost history: { History }
+    requires { IsStreamRun asked.now }
+    ensures few { result ≤ 3 }
+    ensures streamed {
+        WasRefused (S.calls devices.old ++ asking (Some (string_bytes asked.now.device)) false) (S.calls devices.new) (O.contents out.old) (O.contents out.new) result
+        ⊎ StreamedFile D.keeps history asked.now (S.calls devices.old ++ asking (Some (string_bytes asked.now.device)) true) (S.calls devices.new) (O.contents out.old) (O.contents out.new) result
+    }
+{
+    match devices.hold(asked.device.as_str(), asked.wait_lock) {
+        Ok(()) => stream_and_explain(rt, devices, words, asked, feed, out, err),
+        Err(_) => refuse_in_use(words, err),
+    }
 }
 
 /// Does what the words of a command line with `--stream` ask for, the program's name first; `feed` is standard input, and `devices` opens
@@ -138,7 +174,7 @@ pub fn answer_stream_over<
     match read_stream_args(rt.alloc(), words) {
         Ok(StreamAsked::Help(text)) => print_help(text.as_str(), out, err),
         Ok(StreamAsked::Run(asked)) => {
-            stream_and_explain(rt, devices, words, &asked, feed, out, err)
+            hold_and_stream(rt, devices, words, &asked, feed, out, err)
         }
         Err(fault) => {
             let _ = write!(err, "{fault}");
@@ -147,7 +183,43 @@ pub fn answer_stream_over<
     }
 }
 
-/// The same with the devices in files of the system.
+/// The same with devices of which nothing is told.
+fn answer_stream_untold<
+    R: Files<File = F> + AllocGlobal + Wait,
+    F: FileExt + OpenFile + Drop,
+    S: Devices<Device = D>,
+    D: Disk + Drop,
+    I: Feed,
+    O: Write,
+    E: Write,
+>(
+    rt: &R,
+    devices: &mut S,
+    words: &[String],
+    feed: &mut I,
+    out: &mut O,
+    err: &mut E,
+) -> u8
+    ensures { result ≤ 3 }
+{
+    answer_stream_over(rt, devices, words, feed, out, err)
+}
+
+/// The same with the devices in files of the system, whose locks are taken so.
+pub fn answer_stream_locking<
+    R: Files<File = F> + AllocGlobal + Wait,
+    F: FileExt + OpenFile + Drop,
+    L: Locks + Drop,
+    I: Feed,
+    O: Write,
+    E: Write,
+>(rt: &R, locks: L, words: &[String], feed: &mut I, out: &mut O, err: &mut E) -> u8
+    ensures { result ≤ 3 }
+{
+    answer_stream_untold(rt, &mut FileDevices::new(rt, locks), words, feed, out, err)
+}
+
+/// The same where no lock is taken.
 pub fn answer_stream<
     R: Files<File = F> + AllocGlobal + Wait,
     F: FileExt + OpenFile + Drop,
@@ -157,5 +229,5 @@ pub fn answer_stream<
 >(rt: &R, words: &[String], feed: &mut I, out: &mut O, err: &mut E) -> u8
     ensures { result ≤ 3 }
 {
-    answer_stream_over(rt, &mut FileDevices::new(rt), words, feed, out, err)
+    answer_stream_locking(rt, NoLocks, words, feed, out, err)
 }

@@ -5,13 +5,15 @@ mod holding;
 mod stand_ins;
 mod watching;
 
-use holding::hold;
+use holding::SystemLocks;
 use stand_ins::stand_in;
 use std::io::Write;
 use std::process::ExitCode;
 use std::rt::Env;
 use std::{env, io};
-use tp_program::{answer_stream, answer_watching, is_stream, refuse_in_use, wants_input};
+use tp_program::{
+    answer_locking, answer_stream_locking, is_stream, refuse_in_use, wants_input,
+};
 use tp_stream_files::Threaded;
 use watching::Watcher;
 
@@ -40,20 +42,23 @@ fn main(rt: HostRuntime) -> ExitCode {
         Ok(words) => words,
         Err(error) => return refuse_words(&mut err, &error),
     };
-    let Ok(_held) = hold(&rt, words.as_slice()) else {
-        return ExitCode::from(refuse_in_use(words.as_slice(), &mut err));
-    };
+    let mut locks = SystemLocks::new(&rt);
     if is_stream(words.as_slice()) {
+        if locks.take_early(words.as_slice()).is_err() {
+            return ExitCode::from(refuse_in_use(words.as_slice(), &mut err));
+        }
         let reader = if wants_input(words.as_slice()) {
             Some(rt.reader())
         } else {
             None
         };
         let mut feed = Threaded::new(rt, reader);
-        let status = answer_stream(&rt, words.as_slice(), &mut feed, &mut out, &mut err);
+        let words = words.as_slice();
+        let status = answer_stream_locking(&rt, locks, words, &mut feed, &mut out, &mut err);
         return ExitCode::from(status);
     }
     let mut watch = Watcher::new(&rt);
-    let status = answer_watching(&rt, &mut watch, words.as_slice(), &mut out, &mut err);
+    let words = words.as_slice();
+    let status = answer_locking(&rt, locks, &mut watch, words, &mut out, &mut err);
     ExitCode::from(status)
 }
