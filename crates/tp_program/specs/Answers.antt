@@ -24,7 +24,7 @@ pub record Helped (text : List ℕ) (old new : List DeviceCall) (was now : Optio
   pub unopened : new ≡ old
   pub printed : status ≡ 0 → Appends was now text
 
--- What a command did that was asked for. One that doesn't change a device opens none so.
+-- What a command did that was asked for. `format` makes its device, and one that changes none opens none to be written.
 abbrev pub CarriedOut : (keeps : Type 0) → History → Asked → (old new : List DeviceCall) → (was now : Option (List ℕ)) → ℕ → Type 0
 CarriedOut keeps history (Runs run) old new was now status = RanFile keeps history run old new was now status
 CarriedOut keeps history (Compact device wait_lock) old new was now status = CompactedFile keeps history (string_bytes device) old new was now status
@@ -59,15 +59,16 @@ pub record IsOfBackup (words : List (String Global)) (old new : List DeviceCall)
   pub unopened : new ≡ old
   pub answered : BackupAnswered words was now status
 
--- What the program did: it was refused, or the words were read so, and that was done.
-pub record Read (keeps : Type 0) (history : History) (words : List (String Global)) (old new : List DeviceCall) (was now : Option (List ℕ)) (status : ℕ) : Type 0 where
+-- The words were read so, and that was done.
+pub record DidAsked (keeps : Type 0) (history : History) (words : List (String Global)) (old new : List DeviceCall) (was now : Option (List ℕ)) (status : ℕ) : Type 0 where
   pub asked : Asked
   pub typed : WasTyped words asked
   pub answered : AnsweredAs keeps history asked old new was now status
 
+-- What the program did for the words of a command line: it was refused, or they were of `backup`, or they were read so, and that was done.
 abbrev pub Answered : (keeps : Type 0) → History → List (String Global) → (old new : List DeviceCall) → (was now : Option (List ℕ)) → ℕ → Type 0
 Answered keeps history words old new was now status =
-    WasRefused old new was now status ⊎ (IsOfBackup words old new was now status ⊎ Read keeps history words old new was now status)
+    WasRefused old new was now status ⊎ (IsOfBackup words old new was now status ⊎ DidAsked keeps history words old new was now status)
 
 -- What a command line with `--stream` did that was asked for: help; or another process has the device, or it was asked for and got, and streamed.
 abbrev pub StreamCarriedOut : (keeps : Type 0) → History → StreamAsked → (old new : List DeviceCall) → (was now : Option (List ℕ)) → ℕ → Type 0
@@ -76,11 +77,12 @@ StreamCarriedOut keeps history (Streams run) old new was now status =
     WasRefused (old ++ asking (Some (string_bytes run.device)) false) new was now status
     ⊎ StreamedFile keeps history run (old ++ asking (Some (string_bytes run.device)) true) new was now status
 
-pub record StreamRead (keeps : Type 0) (history : History) (words : List (String Global)) (old new : List DeviceCall) (was now : Option (List ℕ)) (status : ℕ) : Type 0 where
+-- The words were read so, and that was done.
+pub record DidStreamAsked (keeps : Type 0) (history : History) (words : List (String Global)) (old new : List DeviceCall) (was now : Option (List ℕ)) (status : ℕ) : Type 0 where
   pub asked : StreamAsked
   pub typed : WasStreamTyped words asked
   pub did : StreamCarriedOut keeps history asked old new was now status
 
--- It was refused, or the words were read so, and that was done.
+-- What the program did for the words of a command line with `--stream`: it was refused, or they were read so, and that was done.
 abbrev pub StreamAnswered : (keeps : Type 0) → History → List (String Global) → (old new : List DeviceCall) → (was now : Option (List ℕ)) → ℕ → Type 0
-StreamAnswered keeps history words old new was now status = WasRefused old new was now status ⊎ StreamRead keeps history words old new was now status
+StreamAnswered keeps history words old new was now status = WasRefused old new was now status ⊎ DidStreamAsked keeps history words old new was now status
