@@ -86,8 +86,7 @@ impl<'r, R, L: Locks + Drop> FileDevices<'r, R, L> {
 }
 
 impl<'r, R: Files<File = F>, F: FileExt + OpenFile + Drop, L: Locks + Drop> Devices
-    for FileDevices<'r, R, L>
-{
+    for FileDevices<'r, R, L> {
     type Device = Counted<RawFile<NotedFile<F>>>;
 
     ghost calls = { λ devices. devices.noted.told };

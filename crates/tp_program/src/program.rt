@@ -152,10 +152,8 @@ fn answer_held<
     requires range { IsInRange asked.now }
     requires held { IsHeld (written_path asked.now) (S.calls devices.old) }
     ensures few { result ≤ 2 }
-    ensures answered {
-        WasRefused (S.calls devices.old) (S.calls devices.new) (O.contents out.old) (O.contents out.new) result
-        ⊎ CarriedOut D.keeps history asked.now (S.calls devices.old) (S.calls devices.new) (O.contents out.old) (O.contents out.new) result
-    }
+    ensures answered { WasRefused (S.calls devices.old) (S.calls devices.new) (O.contents out.old) (O.contents out.new) result
+        ⊎ CarriedOut D.keeps history asked.now (S.calls devices.old) (S.calls devices.new) (O.contents out.old) (O.contents out.new) result }
 {
     if prints_into_device(rt, asked) {
         return refuse_output(err);
@@ -218,14 +216,7 @@ pub fn answer_over<
     W: Watch,
     O: Write,
     E: Write,
->(
-    rt: &R,
-    devices: &mut S,
-    watch: &mut W,
-    words: &[String],
-    out: &mut O,
-    err: &mut E,
-) -> u8
+>(rt: &R, devices: &mut S, watch: &mut W, words: &[String], out: &mut O, err: &mut E) -> u8
     ghost history: { History }
     ensures few { result ≤ 2 }
     ensures answered { Answered D.keeps history words.now (S.calls devices.old) (S.calls devices.new) (O.contents out.old) (O.contents out.new) result }
@@ -251,14 +242,7 @@ fn answer_untold<
     W: Watch,
     O: Write,
     E: Write,
->(
-    rt: &R,
-    devices: &mut S,
-    watch: &mut W,
-    words: &[String],
-    out: &mut O,
-    err: &mut E,
-) -> u8
+>(rt: &R, devices: &mut S, watch: &mut W, words: &[String], out: &mut O, err: &mut E) -> u8
     ensures { result ≤ 2 }
 {
     answer_over(rt, devices, watch, words, out, err)

@@ -60,14 +60,7 @@ fn stream_file<
     I: Feed,
     O: Write,
     E: Write,
->(
-    rt: &R,
-    devices: &mut S,
-    asked: &StreamRun,
-    feed: &mut I,
-    out: &mut O,
-    err: &mut E,
-) -> Outcome
+>(rt: &R, devices: &mut S, asked: &StreamRun, feed: &mut I, out: &mut O, err: &mut E) -> Outcome
     ghost history: { History }
     requires range { IsStreamRun asked.now }
     requires held { IsHeld (Some (string_bytes asked.now.device)) (S.calls devices.old) }
@@ -137,10 +130,8 @@ fn hold_and_stream<
     ghost history: { History }
     requires { IsStreamRun asked.now }
     ensures few { result ≤ 3 }
-    ensures streamed {
-        WasRefused (S.calls devices.old ++ asking (Some (string_bytes asked.now.device)) false) (S.calls devices.new) (O.contents out.old) (O.contents out.new) result
-        ⊎ StreamedFile D.keeps history asked.now (S.calls devices.old ++ asking (Some (string_bytes asked.now.device)) true) (S.calls devices.new) (O.contents out.old) (O.contents out.new) result
-    }
+    ensures streamed { WasRefused (S.calls devices.old ++ asking (Some (string_bytes asked.now.device)) false) (S.calls devices.new) (O.contents out.old) (O.contents out.new) result
+        ⊎ StreamedFile D.keeps history asked.now (S.calls devices.old ++ asking (Some (string_bytes asked.now.device)) true) (S.calls devices.new) (O.contents out.old) (O.contents out.new) result }
 {
     match devices.hold(asked.device.as_str(), asked.wait_lock) {
         Ok(()) => stream_and_explain(rt, devices, words, asked, feed, out, err),
@@ -159,14 +150,7 @@ pub fn answer_stream_over<
     I: Feed,
     O: Write,
     E: Write,
->(
-    rt: &R,
-    devices: &mut S,
-    words: &[String],
-    feed: &mut I,
-    out: &mut O,
-    err: &mut E,
-) -> u8
+>(rt: &R, devices: &mut S, words: &[String], feed: &mut I, out: &mut O, err: &mut E) -> u8
     ghost history: { History }
     ensures few { result ≤ 3 }
     ensures answered { StreamAnswered D.keeps history words.now (S.calls devices.old) (S.calls devices.new) (O.contents out.old) (O.contents out.new) result }
@@ -192,14 +176,7 @@ fn answer_stream_untold<
     I: Feed,
     O: Write,
     E: Write,
->(
-    rt: &R,
-    devices: &mut S,
-    words: &[String],
-    feed: &mut I,
-    out: &mut O,
-    err: &mut E,
-) -> u8
+>(rt: &R, devices: &mut S, words: &[String], feed: &mut I, out: &mut O, err: &mut E) -> u8
     ensures { result ≤ 3 }
 {
     answer_stream_over(rt, devices, words, feed, out, err)

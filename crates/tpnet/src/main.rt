@@ -11,9 +11,7 @@ use std::io::Write;
 use std::process::ExitCode;
 use std::rt::Env;
 use std::{env, io};
-use tp_program::{
-    answer_locking, answer_stream_locking, is_stream, refuse_in_use, wants_input,
-};
+use tp_program::{answer_locking, answer_stream_locking, is_stream, refuse_in_use, wants_input};
 use tp_stream_files::Threaded;
 use watching::Watcher;
 

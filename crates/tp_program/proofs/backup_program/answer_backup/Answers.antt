@@ -10,7 +10,7 @@ returns-in-Ok-Help-clause-answered g c = inr (
   Help c.in-Ok-Help.text,
   tt,
   λ zero. subst (λ (bytes : List ℕ). Appends (g.O.Write.contents c.args.out.now) (g.O.Write.contents c.print_help.new.out) bytes) c.as_str.ensures.value
-    (c.print_help.ensures.printed zero),
+      (c.print_help.ensures.printed zero),
 )
 
 pub returns-else-prints_into-clause-answered : goal.returns-else-prints_into-clause-answered
