@@ -120,6 +120,8 @@ tpnet show a a a a a a a a a a a a a a a a a a a a a a a a a a a a a a a a a a a
 has err more than 256 words
 tpnet show a a a a a a a a a a a a a a a a a a a a a a a a a a a a a a a a a a a a a a a a a a a a a a a a a a a a a a a a a a a a a a a a a a a a a a a a a a a a a a a a a a a a a a a a a a a a a a a a a a a a a a a a a a a a a a a a a a a a a a a a a a a a a a a a a a a a a a a a a a a a a a a a a a a a a a a a a a a a a a a a a a a a a a a a a a a a a a a a a a a a a a a a a a a a a a a a a a a a a a a a a a a a a a a a a a a a a a a a a a a a a a a a a a a a a a a a a a a a a a a a a a a a a a a a a a a a a a a 2>err
 has err more than 256 words
+starts err tpnet: there are more than 256 words\n
+length err
 
 story stream_options
 # Each option that goes with --stream alone says so without it, however it is written; no device is looked for.

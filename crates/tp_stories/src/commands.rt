@@ -4,13 +4,14 @@ use crate::printed::print_lines;
 use crate::stage::Stage;
 use std::alloc::Global;
 use std::fs::{Files, OpenFile};
-use std::io::Write;
+use std::io::{ErrorKind, Write};
 use std::os::unix::fs::FileExt;
 use std::sync::Wait;
 use std::thread::Threads;
 use std::{fs, io};
 use tp_program::{answer, answer_stream, is_stream, wants_input};
 use tp_stream_files::Plain;
+use tp_tests_files::faults::FaultyFiles;
 use tp_tests_files::standing::Standing;
 
 /// A command as it was typed: its words, the program's name first, and the files that its streams are redirected to.
@@ -70,21 +71,29 @@ struct Done {
     err: Vec<u8>,
 }
 
-/// The reader of a stream's standard output: it keeps what comes, and then makes a file, where it is to.
+/// The reader of a command's standard output: it keeps what comes, as much as it takes, and then makes a file, where it is to.
 #[derive(Drop)]
 struct Reader<'a, R> {
     rt: &'a R,
-    made: &'a Option<String>,
+    made: Option<&'a str>,
+    room: usize,
+    end: Option<ErrorKind>,
     bytes: Vec<u8>,
 }
 
 impl<'a, R: Files> Write for Reader<'a, R> {
+    /// Takes what there is room for. Where there is none that is an error, or nothing is taken.
     fn write(&mut self, buf: &[u8]) -> io::Result<usize> {
-        self.bytes.extend_from_slice(buf)?;
-        if let Some(file) = self.made {
-            fs::write(self.rt, file.as_str(), b"")?;
+        let count = buf.len().min(self.room);
+        if let (0, Some(kind)) = (self.room, self.end) {
+            return Err(io::Error::from(kind));
         }
-        Ok(buf.len())
+        self.bytes.extend_from_slice(&buf[..count])?;
+        self.room -= count;
+        if let Some(file) = self.made {
+            fs::write(self.rt, file, b"")?;
+        }
+        Ok(count)
     }
 
     fn flush(&mut self) -> io::Result<()> {
@@ -92,40 +101,37 @@ impl<'a, R: Files> Write for Reader<'a, R> {
     }
 }
 
-/// Streams as a command asks.
-fn stream<R: Files<File = F> + AllocGlobal + Wait, F: FileExt + OpenFile + Drop>(
-    rt: &R,
-    stage: &Stage,
-    words: &[String],
-    input: &[u8],
-) -> Done {
-    let files = Standing::new(rt, stage.streams.as_slice());
-    let mut feed = Plain::new(if wants_input(words) { input } else { &[] });
-    let mut err = Vec::new(rt.alloc());
-    let mut out = Reader {
+/// The reader of what a command prints. That of a stream alone makes a file.
+fn reader_of<'a, R: AllocGlobal>(rt: &'a R, stage: &'a Stage, is_streamed: bool) -> Reader<'a, R> {
+    Reader {
         rt,
-        made: &stage.made,
+        made: if is_streamed { stage.made() } else { None },
+        room: stage.room,
+        end: stage.end,
         bytes: Vec::new(rt.alloc()),
+    }
+}
+
+/// Does what a command asks for, as the program does. Streams that are files and calls that fail are seen by it alone.
+fn carry_out<
+    R: Files<File = F> + AllocGlobal + Threads + Wait + Sync,
+    F: FileExt + OpenFile + Drop + Send,
+>(rt: &R, stage: &Stage, words: &[String], input: &[u8]) -> Done {
+    let standing = Standing::new(rt, stage.streams.as_slice());
+    let files = FaultyFiles::new(&standing, &stage.faults);
+    let is_streamed = is_stream(words);
+    let (mut out, mut err) = (reader_of(rt, stage, is_streamed), Vec::new(rt.alloc()));
+    let mut feed = Plain::new(if wants_input(words) { input } else { &[] });
+    let status = if is_streamed {
+        answer_stream(&files, words, &mut feed, &mut out, &mut err)
+    } else {
+        answer(&files, words, &mut out, &mut err)
     };
-    let status = answer_stream(&files, words, &mut feed, &mut out, &mut err);
     Done {
         status,
         out: out.bytes,
         err,
     }
-}
-
-/// Does what a command asks for, as the program does. Standard streams that are files are seen by a stream alone.
-fn carry_out<
-    R: Files<File = F> + AllocGlobal + Threads + Wait + Sync,
-    F: FileExt + OpenFile + Drop + Send,
->(rt: &R, stage: &Stage, words: &[String], input: &[u8]) -> Done {
-    if is_stream(words) {
-        return stream(rt, stage, words, input);
-    }
-    let (mut out, mut err) = (Vec::new(rt.alloc()), Vec::new(rt.alloc()));
-    let status = answer(rt, words, &mut out, &mut err);
-    Done { status, out, err }
 }
 
 /// Prints what came on a stream, or writes it to the file that the stream is redirected to.
@@ -155,13 +161,14 @@ fn tell<R: Files + AllocGlobal>(
     write!(stage.transcript, "status {status}\n")
 }
 
-/// Plays a command.
+/// Plays a command. Answers its status.
 pub(crate) fn play_command<
     R: Files<File = F> + AllocGlobal + Threads + Wait + Sync,
     F: FileExt + OpenFile + Drop + Send,
->(rt: &R, stage: &mut Stage, words: &str) -> io::Result<()> {
+>(rt: &R, stage: &mut Stage, words: &str) -> io::Result<u8> {
     let typed = Typed::read(rt.alloc(), words)?;
     let input = input_of(rt, &typed)?;
     let done = carry_out(rt, stage, typed.words.as_slice(), input.as_slice());
-    tell(rt, stage, &typed, &done)
+    tell(rt, stage, &typed, &done)?;
+    Ok(done.status)
 }

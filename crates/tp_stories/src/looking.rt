@@ -1,5 +1,6 @@
 //! What looks at the files of a story.
 
+use crate::failing::{set_faults, tell_synced, tell_written};
 use crate::printed::{print_answer, print_hex};
 use crate::stage::Stage;
 use crate::staying::{keep, stay};
@@ -88,6 +89,10 @@ pub(crate) fn look<R: Files<File = F> + AllocGlobal, F: FileExt + Drop>(
         "empty" => print_answer(&mut stage.transcript, fs::metadata(rt, file)?.len() == 0),
         "stand" => stage.stand(rt.alloc(), words),
         "reader-makes" => stage.reader_makes(rt.alloc(), words),
+        "reader-takes" => stage.reader_takes(words),
+        "faults" => set_faults(stage, words),
+        "written" => tell_written(stage),
+        "synced" => tell_synced(stage),
         "keep" => keep(rt, stage, words),
         "stay" => stay(rt, stage),
         _ => Err(malformed()),

@@ -2,6 +2,9 @@
 #![tactic(auto)]
 
 mod commands;
+mod each_call;
+mod failing;
+mod lines;
 mod looking;
 mod making;
 mod playing;

@@ -1,8 +1,7 @@
 //! Files of stories, line by line.
 
-use crate::commands::play_command;
-use crate::looking::look;
-use crate::making::make;
+use crate::each_call::play_each;
+use crate::lines::play_one;
 use crate::stage::Stage;
 use std::fs::{Files, OpenFile};
 use std::io::Write;
@@ -17,25 +16,11 @@ fn play_line<
     R: Files<File = F> + Env + AllocGlobal + Threads + Wait + Sync,
     F: FileExt + OpenFile + Drop + Send,
 >(rt: &R, stage: &mut Stage, line: &str) -> io::Result<()> {
-    let (verb, rest) = line.split_once(' ').unwrap_or((line, ""));
-    match verb {
-        "story" => stage.open(rt, rest),
+    match line.split_once(' ') {
+        Some(("story", name)) => stage.open(rt, name),
         _ if !stage.is_open() => Err(io::Error::from(io::ErrorKind::InvalidInput)),
-        "tpnet" => play_command(rt, stage, rest),
-        "image"
-        | "text"
-        | "bytes"
-        | "fill"
-        | "set"
-        | "cut"
-        | "part"
-        | "copy"
-        | "bring"
-        | "link"
-        | "symlink"
-        | "folder"
-        | "remove" => make(rt, verb, rest),
-        _ => look(rt, stage, verb, rest),
+        Some(("each-call", words)) => play_each(rt, stage, words),
+        _ => play_one(rt, stage, line),
     }
 }
 

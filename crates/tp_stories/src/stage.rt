@@ -1,11 +1,13 @@
 //! Where a story is played.
 
 use crate::staying::Kept;
-use crate::typed::malformed;
+use crate::typed::{count_of, malformed, parted};
 use std::alloc::Global;
 use std::fs::Files;
+use std::io::ErrorKind;
 use std::rt::Env;
 use std::{env, fs, io};
+use tp_tests_files::faults::Faults;
 
 /// Where a story is played: in a folder of its own.
 #[derive(Drop)]
@@ -17,7 +19,12 @@ pub(crate) struct Stage {
     /// Standard streams that are files of the story, as `/dev/stdout`, and the path of each.
     pub(crate) streams: Vec<(&'static str, String)>,
     /// The file that the reader of a stream's standard output makes once something has come, where it makes one.
-    pub(crate) made: Option<String>,
+    made: Option<String>,
+    /// How many bytes standard output takes, and what it says then; nothing where it takes none and says none of it.
+    pub(crate) room: usize,
+    pub(crate) end: Option<ErrorKind>,
+    /// What becomes of calls on files that a command makes.
+    pub(crate) faults: Faults,
     /// What files were.
     pub(crate) kept: Vec<Kept>,
 }
@@ -30,6 +37,9 @@ impl Stage {
             transcript: Vec::new(alloc),
             streams: Vec::new(alloc),
             made: None,
+            room: usize::MAX,
+            end: None,
+            faults: Faults::short(usize::MAX),
             kept: Vec::new(alloc),
         }
     }
@@ -78,10 +88,34 @@ impl Stage {
         Ok(())
     }
 
+    /// The file that the reader of standard output makes.
+    pub(crate) fn made(&self) -> Option<&str> {
+        match &self.made {
+            Some(file) => Some(file.as_str()),
+            None => None,
+        }
+    }
+
+    /// Says how many bytes standard output takes in the commands behind this line, and what it says then; with no word it takes all.
+    pub(crate) fn reader_takes(&mut self, words: &str) -> io::Result<()> {
+        let (room, end) = match parted(words) {
+            ("", _) => (usize::MAX, None),
+            (count, "") => (count_of(count)?, None),
+            (count, "full") => (count_of(count)?, Some(ErrorKind::StorageFull)),
+            (count, "gone") => (count_of(count)?, Some(ErrorKind::BrokenPipe)),
+            _ => return Err(malformed()),
+        };
+        self.room = room;
+        self.end = end;
+        Ok(())
+    }
+
     /// Ends the story that has begun, and removes its folder.
     pub(crate) fn close<R: Files + Env + AllocGlobal>(&mut self, rt: &R) -> io::Result<()> {
         self.streams.clear();
         self.made = None;
+        self.room = usize::MAX;
+        self.faults = Faults::short(usize::MAX);
         self.kept.clear();
         let Some(folder) = self.folder.take() else {
             return Ok(());

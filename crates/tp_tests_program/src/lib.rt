@@ -1,21 +1,13 @@
-//! What the program's commands answer, on devices in memory and on files, where a call fails or no command line asks for it.
+//! What the program's commands answer, on devices in memory, where a call fails, another process writes, or no command line asks for it.
 #![tactic(auto)]
 
 #[cfg(test)]
-mod backup_tests;
-#[cfg(test)]
 mod changing;
 #[cfg(test)]
-mod file_tests;
-#[cfg(test)]
-mod format_tests;
-#[cfg(test)]
-mod opening_tests;
-#[cfg(test)]
-mod program;
+mod memory_tests;
 #[cfg(test)]
 mod program_tests;
 #[cfg(test)]
 mod steady_tests;
 #[cfg(test)]
-mod tests;
+mod trials;

@@ -1,10 +1,20 @@
 //! What is asked where words were typed.
 
+use std::alloc::{AllocError, Global};
 use std::test::Fail;
 use tp_program::{
     ArgFault, Asked, BackupAsked, NewDevice, Run, is_backup, read_args, read_backup_args,
 };
-use tp_tests_files::scratch::Scratch;
+
+/// The program's name, and `words` behind it.
+fn line_of(alloc: Global, words: &[&str]) -> Result<Vec<String>, AllocError> {
+    let mut line = Vec::new(alloc);
+    line.push(String::from_str(alloc, "tpnet")?)?;
+    for word in words {
+        line.push(String::from_str(alloc, word)?)?;
+    }
+    Ok(line)
+}
 
 fn is_device(new: &NewDevice) -> bool {
     new.device.as_str() == "d"
@@ -14,25 +24,37 @@ fn is_device(new: &NewDevice) -> bool {
         && !new.only_new
 }
 
+/// Whether a device is asked for with the greatest area, or turns with the greatest number.
+fn is_greatest(asked: &Asked) -> bool {
+    match asked {
+        Asked::Try { image, turns } => image.as_str() == "a.img" && *turns == 4_294_967_295,
+        Asked::Format(new) => is_device(new),
+        _ => false,
+    }
+}
+
+/// Whether words ask for that.
+fn ask_for_most(alloc: Global, words: &[&str]) -> Result<bool, AllocError> {
+    let line = line_of(alloc, words)?;
+    Ok(match read_args(alloc, line.as_slice()) {
+        Ok(asked) => is_greatest(&asked),
+        Err(_) => false,
+    })
+}
+
+/// Words with a greatest number.
+const GREATEST: &[&[&str]] = &[
+    &["try", "a.img", "--turns", "4294967295"],
+    &["format", "d", "t", "i", "1099511627776"],
+];
+
 #[test]
 fn the_greatest_numbers(rt: HostRuntime) -> Result<(), Fail> {
-    let alloc = rt.alloc();
-    let scratch = Scratch::new(&rt, "numbers")?;
-    let line = scratch.line(alloc, &["try", "a.img", "--turns", "4294967295"])?;
-    let is_tried = match read_args(alloc, line.as_slice()) {
-        Ok(Asked::Try { image, turns }) => image.as_str() == "a.img" && turns == 4_294_967_295,
-        Ok(_other) => false,
-        Err(_fault) => false,
-    };
-    assert!(rt; is_tried);
-    let line = scratch.line(alloc, &["format", "d", "t", "i", "1099511627776"])?;
-    let is_made = match read_args(alloc, line.as_slice()) {
-        Ok(Asked::Format(new)) => is_device(&new),
-        Ok(_other) => false,
-        Err(_fault) => false,
-    };
-    assert!(rt; is_made);
-    scratch.remove(&rt)
+    for words in GREATEST {
+        let told = ask_for_most(rt.alloc(), words)?;
+        assert!(rt; told);
+    }
+    Ok(())
 }
 
 /// A run that is asked for: its device, turns, workers, steps of a turn, spare frames, entries between snapshots, port and input.
@@ -87,21 +109,30 @@ fn is_run(run: &Run, wanted: &Wanted) -> bool {
     is_shared && is_placed && run.spare == spare && run.every == every
 }
 
+/// Whether words ask for the run that is wanted.
+fn ask_for_run(alloc: Global, words: &[&str], wanted: &Wanted) -> Result<bool, AllocError> {
+    let line = line_of(alloc, words)?;
+    Ok(match read_args(alloc, line.as_slice()) {
+        Ok(Asked::Run(run)) => is_run(&run, wanted),
+        _ => false,
+    })
+}
+
+/// The same of the options of a run.
+fn are_options_of(alloc: Global, options: &[&str], wanted: &Wanted) -> Result<bool, AllocError> {
+    let mut words = Vec::from_slice(alloc, &["run"])?;
+    words.extend_from_slice(options)?;
+    let told = ask_for_run(alloc, words.as_slice(), wanted);
+    told
+}
+
 #[test]
 fn each_option_of_a_run(rt: HostRuntime) -> Result<(), Fail> {
-    let scratch = Scratch::new(&rt, "options")?;
     for (options, wanted) in RUNS {
-        let mut words = Vec::from_slice(rt.alloc(), &["run"])?;
-        words.extend_from_slice(options)?;
-        let line = scratch.line(rt.alloc(), words.as_slice())?;
-        let is_wanted = match read_args(rt.alloc(), line.as_slice()) {
-            Ok(Asked::Run(run)) => is_run(&run, wanted),
-            Ok(_other) => false,
-            Err(_fault) => false,
-        };
-        assert!(rt; is_wanted);
+        let told = are_options_of(rt.alloc(), options, wanted)?;
+        assert!(rt; told);
     }
-    scratch.remove(&rt)
+    Ok(())
 }
 
 /// Words of a backup, behind which stand its device `d` and its copy `c`.
@@ -112,30 +143,39 @@ const BACKUPS: &[&[&str]] = &[
     &["backup", "--", "d", "c"],
 ];
 
+/// Whether words ask for a copy `c` of the device `d`.
+fn ask_for_copy(alloc: Global, words: &[&str]) -> Result<bool, AllocError> {
+    let line = line_of(alloc, words)?;
+    let is_made = match read_backup_args(alloc, line.as_slice()) {
+        Ok(BackupAsked::Make(backup)) => {
+            backup.device.as_str() == "d" && backup.copy.as_str() == "c"
+        }
+        _ => false,
+    };
+    Ok(is_made && is_backup(line.as_slice()))
+}
+
+/// Whether a backup of 257 words, the program's name first, has too many.
+fn are_too_many(alloc: Global) -> Result<bool, AllocError> {
+    let mut words = Vec::from_elem(alloc, "d", 256)?;
+    words[0] = "backup";
+    let line = line_of(alloc, words.as_slice())?;
+    let is_many = matches!(
+        read_backup_args(alloc, line.as_slice()),
+        Err(ArgFault::Many)
+    );
+    Ok(line.len() == 257 && is_many)
+}
+
 /// The device comes first, and the copy behind it. Words that are none of `backup` are such nowhere, and more than 256 are too many.
 #[test]
 fn the_words_of_a_backup(rt: HostRuntime) -> Result<(), Fail> {
-    let scratch = Scratch::new(&rt, "backup_words")?;
     for words in BACKUPS {
-        let line = scratch.line(rt.alloc(), words)?;
-        let is_wanted = match read_backup_args(rt.alloc(), line.as_slice()) {
-            Ok(BackupAsked::Make(backup)) => {
-                backup.device.as_str() == "d" && backup.copy.as_str() == "c"
-            }
-            Ok(_other) => false,
-            Err(_fault) => false,
-        };
-        assert!(rt; is_wanted && is_backup(line.as_slice()));
+        let told = ask_for_copy(rt.alloc(), words)?;
+        assert!(rt; told);
     }
-    let line = scratch.line(rt.alloc(), &["show", "backup"])?;
-    assert!(rt; !is_backup(line.as_slice()));
-    let mut words = Vec::from_elem(rt.alloc(), "d", 256)?;
-    words[0] = "backup";
-    let line = scratch.line(rt.alloc(), words.as_slice())?;
-    let is_many = match read_backup_args(rt.alloc(), line.as_slice()) {
-        Err(ArgFault::Many) => true,
-        _ => false,
-    };
-    assert!(rt; line.len() == 257 && is_many);
-    scratch.remove(&rt)
+    let line = line_of(rt.alloc(), &["show", "backup"])?;
+    let are_many = are_too_many(rt.alloc())?;
+    assert!(rt; are_many && !is_backup(line.as_slice()));
+    Ok(())
 }

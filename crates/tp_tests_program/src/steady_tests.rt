@@ -1,7 +1,7 @@
 //! What commands that read a device say of one that another process writes meanwhile.
 
 use crate::changing::{Pace, RawChanging};
-use crate::format_tests::{AREA, images_of};
+use crate::memory_tests::images_of;
 use std::alloc::Global;
 use std::sync::Wait;
 use std::test::Fail;
@@ -10,7 +10,7 @@ use tp_disk::{Counted, Disk, MemDisk};
 use tp_net::Topology;
 use tp_program::{View, backup_on, compact_on, format_on, recover_on, show_on, view_on};
 use tp_tests_files::scratch::Output;
-use tp_tests_fixtures::{ONE_NODE, SIZE, letter};
+use tp_tests_fixtures::{AREA, ONE_NODE, SIZE};
 
 /// A command that reads a device.
 #[derive(Clone, Copy)]
@@ -50,7 +50,7 @@ fn formatted(alloc: Global) -> Result<RawChanging, Fail> {
         return Err(Fail::new("the topology"));
     };
     let _rules = topology.pages();
-    let images = images_of(alloc, letter(alloc)?)?;
+    let images = images_of(alloc, 1)?;
     let zeros = Vec::from_elem(alloc, 0u8, SIZE)?;
     let mut disk = Counted::new(RawChanging::new(alloc, &zeros)?);
     let (mut out, mut err) = (Vec::new(alloc), Vec::new(alloc));

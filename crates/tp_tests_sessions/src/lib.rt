@@ -1,8 +1,6 @@
-//! Runs, streams and compactings, with many workers, and with calls and outputs that fail.
+//! Runs and streams with many workers, with calls that fail, and with a file that comes meanwhile.
 #![tactic(auto)]
 
-#[cfg(test)]
-mod compact_tests;
 #[cfg(test)]
 mod program;
 #[cfg(test)]

@@ -9,7 +9,6 @@ use std::io;
 use std::io::Write;
 use std::os::unix::fs::FileExt;
 use std::sync::Wait;
-use std::sync::atomic::Ordering;
 use std::test::Fail;
 use std::thread::Threads;
 use tp_disk::{Disk, MemDisk, PlannedFault};
@@ -19,7 +18,7 @@ use tp_tests_files::scratch::{Output, Scratch};
 use tp_tests_fixtures::{letter, place};
 
 /// The image of a node that sends back each byte that it gets on link 0.
-pub(crate) fn echo(alloc: Global) -> Result<Vec<u8>, Fail> {
+fn echo(alloc: Global) -> Result<Vec<u8>, Fail> {
     let mut image = letter(alloc)?;
     let code = [
         0x11, 0x24, 0xF2, 0x54, 0x41, 0xF7, 0x11, 0x24, 0xF2, 0x41, 0xFB, 0x60, 0x03,
@@ -56,99 +55,151 @@ const FOUR: &[&str] = &[
 
 const NONE: &[&str] = &["run", "@device", "--turns=0"];
 
+/// Whether a run says what `recover` says.
+fn is_said<
+    R: Files<File = F> + AllocGlobal + Threads + Wait + Sync,
+    F: FileExt + OpenFile + Drop + Send,
+>(rt: &R, scratch: &Scratch, ran: &Output) -> Result<bool, Fail> {
+    let next = tpnet(rt, scratch, &["recover", "@device"])?;
+    Ok(ran.status == 0 && ran.err.as_slice() == next.out.as_slice())
+}
+
+/// Whether a run printed the letter, and confirmed it.
+fn is_confirmed<
+    R: Files<File = F> + AllocGlobal + Threads + Wait + Sync,
+    F: FileExt + OpenFile + Drop + Send,
+>(rt: &R, scratch: &Scratch, ran: &Output) -> Result<bool, Fail> {
+    let port = tpnet(rt, scratch, &["port", "@device", "0"])?;
+    Ok(ran.out.as_slice() == b"A".as_slice() && port.is(0, "", ""))
+}
+
+/// Whether a run said what it has to, and what it printed is the letter. Nothing where it printed nothing.
+fn has_printed<
+    R: Files<File = F> + AllocGlobal + Threads + Wait + Sync,
+    F: FileExt + OpenFile + Drop + Send,
+>(rt: &R, scratch: &Scratch, ran: &Output) -> Result<Option<bool>, Fail> {
+    if !is_said(rt, scratch, ran)? {
+        return Ok(Some(false));
+    }
+    if ran.out.is_empty() {
+        return Ok(None);
+    }
+    Ok(Some(is_confirmed(rt, scratch, ran)?))
+}
+
+/// The same of a run that is made now.
+fn prints<
+    R: Files<File = F> + AllocGlobal + Threads + Wait + Sync,
+    F: FileExt + OpenFile + Drop + Send,
+>(rt: &R, scratch: &Scratch, words: &[&str]) -> Result<Option<bool>, Fail> {
+    let ran = tpnet(rt, scratch, words)?;
+    let told = has_printed(rt, scratch, &ran);
+    told
+}
+
 /// Whether a run, made again until it prints something, prints the letter, and confirms it; and whether each says what `recover` says.
 fn prints_once<
     R: Files<File = F> + AllocGlobal + Threads + Wait + Sync,
     F: FileExt + OpenFile + Drop + Send,
 >(rt: &R, scratch: &Scratch, words: &[&str]) -> Result<bool, Fail> {
     for _ in 0..40 {
-        let ran = tpnet(rt, scratch, words)?;
-        let next = tpnet(rt, scratch, &["recover", "@device"])?.out;
-        if ran.status != 0 || ran.err.as_slice() != next.as_slice() {
-            return Ok(false);
-        }
-        if !ran.out.is_empty() {
-            let port = tpnet(rt, scratch, &["port", "@device", "0"])?;
-            return Ok(ran.out.as_slice() == b"A".as_slice() && port.is(0, "", ""));
+        if let Some(told) = prints(rt, scratch, words)? {
+            return Ok(told);
         }
     }
     Ok(false)
 }
 
+/// Whether it does by so many workers.
+fn prints_once_by<
+    R: Files<File = F> + AllocGlobal + Threads + Wait + Sync,
+    F: FileExt + OpenFile + Drop + Send,
+>(rt: &R, workers: &str) -> Result<bool, Fail> {
+    let scratch = device(rt, "run_workers", &letter(rt.alloc())?, "65536")?;
+    let words = [
+        "run",
+        "@device",
+        "--turns",
+        "40",
+        "--quantum=16",
+        "--workers",
+        workers,
+    ];
+    let told = prints_once(rt, &scratch, &words)?;
+    scratch.remove(rt)?;
+    Ok(told)
+}
+
 /// By many workers the same letter is printed once, whatever the order of the turns.
 #[test]
 fn many_workers_print_it_once(rt: HostRuntime) -> Result<(), Fail> {
-    let alloc = rt.alloc();
     for workers in ["1", "2", "4", "16"] {
-        let scratch = device(&rt, "run_workers", letter(alloc)?.as_slice(), "65536")?;
-        let words = [
-            "run",
-            "@device",
-            "--turns",
-            "40",
-            "--quantum=16",
-            "--workers",
-            workers,
-        ];
-        assert!(rt; prints_once(&rt, &scratch, &words)?);
-        scratch.remove(&rt)?;
+        let told = prints_once_by(&rt, workers)?;
+        assert!(rt; told, "{workers} workers");
     }
     Ok(())
 }
 
-/// Whether a run that ended so was done or is refused as a failure of the device, and the next one goes on, which prints again what
-/// wasn't confirmed.
+/// Whether a run that ended so was done, or is refused as a failure of the device.
+fn is_done_or_refused(ran: &Output) -> bool {
+    let said = ran.err.as_slice();
+    ran.status == 0
+        || said == b"tpnet: ReadFailed\n".as_slice()
+        || said == b"tpnet: DeviceFailed\n".as_slice()
+}
+
+/// Whether the next run goes on, which prints again what wasn't confirmed; the letter, where it wasn't printed yet.
 fn goes_on<
     R: Files<File = F> + AllocGlobal + Threads + Wait + Sync,
     F: FileExt + OpenFile + Drop + Send,
->(rt: &R, scratch: &Scratch, ran: &Output) -> Result<bool, Fail> {
-    let said = ran.err.as_slice();
-    let is_said = ran.status == 0
-        || said == b"tpnet: ReadFailed\n".as_slice()
-        || said == b"tpnet: DeviceFailed\n".as_slice();
-    let has_printed = !ran.out.is_empty();
+>(rt: &R, scratch: &Scratch, has_printed: bool) -> Result<bool, Fail> {
     let unconfirmed = tpnet(rt, scratch, &["port", "@device", "0"])?;
     let again = tpnet(rt, scratch, if has_printed { NONE } else { FOUR })?;
-    let prints_letter = again.out.as_slice() == b"A".as_slice();
-    let prints_unconfirmed = again.out.as_slice() == unconfirmed.out.as_slice();
-    let prints = if has_printed {
-        prints_unconfirmed
+    let wanted = if has_printed {
+        unconfirmed.out.as_slice()
     } else {
-        prints_letter
+        b"A".as_slice()
     };
-    Ok(is_said && unconfirmed.status == 0 && again.status == 0 && prints)
+    Ok(unconfirmed.status == 0 && again.status == 0 && again.out.as_slice() == wanted)
+}
+
+/// Runs a device that was just formatted, whose call of that number fails, and all behind it. Answers whether the run was done, and whether the
+/// next one goes on.
+fn fails_at<
+    R: Files<File = F> + AllocGlobal + Threads + Wait + Sync,
+    F: FileExt + OpenFile + Drop + Send,
+>(rt: &R, scratch: &Scratch, fresh: &[u8], number: u64) -> Result<(bool, bool), Fail> {
+    scratch.put(rt, "device", fresh)?;
+    let faults = Faults::at(number, false);
+    let ran = tpnet(&FaultyFiles::new(rt, &faults), scratch, FOUR)?;
+    let goes_on = goes_on(rt, scratch, !ran.out.is_empty())?;
+    Ok((ran.status == 0, goes_on && is_done_or_refused(&ran)))
+}
+
+/// The number of the last call of a run that fails, where the next run goes on behind each.
+fn last_that_fails<
+    R: Files<File = F> + AllocGlobal + Threads + Wait + Sync,
+    F: FileExt + OpenFile + Drop + Send,
+>(rt: &R, scratch: &Scratch, fresh: &[u8]) -> Result<u64, Fail> {
+    let mut calls = 0u64;
+    for number in 0..200u64 {
+        match fails_at(rt, scratch, fresh, number)? {
+            (_, false) => return Err(Fail::new("the next run doesn't go on")),
+            (true, _) => return Ok(calls),
+            (false, _) => calls = number,
+        }
+    }
+    Ok(calls)
 }
 
 #[test]
 fn each_call_of_the_file_may_fail(rt: HostRuntime) -> Result<(), Fail> {
-    let scratch = device(&rt, "run_fails", letter(rt.alloc())?.as_slice(), "16384")?;
+    let scratch = device(&rt, "run_fails", &letter(rt.alloc())?, "16384")?;
     let fresh = scratch.read(&rt, "device")?;
-    let mut calls = 0u64;
-    for number in 0..200u64 {
-        scratch.put(&rt, "device", fresh.as_slice())?;
-        let faults = Faults::at(number, false);
-        let ran = tpnet(&FaultyFiles::new(&rt, &faults), &scratch, FOUR)?;
-        assert!(rt; goes_on(&rt, &scratch, &ran)?);
-        if ran.status == 0 {
-            break;
-        }
-        calls = number;
-    }
-    assert!(rt; calls > 12 && calls < 199);
-    scratch.remove(&rt)
-}
-
-/// A file that can't be written isn't run, and stays.
-#[test]
-fn a_file_to_read_alone(rt: HostRuntime) -> Result<(), Fail> {
-    let scratch = device(&rt, "run_reads", letter(rt.alloc())?.as_slice(), "16384")?;
-    let before = scratch.read(&rt, "device")?;
-    let faults = Faults::to_read();
-    let files = FaultyFiles::new(&rt, &faults);
-    assert!(rt; tpnet(&files, &scratch, FOUR)?.is(1, "", "tpnet: ReadFailed\n"));
-    assert!(rt; faults.writable.load(Ordering::SeqCst));
-    assert_eq!(rt; scratch.read(&rt, "device")?.as_slice(), before.as_slice());
-    scratch.remove(&rt)
+    let calls = last_that_fails(&rt, &scratch, &fresh)?;
+    scratch.remove(&rt)?;
+    assert!(rt; calls > 12 && calls < 199, "{calls}");
+    Ok(())
 }
 
 /// Takes a number of bytes, and then none.
@@ -173,20 +224,12 @@ impl Write for Narrow {
     }
 }
 
-/// What came of a run in memory: what a crash leaves of the device, the status, and both outputs.
+/// What came of a run in memory: what a crash leaves of the device, the status, and the output.
 #[derive(Drop)]
 struct InMemory {
     left: Vec<u8>,
     status: u8,
     out: Vec<u8>,
-    err: Vec<u8>,
-}
-
-impl InMemory {
-    /// Whether the run ended so.
-    fn is(&self, status: u8, out: &[u8], err: &[u8]) -> bool {
-        self.status == status && self.out.as_slice() == out && self.err.as_slice() == err
-    }
 }
 
 /// What a run by one worker is asked, for `turns` turns of 16 steps.
@@ -231,12 +274,11 @@ fn run_in_memory<R: AllocGlobal + Threads + Wait + Sync>(
     input: &[u8],
     room: usize,
 ) -> InMemory {
-    let (disk, status, out, err) = run_by_one(rt, disk, turns, input, room);
+    let (disk, status, out, _err) = run_by_one(rt, disk, turns, input, room);
     InMemory {
         left: disk.crash(),
         status,
         out,
-        err,
     }
 }
 
@@ -249,20 +291,6 @@ fn fresh_echo<
     let bytes = scratch.read(rt, "device")?;
     scratch.remove(rt)?;
     Ok(bytes)
-}
-
-/// Where the output can't be written nothing is confirmed: the next run prints it again.
-#[test]
-fn an_output_that_fails(rt: HostRuntime) -> Result<(), Fail> {
-    let fresh = fresh_echo(&rt, "run_output")?;
-    for room in 0..3usize {
-        let bytes = Vec::from_slice(rt.alloc(), fresh.as_slice())?;
-        let ran = run_in_memory(&rt, MemDisk::of_bytes(bytes), 40, b"abc", room);
-        assert!(rt; ran.is(1, &b"abc"[..room], b"tpnet: DeviceFailed\n"));
-        let again = run_in_memory(&rt, MemDisk::of_bytes(ran.left), 0, b"abc", 3);
-        assert!(rt; again.status == 0 && again.out.as_slice() == b"abc".as_slice());
-    }
-    Ok(())
 }
 
 /// What becomes of a run in memory that stops at that call: whether it was done, and whether the next one goes on, which prints what
@@ -286,18 +314,26 @@ fn stops_at<R: AllocGlobal + Threads + Wait + Sync>(
     ))
 }
 
+/// The number of the last call at which a run stops, where the next run goes on behind each.
+fn last_that_stops<R: AllocGlobal + Threads + Wait + Sync>(
+    rt: &R,
+    fresh: &[u8],
+) -> Result<u64, Fail> {
+    let mut calls = 0u64;
+    for call in 0..200u64 {
+        match stops_at(rt, fresh, call)? {
+            (_, false) => return Err(Fail::new("the next run doesn't go on")),
+            (true, _) => return Ok(calls),
+            (false, _) => calls = call,
+        }
+    }
+    Ok(calls)
+}
+
 #[test]
 fn a_run_stops_at_each_call(rt: HostRuntime) -> Result<(), Fail> {
     let fresh = fresh_echo(&rt, "run_stops")?;
-    let mut calls = 0u64;
-    for call in 0..200u64 {
-        let (is_done, goes_on) = stops_at(&rt, fresh.as_slice(), call)?;
-        assert!(rt; goes_on);
-        if is_done {
-            break;
-        }
-        calls = call;
-    }
-    assert!(rt; calls > 12 && calls < 199);
+    let calls = last_that_stops(&rt, &fresh)?;
+    assert!(rt; calls > 12 && calls < 199, "{calls}");
     Ok(())
 }

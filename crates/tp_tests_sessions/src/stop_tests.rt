@@ -87,16 +87,27 @@ fn is_refused<R: Files<File = F> + AllocGlobal + Wait, F: FileExt + OpenFile + D
     Ok(said.status == 2 && said.out.is_empty() && said.err.as_slice().starts_with(text) && is_kept)
 }
 
-/// A file that comes while a stream runs ends it; the next stream is refused until it has gone, and goes on then.
+/// Whether a file that comes while a stream runs ends it; whether the next stream is refused until it has gone, and goes on then.
+fn ends_twice<'a, R: Files<File = F> + AllocGlobal + Wait, F: FileExt + OpenFile + Drop>(
+    rt: &'a R,
+    scratch: &Scratch,
+    reader: &mut Making<'a, R>,
+) -> Result<bool, Fail> {
+    let first = ends_so(rt, scratch, WORDS, reader, "stopped")?;
+    let refused = is_refused(rt, scratch)?;
+    fs::remove_file(rt, STOP)?;
+    let second = ends_so(rt, scratch, WORDS, reader, "stopped")?;
+    Ok(first && refused && second)
+}
+
 #[test]
 fn a_file_that_comes_ends_a_stream(rt: HostRuntime) -> Result<(), Fail> {
-    let scratch = device(&rt, "stream_stop", letters(rt.alloc())?.as_slice(), "65536")?;
+    let scratch = device(&rt, "stream_stop", &letters(rt.alloc())?, "65536")?;
     let mut reader = Making::new(&rt, STOP);
-    assert!(rt; ends_so(&rt, &scratch, WORDS, &mut reader, "stopped")?);
-    assert!(rt; is_refused(&rt, &scratch)?);
-    fs::remove_file(&rt, STOP)?;
-    assert!(rt; ends_so(&rt, &scratch, WORDS, &mut reader, "stopped")?);
-    scratch.remove(&rt)
+    let told = ends_twice(&rt, &scratch, &mut reader)?;
+    scratch.remove(&rt)?;
+    assert!(rt; told);
+    Ok(())
 }
 
 /// A folder's path, at which a file comes to be while a stream runs.
@@ -108,20 +119,30 @@ const UNSEEN: &[(&str, &str)] = &[
     ("scratch/stream_unseen/folder", "stopped"),
 ];
 
+/// Whether each stream ends as it ought to.
+fn each_ends_so<'a, R: Files<File = F> + AllocGlobal + Wait, F: FileExt + OpenFile + Drop>(
+    rt: &'a R,
+    scratch: &Scratch,
+    reader: &mut Making<'a, R>,
+) -> Result<bool, Fail> {
+    for (stop, why) in UNSEEN {
+        let words: &[&str] = &["--turns=4000", "--out", "0=-", "--stop-file", *stop];
+        let told = ends_so(rt, scratch, words, reader, *why)?;
+        fs::remove_file(rt, FOLDER)?;
+        if !told {
+            return Ok(false);
+        }
+    }
+    Ok(true)
+}
+
 /// A path that can't be looked at any more is no stop: the stream goes on, and ends as it does without.
 #[test]
 fn a_look_that_fails_stops_nothing(rt: HostRuntime) -> Result<(), Fail> {
-    let scratch = device(
-        &rt,
-        "stream_unseen",
-        letters(rt.alloc())?.as_slice(),
-        "65536",
-    )?;
+    let scratch = device(&rt, "stream_unseen", &letters(rt.alloc())?, "65536")?;
     let mut reader = Making::new(&rt, FOLDER);
-    for (stop, why) in UNSEEN {
-        let words: &[&str] = &["--turns=4000", "--out", "0=-", "--stop-file", *stop];
-        assert!(rt; ends_so(&rt, &scratch, words, &mut reader, *why)?);
-        fs::remove_file(&rt, FOLDER)?;
-    }
-    scratch.remove(&rt)
+    let told = each_ends_so(&rt, &scratch, &mut reader)?;
+    scratch.remove(&rt)?;
+    assert!(rt; told);
+    Ok(())
 }

@@ -1,13 +1,11 @@
-//! What a stream says where standard output fails, and what is said of words and of a device that is in use.
+//! What is said of words and of a device that is in use; and streams for other tests.
 
-use crate::run_tests::{device, echo};
+use std::alloc::{AllocError, Global};
 use std::fs::{Files, OpenFile};
-use std::io;
-use std::io::{ErrorKind, Write};
+use std::io::Write;
 use std::os::unix::fs::FileExt;
 use std::sync::Wait;
 use std::test::Fail;
-use std::thread::Threads;
 use tp_program::{answer, answer_stream, is_stream, refuse_in_use};
 use tp_stream_files::Plain;
 use tp_tests_files::scratch::{Output, Scratch};
@@ -54,85 +52,43 @@ pub(crate) fn stream_to<
     Ok((status, err))
 }
 
-/// A standard output that takes nothing.
-#[derive(Drop)]
-struct Shut(ErrorKind);
-
-impl Write for Shut {
-    fn write(&mut self, _buf: &[u8]) -> io::Result<usize> {
-        Err(io::Error::from(self.0))
-    }
-
-    fn flush(&mut self) -> io::Result<()> {
-        Ok(())
-    }
-}
-
-/// What standard output says, the status, and the end of standard error: that its reader has ended is no fault.
-const SHUT: &[(ErrorKind, u8, &str)] = &[
-    (ErrorKind::StorageFull, 1, "\ntpnet: DeviceFailed\n"),
-    (ErrorKind::BrokenPipe, 0, " written 0 confirmed 0 gone\n"),
-];
-
-#[test]
-fn a_reader_that_ends_is_no_fault(rt: HostRuntime) -> Result<(), Fail> {
-    let scratch = device(&rt, "stream_shut", echo(rt.alloc())?.as_slice(), "16384")?;
-    for (kind, wanted, end) in SHUT {
-        let words: &[&str] = &["--out", "0=-", "--in", "0=-"];
-        let (status, err) = stream_to(&rt, &scratch, words, b"ab", &mut Shut(*kind))?;
-        assert!(rt; status == *wanted && err.as_slice().ends_with(end.as_bytes()));
-    }
-    let words: &[&str] = &["--until-quiet", "--out", "0=-"];
-    assert_eq!(rt;
-        stream(&rt, &scratch, words, b"")?.out.as_slice(),
-        b"ab".as_slice()
-    );
-    scratch.remove(&rt)
-}
-
-/// What the program says on standard error of a line of `count` words: the name that it was called by, and then `run` again and again.
-fn said_of<
-    R: Files<File = F> + AllocGlobal + Threads + Wait + Sync,
-    F: FileExt + OpenFile + Drop + Send,
->(rt: &R, count: usize) -> Result<String, Fail> {
-    let alloc = rt.alloc();
-    let mut line = Vec::new(alloc);
-    line.push(String::from_str(alloc, "/opt/other")?)?;
-    for _ in 1..count {
-        line.push(String::from_str(alloc, "run")?)?;
-    }
-    let (mut out, mut err) = (Vec::new(alloc), Vec::new(alloc));
-    match answer(rt, line.as_slice(), &mut out, &mut err) {
-        2 => Ok(String::from_utf8(err)?),
-        _ => Err(Fail::new("these words ask for something")),
-    }
-}
-
 /// What is said of words names the program, whatever it was called by.
 #[test]
 fn words_that_are_refused_are_told(rt: HostRuntime) -> Result<(), Fail> {
-    let text = said_of(&rt, 2)?;
-    assert!(rt; text.as_str().contains("Usage: tpnet run ") && !text.as_str().contains("other"));
-    assert_eq!(rt;
-        said_of(&rt, 257)?.as_str(),
-        "tpnet: there are more than 256 words\n"
-    );
+    let alloc = rt.alloc();
+    let mut line = Vec::new(alloc);
+    for word in ["/opt/other", "run"] {
+        line.push(String::from_str(alloc, word)?)?;
+    }
+    let (mut out, mut err) = (Vec::new(alloc), Vec::new(alloc));
+    let status = answer(&rt, line.as_slice(), &mut out, &mut err);
+    let text = String::from_utf8(err)?;
+    let is_named = text.as_str().contains("Usage: tpnet run ") && !text.as_str().contains("other");
+    assert!(rt; status == 2 && is_named);
     Ok(())
 }
 
-/// What is said where another process holds the device: one line, and more where the words ask for it.
+/// What is said where another process holds the device, to such words.
+fn said_in_use(alloc: Global, words: &[&str]) -> Result<(u8, Vec<u8>), AllocError> {
+    let mut line = Vec::new(alloc);
+    for word in words {
+        line.push(String::from_str(alloc, word)?)?;
+    }
+    let mut err = Vec::new(alloc);
+    let status = refuse_in_use(line.as_slice(), &mut err);
+    Ok((status, err))
+}
+
+/// One line, and more where the words ask for it.
 #[test]
 fn a_device_in_use_is_told(rt: HostRuntime) -> Result<(), Fail> {
-    let alloc = rt.alloc();
-    let mut line = Vec::new(alloc);
-    let (mut short, mut long) = (Vec::new(alloc), Vec::new(alloc));
-    assert_eq!(rt; refuse_in_use(line.as_slice(), &mut short), 1);
-    assert_eq!(rt; short.as_slice(), b"tpnet: InUse\n".as_slice());
-    line.push(String::from_str(alloc, "--explain")?)?;
-    assert_eq!(rt; refuse_in_use(line.as_slice(), &mut long), 1);
-    assert!(rt;
-        long.as_slice()
-            .starts_with(b"tpnet: InUse\n  Another tpnet ")
-    );
+    let (status, short) = said_in_use(rt.alloc(), &[])?;
+    let is_short = status == 1 && short.as_slice() == b"tpnet: InUse\n".as_slice();
+    let (status, long) = said_in_use(rt.alloc(), &["--explain"])?;
+    let is_long = status == 1
+        && long
+            .as_slice()
+            .starts_with(b"tpnet: InUse\n  Another tpnet ");
+    assert!(rt; is_short && is_long);
     Ok(())
 }
