@@ -15,7 +15,7 @@ use tp_book::{Book, NetParts, NetState, Refusal};
 use tp_disk::MemDisk;
 use tp_flush::Flusher;
 use tp_model::Form;
-use tp_recover::{Opened, open};
+use tp_recover::{Opened, Unopened, open};
 use tp_shared::{Naming, NoGate, Seat, Shared, Sights};
 use tp_tests_begun::opening::{Opening, begin, opening_of};
 
@@ -141,10 +141,17 @@ fn is_left_behind<J: Naming, R: Wait>(
 }
 
 /// The image of each node.
-fn images_of(alloc: Global, opened: Opened) -> Result<Vec<Vec<u8>>, Fail> {
+fn images_of(alloc: Global, opened: Opened) -> Result<Option<Vec<Vec<u8>>>, Fail> {
     let NetState { net, .. } = opened.into_state(alloc)?;
     let NetParts { images, .. } = net;
-    Ok(images)
+    Ok(Some(images))
+}
+
+/// What a crash leaves, opened.
+fn opened_after_a_crash(alloc: Global, disk: MemDisk) -> Result<Opened, Unopened> {
+    let mut disk = MemDisk::of_bytes(disk.crash());
+    let opened = open(alloc, &mut disk);
+    opened
 }
 
 /// The image of each node after a crash. None where the device doesn't open to what the book has.
@@ -155,13 +162,21 @@ fn left<J: Naming, R: Wait>(
     disk: MemDisk,
     switches: u8,
 ) -> Result<Option<Vec<Vec<u8>>>, Fail> {
-    let mut disk = MemDisk::of_bytes(disk.crash());
-    let opened = open(alloc, &mut disk)?;
-    if !is_left_behind(rt, shared, &opened, switches) {
-        return Ok(None);
+    let opened = opened_after_a_crash(alloc, disk)?;
+    if is_left_behind(rt, shared, &opened, switches) {
+        images_of(alloc, opened)
+    } else {
+        Ok(None)
     }
-    let images = images_of(alloc, opened)?;
-    Ok(Some(images))
+}
+
+/// Images, where all went as it should.
+fn where_so(
+    is_so: bool,
+    images: Result<Option<Vec<Vec<u8>>>, Fail>,
+) -> Result<Option<Vec<Vec<u8>>>, Fail> {
+    let images = images?;
+    Ok(if is_so { images } else { None })
 }
 
 /// The image of each node after all rounds, with `snapshots` begun, and a crash. None where something didn't go as it should.
@@ -176,8 +191,8 @@ fn play<J: Naming, R: Wait>(
 {
     let (net, _, mut flusher, _) = begin::<J, MemDisk, NoGate, R>(rt, alloc, opening, 1, NoGate)?;
     let goes_over = goes_over(rt, alloc, net.shared(), &mut flusher, snapshots);
-    let images = left(rt, alloc, net.shared(), flusher.into_disk(), snapshots)?;
-    Ok(if goes_over { images } else { None })
+    let images = left(rt, alloc, net.shared(), flusher.into_disk(), snapshots);
+    where_so(goes_over, images)
 }
 
 /// The same with new names.

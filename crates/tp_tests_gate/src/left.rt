@@ -9,6 +9,11 @@ use tp_flush::Flusher;
 use tp_recover::{Opened, open};
 use tp_shared::{Naming, Shared};
 
+/// Whether both are so. It lets a caller that owns a network end once.
+pub(crate) fn also(is_left: Result<bool, Fail>, is_so: bool) -> Result<bool, Fail> {
+    Ok(is_left? && is_so)
+}
+
 /// Whether what was opened is the book's journal: the next number, and each entry under its number.
 pub(crate) fn is_journal(book: &Book, opened: &Opened) -> bool {
     let (entries, kept) = (book.entries(), opened.kept());
@@ -39,6 +44,8 @@ pub(crate) fn is_left<J: Naming, R: Wait>(
 ) -> Result<bool, Fail> {
     let mut flusher = flusher;
     let is_done = flusher.turn(rt, alloc, shared).is_ok();
-    let is_journalled = is_journalled(rt, alloc, shared, flusher.into_disk())?;
-    Ok(is_done && is_journalled)
+    also(
+        is_journalled(rt, alloc, shared, flusher.into_disk()),
+        is_done,
+    )
 }

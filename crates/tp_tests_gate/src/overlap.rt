@@ -115,13 +115,18 @@ fn overlap_in<R: Threads + Wait + Sync>(rt: &R, parts: Parts, numbers: Vec<u8>) 
     overlap::<Brand, R>(rt, parts, numbers)
 }
 
+/// The same of a device that is freshly formatted, by so many threads.
+fn overlaps<R: Threads + Wait + Sync>(rt: &R, alloc: Global, count: usize) -> Result<bool, Fail> {
+    let numbers = numbers_of(alloc, count)?;
+    let Opening { parts, .. } = opening_of(alloc, formatted(alloc)?)?;
+    Ok(overlap_in(rt, parts, numbers))
+}
+
 #[test]
 fn others_make_turns_while_one_node_is_held(rt: HostRuntime) -> Result<(), Fail> {
-    let alloc = rt.alloc();
     for count in TEAMS {
-        let Opening { parts, .. } = opening_of(alloc, formatted(alloc)?)?;
-        let numbers = numbers_of(alloc, *count)?;
-        assert!(rt; overlap_in(&rt, parts, numbers));
+        let told = overlaps(&rt, rt.alloc(), *count)?;
+        assert!(rt; told, "{count} threads");
     }
     Ok(())
 }

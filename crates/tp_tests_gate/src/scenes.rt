@@ -9,7 +9,7 @@ use crate::beside::{is_flushed_beside_a_run, is_run_beside_a_copy, is_stored_by_
 use crate::checkpoints::turn_all;
 use crate::device::formatted;
 use crate::hold::Hold;
-use crate::left::is_left;
+use crate::left::{also, is_left};
 use crate::meanwhile::stays_stored;
 use crate::pace::{EVERY, Pace, Paced};
 use crate::team::work_as_team;
@@ -19,6 +19,7 @@ use std::marker::Brand;
 use std::sync::Wait;
 use std::test::Fail;
 use std::thread::{Threads, join};
+use tp_book::NetParts;
 use tp_disk::{Disk, MemDisk};
 use tp_flush::{FLUSHER, Flusher};
 use tp_mark::Pass;
@@ -201,10 +202,16 @@ fn network_left(alloc: Global, disk: MemDisk, next: u64) -> Result<Option<FlatNe
     Ok(if is_so { Some(network) } else { None })
 }
 
+/// What a plain replay of a journal gives.
+fn replay_of(alloc: Global, journal: &[Entry]) -> Result<NetParts, Fail> {
+    let device = formatted(alloc)?;
+    let wanted = replayed(alloc, device.bytes(), journal);
+    wanted
+}
+
 /// Whether a network is what a plain replay of a journal gives.
 fn is_replay_of(alloc: Global, network: &mut FlatNetwork, journal: &[Entry]) -> Result<bool, Fail> {
-    let device = formatted(alloc)?;
-    let wanted = replayed(alloc, device.bytes(), journal)?;
+    let wanted = replay_of(alloc, journal)?;
     let parts = network.parts(alloc)?;
     Ok(is_network(&parts, &wanted))
 }
@@ -271,7 +278,7 @@ fn play<J: Naming + Send + Sync, R: Threads + Wait + Sync>(
         Scene::Held(Held::Page) => is_switched(rt, alloc, net.shared(), flusher),
         _ => is_left(rt, alloc, net.shared(), flusher),
     };
-    Ok(is_left? && is_so)
+    also(is_left, is_so)
 }
 
 /// The same with new names.

@@ -6,7 +6,7 @@ ghost use Rattle.tp_tests_begun.specs.Spelt.{IsSpelt};
 
 use crate::device::{formatted, without_turns};
 use crate::hold::Hold;
-use crate::left::is_left;
+use crate::left::{also, is_left};
 use std::alloc::Global;
 use std::marker::Brand;
 use std::sync::Wait;
@@ -146,8 +146,8 @@ fn play<J: Naming + Send + Sync, R: Threads + Wait + Sync>(
     let is_whole = comes_whole(rt, alloc, net.shared(), &mut flusher);
     let (flusher, is_switched) = is_switched_beside(rt, alloc, net.shared(), flusher);
     let is_last = ends_with(rt, net.shared(), wanted);
-    let is_left = is_left(rt, alloc, net.shared(), flusher)?;
-    Ok(is_whole && is_switched && is_last && is_left)
+    let is_left = is_left(rt, alloc, net.shared(), flusher);
+    also(is_left, is_whole && is_switched && is_last)
 }
 
 /// The same with new names.

@@ -1,10 +1,11 @@
 //! Devices that are opened each node by itself, by several workers, and in one thread: both calls say the same.
 
 use crate::checkpointed::Known;
-use crate::devices::{LETTER, Letter, MORE, append, disk_of, fresh, held_in, is_same, store_of};
+use crate::devices::{LETTER, Letter, MORE, append, disk_of, fresh, store_of};
 use crate::filled_areas::each_filled;
 use crate::opened_books::grown;
 use crate::stories::{after_a_group, beyond_the_groups, over_old_groups};
+use crate::told::{are_same, told_by};
 use std::alloc::{AllocError, Global};
 use std::process::Abort;
 use std::test::Fail;
@@ -176,30 +177,6 @@ fn pair(alloc: Global) -> Result<Vec<u8>, Fail> {
     Ok(bytes)
 }
 
-/// Whether two devices hold the same, each opened by one of both calls.
-fn hold_same(alloc: Global, one: Opened, other: Opened) -> Result<bool, Fail> {
-    let same = one.second() == other.second()
-        && (one.generation(), one.base(), one.end())
-            == (other.generation(), other.base(), other.end())
-        && one.kept() == other.kept();
-    let one = held_in(alloc, one)?;
-    let other = held_in(alloc, other)?;
-    Ok(same && is_same(&one, &other))
-}
-
-/// Whether both calls say the same.
-fn is_said_by_both(
-    alloc: Global,
-    one: Result<Opened, Unopened>,
-    other: Result<Opened, Unopened>,
-) -> Result<bool, Fail> {
-    match (one, other) {
-        (Ok(one), Ok(other)) => hold_same(alloc, one, other),
-        (Err(one), Err(other)) => Ok(one == other),
-        _ => Ok(false),
-    }
-}
-
 /// Whether both calls say the same of a device, by so many workers.
 fn say_same<R: Threads + Sync>(
     rt: &R,
@@ -209,8 +186,9 @@ fn say_same<R: Threads + Sync>(
 ) -> Result<bool, Fail> {
     let mut disk = disk_of(alloc, bytes)?;
     let apart = open_parallel(alloc, &mut disk, workers.clamp(1, 64), &NoGate, rt);
-    let whole = open(alloc, &mut disk);
-    is_said_by_both(alloc, whole, apart)
+    let apart = told_by(alloc, apart)?;
+    let whole = told_by(alloc, open(alloc, &mut disk))?;
+    Ok(are_same(&whole, &apart))
 }
 
 /// Whether both calls say the same of a device, however many workers there are.
@@ -346,28 +324,32 @@ fn appended(alloc: Global) -> Result<Vec<u8>, Fail> {
     Ok(bytes)
 }
 
-/// Adds a device in front of its checkpoint, and behind it.
-fn add_ends(devices: &mut Vec<Vec<u8>>, known: Known) -> Result<(), AllocError> {
-    let (start, end) = known.into_ends();
-    devices.push(start)?;
-    devices.push(end)?;
-    Ok(())
+/// Whether both calls say the same of a device in front of its checkpoint, and behind it.
+fn are_ends_said<R: Threads + Sync>(rt: &R, alloc: Global, known: &Known) -> Result<bool, Fail> {
+    Ok(all_say_same(rt, alloc, &known.start)? && all_say_same(rt, alloc, &known.end)?)
+}
+
+/// The same of what is known, once it is.
+fn ends_are_said<R: Threads + Sync>(
+    rt: &R,
+    alloc: Global,
+    known: Result<Known, Fail>,
+) -> Result<bool, Fail> {
+    let known = known?;
+    let told = are_ends_said(rt, alloc, &known);
+    told
 }
 
 /// The devices of the other tables here: with groups, filled, and with checkpoints.
 #[test]
 fn devices_of_other_tables(rt: HostRuntime) -> Result<(), Fail> {
     let alloc = rt.alloc();
-    let mut devices = each_filled(alloc)?;
-    devices.push(fresh(alloc, AREA)?)?;
-    devices.push(appended(alloc)?)?;
-    let known = after_a_group(alloc)?;
-    add_ends(&mut devices, known)?;
-    let known = beyond_the_groups(alloc)?;
-    add_ends(&mut devices, known)?;
-    let known = over_old_groups(alloc)?;
-    add_ends(&mut devices, known)?;
-    let told = are_said_by_both(&rt, alloc, &devices)?;
-    assert!(rt; told);
+    let filled = are_said_by_both(&rt, alloc, &each_filled(alloc)?)?;
+    let fresh = all_say_same(&rt, alloc, &fresh(alloc, AREA)?)?;
+    let grown = all_say_same(&rt, alloc, &appended(alloc)?)?;
+    let group = ends_are_said(&rt, alloc, after_a_group(alloc))?;
+    let beyond = ends_are_said(&rt, alloc, beyond_the_groups(alloc))?;
+    let old = ends_are_said(&rt, alloc, over_old_groups(alloc))?;
+    assert!(rt; filled && fresh && grown && group && beyond && old);
     Ok(())
 }

@@ -138,9 +138,4 @@ impl Known {
         let known = Known::over(alloc, &first, story);
         known
     }
-
-    /// The device in front of the checkpoint, and behind it.
-    pub(crate) fn into_ends(self) -> (Vec<u8>, Vec<u8>) {
-        (self.start, self.end)
-    }
 }

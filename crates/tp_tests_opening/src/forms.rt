@@ -1,16 +1,14 @@
 //! Areas of both forms: what says an area's form, and which entries each may hold.
 
 use crate::apart::{Content, is_said, play, with_pieces};
-use crate::devices::{LETTER, fresh, held_in, is_network, replayed};
+use crate::devices::{LETTER, fresh, leads};
 use crate::opened_books::grown;
 use std::alloc::Global;
 use std::process::Abort;
 use std::test::Fail;
 use std::thread::Threads;
-use tp_disk::MemDisk;
 use tp_model::OpenFault::Damaged;
 use tp_model::{Entry, OpenFault};
-use tp_recover::open;
 use tp_tests_fixtures::{AREA, KEPT};
 
 /// The device of one node with a group of four entries. The base of its first area's cut stands at 525, in six bytes, and the area's form
@@ -234,17 +232,17 @@ fn one_form_has_turns(rt: HostRuntime) -> Result<(), Fail> {
     play_rows(&rt, alloc, &turns, &plain)
 }
 
-/// Whether a device with pieces has this next number, and the network to which `entries` lead.
-fn leads(
+/// Whether the device with pieces has this next number, and the network to which `entries` lead.
+fn leads_with(
     alloc: Global,
     pieces: &[(usize, &[u8])],
     next: u64,
     entries: &[&[Entry]],
 ) -> Result<bool, Fail> {
-    let mut disk = MemDisk::of_bytes(with_pieces(alloc, &grown(alloc)?, pieces)?);
-    let held = held_in(alloc, open(alloc, &mut disk)?)?;
-    let wanted = replayed(alloc, &fresh(alloc, AREA)?, entries)?;
-    Ok(held.next == next && is_network(&held.net, &wanted.net))
+    let bytes = with_pieces(alloc, &grown(alloc)?, pieces)?;
+    let first = fresh(alloc, AREA)?;
+    let told = leads(alloc, &bytes, next, &first, entries);
+    told
 }
 
 /// The turn leads where its take and its run lead; with a run behind it; and without steps, with that run.
@@ -252,9 +250,9 @@ fn leads(
 fn a_turn_leads_where_its_entries_lead(rt: HostRuntime) -> Result<(), Fail> {
     let alloc = rt.alloc();
     let (letter, round) = (LETTER, [Entry::Run { node: 0, count: 16 }]);
-    let turn = leads(alloc, A_TURN, 3, &[&letter])?;
-    let run = leads(alloc, A_TURN_AND_A_RUN, 4, &[&letter, &round])?;
-    let steps = leads(alloc, AN_IDLE_TURN_AND_A_RUN, 4, &[&letter])?;
+    let turn = leads_with(alloc, A_TURN, 3, &[&letter])?;
+    let run = leads_with(alloc, A_TURN_AND_A_RUN, 4, &[&letter, &round])?;
+    let steps = leads_with(alloc, AN_IDLE_TURN_AND_A_RUN, 4, &[&letter])?;
     assert!(rt; turn && run && steps);
     Ok(())
 }

@@ -52,18 +52,30 @@ fn image(alloc: Global, pages: u16) -> Result<Vec<u8>, AllocError> {
     Ok(image)
 }
 
-/// The network of a row.
-fn network(alloc: Global, row: &Row) -> Result<Letter, Fail> {
-    let (nodes, last, _, _) = *row;
+/// The text of so many nodes and a port.
+fn text_of(alloc: Global, nodes: u16, last: u16) -> Result<String, Fail> {
     let mut text = String::new(alloc);
     add_nodes(&mut text, nodes, last)?;
     text.push_str("port h\n")?;
+    Ok(text)
+}
+
+/// Their images.
+fn images_of(alloc: Global, nodes: u16, last: u16) -> Result<Vec<Vec<u8>>, AllocError> {
     let mut images = Vec::new(alloc);
     for _ in 1..nodes {
         images.push(idle(alloc)?)?;
     }
     images.push(image(alloc, last)?)?;
+    Ok(images)
+}
+
+/// The network of a row.
+fn network(alloc: Global, row: &Row) -> Result<Letter, Fail> {
+    let (nodes, last, _, _) = *row;
+    let text = text_of(alloc, nodes, last)?;
     let topology = Topology::read(alloc, text.as_bytes())?;
+    let images = images_of(alloc, nodes, last)?;
     Ok(Letter { topology, images })
 }
 
@@ -111,23 +123,53 @@ const fn says_with_other(is_wide: bool) -> Result<u64, OpenFault> {
     if is_wide { Err(Damaged(0)) } else { Ok(0) }
 }
 
-/// Whether a network is formatted with its head, and opens with it; and with one of the other version, where that can say it.
-fn has_its_head<R: Threads + Sync>(rt: &R, alloc: Global, row: &Row) -> Result<bool, Fail> {
-    let (_, _, least, is_wide) = *row;
-    let (head, version) = if is_wide {
+/// Whether a device says what it ought to with a head of the other version.
+fn is_said_with_other<R: Threads + Sync>(
+    rt: &R,
+    alloc: Global,
+    device: &[u8],
+    is_wide: bool,
+) -> Result<bool, Fail> {
+    let other = other_head(alloc, device, is_wide)?;
+    let told = is_said(rt, alloc, &other, says_with_other(is_wide));
+    told
+}
+
+/// How many bytes a head has, and its version.
+const fn head_of(is_wide: bool) -> (usize, u8) {
+    if is_wide {
         (WIDE_HEAD_BYTES, 2)
     } else {
         (NARROW_HEAD_BYTES, 1)
-    };
+    }
+}
+
+/// Whether a network's device has its head, and opens with it; and with one of the other version, where that can say it.
+fn is_headed<R: Threads + Sync>(
+    rt: &R,
+    alloc: Global,
+    row: &Row,
+    letter: &Letter,
+    device: &[u8],
+) -> Result<bool, Fail> {
+    let (_, _, least, is_wide) = *row;
+    let (head, version) = head_of(is_wide);
+    Ok(
+        is_of_version(device, head, version)
+            && are_full(alloc, letter, head, least)?
+            && is_said(rt, alloc, device, Ok(0))?
+            && is_said_with_other(rt, alloc, device, is_wide)?,
+    )
+}
+
+/// The same from the formatting on.
+fn has_its_head<R: Threads + Sync>(rt: &R, alloc: Global, row: &Row) -> Result<bool, Fail> {
+    let (_, _, least, is_wide) = *row;
+    let (head, _) = head_of(is_wide);
     let letter = network(alloc, row)?;
     let device = letter.device_behind(alloc, head, least)?;
-    let other = other_head(alloc, &device, is_wide)?;
-    Ok(
-        is_of_version(&device, head, version)
-            && are_full(alloc, &letter, head, least)?
-            && is_said(rt, alloc, &device, Ok(0))?
-            && is_said(rt, alloc, &other, says_with_other(is_wide))?,
-    )
+    let told = is_headed(rt, alloc, row, &letter, &device);
+    told
 }
 
 #[test]

@@ -36,4 +36,6 @@ mod stories;
 #[cfg(test)]
 mod switch_faults;
 #[cfg(test)]
+mod told;
+#[cfg(test)]
 mod wide;

@@ -130,39 +130,40 @@ fn play<R: AllocGlobal + Abort>(rt: &R, known: &Known) -> Result<(), Fail> {
     Ok(())
 }
 
+/// The same of what is known, once it is.
+fn play_known<R: AllocGlobal + Abort>(rt: &R, known: Result<Known, Fail>) -> Result<(), Fail> {
+    let known = known?;
+    let told = play(rt, &known);
+    told
+}
+
 #[test]
 fn a_checkpoint_is_there_or_it_is_not(rt: HostRuntime) -> Result<(), Fail> {
-    let known = after_a_group(rt.alloc())?;
-    play(&rt, &known)
+    play_known(&rt, after_a_group(rt.alloc()))
 }
 
 #[test]
 fn a_tail_reaches_the_next_number(rt: HostRuntime) -> Result<(), Fail> {
-    let known = beyond_the_groups(rt.alloc())?;
-    play(&rt, &known)
+    play_known(&rt, beyond_the_groups(rt.alloc()))
 }
 
 #[test]
 fn old_groups_are_not_read(rt: HostRuntime) -> Result<(), Fail> {
-    let known = over_old_groups(rt.alloc())?;
-    play(&rt, &known)
+    play_known(&rt, over_old_groups(rt.alloc()))
 }
 
 /// The device was made before areas had forms. What a checkpoint leaves has turns.
 #[test]
 fn a_checkpoint_changes_the_form(rt: HostRuntime) -> Result<(), Fail> {
-    let known = behind_kept(rt.alloc())?;
-    play(&rt, &known)
+    play_known(&rt, behind_kept(rt.alloc()))
 }
 
 #[test]
 fn a_checkpoint_that_stopped_is_made_anew(rt: HostRuntime) -> Result<(), Fail> {
-    let known = behind_a_stop(rt.alloc())?;
-    play(&rt, &known)
+    play_known(&rt, behind_a_stop(rt.alloc()))
 }
 
 #[test]
 fn turns_are_outside_a_cut(rt: HostRuntime) -> Result<(), Fail> {
-    let known = with_turns(rt.alloc())?;
-    play(&rt, &known)
+    play_known(&rt, with_turns(rt.alloc()))
 }

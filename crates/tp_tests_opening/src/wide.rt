@@ -1,12 +1,11 @@
 //! The device of seventeen nodes, which has a wide head: all its bytes, what changes of them say, and a turn in its journal.
 
 use crate::apart::{Content, is_said, play, with_pieces};
-use crate::devices::{Letter, is_network, replayed, what_is_held};
+use crate::devices::{Letter, disk_of, leads};
 use crate::opened_books::book_with;
 use std::alloc::{AllocError, Global};
 use std::test::Fail;
 use tp_book::Refusal;
-use tp_disk::MemDisk;
 use tp_model::OpenFault::{BadVersion, Damaged, NoOpenArea, NotFormatted};
 use tp_model::limits::WIDE_HEAD_BYTES;
 use tp_model::{Entry, OpenFault, Token};
@@ -255,23 +254,34 @@ fn wide_heads_have_their_bytes(rt: HostRuntime) -> Result<(), Fail> {
 fn the_last_node_turns(rt: HostRuntime) -> Result<(), Fail> {
     let alloc = rt.alloc();
     let device = seventeen(alloc)?;
-    let held = what_is_held(alloc, &with_pieces(alloc, &device, A_TURN)?)?;
+    let turned = with_pieces(alloc, &device, A_TURN)?;
     let apart = APART;
-    let wanted = replayed(alloc, &device, &[&apart])?;
-    assert!(rt; held.next == 3 && is_network(&held.net, &wanted.net));
+    let told = leads(alloc, &turned, 3, &device, &[&apart])?;
+    assert!(rt; told);
     Ok(())
+}
+
+/// How many bytes groups may fill on a device.
+fn room_on(alloc: Global, bytes: &[u8]) -> Result<u64, Fail> {
+    let mut disk = disk_of(alloc, bytes)?;
+    let opened = open(alloc, &mut disk)?;
+    Ok(opened.journal_room())
+}
+
+/// Whether a book has room for one entry, and no second one.
+fn has_room_for_one(alloc: Global, bytes: Vec<u8>, room: u64) -> Result<bool, Fail> {
+    let mut book = book_with(alloc, bytes, room)?;
+    let one = hand_in(&mut book, b"x") == Ok(1);
+    let other = hand_in(&mut book, b"x") == Err(Refusal::JournalFull);
+    Ok(one && other)
 }
 
 /// One entry that anyone may make has room in the least area, and no second one.
 #[test]
 fn the_least_area_has_room_for_one_entry(rt: HostRuntime) -> Result<(), Fail> {
     let alloc = rt.alloc();
-    let bytes = seventeen(alloc)?;
-    let mut disk = MemDisk::of_bytes(Vec::from_slice(alloc, &bytes)?);
-    let room = open(alloc, &mut disk)?.journal_room();
-    let mut book = book_with(alloc, bytes, room)?;
-    let one = hand_in(&mut book, b"x") == Ok(1);
-    let other = hand_in(&mut book, b"x") == Err(Refusal::JournalFull);
-    assert!(rt; room == 6_656 && one && other);
+    let room = room_on(alloc, &seventeen(alloc)?)?;
+    let told = has_room_for_one(alloc, seventeen(alloc)?, room)?;
+    assert!(rt; room == 6_656 && told);
     Ok(())
 }
