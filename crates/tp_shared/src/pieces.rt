@@ -5,6 +5,7 @@ ghost use Rattle.tp_model.specs.declared.limits.TheConstants.{PAGE_BYTES};
 ghost use Rattle.tp_model.specs.FrozenAs.{IsFrozenAs};
 ghost use Rattle.tp_model.specs.NodeState.{NodeState};
 ghost use Rattle.tp_book.specs.Book.{world_of};
+ghost use Rattle.tp_shared.specs.Agreement.{at_rest};
 ghost use Rattle.tp_shared.specs.Pieces.{IsFrozenHead, IsFrozenPage};
 ghost use Rattle.tp_shared.specs.Seals.{Shows};
 ghost use Rattle.tp_shared.specs.Told.{Since, told_of};
@@ -16,6 +17,7 @@ use crate::shown::Shown;
 use crate::told::Told;
 use std::sync::{Mutex, Wait};
 use tp_model::limits::{IMAGE_HEAD_BYTES, PAGE_BYTES};
+use tp_node::Node;
 use tp_token::{Key, agree, turn};
 
 impl<J: Naming> Locked<J> {
@@ -53,21 +55,18 @@ impl<J: Naming> Locked<J> {
         self.tell(key);
     }
 
-    /// The node's frozen pages go. The book's recorded image is what it was.
-    pub(crate) fn thaw(&mut self, place: &mut Place, number: u8)
+    /// The node's frozen pages went, and its key shows it as it was with them. The book's recorded image is what it was.
+    pub(crate) fn thaw(&mut self, key: &mut Key<Shown>, node: &Node, number: u8)
         requires there { number < length J.start.nodes }
-        requires named { place.old.key.name ≡ J.node number }
-        requires shows { Shows place.old }
+        requires named { key.old.name ≡ J.node number }
+        requires shown { key.old.value.state ≡ record (at_rest node.now) { frozen = key.old.value.state.frozen } }
+        requires thawed { node.now.frozen ≡ None }
         ensures same { self.new ≡ self.old }
-        ensures live { place.new.node.live ≡ place.old.node.live }
-        ensures frozen { place.new.node.frozen ≡ None }
-        ensures named { place.new.key.name ≡ place.old.key.name }
-        ensures shows { Shows place.new }
+        ensures named { key.new.name ≡ key.old.name }
+        ensures shown { key.new.value.state ≡ at_rest node.now }
     {
-        let Place { node, key } = place;
         let here = &mut self.seals[number as usize];
         agree(&mut here.seal, key);
-        node.drop_frozen();
         let now = Shown::free(node);
         turn(&mut here.seal, key, &now);
         here.frozen = false;
@@ -156,7 +155,7 @@ pub(crate) fn page_of<J: Naming, R: Wait>(
     true
 }
 
-/// Lets the frozen pages of a node go whose lock is held.
+/// Lets the frozen pages of a node go whose lock is held, and then says so under the book's.
 pub(crate) fn drop_of<J: Naming, R: Wait>(
     rt: &R,
     book: &Mutex<Locked<J>>,
@@ -171,6 +170,8 @@ pub(crate) fn drop_of<J: Naming, R: Wait>(
     ensures named { place.new.key.name ≡ place.old.key.name }
     ensures shows { Shows place.new }
 {
+    let Place { node, key } = place;
+    node.drop_frozen();
     let mut held = book.lock(rt);
-    held.thaw(place, number);
+    held.thaw(key, node, number);
 }

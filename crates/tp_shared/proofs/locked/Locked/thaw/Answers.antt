@@ -1,6 +1,6 @@
 use Rattle.std.proofs.Common.{◌∙◌, false, refl, sym, ap, subst, None}
 use Rattle.std.proofs.lemmas.List.{length-set}
-use Rattle.tp_shared.specs.Agreement.{Agreement, at_rest}
+use Rattle.tp_shared.specs.Agreement.{Agreement}
 use Rattle.tp_shared.specs.Seals.{IsSealOf}
 use Rattle.tp_shared.proofs.Resealing.{sealed_set, thawed_seal}
 use Rattle.tp_shared.proofs.Thawing.{thaws_set}
@@ -28,10 +28,10 @@ invariant_of-self g c =
     let seals = c.self.inside.seals.items in
     let here = c.index_mut-here.result.now in
     let at = seal_at inv c.args.number here c.requires.there c.index_mut-here.ensures.value in
-    let shown = ap (λ x. x.state) c.agree.ensures.agreed ∙ c.requires.shows.shown in
-    let live = c.args.place.now.node.live in
+    let shown = ap (λ x. x.state) c.agree.ensures.agreed ∙ c.requires.shown in
+    let live = c.args.node.now.live in
     let S = thawed_seal (g.J.Naming.node c.args.number) here.seal.name here.seal.value.state here.frozen b c.args.number (inv.sealed c.args.number here at) in
-    let now = ap (λ x. x.state) c.turn.ensures.seal ∙ c.free-now.ensures ∙ ap at_rest c.drop_frozen.ensures in
+    let now = ap (λ x. x.state) c.turn.ensures.seal ∙ c.free-now.ensures ∙ ap (λ f. record { node = live; frozen = f; reserved = false; takes = None }) c.requires.thawed in
     let is = ap (λ (a : Agreement). record { node = a.node; frozen = None; reserved = a.reserved; takes = a.takes }) shown in
     sealed_anew inv (length-set seals c.args.number _)
     (sealed_set g.J.Naming.node seals b c.args.number here (record { frozen = false; seal = c.turn.new.seal }) inv.sealed at
