@@ -32,7 +32,7 @@ tpnet show device --json
 
 story registers
 # All registers of a node differ, both queues have two ends, link ends are at work, and one holds a byte; a node that is fresh.
-text net.txt node a 4\nport h\n
+text net.txt node a 4\nport h\nwire a.1 a.2\n
 image a.img
 tpnet format device net.txt . 16384
 tpnet node device 0 --json
