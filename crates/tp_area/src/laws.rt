@@ -31,8 +31,8 @@ pub fn open_devices_say_their_place()
     ensures { (bytes : List ℕ) (o : Opened) → verdict bytes ≡ Ok o → place_in bytes ≡ Some (place_at o) }
 {}
 
-/// A device that opens rests where all is synced, as it is after opening. Whatever a crash leaves of one that rests opens to
-/// the same.
+/// A device that opens rests where all is synced, as it is after opening. Whatever a crash leaves of one that rests opens as
+/// it did.
 pub fn resting_devices_open_alike()
     ensures synced { (s : State) (o : Opened) → verdict s.now.bytes ≡ Ok o → IsSynced s → RestsAs (held_of o) s }
     ensures alike { (h : Held NodeState) (s : State) → RestsAs h s → (left : List ℕ) → MayBe s.now left → StandsOpened h left }

@@ -1,7 +1,7 @@
 //! The snapshot that runs.
 //!
-//! With the node's half, under its lock, what a call does is the act: `tp_law_network::halves_join`. A whole cut stays, the same and
-//! with the same images, until the trim: `tp_law_network::whole_cuts_stay`.
+//! With the node's half, under its lock, what a call does is the act: `tp_law_network::halves_join`. A whole cut stays, and neither it
+//! nor its images change, until the trim: `tp_law_network::whole_cuts_stay`.
 
 ghost use Rattle.std.specs.Prelude.{◌≡◌, ◌<◌, ◌+◌, Some, true, length, IfOk, OnErr};
 ghost use Rattle.std.specs.Option.{option_copied};

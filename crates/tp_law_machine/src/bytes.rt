@@ -17,7 +17,7 @@ pub fn images_determine_nodes()
     ensures only_nodes { (bytes : List ℕ) (n : NodeState) → AllByRecursion (λ byte. byte < 256) bytes → node_of bytes ≡ Some n → IsNode n }
 {}
 
-/// Two lists of bytes with the same number are one list.
+/// Lists of bytes that spell one number are one list.
 pub fn numbers_determine_images()
     ensures { (b c : List ℕ) → AllByRecursion (λ byte. byte < 256) b → AllByRecursion (λ byte. byte < 256) c → number b ≡ number c → b ≡ c }
 {}

@@ -44,7 +44,7 @@ pub fn cuts_hold()
         → after t414 v.start (pre (process v.start.wires (length v.start.nodes)) (count_in cut) v.entries ++ post (process v.start.wires (length v.start.nodes)) (count_in cut) v.entries) ≡ Some (plain_network v.live) }
 {}
 
-/// A whole cut stays whole, the same and with the same frozen nodes, whatever acts follow, until the book is trimmed to it.
+/// A whole cut stays whole, and neither it nor its frozen nodes change, whatever acts follow, until the book is trimmed to it.
 pub fn whole_cuts_stay()
     ensures { (w v u : MarkedNetwork NodeState) → IsOpened t414 w → (acts : List Act) → acted t414 w acts ≡ Some v
         → (cut : WholeCut) (nodes : List NodeState) → HasCut v cut nodes
@@ -83,7 +83,7 @@ pub fn halves_join()
         → whole (marked b nodes frozen) ≡ whole_in b }
 {}
 
-/// What a process has done under its own lock can still be journalled, and is then the same, whatever others have done to the book in
+/// What a process has done under its own lock can still be journalled, unchanged, whatever others have done to the book in
 /// between: no entry of theirs, no beginning, recording, closing or trim takes a token from in front of its lines.
 pub fn reserved_turns_stay()
     ensures received { (w v : MarkedNetwork NodeState) (acts : List Act) → acted t414 w acts ≡ Some v

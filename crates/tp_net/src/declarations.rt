@@ -305,7 +305,7 @@ fn other_end(end: WireEnd, wires: &[(WireEnd, WireEnd)]) -> Option<WireEnd>
     None
 }
 
-/// Whether two ends are the same.
+/// Whether two ends are one.
 fn same_end(first: WireEnd, second: WireEnd) -> bool
     ensures { result ≡ same_end first second }
 {

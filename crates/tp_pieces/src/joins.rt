@@ -92,7 +92,7 @@ fn with_runs(apart: Apart, runs: Vec<NetPart>) -> Result<Apart, AllocError>
     Ok(apart)
 }
 
-/// Joins parts, each of which has its own as one network has it: that network. Memory is refused only where there is none.
+/// Joins parts that each have their own as one network has it: that network. Memory is refused only where there is none.
 pub fn joined(alloc: Global, parts: Vec<NetPart>) -> Result<Apart, AllocError>
     requires { CanJoin parts.items }
     ensures is { IfOk result (λ apart. (t : Network NodeState) → AgreeAll parts.items t → network_apart apart ≡ t) }

@@ -191,7 +191,7 @@ pub fn answer_over<
     }
 }
 
-/// The same with devices of which nothing is told.
+/// As above, over devices that tell nothing of what was called.
 fn answer_untold<
     R: Files<File = F> + AllocGlobal + Threads + Wait + Sync,
     F: FileExt + OpenFile + Drop,

@@ -133,7 +133,7 @@ pub fn answer_stream_over<
     }
 }
 
-/// The same with devices of which nothing is told.
+/// As above, over devices that tell nothing of what was called.
 fn answer_stream_untold<
     R: Files<File = F> + AllocGlobal + Wait,
     F: FileExt + OpenFile + Drop,

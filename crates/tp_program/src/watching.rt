@@ -8,7 +8,7 @@ pub trait Watch {
     /// How many milliseconds have gone by since some start.
     fn now(&mut self) -> u64;
 
-    /// Waits so many seconds. Answers whether a further look is wanted.
+    /// Waits `seconds`. Answers whether a further look is wanted.
     fn pause(&mut self, seconds: u32) -> bool;
 }
 

@@ -1,4 +1,4 @@
-//! Bytes that go from one device to the same places of another one.
+//! Bytes that go from one device to another one, each to its place.
 
 ghost use Rattle.std.specs.Prelude.{◌≡◌, ◌+◌, ◌^◌, ◌≤◌, ◌<◌, length, OnOk};
 ghost use Rattle.tp_recover.specs.Copies.{with_range};

@@ -45,7 +45,7 @@ impl FlatNetwork {
         }
     }
 
-    /// The node that the line goes to takes the token in front, and answers on the line of the same link.
+    /// The node that the line goes to takes the token in front, and answers on the line of that link.
     fn take_at_node(&mut self, line: usize, token: Token, node: u8, link: u8)
         requires goes { receiver self.old.wires line ≡ Some (Link node link) }
         requires front { is_first (on_line self.old.lines line) token ≡ true }

@@ -1,4 +1,4 @@
-//! The files of the system, each call of which is noted.
+//! The files of the system. Each call is noted.
 //!
 //! That each method here makes the one call that it notes is held by reading alone: no contract can say what a file takes.
 

@@ -56,7 +56,7 @@ fn set<T, W>(seal: &mut Seal<T>, key: &mut Key<T>, _by: &W)
     ensures key { key.new.value ≡ to }
 {}
 
-/// Turns both halves of a twin to `to`. They showed the same before.
+/// Turns both halves of a twin to `to`. They showed one value before.
 pub fn turn<T>(seal: &mut Seal<T>, key: &mut Key<T>, to: &T)
     requires { seal.old.name ≡ key.old.name }
     ensures names { (seal.new.name ≡ seal.old.name) × (key.new.name ≡ key.old.name) }
@@ -67,7 +67,7 @@ pub fn turn<T>(seal: &mut Seal<T>, key: &mut Key<T>, to: &T)
     set(seal, key, to)
 }
 
-/// Changes nothing. The two halves of a twin show the same.
+/// Changes nothing. The two halves of a twin show one value.
 pub fn agree<T>(seal: &mut Seal<T>, key: &mut Key<T>)
     requires { seal.old.name ≡ key.old.name }
     ensures names { (seal.new.name ≡ seal.old.name) × (key.new.name ≡ key.old.name) }

@@ -37,7 +37,7 @@ fn push_byte_list(text: &mut String, bytes: &[u8]) -> Result<(), AllocError>
     push(text, "]")
 }
 
-/// Some bytes of a port, of which `from` came before them.
+/// Some bytes of a port. `from` bytes came before them.
 fn port_json(alloc: Global, number: u64, from: u64, bytes: &[u8]) -> Result<String, AllocError>
     ensures { IfOk result (λ text. string_bytes text ≡ port_json number from bytes.now) }
 {

@@ -36,7 +36,7 @@ fn number_in(
     }
 }
 
-/// What was typed for an option, by the words themselves. `clap` has to have found the same.
+/// What was typed for an option, by the words themselves. `clap` has to have found that too.
 fn option_text<'a>(
     alloc: Global,
     words: &[String],
@@ -189,7 +189,7 @@ pub fn place_of(
     }
 }
 
-/// Whether `--json` was typed, by the words themselves. `clap` has to have found the same.
+/// Whether `--json` was typed, by the words themselves. `clap` has to have found that too.
 pub fn json_of(words: &[String], found: &ArgMatches) -> Result<bool, ArgFault>
     ensures { IfOk result (λ json. json ≡ has_flag (codes "--json") words.now) }
 {
