@@ -20,8 +20,8 @@ use tp_model::HeadVersion;
 use tp_net::{Named, Topology};
 use tp_stream_files::is_one_file;
 use tp_views::{
-    Refusal, Seen, check_on, is_device_file, recover_on, refuse, show_on, status_on, try_on,
-    view_on,
+    Refusal, Seen, check_on, is_device_file, recover_on, refuse, show_on, status_on, trace_on,
+    try_on, view_on,
 };
 use tp_words::{NewDevice, View};
 
@@ -46,6 +46,22 @@ pub fn try_file<R: Files + AllocGlobal, O: Write, E: Write>(
     match fs::read(rt, image) {
         Ok(bytes) => try_on(rt.alloc(), bytes.as_slice(), turns, out, err),
         Err(error) => refuse(err, read_refusal(&error)),
+    }
+}
+
+/// `tpnet trace`, on the image's file.
+pub fn trace_file<R: Files + AllocGlobal, O: Write, E: Write>(
+    rt: &R,
+    image: &str,
+    steps: u32,
+    out: &mut O,
+    err: &mut E,
+) -> u8
+    ensures { result ≤ 1 }
+{
+    match read_file(rt, image) {
+        Ok(bytes) => trace_on(rt.alloc(), bytes.as_slice(), steps, out, err),
+        Err(refusal) => refuse(err, refusal),
     }
 }
 

@@ -32,7 +32,8 @@ pub use stop_file::StopFault;
 pub use stream_program::{answer_stream, answer_stream_over};
 pub use streaming::{FilesFault, Streamed, stream_on};
 pub use tp_views::{
-    Seen, TRY_QUANTUM, check_on, is_device_file, recover_on, show_on, status_on, try_on, view_on,
+    Seen, TRY_QUANTUM, check_on, is_device_file, recover_on, show_on, status_on, trace_on, try_on,
+    view_on,
 };
 pub use tp_words::{
     ArgFault, Asked, Backup, BackupAsked, EndsFault, JournalPart, NewDevice, Run, StreamArgFault,

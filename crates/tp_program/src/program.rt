@@ -9,7 +9,8 @@ use crate::backup_program::answer_backup;
 use crate::compact_file::compact_file;
 use crate::devices::{Devices, FileDevices};
 use crate::files::{
-    check_file, format_file, recover_file, show_file, status_file, try_file, view_file,
+    check_file, format_file, recover_file, show_file, status_file, trace_file, try_file,
+    view_file,
 };
 use crate::run_file::run_file;
 use crate::watching::{OneLook, Watch};
@@ -51,6 +52,7 @@ fn carry_out<
     match asked {
         Asked::Help(text) => print_help(text.as_str(), out, err),
         Asked::Try { image, turns } => try_file(rt, image.as_str(), *turns, out, err),
+        Asked::Trace { image, steps } => trace_file(rt, image.as_str(), *steps, out, err),
         Asked::Format(new) => format_file(rt, new, system, out, err),
         Asked::Run(run) => run_file(rt, devices, run, system, out, err),
         Asked::Compact { device, .. } => compact_file(rt, devices, device, system, out, err),
@@ -85,7 +87,7 @@ fn device_of(asked: &Asked) -> Option<&str> {
         | Asked::Show { device, .. }
         | Asked::Status { device, .. }
         | Asked::View { device, .. } => Some(device.as_str()),
-        Asked::Help(_) | Asked::Try { .. } | Asked::Check { .. } => None,
+        Asked::Help(_) | Asked::Try { .. } | Asked::Trace { .. } | Asked::Check { .. } => None,
     }
 }
 

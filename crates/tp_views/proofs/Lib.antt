@@ -1,3 +1,4 @@
 pub mod Fit
 pub mod Found
 pub mod Spelt
+pub mod Traces

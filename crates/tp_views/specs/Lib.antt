@@ -1,5 +1,4 @@
 pub mod Front
-pub mod Hex
 pub mod Json
 pub mod Names
 pub mod Shown
@@ -19,3 +18,4 @@ pub mod JsonChecked
 pub mod Looks
 pub mod Steady
 pub mod Attempt
+pub mod Traced

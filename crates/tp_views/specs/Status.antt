@@ -10,8 +10,9 @@ use Rattle.tp_model.specs.declared.form.Form.{Form}
 use Rattle.tp_node.specs.Standing.{standing}
 use Rattle.tp_node.specs.declared.standing.Standing.{Standing}
 use Rattle.tp_node.specs.declared.standing.Standing.TheVariants.{Halted, Waits, Free}
-use Rattle.tp_views.specs.Hex.{hex_word}
-use Rattle.tp_views.specs.Names.{fault_name, form_name}
+use Rattle.tp_trace.specs.Hex.{hex_word}
+use Rattle.tp_trace.specs.Names.{fault_name}
+use Rattle.tp_views.specs.Names.{form_name}
 use Rattle.tp_views.specs.declared.status.PortSeen.{PortSeen}
 use Rattle.tp_views.specs.declared.status.Seen.{Seen}
 use Rattle.tp_views.specs.declared.status.Since.{Since}

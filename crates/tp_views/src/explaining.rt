@@ -242,7 +242,9 @@ fn push_explanation<R: Files<File = F> + AllocGlobal, F: FileExt + OpenFile + Dr
 ) -> Result<(), AllocError> {
     match asked {
         Asked::Help(_) => push_rest(text),
-        Asked::Try { image, .. } => push_try(rt, text, image.as_str()),
+        Asked::Try { image, .. } | Asked::Trace { image, .. } => {
+            push_try(rt, text, image.as_str())
+        }
         Asked::Format(new) => push_format(rt, text, new, system),
         Asked::Run(run) => push_run(rt, text, run, system),
         Asked::Check {

@@ -1,11 +1,12 @@
-//! Versions, forms, faults and what runs, as they are printed.
+//! Versions, forms and whether a node runs, as they are printed.
 
 ghost use Rattle.std.specs.Prelude.{◌≡◌};
 ghost use Rattle.tp_model.specs.Head.{version_byte};
-ghost use Rattle.tp_views.specs.Names.{fault_name, form_name, halt_name, state_name};
+ghost use Rattle.tp_views.specs.Names.{form_name, halt_name};
 
 use tp_model::limits::{NARROW_VERSION, WIDE_VERSION};
-use tp_model::{Fault, Form, HeadVersion, State};
+use tp_model::{Fault, Form, HeadVersion};
+use tp_trace::fault_name;
 
 /// The number of a head's version.
 pub(crate) fn version_number(version: HeadVersion) -> u8
@@ -27,18 +28,6 @@ pub(crate) fn form_name(form: Form) -> &'static str
     }
 }
 
-/// Why a node halted, in a word.
-pub(crate) fn fault_name(fault: Fault) -> &'static str
-    ensures { result.now ≡ fault_name fault }
-{
-    match fault {
-        Fault::BadAddress => "BadAddress",
-        Fault::UnknownOp => "UnknownOp",
-        Fault::LongPrefix => "LongPrefix",
-        Fault::LinkBusy => "LinkBusy",
-    }
-}
-
 /// Why a node halted, or that it runs.
 pub(crate) fn halt_name(halt: Option<Fault>) -> &'static str
     ensures { result.now ≡ halt_name halt }
@@ -46,16 +35,5 @@ pub(crate) fn halt_name(halt: Option<Fault>) -> &'static str
     match halt {
         None => "runs",
         Some(fault) => fault_name(fault),
-    }
-}
-
-/// What a processor runs, in a word.
-pub(crate) fn state_name(state: State) -> &'static str
-    ensures { result.now ≡ state_name state }
-{
-    match state {
-        State::Idle => "idle",
-        State::High => "high",
-        State::Low => "low",
     }
 }

@@ -1,6 +1,5 @@
 //! Which rule of a device's head bytes break.
 
-use crate::image_fields::byte_in;
 use std::alloc::AllocError;
 use std::fmt::Write;
 use tp_area::head_places::{AREA_PLACE, NODES_PLACE, PAGES_PLACE, PORTS_PLACE, ends_place};
@@ -9,6 +8,7 @@ use tp_model::limits::{
     MAX_PORTS, MIN_PAGES, NARROW_HEAD_NODES, NARROW_HEAD_PAGES, NARROW_PORT, WIDE_HEAD_NODES,
     WIDE_HEAD_PAGES, WIDE_PORT,
 };
+use tp_trace::byte_in;
 
 /// The most nodes that a head of a version has fields for.
 pub(crate) fn most_nodes(version: HeadVersion) -> usize {

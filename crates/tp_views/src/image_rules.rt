@@ -1,6 +1,5 @@
 //! Which rule of a node's image bytes break.
 
-use crate::image_fields::{byte_in, half_in, word_in};
 use std::alloc::{AllocError, Global};
 use std::fmt::Write;
 use tp_area::image_length;
@@ -10,6 +9,7 @@ use tp_node::image_places::{
     VERSION_PLACE, WPTR_PLACE,
 };
 use tp_node::{ImageFault, Node};
+use tp_trace::{byte_in, half_in, word_in};
 
 /// A byte of an image's head and the most that it may be.
 const BYTES: &[(usize, u8, &str)] = &[

@@ -34,6 +34,7 @@ mod steady;
 mod stopped;
 mod telling;
 mod topology_text;
+mod tracing;
 mod view;
 
 pub use checking::check_on;
@@ -47,4 +48,5 @@ pub use reopening::push_opening;
 pub use status::{PortSeen, Seen};
 pub use stopped::tell_halted;
 pub use telling::status_on;
+pub use tracing::trace_on;
 pub use view::view_on;

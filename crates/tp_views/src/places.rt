@@ -1,13 +1,13 @@
 //! What stands at a place of a device, in words.
 
 use crate::head_rules::{half_at, most_nodes, number_at, pages_at};
-use crate::image_fields::byte_in;
 use std::alloc::AllocError;
 use std::fmt::Write;
 use tp_area::head_places::{AREA_PLACE, NODES_PLACE, PORTS_PLACE};
 use tp_area::{FIELDS_BYTES, areas_of_length, image_length};
 use tp_model::limits::{LINE_BYTES, MAX_NODES, MAX_PORTS, PORT_BYTES};
 use tp_model::{HeadVersion, TwoAreas};
+use tp_trace::byte_in;
 
 /// What a device's head says of where its records stand.
 #[derive(Clone, Copy)]

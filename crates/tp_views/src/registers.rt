@@ -4,12 +4,13 @@ ghost use Rattle.std.specs.Prelude.{◌≡◌, ◌++◌, IfOk, OnOk, string_byte
 ghost use Rattle.tp_model.specs.Image.{node_at};
 ghost use Rattle.tp_views.specs.NodeText.{cpu_lines, idle_line, input_end_line, input_lines, node_as_lines, node_text, number_line, output_line, output_lines, pointer_line, queue_line, stack_line, state_line, working_line};
 
-use crate::formats::{halt_name, state_name};
-use crate::image_fields::{cpu_in, inputs_in, outputs_in, pages_in};
+use crate::formats::halt_name;
+use crate::image_fields::{inputs_in, outputs_in, pages_in};
 use std::alloc::{AllocError, Global};
 use std::fmt::Write;
 use tp_model::{Cpu, Fault, InEnd, OutEnd, Queue, Regs, State, Transfer};
 use tp_node::halt_byte;
+use tp_trace::{cpu_in, state_name};
 
 fn push_number(
     text: &mut String,

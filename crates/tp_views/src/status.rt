@@ -4,7 +4,7 @@ ghost use Rattle.std.specs.Prelude.{◌≡◌, ◌++◌, ◌∷◌, ◌<◌, ◌
 ghost use Rattle.tp_views.specs.Status.{IsSeen, bytes_accepted, accepted_before, accepted_part, count_part, front_part, growth_part, halted_or_none, halted_part, halted_parts, journal_part, millis_since, next_before, out_before, out_part, percent, port_before, port_part, port_parts, port_seen, bytes_put_out, entries_room, status_line, yes_or_no};
 ghost use Rattle.tp_node.specs.Standing.{standing};
 
-use crate::formats::{fault_name, form_name};
+use crate::formats::form_name;
 use std::alloc::{AllocError, Global};
 use std::fmt::Write;
 use tp_area::JournalRoom;
@@ -12,6 +12,7 @@ use tp_book::HostPort;
 use tp_model::Form;
 use tp_node::{Node, Standing};
 use tp_recover::Opened;
+use tp_trace::fault_name;
 
 /// What a look sees of a port: how many bytes it has accepted, and how many it has put out.
 #[derive(Clone, Copy)]

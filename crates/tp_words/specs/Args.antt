@@ -6,9 +6,9 @@ use Rattle.std.specs.declared.alloc.Global.{Global}
 use Rattle.std.specs.declared.string.String.{String}
 use Rattle.tp_model.specs.declared.limits.TheConstants.{MAX_STEPS}
 use Rattle.tp_words.specs.declared.args.Asked.{Asked}
-use Rattle.tp_words.specs.declared.args.Asked.TheVariants.{Help, Try, Format, Run as Runs, Compact, Recover, Show, Status, Check, View as Views}
+use Rattle.tp_words.specs.declared.args.Asked.TheVariants.{Help, Try, Trace, Format, Run as Runs, Compact, Recover, Show, Status, Check, View as Views}
 use Rattle.tp_words.specs.declared.args.Run.{Run}
-use Rattle.tp_words.specs.declared.args.TheConstants.{MAX_AREA, MAX_WORKERS, QUANTUM}
+use Rattle.tp_words.specs.declared.args.TheConstants.{MAX_AREA, MAX_WORKERS, QUANTUM, STEPS}
 use Rattle.tp_words.specs.declared.views.JournalPart.{JournalPart}
 use Rattle.tp_words.specs.declared.views.View.{View}
 use Rattle.tp_words.specs.declared.views.View.TheVariants.{Node, Image, Journal, Pending, Outputs, NodeJson, PendingJson, OutputsJson}
@@ -43,6 +43,7 @@ IsView (OutputsJson port) = Unit {0}
 abbrev pub IsInRange : Asked → Type 0
 IsInRange (Help text) = Unit {0}
 IsInRange (Try image turns) = turns < 2 ^ 32
+IsInRange (Trace image steps) = (0 < steps) × (steps < 2 ^ 32)
 IsInRange (Format new) = new.area ≤ MAX_AREA
 IsInRange (Runs run) = IsRun run
 IsInRange (Compact device wait_lock) = Unit {0}
@@ -87,6 +88,7 @@ IsTypedRun words run = (has_word (string_bytes run.device) words ≡ true)
 abbrev pub WasTyped : List (String Global) → Asked → Type 0
 WasTyped words (Help text) = Unit {0}
 WasTyped words (Try image turns) = (has_word (string_bytes image) words ≡ true) × (given (codes "turns") words ≡ Some (decimal turns))
+WasTyped words (Trace image steps) = (has_word (string_bytes image) words ≡ true) × IsGivenOr STEPS steps (given (codes "steps") words)
 WasTyped words (Format new) = (has_word (string_bytes new.device) words ≡ true) × (has_word (string_bytes new.topology) words ≡ true)
     × (has_word (string_bytes new.images) words ≡ true) × IsArea words new.area (given (codes "area") words)
     × IsGivenOr 0 new.wait_lock (given (codes "wait-lock") words)

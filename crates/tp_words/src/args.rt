@@ -28,6 +28,11 @@ pub enum Asked {
         image: String,
         turns: u32,
     },
+    /// Steps of one node, from its image, without a device: what each does, in a line.
+    Trace {
+        image: String,
+        steps: u32,
+    },
     /// A new device.
     Format(NewDevice),
     /// A run of a device's network.
@@ -103,8 +108,11 @@ pub struct Run {
 /// The most bytes that an area is made with.
 pub const MAX_AREA: u64 = 1 << 40;
 
-/// The most turns of a trial or a run.
+/// The most turns of a trial or a run, and the most steps of a trace.
 pub const MAX_TURNS: u64 = 4_294_967_295;
+
+/// How many steps of a node are traced, where nothing else is asked for.
+pub const STEPS: u32 = 100;
 
 /// The most threads that make the turns of a run, as many as `tp_run` takes, and the most that open a device.
 pub const MAX_WORKERS: u8 = 16;
@@ -227,6 +235,17 @@ fn asked_try(alloc: Global, words: &[String], found: &ArgMatches) -> Result<Aske
 {
     Ok(Asked::Try {
         turns: turns_of(alloc, words, found)?,
+        image: text_of(alloc, words, found, "IMAGE")?,
+    })
+}
+
+fn asked_trace(alloc: Global, words: &[String], found: &ArgMatches) -> Result<Asked, ArgFault>
+    ensures range { IfOk result IsInRange }
+    ensures typed { IfOk result (WasTyped words.now) }
+{
+    let fallback = STEPS as u64;
+    Ok(Asked::Trace {
+        steps: option_or(alloc, words, found, "steps", 1, MAX_TURNS, fallback)? as u32,
         image: text_of(alloc, words, found, "IMAGE")?,
     })
 }
@@ -433,6 +452,7 @@ fn asked_by(
 {
     match name {
         "try" => asked_try(alloc, words, found),
+        "trace" => asked_trace(alloc, words, found),
         "format" => asked_format(alloc, words, found),
         "run" => asked_run(alloc, words, found),
         "check" => asked_check(alloc, words, found),

@@ -7,6 +7,21 @@ pub const TRY_REFUSALS: &str = "Refusals (status 1):
   DeviceFailed  standard output can't be written
   Memory        there is no memory left: take an image with fewer pages";
 
+/// What the lines of `tpnet trace` mean, and what it refuses.
+pub const TRACE_REFUSALS: &str =
+    "A line: the step's number, the address where the instruction stands, the instruction, and behind the step A, B, C, the workspace Wptr,
+what runs (high, low or idle), and error where Error is set. interrupt, dispatch high, restore and dispatch low are steps, too.
+The last line says why there is no further step, where there is none:
+  waits            no process can run, and one waits at a link
+  idle             no process can run, and none waits at a link
+  halted FAULT at ADDRESS   the node has halted at the instruction there
+Nobody is at the links: nothing comes in, what is sent is lost and never acknowledged, so a process that sends or waits there stops for good.
+Refusals (status 1):
+  ReadFailed    IMAGE can't be read: look at its path and its rights
+  BadImage      IMAGE is no node's image, or a link of it is at work: make it with tools/make-image
+  DeviceFailed  standard output can't be written
+  Memory        there is no memory left: take an image with fewer pages";
+
 /// What the lines of `tpnet check` mean, and what it refuses.
 pub const CHECK_REFUSALS: &str =
     "It says which version of the head format would write, 1 for at most 16 nodes of at most 256 pages each, and else 2, and the form

@@ -2,7 +2,7 @@
 
 use crate::help::{
     BACKUP_REFUSALS, CHECK_REFUSALS, COMPACT_REFUSALS, FORMAT_REFUSALS, OPENING_REFUSALS,
-    RUN_REFUSALS, STATUS_REFUSALS, TRY_REFUSALS,
+    RUN_REFUSALS, STATUS_REFUSALS, TRACE_REFUSALS, TRY_REFUSALS,
 };
 use clap::{Arg, ArgAction, Command};
 use std::alloc::{AllocError, Global};
@@ -76,6 +76,20 @@ const TRY: Form = Form {
         EXPLAIN,
         Word::Place("IMAGE", "the node's image: 172 bytes and its memory"),
         Word::Needed("turns", "N", "how many turns: node, host, node, host .."),
+    ],
+};
+
+const TRACE: Form = Form {
+    name: "trace",
+    about: "Runs one node without a device, with nobody at its links, and prints what each step does in a line, with the registers behind it",
+    words: &[
+        EXPLAIN,
+        Word::Place("IMAGE", "the node's image: 172 bytes and its memory"),
+        Word::Value(
+            "steps",
+            "N",
+            "how many steps at most, 1 to 4294967295 (100 where it isn't given)",
+        ),
     ],
 };
 
@@ -265,6 +279,7 @@ const PORT: Form = Form {
 #[derive(Clone, Copy)]
 enum Name {
     Try,
+    Trace,
     Check,
     Format,
     Run,
@@ -282,6 +297,7 @@ enum Name {
 /// The commands, in the order in which help lists them.
 const NAMES: &[Name] = &[
     Name::Try,
+    Name::Trace,
     Name::Check,
     Name::Format,
     Name::Run,
@@ -300,6 +316,7 @@ const NAMES: &[Name] = &[
 fn form_of(name: Name) -> Form {
     match name {
         Name::Try => TRY,
+        Name::Trace => TRACE,
         Name::Check => CHECK,
         Name::Format => FORMAT,
         Name::Run => RUN,
@@ -319,6 +336,7 @@ fn form_of(name: Name) -> Form {
 fn refusals_of(name: Name) -> &'static str {
     match name {
         Name::Try => TRY_REFUSALS,
+        Name::Trace => TRACE_REFUSALS,
         Name::Check => CHECK_REFUSALS,
         Name::Format => FORMAT_REFUSALS,
         Name::Run => RUN_REFUSALS,

@@ -1,0 +1,87 @@
+# The steps of one node alone.
+
+story letter
+# The node sends a letter on link 0. Nobody is there, so it waits for good: the last line says so, where no further step is.
+image a.img
+tpnet trace a.img
+tpnet trace a.img --steps 3
+# Where there is a further step there is no such line.
+tpnet trace a.img --steps=2
+tpnet trace a.img --steps 1
+
+story functions
+# Each function, with its operand as it was spelt: up to five bytes for it. The last one reads outside memory, and halts.
+image a.img 22 2F 42 61 41 D1 71 11 30 52 21 21 21 27 80 C5 A1 41 13 E0 B2 91 02 22 F0 60 BE 40 31
+tpnet trace a.img
+
+story operations
+# The operations on registers, one behind the other.
+image a.img 47 42 F5 43 FC 44 25 F3 45 22 FC 43 21 FF 49 F4 43 F8 46 25 F2 4C 24 F6 43 24 FB 49 23 F3 23 F2 43 24 F1 41 24 F0 40 F9 23 F4 23 FF F0 10 F2 41 F0 FA 43 45 24 F2 23 F7 23 F8 24 FF 21 F6 23 F1 43 21 FA 49 21 F3 49 24 FD 21 F0 22 F9 21 FE 25 F5
+tpnet trace a.img --steps 56
+# Those on memory and those that change Wptr and Iptr; then a process that stops where Error is set, which stays set.
+image a.img 24 41 14 23 FB 14 F1 14 15 44 24 FA 18 23 FC 23 FC 41 21 FB F6 21 F0 25 F5
+tpnet trace a.img
+
+story processes
+# A high process is made ready: the low one is interrupted, and restored. Then an alternative and a loop. A step that is no instruction
+# has a name, too, and stands at where Iptr pointed.
+image a.img 71 23 F9 24 F3 41 24 F9 40 40 24 F8 24 F4 41 40 23 F0 40 40 22 FF 24 F5 42 D5 14 44 22 F1 21 F5
+set a.img 688 00 03 00 80
+set a.img 936 80 01 00 80
+set a.img 556 21 F5
+tpnet trace a.img
+# Two processes, and a channel between them.
+image a.img 24 F2 D4 4E 21 10 FD 15 14 41 F7 16 14 44 F7 15 14 41 FB 21 F5 60 14 24 42 FE 60 14 24 43 FF 11 60 14 41 F7 60 14 22 80 F3
+set a.img 732 90 01 00 80
+set a.img 736 01 00 00 00
+set a.img 572 21 F5
+tpnet trace a.img
+
+story none
+# Bytes that are no instruction: an operation that isn't listed, a 17th prefix, and prefixes that end with memory.
+image a.img 21 F1
+tpnet trace a.img
+image a.img 20 20 20 20 20 20 20 20 20 20 20 20 20 20 20 20 20
+tpnet trace a.img
+image a.img
+set a.img 4 FF 0F 00 80
+set a.img 4267 20
+tpnet trace a.img
+# A node that has halted makes no step, and one in which nothing runs makes none, either.
+set a.img 1 01
+tpnet trace a.img
+image a.img
+set a.img 41 00
+tpnet trace a.img
+
+story refused
+# What is refused is what try refuses, in its words.
+fill empty.img 0 00
+text text.img no image
+image busy.img
+set busy.img 109 01
+image later.img
+set later.img 0 02
+tpnet trace empty.img
+tpnet trace text.img
+tpnet trace busy.img
+tpnet trace later.img
+# A file that is not there can not be read.
+tpnet trace a.img
+# A number of steps that is none, or out of its range.
+image a.img
+tpnet trace a.img --steps 0 2>err
+empty err
+tpnet trace a.img --steps 4294967296 2>err
+empty err
+tpnet trace a.img --steps +4 2>err
+empty err
+tpnet trace a.img --steps 04 2>err
+empty err
+tpnet trace a.img --steps '' 2>err
+empty err
+tpnet trace a.img --turns 4 2>err
+empty err
+tpnet trace a.img --steps 4294967295
+tpnet trace --help >out
+has out dispatch high

@@ -1,0 +1,5 @@
+pub mod Act
+pub mod Hex
+pub mod Lines
+pub mod Names
+pub mod Steps

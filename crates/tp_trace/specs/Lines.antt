@@ -1,0 +1,60 @@
+-- The lines in which steps are printed.
+use Rattle.std.specs.Prelude.{ℕ, Bool, true, false, List, [], ◌∷◌, ◌++◌, Option, Some, None, Ok, Err, codes}
+use Rattle.std.specs.Fmt.{decimal, signed_decimal}
+use Rattle.tp_model.specs.Coding.{op_of, operand_of}
+use Rattle.tp_model.specs.declared.instruction.Fun.{Fun}
+use Rattle.tp_model.specs.declared.instruction.Fun.TheVariants.{Opr}
+use Rattle.tp_model.specs.declared.instruction.Instr.{Instr}
+use Rattle.tp_model.specs.declared.instruction.Op.{Op}
+use Rattle.tp_model.specs.declared.processor.Cpu.{Cpu}
+use Rattle.tp_node.specs.declared.standing.Standing.{Standing}
+use Rattle.tp_node.specs.declared.standing.Standing.TheVariants.{Halted, Waits, Free}
+use Rattle.tp_trace.specs.Hex.{hex_word}
+use Rattle.tp_trace.specs.Names.{fault_name, fun_name, op_name, state_name}
+use Rattle.tp_trace.specs.declared.act.Act.{Act}
+use Rattle.tp_trace.specs.declared.act.Act.TheVariants.{Instruction, Interrupt, DispatchHigh, Restore, DispatchLow}
+use Rattle.tp_trace.specs.declared.stepping.Seen.{Seen}
+
+-- an operation that `opr` selects
+abbrev pub operation_text : Option Op → List ℕ
+operation_text None = codes "opr"
+operation_text (Some op) = op_name op
+
+-- a function with its operand, or an operation
+abbrev pub function_text : Fun → Instr → List ℕ
+function_text Opr i = operation_text (op_of (operand_of i))
+function_text f i = fun_name f ++ (codes " " ++ signed_decimal i.operand)
+
+-- what a step does
+abbrev pub act_text : Act → List ℕ
+act_text (Instruction (Ok i)) = function_text i.fun i
+act_text (Instruction (Err fault)) = codes "no instruction"
+act_text Interrupt = codes "interrupt"
+act_text DispatchHigh = codes "dispatch high"
+act_text Restore = codes "restore"
+act_text DispatchLow = codes "dispatch low"
+
+-- the Error flag, where it is set
+abbrev pub error_text : Bool → List ℕ
+error_text false = []
+error_text true = codes " error"
+
+-- the number of a step, and where its instruction stands
+abbrev pub step_front : ℕ → ℕ → List ℕ
+step_front number at = decimal number ++ (codes " " ++ (hex_word at ++ codes " "))
+
+-- the stack, the workspace, what runs, and the Error flag
+abbrev pub step_end : Cpu → List ℕ
+step_end cpu =
+    codes " A " ++ (hex_word cpu.regs.a ++ (codes " B " ++ (hex_word cpu.regs.b ++ (codes " C " ++ (hex_word cpu.regs.c
+    ++ (codes " Wptr " ++ (hex_word cpu.wptr ++ (codes " " ++ (state_name cpu.state ++ (error_text cpu.regs.error ++ 10 ∷ []))))))))))
+
+-- the line of the step of a number
+abbrev pub step_line : ℕ → Seen → List ℕ
+step_line number seen = step_front number seen.at ++ (act_text seen.act ++ step_end seen.cpu)
+
+-- how a node stands that has no step
+abbrev pub stop_line : Standing → List ℕ
+stop_line (Halted fault at) = codes "halted " ++ (fault_name fault ++ (codes " at " ++ (hex_word at ++ 10 ∷ [])))
+stop_line Waits = codes "waits" ++ 10 ∷ []
+stop_line Free = codes "idle" ++ 10 ∷ []

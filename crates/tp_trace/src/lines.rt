@@ -1,0 +1,111 @@
+//! Steps as lines.
+
+ghost use Rattle.std.specs.Prelude.{◌≡◌, ◌++◌, IfOk, OnOk, string_bytes};
+ghost use Rattle.tp_trace.specs.Lines.{act_text, error_text, function_text, operation_text, step_end, step_front, step_line, stop_line};
+
+use crate::act::Act;
+use crate::names::{fault_name, fun_name, op_name, state_name};
+use crate::stepping::Seen;
+use std::alloc::{AllocError, Global};
+use std::fmt::Write;
+use tp_cpu::op_at;
+use tp_model::{Cpu, Fun, Instr, Op};
+use tp_node::Standing;
+
+/// The text of an operation that `opr` selects.
+fn operation_text(op: Option<Op>) -> &'static str
+    ensures { result.now ≡ operation_text op }
+{
+    match op {
+        Some(op) => op_name(op),
+        None => "opr",
+    }
+}
+
+fn push_function(text: &mut String, fun: Fun, instr: Instr) -> Result<(), AllocError>
+    ensures { OnOk result (string_bytes text.new ≡ string_bytes text.old ++ function_text fun instr) }
+{
+    match fun {
+        Fun::Opr => text.push_str(operation_text(op_at(instr.operand.cast_unsigned()))),
+        _ => {
+            let (name, operand) = (fun_name(fun), instr.operand);
+            write!(text, "{name} {operand}")
+        }
+    }
+}
+
+/// Appends what a step does.
+fn push_act(text: &mut String, act: Act) -> Result<(), AllocError>
+    ensures { OnOk result (string_bytes text.new ≡ string_bytes text.old ++ act_text act) }
+{
+    match act {
+        Act::Instruction(Ok(instr)) => push_function(text, instr.fun, instr),
+        Act::Instruction(Err(_)) => text.push_str("no instruction"),
+        Act::Interrupt => text.push_str("interrupt"),
+        Act::DispatchHigh => text.push_str("dispatch high"),
+        Act::Restore => text.push_str("restore"),
+        Act::DispatchLow => text.push_str("dispatch low"),
+    }
+}
+
+fn error_text(error: bool) -> &'static str
+    ensures { result.now ≡ error_text error }
+{
+    if error { " error" } else { "" }
+}
+
+fn push_front(text: &mut String, number: u64, at: u32) -> Result<(), AllocError>
+    ensures { OnOk result (string_bytes text.new ≡ string_bytes text.old ++ step_front number at) }
+{
+    write!(text, "{number} {at:08X} ")
+}
+
+fn push_end(text: &mut String, cpu: Cpu) -> Result<(), AllocError>
+    ensures { OnOk result (string_bytes text.new ≡ string_bytes text.old ++ step_end cpu) }
+{
+    let (a, b, c, wptr) = (cpu.regs.a, cpu.regs.b, cpu.regs.c, cpu.wptr);
+    let (name, error) = (state_name(cpu.state), error_text(cpu.regs.error));
+    write!(
+        text,
+        " A {a:08X} B {b:08X} C {c:08X} Wptr {wptr:08X} {name}{error}\n"
+    )
+}
+
+fn push_step(text: &mut String, number: u64, seen: Seen) -> Result<(), AllocError>
+    ensures { OnOk result (string_bytes text.new ≡ string_bytes text.old ++ step_line number seen) }
+{
+    push_front(text, number, seen.at)?;
+    push_act(text, seen.act)?;
+    push_end(text, seen.cpu)
+}
+
+/// The line of the step of a number.
+pub fn step_line(alloc: Global, number: u64, seen: Seen) -> Result<String, AllocError>
+    ensures { IfOk result (λ text. string_bytes text ≡ step_line number seen) }
+{
+    let mut text = String::new(alloc);
+    push_step(&mut text, number, seen)?;
+    Ok(text)
+}
+
+fn push_stop(text: &mut String, standing: Standing) -> Result<(), AllocError>
+    ensures { OnOk result (string_bytes text.new ≡ string_bytes text.old ++ stop_line standing) }
+{
+    match standing {
+        Standing::Halted { fault, at } => {
+            let name = fault_name(fault);
+            write!(text, "halted {name} at {at:08X}\n")
+        }
+        Standing::Waits => text.push_str("waits\n"),
+        Standing::Free => text.push_str("idle\n"),
+    }
+}
+
+/// The line of a node that has no step, by how it stands.
+pub fn stop_line(alloc: Global, standing: Standing) -> Result<String, AllocError>
+    ensures { IfOk result (λ text. string_bytes text ≡ stop_line standing) }
+{
+    let mut text = String::new(alloc);
+    push_stop(&mut text, standing)?;
+    Ok(text)
+}

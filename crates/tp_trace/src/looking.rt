@@ -1,0 +1,155 @@
+//! Looking at a node: its processor, and what its next step does.
+
+ghost use Rattle.std.specs.Int.{from_le_bytes, w32};
+ghost use Rattle.std.specs.Prelude.{◌≡◌, Some, None, drop, slice_range};
+ghost use Rattle.tp_law_machine.specs.NodeOfBytes.{IsNodeOfBytes};
+ghost use Rattle.tp_model.specs.Coding.{decoded};
+ghost use Rattle.tp_model.specs.Memory.{byte_at, offset, word_at};
+ghost use Rattle.tp_model.specs.Processor.{kept_at};
+ghost use Rattle.tp_trace.specs.Act.{act_in, act_of, idle_act, instruction_act, low_act};
+
+use crate::act::Act;
+use crate::fields::cpu_in;
+use tp_cpu::Decoder;
+use tp_model::limits::{IMAGE_HEAD_BYTES, PAGE_BYTES};
+use tp_model::{Cpu, DecodeFault, Instr, State};
+use tp_node::Node;
+
+/// The word that names no process, and the first address of memory.
+const NOT_PROCESS: u32 = 0x8000_0000;
+
+/// Where the word of the low process that was interrupted stands in memory.
+const KEPT_PLACE: usize = 0x2C;
+
+/// The processor of a node that is frozen.
+fn cpu_of(node: &Node) -> Cpu
+    requires frozen { node.now.frozen ≡ Some node.now.live }
+    requires bytes { IsNodeOfBytes node.now.live }
+    ensures { result ≡ node.now.live.cpu }
+{
+    let mut head = [0; IMAGE_HEAD_BYTES];
+    node.frozen_head(&mut head);
+    cpu_in(&head)
+}
+
+/// The byte at an address of a node that is frozen, where that lies in its memory.
+fn byte_of(node: &Node, address: u32) -> Option<u8>
+    requires { node.now.frozen ≡ Some node.now.live }
+    ensures { result ≡ byte_at node.now.live.memory address }
+{
+    let at = address.wrapping_add(NOT_PROCESS) as usize;
+    if at / PAGE_BYTES >= node.pages() {
+        return None;
+    }
+    let mut page = [0; PAGE_BYTES];
+    node.frozen_page(at / PAGE_BYTES, &mut page);
+    Some(page[at % PAGE_BYTES])
+}
+
+/// Reads the instruction at an address of a node that is frozen, byte by byte.
+fn instruction_of(node: &Node, address: u32) -> Result<Instr, DecodeFault>
+    requires frozen { node.now.frozen ≡ Some node.now.live }
+    requires bytes { IsNodeOfBytes node.now.live }
+    ensures { result ≡ decoded (drop (offset address) node.now.live.memory) }
+{
+    let mut decoder = Decoder::new();
+    let mut at = address;
+    while let Some(byte) = byte_of(node, at) {
+        if let Some(answer) = decoder.feed(byte) {
+            return answer;
+        }
+        at = at.wrapping_add(1);
+    }
+    Err(DecodeFault::NeedMore)
+}
+
+/// The word that says which low process was interrupted, in the first page of memory.
+fn kept_in(page: &[u8; PAGE_BYTES]) -> u32
+    ensures { result ≡ from_le_bytes w32 (slice_range page.now 44 48) }
+{
+    u32::from_le_bytes([
+        page[KEPT_PLACE],
+        page[KEPT_PLACE + 1],
+        page[KEPT_PLACE + 2],
+        page[KEPT_PLACE + 3],
+    ])
+}
+
+/// The word that says which low process was interrupted, of a node that is frozen.
+fn kept_of(node: &Node) -> Option<u32>
+    requires { node.now.frozen ≡ Some node.now.live }
+    ensures { result ≡ word_at node.now.live.memory kept_at }
+{
+    if node.pages() == 0 {
+        return None;
+    }
+    let mut page = [0; PAGE_BYTES];
+    node.frozen_page(0, &mut page);
+    Some(kept_in(&page))
+}
+
+/// Which low process comes first, where no high one is ready.
+fn low_act(kept: Option<u32>) -> Act
+    ensures { result ≡ low_act kept }
+{
+    match kept {
+        Some(NOT_PROCESS) => Act::DispatchLow,
+        _ => Act::Restore,
+    }
+}
+
+/// What a step of a node that is frozen does, where nothing runs there.
+fn idle_act(node: &Node, cpu: &Cpu) -> Act
+    requires { node.now.frozen ≡ Some node.now.live }
+    ensures { result ≡ idle_act cpu.now node.now.live.memory }
+{
+    if cpu.high.front == NOT_PROCESS {
+        low_act(kept_of(node))
+    } else {
+        Act::DispatchHigh
+    }
+}
+
+/// What the next step of a node that is frozen does.
+fn act_in(node: &Node, cpu: &Cpu) -> Act
+    requires frozen { node.now.frozen ≡ Some node.now.live }
+    requires bytes { IsNodeOfBytes node.now.live }
+    ensures { result ≡ act_in cpu.now.state cpu.now node.now.live.memory }
+{
+    match cpu.state {
+        State::Idle => idle_act(node, cpu),
+        State::Low if cpu.high.front != NOT_PROCESS => Act::Interrupt,
+        _ => Act::Instruction(instruction_of(node, cpu.iptr)),
+    }
+}
+
+/// A node between two steps: its processor, and what its next step does, if it has one.
+#[derive(Clone, Copy, Debug, PartialEq, Eq)]
+pub struct Moment {
+    pub cpu: Cpu,
+    pub act: Act,
+}
+
+/// Looks at a node that is frozen.
+fn look_at(node: &Node) -> Moment
+    requires frozen { node.now.frozen ≡ Some node.now.live }
+    requires bytes { IsNodeOfBytes node.now.live }
+    ensures { result ≡ record { cpu = node.now.live.cpu; act = act_of node.now.live } }
+{
+    let cpu = cpu_of(node);
+    let act = act_in(node, &cpu);
+    Moment { cpu, act }
+}
+
+/// Looks at a node, which is frozen meanwhile.
+pub fn look(node: &mut Node) -> Moment
+    requires thawed { node.old.frozen ≡ None }
+    requires bytes { IsNodeOfBytes node.old.live }
+    ensures look { result ≡ record { cpu = node.old.live.cpu; act = act_of node.old.live } }
+    ensures same { node.new ≡ node.old }
+{
+    node.freeze();
+    let look = look_at(node);
+    node.drop_frozen();
+    look
+}
