@@ -1,5 +1,5 @@
 -- What `run --stream` does.
-use Rattle.std.specs.Prelude.{◌≡◌, ℕ, Result, Ok, Err, if◌then◌else◌, is_some, min}
+use Rattle.std.specs.Prelude.{◌≡◌, ℕ, Result, Ok, Err, ◌||◌, is_some, min, unwrap_or}
 use Rattle.tp_model.specs.NodeState.{NodeState}
 use Rattle.tp_model.specs.Network.{Network}
 use Rattle.tp_model.specs.DiskHistory.{State}
@@ -28,8 +28,12 @@ task_of run = record {
   quantum = run.quantum;
   spare = min run.spare 65535;
   every = run.every;
-  tells = if run.has_progress then 10000 else 0;
+  tells = run.has_progress || is_some run.progress_every;
 }
+
+-- after how many seconds it is said again how far a stream has come
+abbrev pub seconds_of : StreamRun → ℕ
+seconds_of run = unwrap_or run.progress_every 10
 
 -- the status that a stream ends with whose ends aren't opened
 abbrev pub end_status : EndFault → ℕ

@@ -15,7 +15,7 @@ use std::io::Write;
 use std::os::unix::fs::FileExt;
 use std::sync::Wait;
 use tp_disk::Disk;
-use tp_stream_files::Feed;
+use tp_stream_files::{Feed, Onlooker};
 use tp_views::{Refusal, is_device_file, print_help, refuse};
 use tp_words::{StreamAsked, StreamRun, has_word, read_stream_args};
 
@@ -58,7 +58,8 @@ fn stream_file<
     I: Feed,
     O: Write,
     E: Write,
->(rt: &R, devices: &mut S, asked: &StreamRun, feed: &mut I, out: &mut O, err: &mut E) -> Outcome
+    W: Onlooker,
+>(rt: &R, devices: &mut S, asked: &StreamRun, feed: &mut I, out: &mut O, err: &mut E, onlooker: &mut W) -> Outcome
     ghost history: { History }
     requires { IsStreamRun asked.now }
     ensures few { result.status ≤ 3 }
@@ -71,7 +72,7 @@ fn stream_file<
         Ok(disk) => disk,
         Err(error) => return unopened(err, Some(error)),
     };
-    let (disk, streamed) = stream_on(rt, asked, disk, feed, out, err);
+    let (disk, streamed) = stream_on(rt, asked, disk, feed, out, err, onlooker);
     outcome_of(streamed, devices.close(disk))
 }
 
@@ -84,6 +85,7 @@ fn stream_and_explain<
     I: Feed,
     O: Write,
     E: Write,
+    W: Onlooker,
 >(
     rt: &R,
     devices: &mut S,
@@ -92,21 +94,22 @@ fn stream_and_explain<
     feed: &mut I,
     out: &mut O,
     err: &mut E,
+    onlooker: &mut W,
 ) -> u8
     ghost history: { History }
     requires { IsStreamRun asked.now }
     ensures few { result ≤ 3 }
     ensures streamed { StreamedFile D.keeps history asked.now (S.calls devices.old) (S.calls devices.new) (O.contents out.old) (O.contents out.new) result }
 {
-    let ended = stream_file(rt, devices, asked, feed, out, err);
+    let ended = stream_file(rt, devices, asked, feed, out, err, onlooker);
     if ended.status == 1 && has_word(words, "--explain") {
         explain_stream(rt, asked, ended.fault, ended.system.as_ref(), err);
     }
     ended.status
 }
 
-/// Does what the words of a command line with `--stream` ask for, the program's name first; `feed` is standard input, and `devices` opens
-/// the device. Answers the program's status: that of the stream, 3 where it ended since a node halted, or 2 where the words ask for
+/// Does what the words of a command line with `--stream` ask for, the program's name first; `feed` is standard input, `devices` opens
+/// the device, and `onlooker` looks at `err` and has the time. Answers the program's status: that of the stream, 3 where it ended since a node halted, or 2 where the words ask for
 /// nothing; no file is opened then. Asking for help is no fault.
 pub fn answer_stream_over<
     R: Files<File = F> + AllocGlobal + Wait,
@@ -116,7 +119,8 @@ pub fn answer_stream_over<
     I: Feed,
     O: Write,
     E: Write,
->(rt: &R, devices: &mut S, words: &[String], feed: &mut I, out: &mut O, err: &mut E) -> u8
+    W: Onlooker,
+>(rt: &R, devices: &mut S, words: &[String], feed: &mut I, out: &mut O, err: &mut E, onlooker: &mut W) -> u8
     ghost history: { History }
     ensures few { result ≤ 3 }
     ensures answered { StreamAnswered D.keeps history words.now (S.calls devices.old) (S.calls devices.new) (O.contents out.old) (O.contents out.new) result }
@@ -124,7 +128,7 @@ pub fn answer_stream_over<
     match read_stream_args(rt.alloc(), words) {
         Ok(StreamAsked::Help(text)) => print_help(text.as_str(), out, err),
         Ok(StreamAsked::Run(asked)) => {
-            stream_and_explain(rt, devices, words, &asked, feed, out, err)
+            stream_and_explain(rt, devices, words, &asked, feed, out, err, onlooker)
         }
         Err(fault) => {
             let _ = write!(err, "{fault}");
@@ -142,21 +146,23 @@ fn answer_stream_untold<
     I: Feed,
     O: Write,
     E: Write,
->(rt: &R, devices: &mut S, words: &[String], feed: &mut I, out: &mut O, err: &mut E) -> u8
+    W: Onlooker,
+>(rt: &R, devices: &mut S, words: &[String], feed: &mut I, out: &mut O, err: &mut E, onlooker: &mut W) -> u8
     ensures { result ≤ 3 }
 {
-    answer_stream_over(rt, devices, words, feed, out, err)
+    answer_stream_over(rt, devices, words, feed, out, err, onlooker)
 }
 
-/// The same with the devices in files of the system.
+/// As above, with the devices in files of the system.
 pub fn answer_stream<
     R: Files<File = F> + AllocGlobal + Wait,
     F: FileExt + OpenFile + Drop,
     I: Feed,
     O: Write,
     E: Write,
->(rt: &R, words: &[String], feed: &mut I, out: &mut O, err: &mut E) -> u8
+    W: Onlooker,
+>(rt: &R, words: &[String], feed: &mut I, out: &mut O, err: &mut E, onlooker: &mut W) -> u8
     ensures { result ≤ 3 }
 {
-    answer_stream_untold(rt, &mut FileDevices::new(rt), words, feed, out, err)
+    answer_stream_untold(rt, &mut FileDevices::new(rt), words, feed, out, err, onlooker)
 }

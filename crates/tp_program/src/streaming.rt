@@ -9,7 +9,7 @@ ghost use Rattle.tp_recover.specs.declared.unopened.Unopened.{Unopened};
 ghost use Rattle.tp_run.specs.Ran.{History};
 ghost use Rattle.tp_stream.specs.Quiet.{IsAsked};
 ghost use Rattle.tp_stream.specs.Streamed.{StaysUnstreamed, Streamed as StreamLeft};
-ghost use Rattle.tp_program.specs.Streaming.{IsOfEnds, IsUnopened, FindsNothingNew, StreamedOn, end_status, ending_status, fault_status, stream_status, task_of};
+ghost use Rattle.tp_program.specs.Streaming.{IsOfEnds, IsUnopened, FindsNothingNew, StreamedOn, end_status, ending_status, fault_status, seconds_of, stream_status, task_of};
 ghost use Rattle.tp_words.specs.StreamArgs.{IsStreamRun};
 
 use crate::stop_file::{StopFault, StopFile, report_stop, stop_fault};
@@ -21,12 +21,12 @@ use thiserror::Error;
 use tp_disk::Disk;
 use tp_stream::{Ended, Ending, Sink, Source, StreamFault, Streams, Task, stream};
 use tp_stream_files::{
-    AnySink, AnySource, EndFault, Feed, OutsideFile, Teller, open_ends, say_end,
+    AnySink, AnySource, EndFault, Feed, Onlooker, OutsideFile, Teller, open_ends, say_end,
 };
 use tp_words::StreamRun;
 
-/// After how many turns it is said again how far a stream has come.
-const TURNS_TOLD: u32 = 10_000;
+/// After how many seconds it is said again how far a stream has come, where none were typed.
+const SECONDS_TOLD: u32 = 10;
 
 /// Why a stream on files ends early.
 #[derive(Clone, Copy, Debug, PartialEq, Eq, Error)]
@@ -56,7 +56,6 @@ fn task_of(asked: &StreamRun) -> Task
     ensures value { result ≡ task_of asked.now }
     ensures quantum { result.quantum ≤ MAX_STEPS }
 {
-    let tells = if asked.has_progress { TURNS_TOLD } else { 0 };
     Task {
         turns: asked.turns,
         until_quiet: asked.until_quiet,
@@ -65,7 +64,17 @@ fn task_of(asked: &StreamRun) -> Task
         quantum: asked.quantum,
         spare: asked.spare.min(u16::MAX as u64) as u16,
         every: asked.every,
-        tells,
+        tells: asked.has_progress || asked.progress_every.is_some(),
+    }
+}
+
+/// After how many seconds it is said again how far the stream has come.
+fn seconds_of(asked: &StreamRun) -> u32
+    ensures { result ≡ seconds_of asked.now }
+{
+    match asked.progress_every {
+        Some(seconds) => seconds,
+        None => SECONDS_TOLD,
     }
 }
 
@@ -157,12 +166,20 @@ fn report<E: Write>(err: &mut E, done: Result<Ended, FilesFault>) -> u8
 /// Streams a device's network on ends that are open. What is said of it goes to `err`: where standard output and standard input begin,
 /// how far it has come, at the end each node that has stopped, and `next M`, with how much standard output was given and how much of
 /// that is confirmed, and why it ended.
-fn stream_opened<R: Files + AllocGlobal + Wait, D: Disk + Drop, S: Sink, I: Source, E: Write>(
+fn stream_opened<
+    R: Files + AllocGlobal + Wait,
+    D: Disk + Drop,
+    S: Sink,
+    I: Source,
+    E: Write,
+    W: Onlooker,
+>(
     rt: &R,
     asked: &StreamRun,
     disk: D,
     streams: &mut Streams<S, I>,
     err: &mut E,
+    onlooker: &mut W,
 ) -> (D, Result<Ended, StreamFault>)
     ghost history: { History }
     requires { IsStreamRun asked.now }
@@ -175,9 +192,19 @@ fn stream_opened<R: Files + AllocGlobal + Wait, D: Disk + Drop, S: Sink, I: Sour
 {
     let task = task_of(asked);
     let standard_out = asked.ends.standard_out();
-    let mut teller = Teller::new(err, standard_out, asked.ends.standard_in());
+    let standard_in = asked.ends.standard_in();
+    let seconds = seconds_of(asked);
+    let mut teller = Teller::new(
+        rt.alloc(),
+        err,
+        onlooker,
+        standard_out,
+        standard_in,
+        seconds,
+    );
     let mut stop = StopFile::new(rt, &asked.stop_file);
     let (disk, done) = stream(rt, rt.alloc(), task, disk, streams, &mut teller, &mut stop);
+    teller.end();
     if let Ok(ended) = done {
         say_end(err, ended, standard_out, &streams.outputs);
     }
@@ -221,6 +248,7 @@ fn stream_files<
     I: Feed,
     O: Write,
     E: Write,
+    W: Onlooker,
 >(
     rt: &R,
     asked: &StreamRun,
@@ -228,6 +256,7 @@ fn stream_files<
     feed: &mut I,
     out: &mut O,
     err: &mut E,
+    onlooker: &mut W,
 ) -> (D, Result<Ended, FilesFault>)
     ghost history: { History }
     requires { IsStreamRun asked.now }
@@ -242,7 +271,7 @@ fn stream_files<
         Ok(streams) => streams,
         Err(fault) => return (disk, Err(fault)),
     };
-    let (disk, done) = stream_opened(rt, asked, disk, &mut streams, err);
+    let (disk, done) = stream_opened(rt, asked, disk, &mut streams, err, onlooker);
     match done {
         Ok(ended) => (disk, Ok(ended)),
         Err(fault) => (disk, Err(FilesFault::Stream(fault))),
@@ -258,7 +287,16 @@ pub fn stream_on<
     I: Feed,
     O: Write,
     E: Write,
->(rt: &R, asked: &StreamRun, disk: D, feed: &mut I, out: &mut O, err: &mut E) -> (D, Streamed)
+    W: Onlooker,
+>(
+    rt: &R,
+    asked: &StreamRun,
+    disk: D,
+    feed: &mut I,
+    out: &mut O,
+    err: &mut E,
+    onlooker: &mut W,
+) -> (D, Streamed)
     ghost history: { History }
     requires { IsStreamRun asked.now }
     ensures status { result.1.status ≡ stream_status result.1.done }
@@ -270,7 +308,7 @@ pub fn stream_on<
     ensures unopened { D.keeps → IsErr (verdict (D.state disk).now.bytes) → IsUnopened result.1.done }
     ensures why { IfOk result.1.done (λ ended. IsAsked (task_of asked.now) ended.why) }
 {
-    let (disk, done) = stream_files(rt, asked, disk, feed, out, err);
+    let (disk, done) = stream_files(rt, asked, disk, feed, out, err, onlooker);
     let status = report(err, done);
     (disk, Streamed { status, done })
 }

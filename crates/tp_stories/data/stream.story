@@ -273,13 +273,24 @@ tpnet run device --stream --until-quiet --out 1=-
 tpnet run device --stream --until-quiet --out 1=- --have 1=1
 
 story progress
-# How far it has come is said once in 10000 turns, also while nothing is left to do: the journal has room for 1381 entries, and each port
-# with an end is named.
+# How far it has come is said by time, also while nothing is left to do. The clock goes 250 ms each time that it is asked, which is before each
+# round of turns: each 10 seconds are 40 rounds, and each second is 4. Where nothing is left to do a round is 2 turns, the node's and the host's.
+# The journal has room for 1381 entries, and each port with an end is named.
 text net.txt node a 4\nport from\nport to\nwire a.0 from\nwire a.3 to\n
 image a.img 11 24 F2 54 41 F7 11 24 F2 53 41 FB 60 02
 tpnet format device net.txt . 65536
 text given abc
-tpnet run device --stream --turns 10100 --progress --in 0=- --discard 0 --out 1=- <given
+tpnet run device --stream --turns 400 --progress --in 0=- --discard 0 --out 1=- <given >printed 2>err
+has err next 14 +0/s mark 14 area 1% generation 1 turns
+has err +8/s out 0 0 +0/s out 1 3 +0/s
+tpnet run device --stream --turns 100 --progress-every 1 --in 0=- --discard 0 --out 1=- <given >printed 2>err
+has err next 14 +0/s mark 14 area 1% generation 1 turns
+has err +8/s out 0 0 +0/s out 1 3 +0/s
+tpnet run device --stream --turns 60 --progress --progress-every 2 --in 0=- --discard 0 --out 1=- <given >printed 2>err
+has err next 14 +0/s mark 14 area 1% generation 1 turns
+has err +8/s out 0 0 +0/s out 1 3 +0/s
+tpnet run device --stream --turns 60 --progress-every 3600 --in 0=- --discard 0 --out 1=- <given >printed 2>err
+has err area
 
 story each_entry
 # A snapshot begins behind each entry: the first holds the first run, the second one all, and then none is left to begin.

@@ -130,6 +130,13 @@ tpnet run device --turns 4 --discard=0
 tpnet run device --turns 4 --until-quiet
 tpnet run device --turns 4 --stop-file=stop
 tpnet run device --turns 4 --progress
+tpnet run device --turns 4 --progress-every=4
+
+story progress_seconds
+# The seconds of a line by time are 1 to 3600; no device is looked for.
+tpnet run device --stream --progress-every 0
+tpnet run device --stream --progress-every=3601
+tpnet run device --stream --progress-every 1h
 
 story greatest
 # The greatest numbers that are taken, and one more. A device is there: so an area of 2^40 bytes is refused for that.

@@ -10,7 +10,7 @@ use std::sync::Wait;
 use std::thread::Threads;
 use std::{fs, io};
 use tp_program::{answer, answer_stream, is_stream, wants_input};
-use tp_stream_files::Plain;
+use tp_stream_files::{Onlooker, Plain, Times};
 use tp_tests_files::standing::Standing;
 
 /// A command as it was typed: its words, the program's name first, and the files that its streams are redirected to.
@@ -92,6 +92,30 @@ impl<'a, R: Files> Write for Reader<'a, R> {
     }
 }
 
+/// How many milliseconds go by between two looks at the time, where a stream says by time how far it has come.
+const PACE: u64 = 250;
+
+/// A clock that goes so far each time that it is looked at, and no terminal.
+#[derive(Drop)]
+struct Steps {
+    now: u64,
+    times: Times,
+}
+
+impl Onlooker for Steps {
+    ghost times = { λ steps. steps.times.told };
+
+    fn now(&mut self) -> u64 {
+        self.now = self.now.saturating_add(PACE);
+        self.times = self.times.answered(self.now);
+        self.now
+    }
+
+    fn is_terminal(&self) -> bool {
+        false
+    }
+}
+
 /// Streams as a command asks.
 fn stream<R: Files<File = F> + AllocGlobal + Wait, F: FileExt + OpenFile + Drop>(
     rt: &R,
@@ -107,7 +131,11 @@ fn stream<R: Files<File = F> + AllocGlobal + Wait, F: FileExt + OpenFile + Drop>
         made: &stage.made,
         bytes: Vec::new(rt.alloc()),
     };
-    let status = answer_stream(&files, words, &mut feed, &mut out, &mut err);
+    let mut steps = Steps {
+        now: 0,
+        times: Times::new(),
+    };
+    let status = answer_stream(&files, words, &mut feed, &mut out, &mut err, &mut steps);
     Done {
         status,
         out: out.bytes,

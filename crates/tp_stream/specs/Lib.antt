@@ -8,3 +8,4 @@ pub mod Rooms
 pub mod Standing
 pub mod Steps
 pub mod Streamed
+pub mod Told

@@ -14,11 +14,11 @@ pub(crate) fn are_over<I: Source>(inputs: &[Input<I>]) -> bool {
     inputs.iter().all(|input| input.is_over())
 }
 
-/// Whether a step of an input may wait: another turn may be made, nothing is left to do, and the stream isn't asked to stop meanwhile.
+/// Whether a step of an input may wait: another turn may be made, nothing is left to do, and the stream doesn't rest meanwhile.
 pub(crate) fn may_wait(task: Task, turns: &Turns, nodes: u8) -> bool
     ensures { result ≡ true → nat_lt nodes turns.now.idle ≡ true }
 {
-    !task.until_asked && !turns.are_out(task) && !turns.is_stopped(task) && turns.is_quiet(nodes)
+    !task.rests() && !turns.are_out(task) && !turns.is_stopped(task) && turns.is_quiet(nodes)
 }
 
 /// Whether the stream is asked to stop, where it is to end so: it is looked once, and else not at all.

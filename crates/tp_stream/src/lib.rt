@@ -18,6 +18,7 @@ mod standing;
 mod stopping;
 mod streaming;
 mod task;
+mod telling;
 mod turns;
 
 pub use fault::StreamFault;

@@ -4,6 +4,7 @@ ghost use Rattle.std.specs.Prelude.{◌≡◌, ◌<◌, true, false};
 ghost use Rattle.tp_book.specs.Refusals.{is_journal_full};
 ghost use Rattle.tp_area.specs.Capacity.{journal_of};
 ghost use Rattle.tp_stream.specs.Rooms.{HavePlace, UnreservedBook, free_of, has_room_for};
+ghost use Rattle.tp_stream.specs.Told.{used_of};
 
 use tp_area::JournalRoom;
 use tp_book::Book;
@@ -59,9 +60,12 @@ impl Rooms {
     }
 
     /// How much of it is in use, in percent.
-    pub(crate) fn used(self, book: &Book) -> u64 {
+    pub(crate) fn used(self, book: &Book) -> u64
+        ensures { result ≡ used_of self.journal book.now }
+    {
+        book.known();
         let made = book.next().saturating_sub(book.base());
-        made.saturating_mul(100) / self.journal.capacity().max(1)
+        made * 100 / self.journal.capacity().max(1)
     }
 }
 

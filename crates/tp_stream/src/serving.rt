@@ -16,67 +16,25 @@ use crate::pumping::{Pumped, are_awaited, can_confirm, pump, rest};
 use crate::rounds::round;
 use crate::settling::settle;
 use crate::stopping::{find_halted, tell_stopped};
+use crate::telling::tell;
 use crate::turns::Turns;
 use std::alloc::Global;
 use std::sync::Wait;
 use tp_disk::Disk;
 use tp_flush::Flusher;
-use tp_model::limits::MAX_PORTS;
 use tp_shared::{Naming, Seat, Shared};
-use tp_stream_files::{
-    Ended, Ending, Input, Listener, Output, Progress, Sink, Source, Stop, Streams,
-};
+use tp_stream_files::{Ended, Ending, Input, Listener, Sink, Source, Stop, Streams};
 
-/// How a stream goes on: its turns, the slips of what they journalled, and at how many turns it is told again how far it has come.
+/// How a stream goes on: its turns, and the slips of what they journalled.
 #[derive(Drop)]
 struct Going<J: Naming> {
     turns: Turns,
     seat: Seat<J>,
-    tells_at: u64,
-}
-
-/// Up to where each port's outputs were put.
-fn put_of<S: Sink>(outputs: &[Output<S>]) -> [Option<u64>; MAX_PORTS] {
-    let mut put = [None; MAX_PORTS];
-    for output in outputs {
-        if usize::from(output.port()) < MAX_PORTS {
-            put[usize::from(output.port())] = Some(output.put());
-        }
-    }
-    put
-}
-
-/// Tells how far it has come, where it is time.
-fn tell<J: Naming, S: Sink, L: Listener, R: Wait>(
-    rt: &R,
-    shared: &Shared<J>,
-    pace: Pace,
-    going: &mut Going<J>,
-    mark: u64,
-    outputs: &[Output<S>],
-    listener: &mut L,
-)
-    ensures { going.new.turns ≡ going.old.turns }
-{
-    let tells = pace.task.tells;
-    if tells == 0 || going.turns.made < going.tells_at {
-        return;
-    }
-    going.tells_at = going.turns.made.saturating_add(u64::from(tells));
-    let put = put_of(outputs);
-    let held = shared.book().lock(rt);
-    let (next, used) = (held.book().next(), pace.rooms.used(held.book()));
-    drop(held);
-    listener.progress(Progress {
-        next,
-        mark,
-        used,
-        put,
-    });
 }
 
 /// Turns; or, where the journal has no room for one, or nothing is left to do but an input for which it has no room, a snapshot is
-/// brought to its end. Where it may be asked to stop, and nothing is left to do but an input whose bytes haven't come yet, it rests.
+/// brought to its end. Where something else is to be done meanwhile, and nothing is left to do but an input whose bytes haven't come yet, it
+/// rests.
 fn make_turns<J: Naming, I: Source, R: Wait>(
     rt: &R,
     alloc: Global,
@@ -91,12 +49,12 @@ fn make_turns<J: Naming, I: Source, R: Wait>(
     ensures rested { OnOk result (HaveRested J.start going.new.turns.whose going.new.turns.idle) }
     ensures begun { IfErr result CameBegun }
 {
-    let Going { turns, seat, .. } = going;
+    let Going { turns, seat } = going;
     let lacks_input = pumped == Pumped::Nothing && turns.is_quiet(shared.nodes()) && !over;
     if pumped == Pumped::Moved {
         turns.moved();
     }
-    if lacks_input && pace.task.until_asked && are_awaited(rt, shared, pace, inputs) {
+    if lacks_input && pace.task.rests() && are_awaited(rt, shared, pace, inputs) {
         rest(rt);
         return Ok(());
     }
@@ -111,7 +69,7 @@ fn make_turns<J: Naming, I: Source, R: Wait>(
 /// the journal has no room for the confirms, a snapshot is brought to its end before all that. Answers why it is over, where it is: then no
 /// turn was made.
 #[tactic(auto, using(crate::proofs::Stepping::all_still))]
-fn go_on<J: Naming, D: Disk, S: Sink, I: Source, L: Listener, P: Stop, R: Wait>(
+fn go_on<J: Naming, D: Disk, S: Sink, I: Source, P: Stop, R: Wait>(
     rt: &R,
     alloc: Global,
     shared: &Shared<J>,
@@ -119,7 +77,6 @@ fn go_on<J: Naming, D: Disk, S: Sink, I: Source, L: Listener, P: Stop, R: Wait>(
     going: &mut Going<J>,
     flusher: &mut Flusher<J, D>,
     streams: &mut Streams<S, I>,
-    listener: &mut L,
     stop: &mut P,
 ) -> Result<Option<Ending>, StreamFault>
     requires { HaveRested J.start going.old.turns.whose going.old.turns.idle }
@@ -143,8 +100,6 @@ fn go_on<J: Naming, D: Disk, S: Sink, I: Source, L: Listener, P: Stop, R: Wait>(
     if let Some(why) = ending(pace.task, &going.turns, shared.nodes(), asked, pumped, over) {
         return Ok(Some(why));
     }
-    let mark = flusher.mark();
-    tell(rt, shared, pace, going, mark, &streams.outputs, listener);
     make_turns(
         rt,
         alloc,
@@ -158,7 +113,7 @@ fn go_on<J: Naming, D: Disk, S: Sink, I: Source, L: Listener, P: Stop, R: Wait>(
     Ok(None)
 }
 
-/// A flush, and all that comes behind it before the next one.
+/// A flush, how far it has come, and all that comes behind that before the next flush.
 #[tactic(auto, using(crate::proofs::Stepping::all_still))]
 fn cycle<J: Naming, D: Disk, S: Sink, I: Source, L: Listener, P: Stop, R: Wait>(
     rt: &R,
@@ -183,9 +138,9 @@ fn cycle<J: Naming, D: Disk, S: Sink, I: Source, L: Listener, P: Stop, R: Wait>(
     ensures begun { IfErr result CameBegun }
 {
     flush(rt, alloc, shared, flusher)?;
-    go_on(
-        rt, alloc, shared, pace, going, flusher, streams, listener, stop,
-    )
+    let made = going.turns.made;
+    tell(rt, shared, pace, flusher, made, &streams.outputs, listener);
+    go_on(rt, alloc, shared, pace, going, flusher, streams, stop)
 }
 
 /// All cycles, until nothing more is to be done or one is refused; and whether each process had nothing to do in its last turn.
@@ -213,7 +168,6 @@ fn cycles<J: Naming, D: Disk, S: Sink, I: Source, L: Listener, P: Stop, R: Wait>
     let mut going = Going {
         turns: Turns::new(has_halted),
         seat: Seat::new(),
-        tells_at: u64::from(pace.task.tells),
     };
     let mut last = Ok(None);
     for _ in rt.forever() {

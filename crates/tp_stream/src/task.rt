@@ -19,6 +19,14 @@ pub struct Task {
     /// How many entries since the kept cut begin a snapshot, at most as many as fill half of the journal; none: that many, and at least
     /// one.
     pub every: Option<u32>,
-    /// After how many turns it is told again how far it has come; 0: never.
-    pub tells: u32,
+    /// Whether it is told how far it has come: behind each flush, and while input is waited for.
+    pub tells: bool,
+}
+
+impl Task {
+    /// Whether it rests while input is waited for, since something else is to be done meanwhile: it is looked whether it is asked to stop,
+    /// or it is told how far it has come.
+    pub(crate) fn rests(self) -> bool {
+        self.until_asked || self.tells
+    }
 }

@@ -1,9 +1,11 @@
 pub mod Any
 pub mod Held
 pub mod Inputs
+pub mod Lines
 pub mod Named
 pub mod Opening
 pub mod Outputs
+pub mod Said
 pub mod Sinks
 pub mod Told
 pub mod Trace

@@ -1,11 +1,13 @@
 //! The ends of streams: what a stream asks of them, and those on files, and on standard input and output.
 #![tactic(auto)]
 
+mod clock;
 mod ending;
 mod ends;
 mod feeds;
 mod held;
 mod input;
+mod lines;
 mod listener;
 mod memory;
 mod opening;
@@ -13,6 +15,7 @@ mod output;
 mod outside;
 mod pipes;
 mod same;
+mod saying;
 mod sink;
 mod sinks;
 mod source;
@@ -24,6 +27,7 @@ mod telling;
 mod threads;
 mod trace;
 
+pub use clock::{Onlooker, Times};
 pub use ending::{Ended, Ending, Stopped};
 pub use ends::{EndFault, Ends, PortFile, PortNumber};
 pub use feeds::{Feed, Plain};

@@ -12,6 +12,10 @@ pub struct Progress {
     pub mark: u64,
     /// How much of the journal is in use, in percent.
     pub used: u64,
+    /// The generation of the open area.
+    pub generation: u64,
+    /// How many turns were made, those that were refused, too.
+    pub turns: u64,
     /// Up to where each port's outputs were put; none where no sink is for it.
     pub put: [Option<u64>; MAX_PORTS],
 }
@@ -24,7 +28,7 @@ pub trait Listener {
     /// A port has accepted the bytes of its input up to `accepted`.
     fn input(&mut self, port: u8, accepted: u64);
 
-    /// How far it has come.
+    /// How far it has come. Where that is to be told at all, it is told behind each flush, and so while input is waited for, too.
     fn progress(&mut self, progress: Progress);
 
     /// How a node stands at the end, where it has halted or waits though a port has input that no node has taken. Nodes are told in

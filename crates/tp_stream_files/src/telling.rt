@@ -1,24 +1,62 @@
 //! What is said of a stream on standard error.
 
+ghost use Rattle.tp_stream_files.specs.Said.{WasHeard};
+
+use crate::clock::Onlooker;
+use crate::lines::Meter;
+use crate::saying::say_line;
 use crate::{Ended, Listener, Output, Progress, Sink, Stopped};
+use std::alloc::Global;
 use std::io::Write;
 
-/// Who says it, and which ports live on standard output and standard input. A failed write is let go.
+/// Who says it, which ports live on standard output and standard input, and when it is said how far the stream has come. A failed write is
+/// let go.
 #[derive(Drop)]
-pub struct Teller<'a, E> {
+pub struct Teller<'a, E, W> {
+    alloc: Global,
     err: &'a mut E,
+    onlooker: &'a mut W,
     out: Option<u8>,
     input: Option<u8>,
+    meter: Meter,
+    on_terminal: bool,
+    /// Whether a line stands on the terminal that isn't ended.
+    is_open: bool,
 }
 
-impl<'a, E: Write> Teller<'a, E> {
-    /// Says it on a writer.
-    pub fn new(err: &'a mut E, out: Option<u8>, input: Option<u8>) -> Teller<'a, E> {
-        Teller { err, out, input }
+impl<'a, E: Write, W: Onlooker> Teller<'a, E, W> {
+    /// Says it on a writer, and each so many seconds how far the stream has come.
+    pub fn new(
+        alloc: Global,
+        err: &'a mut E,
+        onlooker: &'a mut W,
+        out: Option<u8>,
+        input: Option<u8>,
+        seconds: u32,
+    ) -> Teller<'a, E, W> {
+        let on_terminal = onlooker.is_terminal();
+        Teller {
+            alloc,
+            err,
+            onlooker,
+            out,
+            input,
+            meter: Meter::new(seconds),
+            on_terminal,
+            is_open: false,
+        }
+    }
+
+    /// Ends the line that stands on a terminal.
+    pub fn end(&mut self) {
+        if self.is_open {
+            let _ = write!(self.err, "\n");
+            self.is_open = false;
+        }
     }
 }
 
-impl<'a, E: Write> Listener for Teller<'a, E> {
+impl<'a, E: Write, W: Onlooker> Listener for Teller<'a, E, W> {
     fn output(&mut self, port: u8, position: u64) {
         if self.out == Some(port) {
             let _ = write!(self.err, "out {port} {position}\n");
@@ -31,23 +69,19 @@ impl<'a, E: Write> Listener for Teller<'a, E> {
         }
     }
 
-    fn progress(&mut self, progress: Progress) {
-        let Progress {
-            next,
-            mark,
-            used,
-            put,
-        } = progress;
-        let _ = write!(self.err, "next {next} mark {mark} area {used}%");
-        for (port, position) in put.iter().enumerate() {
-            if let Some(position) = position {
-                let _ = write!(self.err, " out {port} {position}");
-            }
+    fn progress(&mut self, progress: Progress)
+        ensures { WasHeard progress self.old.on_terminal (W.times self.old.onlooker.now) (W.times self.new.onlooker.now)
+            self.old.meter self.new.meter (E.contents self.old.err.now) (E.contents self.new.err.now) }
+    {
+        let now = self.onlooker.now();
+        if let Some(line) = self.meter.hear(now, progress) {
+            say_line(self.alloc, self.err, self.on_terminal, &line);
+            self.is_open = self.on_terminal;
         }
-        let _ = write!(self.err, "\n");
     }
 
     fn stopped(&mut self, node: u8, how: Stopped) {
+        self.end();
         say_stopped(self.err, node, how);
     }
 }

@@ -9,11 +9,28 @@ use std::sync::Wait;
 use std::test::Fail;
 use std::thread::Threads;
 use tp_program::{answer, answer_stream, is_stream, refuse_in_use};
-use tp_stream_files::Plain;
+use tp_stream_files::{Onlooker, Plain, Times};
 use tp_tests_files::scratch::{Output, Scratch};
 
 /// The words of a stream of the folder's device.
 const STREAM: &[&str] = &["run", "@device", "--stream", "--quantum=64"];
+
+/// A clock that stands still, and no terminal.
+#[derive(Drop)]
+struct Still(Times);
+
+impl Onlooker for Still {
+    ghost times = { λ still. still.0.told };
+
+    fn now(&mut self) -> u64 {
+        self.0 = self.0.answered(0);
+        0
+    }
+
+    fn is_terminal(&self) -> bool {
+        false
+    }
+}
 
 /// What the program does for the words of a stream, those of `STREAM` first, with these bytes as standard input.
 pub(crate) fn stream<R: Files<File = F> + AllocGlobal + Wait, F: FileExt + OpenFile + Drop>(
@@ -50,7 +67,8 @@ pub(crate) fn stream_to<
     }
     let mut err = Vec::new(alloc);
     let mut feed = Plain::new(input);
-    let status = answer_stream(rt, line.as_slice(), &mut feed, out, &mut err);
+    let mut still = Still(Times::new());
+    let status = answer_stream(rt, line.as_slice(), &mut feed, out, &mut err, &mut still);
     Ok((status, err))
 }
 

@@ -12,6 +12,8 @@ mod endings;
 #[cfg(test)]
 mod ends;
 #[cfg(test)]
+mod ends_told;
+#[cfg(test)]
 mod faults;
 #[cfg(test)]
 mod feeds;
@@ -39,5 +41,7 @@ mod run_rows;
 mod runs;
 #[cfg(test)]
 mod steps;
+#[cfg(test)]
+mod told;
 #[cfg(test)]
 mod waiting;

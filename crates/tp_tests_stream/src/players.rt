@@ -26,7 +26,7 @@ pub(crate) const QUIET: Task = Task {
     quantum: 64,
     spare: 4,
     every: None,
-    tells: 0,
+    tells: false,
 };
 
 /// A source whose bytes come a few at a time, and which may say how many they are. Before each of the first `late` reads nothing has
@@ -68,12 +68,13 @@ impl Source for Pieces {
     }
 }
 
-/// Who is told: it counts, and keeps how the first nodes have stopped.
+/// Who is told: it counts, and keeps how far the stream had come at last, and how the first nodes have stopped.
 #[derive(Clone, Copy)]
 pub(crate) struct Told {
     pub(crate) output: Option<u64>,
     pub(crate) input: Option<u64>,
     pub(crate) progress: u32,
+    pub(crate) last: Option<Progress>,
     pub(crate) stopped: [Option<Stopped>; 2],
 }
 
@@ -86,8 +87,9 @@ impl Listener for Told {
         self.input = Some(accepted);
     }
 
-    fn progress(&mut self, _progress: Progress) {
+    fn progress(&mut self, progress: Progress) {
         self.progress = self.progress.saturating_add(1);
+        self.last = Some(progress);
     }
 
     fn stopped(&mut self, node: u8, how: Stopped) {
@@ -102,6 +104,7 @@ pub(crate) fn nobody() -> Told {
         output: None,
         input: None,
         progress: 0,
+        last: None,
         stopped: [None, None],
     }
 }
@@ -190,13 +193,13 @@ fn streams(
 }
 
 // A stream, where as many steps are asked for as may be.
-fn play_within<D: Disk + Drop, S: Sink, I: Source, R: Wait>(
+fn play_within<D: Disk + Drop, S: Sink, I: Source, L: Listener, R: Wait>(
     rt: &R,
     alloc: Global,
     task: Task,
     disk: D,
     streams: &mut Streams<S, I>,
-    told: &mut Told,
+    told: &mut L,
     asks: &mut Asks,
 ) -> (D, Result<Ended, StreamFault>)
     requires { task.quantum ≤ MAX_STEPS }
@@ -205,13 +208,13 @@ fn play_within<D: Disk + Drop, S: Sink, I: Source, R: Wait>(
 }
 
 /// A stream on the device with these bytes, which are then what a crash leaves.
-pub(crate) fn play<S: Sink, I: Source, R: Wait + Abort>(
+pub(crate) fn play<S: Sink, I: Source, L: Listener, R: Wait + Abort>(
     rt: &R,
     alloc: Global,
     task: Task,
     device: &mut Vec<u8>,
     streams: &mut Streams<S, I>,
-    told: &mut Told,
+    told: &mut L,
     asks: &mut Asks,
 ) -> Result<Ended, StreamFault> {
     assert!(rt; task.quantum <= 4096);

@@ -112,7 +112,7 @@ where
     let asked = Asked {
         task: Task {
             turns: Some(5000),
-            tells: 1000,
+            tells: true,
             ..QUIET
         },
         ..NO_INPUT

@@ -19,9 +19,14 @@ abbrev pub IsBound : Option ℕ → Type 0
 IsBound None = Unit {0}
 IsBound (Some turns) = turns < 2 ^ 32
 
+-- the seconds after which it is said again how far a stream has come are in their range, where some were typed
+abbrev pub IsProgressEvery : Option ℕ → Type 0
+IsProgressEvery None = Unit {0}
+IsProgressEvery (Some seconds) = (0 < seconds) × (seconds ≤ 3600)
+
 -- each number of a stream is in its range
 unfoldable pub IsStreamRun : StreamRun → Type 0
-IsStreamRun run = IsBound run.turns × (0 < run.quantum) × (run.quantum ≤ MAX_STEPS) × IsEvery run.every
+IsStreamRun run = IsBound run.turns × (0 < run.quantum) × (run.quantum ≤ MAX_STEPS) × IsEvery run.every × IsProgressEvery run.progress_every
 
 -- and each port
 abbrev pub IsStreamInRange : StreamAsked → Type 0
@@ -34,6 +39,7 @@ abbrev pub IsTypedStream : List (String Global) → StreamRun → Type 0
 IsTypedStream words run = (has_word (string_bytes run.device) words ≡ true)
     × (given (codes "turns") words ≡ option_map decimal run.turns)
     × (given (codes "stop-file") words ≡ option_map string_bytes run.stop_file)
+    × (given (codes "progress-every") words ≡ option_map decimal run.progress_every)
     × IsGivenOr QUANTUM run.quantum (given (codes "quantum") words)
     × IsGivenOr 4 run.spare (given (codes "spare") words)
     × (given (codes "every") words ≡ option_map decimal run.every)

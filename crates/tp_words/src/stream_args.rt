@@ -4,7 +4,7 @@ ghost use Rattle.std.specs.Prelude.{◌≡◌, IfOk, codes};
 ghost use Rattle.std.specs.Fmt.{decimal};
 ghost use Rattle.std.specs.Option.{option_map};
 ghost use Rattle.tp_words.specs.Given.{given};
-ghost use Rattle.tp_words.specs.StreamArgs.{IsBound, IsStreamInRange, WasStreamTyped};
+ghost use Rattle.tp_words.specs.StreamArgs.{IsBound, IsProgressEvery, IsStreamInRange, WasStreamTyped};
 
 use crate::args::{ArgFault, MAX_TURNS, MAX_WORDS, QUANTUM, every_of, wait_of};
 use crate::found::{option_number, option_or, option_string, text_of};
@@ -16,6 +16,9 @@ use std::alloc::Global;
 use std::fmt;
 use tp_model::limits::MAX_STEPS;
 use tp_stream_files::Ends;
+
+/// The most seconds after which it is said again how far a stream has come.
+pub const MAX_PROGRESS: u64 = 3600;
 
 /// What a command line with `--stream` asks for.
 #[derive(Drop)]
@@ -40,6 +43,8 @@ pub struct StreamRun {
     pub stop_file: Option<String>,
     /// Whether it says how far it has come.
     pub has_progress: bool,
+    /// After how many seconds it says so again, and that it does; `None`: where `has_progress` says that it does, after those of its own.
+    pub progress_every: Option<u32>,
     /// The most steps of a turn.
     pub quantum: u16,
     /// The spare frames of each node.
@@ -117,6 +122,22 @@ fn turns_of(
     }
 }
 
+/// After how many seconds it is said again how far the stream has come.
+fn progress_of(
+    alloc: Global,
+    words: &[String],
+    found: &ArgMatches,
+) -> Result<Option<u32>, StreamArgFault>
+    ensures range { IfOk result IsProgressEvery }
+    ensures typed { IfOk result (λ seconds. given (codes "progress-every") words.now ≡ option_map decimal seconds) }
+{
+    let Some(seconds) = option_number(alloc, words, found, "progress-every", 1, MAX_PROGRESS)?
+    else {
+        return Ok(None);
+    };
+    Ok(Some(seconds as u32))
+}
+
 /// The stream that was found among the words.
 #[tactic(auto, unfolding(crate::specs::StreamArgs::IsStreamRun))]
 fn run_of(
@@ -134,6 +155,7 @@ fn run_of(
         stop_on_halt: found.get_flag("stop-on-halt"),
         stop_file: option_string(alloc, words, found, "stop-file")?,
         has_progress: found.get_flag("progress"),
+        progress_every: progress_of(alloc, words, found)?,
         quantum: option_or(alloc, words, found, "quantum", 1, steps, QUANTUM as u64)? as u16,
         spare: option_or(alloc, words, found, "spare", 0, u64::MAX, 4)?,
         every: every_of(alloc, words, found)?,

@@ -41,6 +41,7 @@ const STREAM_OPTIONS: &[&str] = &[
     "stop-on-halt",
     "stop-file",
     "progress",
+    "progress-every",
 ];
 
 /// Whether a word is the option of this name, with a value behind an equals sign or without.
@@ -107,8 +108,9 @@ const STREAM: Form = Form {
         ),
         Word::Flag(
             "progress",
-            "say on standard error how far it has come, each 10000 turns",
+            "say on standard error how far it has come, each 10 seconds, also while it waits for input",
         ),
+        Word::Value("progress-every", "S", "say so each S seconds, 1 to 3600"),
         Word::Value(
             "quantum",
             "Q",

@@ -2,12 +2,14 @@
 #![tactic(auto)]
 
 mod holding;
+mod looking;
 mod stand_ins;
 mod watching;
 
 use holding::hold;
+use looking::Looker;
 use stand_ins::stand_in;
-use std::io::Write;
+use std::io::{IsTerminal, Write};
 use std::process::ExitCode;
 use std::rt::Env;
 use std::{env, io};
@@ -50,7 +52,15 @@ fn main(rt: HostRuntime) -> ExitCode {
             None
         };
         let mut feed = Threaded::new(rt, reader);
-        let status = answer_stream(&rt, words.as_slice(), &mut feed, &mut out, &mut err);
+        let mut looker = Looker::new(&rt, err.is_terminal());
+        let status = answer_stream(
+            &rt,
+            words.as_slice(),
+            &mut feed,
+            &mut out,
+            &mut err,
+            &mut looker,
+        );
         return ExitCode::from(status);
     }
     let mut watch = Watcher::new(&rt);

@@ -19,7 +19,7 @@ same_fault done fault is (unopened, same) = (unopened, ap (fault_in fault) (sym 
 -- the file, standard output and standard input outlive what takes outputs and gives inputs
 pub stream_opened-disk-requires : goal.stream_opened-disk-requires
 stream_opened-disk-requires g c κs within =
-    let κ = κs.1.1.1.1.1.1.0 in
+    let κ = κs.1.1.1.1.1.1.1.0 in
     let none : κ ⊑ [] = ⊑_static κ in
     let file = within.1.1.1.0 in
     let out = within.1.1.1.1.0 in
@@ -28,7 +28,7 @@ stream_opened-disk-requires g c κs within =
     let held = ⊑_meet κ _ _ noted none in
     let writer = ⊑_meet κ _ _ (⊑_meet κ _ _ (⊑_meet κ _ _ within.0.0 out) none) none in
     let sinks = ⊑_meet κ _ _ (⊑_meet κ _ _ noted (⊑_meet κ _ _ out none)) (⊑_meet κ _ _ (⊑_meet κ _ _ (⊑_meet κ _ _ held held) none) writer) in
-    let μ = κs.1.1.1.1.1.1.1.0 in
+    let μ = κs.1.1.1.1.1.1.1.1.0 in
     let nothing : μ ⊑ [] = ⊑_static μ in
     let read = within.1.1.1.1.1.0 in
     let feed = within.1.1.1.1.1.1.0 in
@@ -37,7 +37,7 @@ stream_opened-disk-requires g c κs within =
     let pipe = ⊑_meet μ _ _ (⊑_meet μ _ _ within.0.1.0 feed) nothing in
     let piped = ⊑_meet μ _ _ (⊑_meet μ _ _ (⊑_meet μ _ _ (⊑_meet μ _ _ feed nothing) pipe) nothing) nothing in
     let sources = ⊑_meet μ _ _ (⊑_meet μ _ _ given (⊑_meet μ _ _ feed nothing)) (⊑_meet μ _ _ (⊑_meet μ _ _ given nothing) piped) in
-    (within.1.0, (within.1.1.0, (sinks, (sources, (within.1.1.1.1.1.1.1.0, (within.1.1.1.1.1.1.1.1.0, (within.1.1.1.1.1.1.1.1.1.0, c.requires.1.1.1.1.1.1.1)))))))
+    (within.1.0, (within.1.1.0, (sinks, (sources, (within.1.1.1.1.1.1.1.0, (within.1.1.1.1.1.1.1.1.0, (within.1.1.1.1.1.1.1.1.1.0, (within.1.1.1.1.1.1.1.1.1.1.0, c.requires.1.1.1.1.1.1.1.1))))))))
 
 pub returns-in-Err-clause-streamed : goal.returns-in-Err-clause-streamed
 returns-in-Err-clause-streamed g c keeps began = ends_streamed g.history.formatted c.in-Err.fault (g.D.Disk.state c.args.disk) c.in-Err.ensures

@@ -9,11 +9,14 @@ stream-disk-requires g c κs within =
     let none : κ ⊑ [] = ⊑_static κ in
     let itself : κ ⊑ κ = λ a member. member in
     let err = within.1.1.1.0 in
-    let teller = ⊑_meet κ _ _ (⊑_meet κ _ _ err none) (⊑_meet κ _ _ (⊑_meet κ _ _ itself err) none) in
+    let onlooker = within.1.1.1.1.0 in
+    let types = ⊑_meet κ _ _ err (⊑_meet κ _ _ onlooker none) in
+    let fields = ⊑_meet κ _ _ (⊑_meet κ _ _ itself err) (⊑_meet κ _ _ (⊑_meet κ _ _ itself onlooker) none) in
+    let teller = ⊑_meet κ _ _ types fields in
     let μ = κs.1.1.1.1.1.1.1.1.0 in
     let nothing : μ ⊑ [] = ⊑_static μ in
     let own : μ ⊑ μ = λ a member. member in
-    let rt = within.1.1.1.1.0 in
+    let rt = within.1.1.1.1.1.0 in
     let path = ⊑_meet μ _ _ (⊑_meet μ _ _ own nothing) nothing in
     let stop = ⊑_meet μ _ _ (⊑_meet μ _ _ rt nothing) (⊑_meet μ _ _ (⊑_meet μ _ _ own rt) path) in
-    (within.0, (within.1.0, (within.1.1.0, (teller, (stop, (within.1.1.1.1.1, c.task_of-task.ensures.quantum))))))
+    (within.0, (within.1.0, (within.1.1.0, (teller, (stop, (within.1.1.1.1.1.1, c.task_of-task.ensures.quantum))))))

@@ -1,0 +1,64 @@
+//! How far a stream has come, as its listener is told.
+
+ghost use Rattle.std.specs.Prelude.{◌≡◌};
+ghost use Rattle.tp_stream.specs.Told.{IsProgress};
+
+use crate::pace::Pace;
+use crate::rooms::Rooms;
+use std::sync::Wait;
+use tp_book::Book;
+use tp_disk::Disk;
+use tp_flush::Flusher;
+use tp_model::limits::MAX_PORTS;
+use tp_shared::{Naming, Shared};
+use tp_stream_files::{Listener, Output, Progress, Sink};
+
+/// Up to where each port's outputs were put.
+fn put_of<S: Sink>(outputs: &[Output<S>]) -> [Option<u64>; MAX_PORTS] {
+    let mut put = [None; MAX_PORTS];
+    for output in outputs {
+        if usize::from(output.port()) < MAX_PORTS {
+            put[usize::from(output.port())] = Some(output.put());
+        }
+    }
+    put
+}
+
+/// How far a stream has come whose book and flusher these are, once so many turns were made: each number is theirs.
+fn progress_of<J: Naming, D: Disk, S: Sink>(
+    book: &Book,
+    rooms: Rooms,
+    flusher: &Flusher<J, D>,
+    turns: u64,
+    outputs: &[Output<S>],
+) -> Progress
+    ensures { IsProgress rooms.journal book.now flusher.now turns result }
+{
+    Progress {
+        next: book.next(),
+        mark: flusher.mark(),
+        used: rooms.used(book),
+        generation: flusher.generation(),
+        turns,
+        put: put_of(outputs),
+    }
+}
+
+/// Tells how far it has come, where that is to be told.
+pub(crate) fn tell<J: Naming, D: Disk, S: Sink, L: Listener, R: Wait>(
+    rt: &R,
+    shared: &Shared<J>,
+    pace: Pace,
+    flusher: &Flusher<J, D>,
+    turns: u64,
+    outputs: &[Output<S>],
+    listener: &mut L,
+) {
+    if !pace.task.tells {
+        return;
+    }
+    let held = shared.book().lock(rt);
+    let progress = progress_of(held.book(), pace.rooms, flusher, turns, outputs);
+    drop(held);
+    listener.progress(progress);
+}

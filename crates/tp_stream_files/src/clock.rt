@@ -1,0 +1,53 @@
+//! What is said by time stands beside: what time it is, and who looks at it.
+
+ghost use Rattle.std.specs.Prelude.{◌≡◌, ℕ, List, [], ◌∷◌, ◌++◌};
+ghost use Rattle.std.specs.Borrow.{ftrue};
+
+use std::marker::Model;
+
+/// Who looks at what is said of a stream: what time it is there, and whether it is a terminal.
+pub trait Onlooker {
+    /// The times that were answered, the oldest first.
+    ghost times: { Self → List ℕ };
+
+    /// How many milliseconds have gone by since some start. It is asked anew each time.
+    fn now(&mut self) -> u64
+        ensures { times self.new ≡ times self.old ++ result ∷ [] };
+
+    /// Whether lines stand on a terminal, where one may be written over.
+    fn is_terminal(&self) -> bool;
+}
+
+/// A list of times without bytes: contracts alone see it, and no call reads it.
+#[derive(Drop)]
+pub struct Times {
+    pub ghost told: { List ℕ },
+}
+
+impl Model for Times {
+    ghost also_owns = { λ _. ftrue };
+}
+
+impl Times {
+    /// The list that contracts name of a value. It does nothing.
+    pub(crate) fn of<T>(_value: &T) -> Times
+        ghost told: { List ℕ }
+        ensures { result.told ≡ told }
+    {
+        Times {}
+    }
+
+    /// No time was answered.
+    pub fn new() -> Times
+        ensures { result.told ≡ [] }
+    {
+        Times::of(&())
+    }
+
+    /// A time was answered.
+    pub fn answered(&self, now: u64) -> Times
+        ensures { result.told ≡ self.now.told ++ now ∷ [] }
+    {
+        Times::of(&(self, now))
+    }
+}

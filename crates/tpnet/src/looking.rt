@@ -1,0 +1,45 @@
+//! Who looks at standard error, for lines by time.
+
+use std::time::Clock;
+use tp_stream_files::{Onlooker, Times};
+
+/// Goes by the system's clock, and was told whether standard error is a terminal.
+#[derive(Drop)]
+pub(crate) struct Looker<'a, R> {
+    rt: &'a R,
+    is_terminal: bool,
+    times: Times,
+}
+
+impl<'a, R> Looker<'a, R> {
+    /// No time was asked for.
+    pub(crate) fn new(rt: &'a R, is_terminal: bool) -> Looker<'a, R> {
+        Looker {
+            rt,
+            is_terminal,
+            times: Times::new(),
+        }
+    }
+}
+
+/// How many milliseconds the system's clock has gone. One that can't be read stands still.
+fn millis<R: Clock>(rt: &R) -> u64 {
+    match rt.monotonic() {
+        Ok(time) => u64::try_from(time.as_millis()).unwrap_or(0),
+        Err(_) => 0,
+    }
+}
+
+impl<'a, R: Clock> Onlooker for Looker<'a, R> {
+    ghost times = { λ looker. looker.times.told };
+
+    fn now(&mut self) -> u64 {
+        let now = millis(self.rt);
+        self.times = self.times.answered(now);
+        now
+    }
+
+    fn is_terminal(&self) -> bool {
+        self.is_terminal
+    }
+}
