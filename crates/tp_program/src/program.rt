@@ -9,8 +9,7 @@ use crate::backup_program::answer_backup;
 use crate::compact_file::compact_file;
 use crate::devices::{Devices, FileDevices};
 use crate::files::{
-    check_file, format_file, recover_file, show_file, status_file, trace_file, try_file,
-    view_file,
+    check_file, format_file, recover_file, show_file, status_file, trace_file, try_file, view_file,
 };
 use crate::run_file::run_file;
 use crate::watching::{OneLook, Watch};

@@ -59,7 +59,15 @@ fn stream_file<
     O: Write,
     E: Write,
     W: Onlooker,
->(rt: &R, devices: &mut S, asked: &StreamRun, feed: &mut I, out: &mut O, err: &mut E, onlooker: &mut W) -> Outcome
+>(
+    rt: &R,
+    devices: &mut S,
+    asked: &StreamRun,
+    feed: &mut I,
+    out: &mut O,
+    err: &mut E,
+    onlooker: &mut W,
+) -> Outcome
     ghost history: { History }
     requires { IsStreamRun asked.now }
     ensures few { result.status ≤ 3 }
@@ -120,7 +128,15 @@ pub fn answer_stream_over<
     O: Write,
     E: Write,
     W: Onlooker,
->(rt: &R, devices: &mut S, words: &[String], feed: &mut I, out: &mut O, err: &mut E, onlooker: &mut W) -> u8
+>(
+    rt: &R,
+    devices: &mut S,
+    words: &[String],
+    feed: &mut I,
+    out: &mut O,
+    err: &mut E,
+    onlooker: &mut W,
+) -> u8
     ghost history: { History }
     ensures few { result ≤ 3 }
     ensures answered { StreamAnswered D.keeps history words.now (S.calls devices.old) (S.calls devices.new) (O.contents out.old) (O.contents out.new) result }
@@ -147,7 +163,15 @@ fn answer_stream_untold<
     O: Write,
     E: Write,
     W: Onlooker,
->(rt: &R, devices: &mut S, words: &[String], feed: &mut I, out: &mut O, err: &mut E, onlooker: &mut W) -> u8
+>(
+    rt: &R,
+    devices: &mut S,
+    words: &[String],
+    feed: &mut I,
+    out: &mut O,
+    err: &mut E,
+    onlooker: &mut W,
+) -> u8
     ensures { result ≤ 3 }
 {
     answer_stream_over(rt, devices, words, feed, out, err, onlooker)
@@ -164,5 +188,13 @@ pub fn answer_stream<
 >(rt: &R, words: &[String], feed: &mut I, out: &mut O, err: &mut E, onlooker: &mut W) -> u8
     ensures { result ≤ 3 }
 {
-    answer_stream_untold(rt, &mut FileDevices::new(rt), words, feed, out, err, onlooker)
+    answer_stream_untold(
+        rt,
+        &mut FileDevices::new(rt),
+        words,
+        feed,
+        out,
+        err,
+        onlooker,
+    )
 }
