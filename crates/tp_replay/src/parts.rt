@@ -2,7 +2,7 @@
 
 ghost use Rattle.std.specs.Prelude.{◌≡◌, ◌<◌, IfOk, Some, length, map, slice_get};
 ghost use Rattle.std.specs.Option.{option_map};
-ghost use Rattle.tp_model.specs.Image.{image, node_of};
+ghost use Rattle.tp_model.specs.Image.{image, node_at, node_of};
 ghost use Rattle.tp_model.specs.Network.{on_line};
 ghost use Rattle.tp_book.specs.Parts.{network_made};
 ghost use Rattle.tp_replay.specs.PartsOf.{ArePartsOf};
@@ -56,9 +56,10 @@ impl FlatNetwork {
         })
     }
 
-    /// The image of a node, where it is there. The network stays as it is.
+    /// The image of a node, which spells it, where it is there. The network stays as it is.
     pub fn image(&mut self, alloc: Global, node: usize) -> Result<Option<Vec<u8>>, AllocError>
         ensures image { IfOk result (λ shown. option_map (λ bytes. bytes.items) shown ≡ option_map image (slice_get self.old.nodes node)) }
+        ensures again { IfOk result (λ shown. option_map (λ bytes. node_at bytes.items) shown ≡ slice_get self.old.nodes node) }
         ensures same { self.new ≡ self.old }
     {
         if node >= self.nodes.len() {
