@@ -5,6 +5,8 @@
 #[cfg(test)]
 mod acts;
 #[cfg(test)]
+mod journals;
+#[cfg(test)]
 mod script;
 #[cfg(test)]
 mod small;
@@ -14,3 +16,5 @@ mod stops;
 mod unkind;
 #[cfg(test)]
 mod worked;
+#[cfg(test)]
+mod worked_stories;
