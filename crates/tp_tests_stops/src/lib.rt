@@ -7,6 +7,8 @@ mod acts;
 #[cfg(test)]
 mod journals;
 #[cfg(test)]
+mod many;
+#[cfg(test)]
 mod script;
 #[cfg(test)]
 mod small;

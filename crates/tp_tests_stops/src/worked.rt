@@ -68,7 +68,7 @@ fn device_of(alloc: Global, story: &Story, stop: Option<(u64, u8)>) -> Result<Me
 }
 
 /// What a story leaves, where a call of the device may stop it. Without snapshots where `is_plain`.
-fn left_by<R: Wait>(
+pub(crate) fn left_by<R: Wait>(
     rt: &R,
     alloc: Global,
     story: &Story,

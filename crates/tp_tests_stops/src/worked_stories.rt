@@ -47,7 +47,7 @@ const IDLE: Program = Program {
 };
 
 /// ldl 1; adc 1; stl 1; j -5. It counts in its workspace.
-const COUNTS: &[u8] = &[0x71, 0x81, 0xD1, 0x60, 0x0B];
+pub(crate) const COUNTS: &[u8] = &[0x71, 0x81, 0xD1, 0x60, 0x0B];
 
 /// ldc 4; stl 0; ldc 5; stl 128, and a number that is no operation. The first word is in page 0, the other in page 1.
 const WRITES: &[u8] = &[0x44, 0xD0, 0x45, 0x28, 0xD0, 0x22, 0xF2];
