@@ -82,15 +82,18 @@ pub(crate) fn stream_to<
     input: &[u8],
     out: &mut O,
 ) -> Result<(u8, Vec<u8>), Fail> {
-    stream_before(rt, scratch, words, input, out, &mut Screen::new(false, false))
+    stream_before(
+        rt,
+        scratch,
+        words,
+        input,
+        out,
+        &mut Screen::new(false, false),
+    )
 }
 
 /// As above, where it is looked at so.
-fn stream_before<
-    R: Files<File = F> + AllocGlobal + Wait,
-    F: FileExt + OpenFile + Drop,
-    O: Write,
->(
+fn stream_before<R: Files<File = F> + AllocGlobal + Wait, F: FileExt + OpenFile + Drop, O: Write>(
     rt: &R,
     scratch: &Scratch,
     words: &[&str],
@@ -200,8 +203,14 @@ fn lines_are_shown_on_a_terminal(rt: HostRuntime) -> Result<(), Fail> {
         words.extend_from_slice(shown.words)?;
         let (mut out, (is_terminal, is_output_terminal)) = (Vec::new(alloc), shown.terminals);
         let mut screen = Screen::new(is_terminal, is_output_terminal);
-        let (status, err) =
-            stream_before(&rt, &scratch, words.as_slice(), b"", &mut out, &mut screen)?;
+        let (status, err) = stream_before(
+            &rt,
+            &scratch,
+            words.as_slice(),
+            b"",
+            &mut out,
+            &mut screen,
+        )?;
         let text = String::from_utf8(err)?;
         assert!(rt; status == 0 && is_shown(text.as_str(), shown));
     }

@@ -295,7 +295,11 @@ fn wanted(alloc: Global, case: &Case) -> Result<String, AllocError> {
         text.push_str(line)?;
         text.push_str(end)?;
     }
-    let end = if case.is_over { "\nwaits 0\n" } else { "waits 0\n" };
+    let end = if case.is_over {
+        "\nwaits 0\n"
+    } else {
+        "waits 0\n"
+    };
     text.push_str(end)?;
     Ok(text)
 }
