@@ -48,7 +48,7 @@ impl Act {
     }
 }
 
-/// The entry of a turn in which a node takes this on its link 0, and makes so many steps.
+/// The entry of a turn in which a node takes this on its link 0, and makes `count` steps.
 pub(crate) fn turn(node: u8, first: Received, count: u16) -> Entry {
     Entry::Turn {
         node,
