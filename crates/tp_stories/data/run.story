@@ -249,3 +249,16 @@ tpnet run let_go --stream --until-quiet --discard 0 2>err
 ends err  quiet\n
 tpnet show let_go >shown
 ends shown \nport 0 in 0 pending 0 out 4200 unconfirmed 0\nport 1 in 0 pending 0 out 0 unconfirmed 0\n
+
+story long
+# 70,000 turns of one worker: every other one is the node's, which makes an entry, and the host takes the letter and confirms it. Then one turn
+# more, which is the node's, since a run begins with the first one.
+text net.txt node a 4\nport h\nwire a.0 h\n
+image a.img
+tpnet format device net.txt . 4194304
+tpnet run device --turns 70000 --workers 1 --quantum 16 --every 4294967295
+tpnet journal device --last 2
+tpnet recover device
+tpnet run device --turns 70001 --workers 1 --quantum 16 --every 4294967295
+tpnet journal device --last 1
+tpnet status device
