@@ -1,5 +1,5 @@
 -- What a session's calls found and did, in books that were seen under their lock.
-use Rattle.std.specs.Prelude.{◌≡◌, ◌<◌, ◌≤◌, ℕ, ◌+◌, List, [], ◌∷◌, ◌++◌, length, map, Result, Ok, Err, IsOk, Vec}
+use Rattle.std.specs.Prelude.{◌≡◌, ◌<◌, ◌≤◌, ℕ, ◌+◌, List, [], ◌∷◌, ◌++◌, length, map, Result, Ok, Err, IsOk, Vec, vec_len}
 use Rattle.std.specs.declared.alloc.Global.{Global}
 use Rattle.std.specs.List.{enumerate_from}
 use Rattle.tp_model.specs.declared.entry.Entry.{Entry}
@@ -30,7 +30,7 @@ pub record HasPort (start : Network NodeState) (port : ℕ) (b : BookValue) : Ty
 
 -- the outputs of the port from a position on that the mark shows, all of them and no others
 abbrev pub ShowsJust : BookValue → ℕ → ℕ → ℕ → Result (Vec ℕ Global) ShownFault → Type 0
-ShowsJust b port mark from (Ok bytes) = (bytes.items ≡ shown_from b port mark from) × ShowsUpto b port mark (from + length bytes.items)
+ShowsJust b port mark from (Ok bytes) = (bytes.items ≡ shown_from b port mark from) × ShowsUpto b port mark (from + vec_len bytes)
 ShowsJust b port mark from (Err fault) = Unit {0}
 
 -- The book was seen once, behind all that was seen before. In it the answer is just what the mark shows, or the first reason why it
