@@ -11,7 +11,7 @@ use tp_book::Refusal;
 use tp_disk::MemDisk;
 use tp_flush::{FlushFault, Flusher};
 use tp_ready::Pass;
-use tp_shared::{Naming, NoGate};
+use tp_shared::{Naming, NoGate, Sights};
 use tp_tests_begun::opening::{Opening, begin_with};
 use tp_work::{ConfirmFault, Net, OfferFault, Seat, Session, ShownFault, TurnFault};
 
@@ -123,7 +123,7 @@ impl<J: Naming> Desk<J> {
         bytes: &[u8],
     ) -> Option<Result<u64, OfferFault>> {
         let session = Session::new(self.net.shared(), 0)?;
-        match session.offer(rt, at, bytes) {
+        match session.offer(rt, at, bytes, &mut Sights::new()) {
             Ok(receipt) => Some(Ok(receipt.number())),
             Err(fault) => Some(Err(fault)),
         }
@@ -137,7 +137,7 @@ impl<J: Naming> Desk<J> {
         bytes: &[u8],
     ) -> Option<Result<bool, ShownFault>> {
         let session = Session::new(self.net.shared(), 0)?;
-        match session.shown(rt, alloc, 0, &mut self.pass) {
+        match session.shown(rt, alloc, 0, &mut self.pass, &mut Sights::new()) {
             Ok(shown) => Some(Ok(shown.as_slice() == bytes)),
             Err(fault) => Some(Err(fault)),
         }
@@ -150,7 +150,7 @@ impl<J: Naming> Desk<J> {
         upto: u64,
     ) -> Option<Result<u64, ConfirmFault>> {
         let session = Session::new(self.net.shared(), 0)?;
-        match session.confirm(rt, upto, &mut self.pass) {
+        match session.confirm(rt, upto, &mut self.pass, &mut Sights::new()) {
             Ok(receipt) => Some(Ok(receipt.number())),
             Err(fault) => Some(Err(fault)),
         }

@@ -11,7 +11,7 @@ use std::sync::Wait;
 use std::test::Fail;
 use tp_model::{Entry, Received, Token};
 use tp_ready::{Pass, Raiser};
-use tp_shared::{Naming, NoGate, Parts};
+use tp_shared::{Naming, NoGate, Parts, Sights};
 use tp_tests_begun::opening::opening_of;
 use tp_work::{ConfirmFault, Net, OfferFault, Seat, Session, ShownFault, TurnFault};
 
@@ -50,7 +50,7 @@ fn play_offers<J: Naming, R: Wait + Abort>(
 ) {
     for (at, bytes, wanted) in offers {
         let answer = session
-            .offer(rt, *at, bytes)
+            .offer(rt, *at, bytes, &mut Sights::new())
             .map(|receipt| receipt.number());
         assert!(rt; answer == *wanted);
     }
@@ -68,7 +68,7 @@ fn is_shown<J: Naming, R: Wait>(
     requires { pass.old.mark ≡ J.mark }
     ensures { pass.new.mark ≡ J.mark }
 {
-    match session.shown(rt, alloc, from, pass) {
+    match session.shown(rt, alloc, from, pass, &mut Sights::new()) {
         Ok(bytes) => matches!(wanted, Ok(outputs) if outputs == bytes.as_slice()),
         Err(fault) => matches!(wanted, Err(refusal) if refusal == fault),
     }
@@ -132,10 +132,15 @@ fn play_outputs<J: Naming, R: Wait + Abort>(
 {
     assert!(rt; is_shown(rt, alloc, session, pass, 0, Ok(b"")));
     assert!(rt; is_shown(rt, alloc, session, pass, 1, Err(ShownFault::TooNew)));
-    assert!(rt; matches!(session.confirm(rt, 1, pass), Err(ConfirmFault::NotShown)));
+    assert!(rt;
+        matches!(
+            session.confirm(rt, 1, pass, &mut Sights::new()),
+            Err(ConfirmFault::NotShown)
+        )
+    );
     net.shared().mark().raise(raiser, 2);
     assert!(rt; is_shown(rt, alloc, session, pass, 0, Ok(b"A")));
-    let Ok(receipt) = session.confirm(rt, 1, pass) else {
+    let Ok(receipt) = session.confirm(rt, 1, pass, &mut Sights::new()) else {
         panic!(rt; "the letter is confirmed")
     };
     assert!(rt; receipt.number() == 6);
@@ -146,7 +151,7 @@ fn play_outputs<J: Naming, R: Wait + Abort>(
     assert!(rt; session.is_stored(&receipt, pass));
     assert!(rt; is_shown(rt, alloc, session, pass, 0, Err(ShownFault::TooOld)));
     assert!(rt; is_shown(rt, alloc, session, pass, 1, Ok(b"")));
-    assert!(rt; matches!(session.confirm(rt, 1, pass), Ok(_)));
+    assert!(rt; matches!(session.confirm(rt, 1, pass, &mut Sights::new()), Ok(_)));
 }
 
 /// Makes the calls that are refused once the store is broken; each process stays in the ready queue.
@@ -162,7 +167,7 @@ fn play_broken<J: Naming, R: Wait + Abort>(
 {
     net.shared().book().lock(rt).break_store();
     play_offers(rt, session, BROKEN_OFFERS);
-    assert!(rt; matches!(session.confirm(rt, 1, pass), Ok(_)));
+    assert!(rt; matches!(session.confirm(rt, 1, pass, &mut Sights::new()), Ok(_)));
     for _ in 0..3 {
         assert!(rt; matches!(net.turn(rt, seat), Err(TurnFault::StoreBroken)));
         assert!(rt; matches!(net.turn(rt, seat), Ok(turn) if turn.process == 1));

@@ -10,7 +10,7 @@ use std::thread::{Threads, join, yield_now};
 use tp_disk::Disk;
 use tp_flush::Flusher;
 use tp_ready::Pass;
-use tp_shared::{Gate, Naming, NoGate, Receipt, Shared};
+use tp_shared::{Gate, Naming, NoGate, Receipt, Shared, Sights};
 use tp_work::Session;
 
 /// Makes turns of the flusher until the others have ended. Answers whether all of them were done.
@@ -73,7 +73,7 @@ fn store_pair<J: Naming, R: Wait>(
     requires { pass.old.mark ≡ J.mark }
     ensures { pass.new.mark ≡ J.mark }
 {
-    let receipt = session.offer(rt, at, b"ab").ok()?;
+    let receipt = session.offer(rt, at, b"ab", &mut Sights::new()).ok()?;
     if comes_stored(session, &receipt, pass) {
         Some(receipt)
     } else {
@@ -113,7 +113,7 @@ fn is_early<J: Naming, R: Wait>(rt: &R, session: &Session<'_, J>, pass: &mut Pas
     requires { pass.old.mark ≡ J.mark }
     ensures { pass.new.mark ≡ J.mark }
 {
-    match session.offer(rt, 0, b"ab") {
+    match session.offer(rt, 0, b"ab", &mut Sights::new()) {
         Ok(receipt) => !session.is_stored(&receipt, pass),
         Err(_) => false,
     }

@@ -7,7 +7,7 @@ use std::alloc::AllocError;
 use std::sync::Wait;
 use std::sync::atomic::{AtomicU32, Ordering};
 use std::thread::{Threads, join, map_vec, yield_now};
-use tp_shared::{Gate, Locked, Naming, Receipt, Seat as Slips};
+use tp_shared::{Gate, Locked, Naming, Receipt, Seat as Slips, Sights};
 use tp_work::{Net, Seat, Session};
 
 /// What a worker's turns journalled: their slips, and whether a turn was refused.
@@ -149,7 +149,7 @@ pub fn work_as_team<J: Naming + Send + Sync, G: Gate + Send + Sync, R: Threads +
 pub fn offer_pairs<J: Naming, R: Wait>(rt: &R, session: &Session<'_, J>, count: u64) -> Work<J> {
     let mut all = Work::new();
     for place in 0..count {
-        if let Ok(receipt) = session.offer(rt, place.wrapping_mul(2), b"ab") {
+        if let Ok(receipt) = session.offer(rt, place.wrapping_mul(2), b"ab", &mut Sights::new()) {
             all = all.and(Work::of_receipt(receipt));
         }
         yield_now();

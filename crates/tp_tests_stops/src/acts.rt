@@ -13,7 +13,7 @@ use tp_disk::MemDisk;
 use tp_flush::{FlushFault, Flusher};
 use tp_model::{Entry, Received};
 use tp_node::Why;
-use tp_shared::{Naming, NoGate, Shared};
+use tp_shared::{Naming, NoGate, Shared, Sights};
 use tp_tests_begun::opening::{Opening, begin_with};
 use tp_work::{Net, Seat, Session, Turn};
 
@@ -170,7 +170,7 @@ fn does<J: Naming, R: Wait>(
     let shared = net.shared();
     match act {
         Act::Turn(number, takes, ran) => is_turned(rt, net, seat, number, takes, ran),
-        Act::Offer(at, bytes) => session.offer(rt, at, bytes).is_ok(),
+        Act::Offer(at, bytes) => session.offer(rt, at, bytes, &mut Sights::new()).is_ok(),
         Act::Begin => flusher.snapshot(rt, alloc, shared).answer().is_ok(),
         Act::Book(next, is_whole) => is_book(rt, shared, next, is_whole),
         Act::Flush(switched) => is_flushed(rt, alloc, shared, flusher, switched),

@@ -1,3 +1,4 @@
 pub mod Broken
 pub mod Made
 pub mod Seated
+pub mod Sessions

@@ -4,4 +4,5 @@ pub mod Offers
 pub mod Outputs
 pub mod PutBack
 pub mod Receipts
+pub mod Sessions
 pub mod Turns

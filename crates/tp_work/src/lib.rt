@@ -3,6 +3,7 @@
 
 mod confirming;
 mod fault;
+mod holds;
 mod host_fault;
 mod net;
 mod nodes;

@@ -4,15 +4,14 @@ ghost use Rattle.std.specs.Prelude.{◌≡◌, ◌<◌, ◌≤◌, ◌⊎◌, �
 ghost use Rattle.tp_model.specs.declared.entry.Entry.TheVariants.{HostIn, Confirm};
 ghost use Rattle.tp_work.specs.Receipts.{IsFor};
 ghost use Rattle.tp_work.specs.Offers.{IsReason};
+ghost use Rattle.tp_work.specs.Sessions.{ConfirmedIn, OfferedIn, ShownIn};
 
-use crate::confirming::confirm;
+use crate::holds::{confirm_seen, offer_seen, shown_seen};
 use crate::host_fault::{ConfirmFault, OfferFault, ShownFault};
-use crate::offers::offer;
-use crate::outputs::shown;
 use std::alloc::Global;
 use std::sync::Wait;
 use tp_ready::Pass;
-use tp_shared::{Naming, Receipt, Shared};
+use tp_shared::{Naming, Receipt, Shared, Sights};
 
 /// What the host does at one port of a network in threads.
 #[derive(Drop)]
@@ -36,15 +35,21 @@ impl<'a, J: Naming> Session<'a, J> {
     }
 
     /// Hands bytes to the port, where the first of them is the next one that it accepts: all of them or, where the offer is refused,
-    /// none.
-    pub fn offer<R: Wait>(&self, rt: &R, at: u64, bytes: &[u8]) -> Result<Receipt<J>, OfferFault>
+    /// none. `seen` gets the book as it was found and as it was left.
+    pub fn offer<R: Wait>(
+        &self,
+        rt: &R,
+        at: u64,
+        bytes: &[u8],
+        seen: &mut Sights<J>,
+    ) -> Result<Receipt<J>, OfferFault>
+        ensures offered { OfferedIn J.start self.now.port at bytes.now result seen.old seen.new }
         ensures receipt { IfOk result (λ receipt. IsFor (map (HostIn self.now.port) bytes.now) receipt) }
         ensures position { IfOk result (λ receipt. receipt.position ≡ Some at) }
         ensures reason { IfErr result (IsReason at (length bytes.now)) }
     {
         let mut held = self.shared.book().lock(rt);
-        held.known();
-        offer(&mut held, self.port, at, bytes)
+        offer_seen(&mut held, self.port, at, bytes, seen)
     }
 
     /// Whether all that a receipt is for is on the device. What is true stays true for `pass`.
@@ -58,34 +63,38 @@ impl<'a, J: Naming> Session<'a, J> {
         receipt.number() <= self.shared.mark().load(pass)
     }
 
-    /// The outputs of the port from the position `from` on that are shown: the mark that `pass` loads is above their entries.
+    /// The outputs of the port from the position `from` on that are shown: the mark that `pass` loads is above their entries. `seen` gets
+    /// the book that they are in.
     pub fn shown<R: Wait>(
         &self,
         rt: &R,
         alloc: Global,
         from: u64,
         pass: &mut Pass,
+        seen: &mut Sights<J>,
     ) -> Result<Vec<u8>, ShownFault>
         requires { pass.old.mark ≡ J.mark }
+        ensures shown { ShownIn J.start self.now.port pass.new.at from result seen.old seen.new }
         ensures pass { pass.new ≡ record pass.old { at = pass.new.at } }
         ensures rises { pass.old.at ≤ pass.new.at }
         ensures told { pass.old.least ≤ pass.new.at }
     {
         let mark = self.shared.mark().load(pass);
-        let held = self.shared.book().lock(rt);
-        held.known();
-        shown(held.book(), alloc, self.port, mark, from)
+        let mut held = self.shared.book().lock(rt);
+        shown_seen(&mut held, alloc, self.port, mark, from, seen)
     }
 
     /// Journals that the host has the port's outputs up to the position `upto`, which go. They have to be shown, by the mark that
-    /// `pass` loads.
+    /// `pass` loads. `seen` gets the book as it was found and as it was left.
     pub fn confirm<R: Wait>(
         &self,
         rt: &R,
         upto: u64,
         pass: &mut Pass,
+        seen: &mut Sights<J>,
     ) -> Result<Receipt<J>, ConfirmFault>
         requires { pass.old.mark ≡ J.mark }
+        ensures confirmed { ConfirmedIn J.start self.now.port pass.new.at upto result seen.old seen.new }
         ensures receipt { IfOk result (λ receipt. IsFor [] receipt ⊎ IsFor (Confirm self.now.port upto ∷ []) receipt) }
         ensures pass { pass.new ≡ record pass.old { at = pass.new.at } }
         ensures rises { pass.old.at ≤ pass.new.at }
@@ -93,7 +102,6 @@ impl<'a, J: Naming> Session<'a, J> {
     {
         let mark = self.shared.mark().load(pass);
         let mut held = self.shared.book().lock(rt);
-        held.known();
-        confirm(&mut held, self.port, mark, upto)
+        confirm_seen(&mut held, self.port, mark, upto, seen)
     }
 }

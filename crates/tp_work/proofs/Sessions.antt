@@ -1,0 +1,38 @@
+-- What sessions do in one hold of the book's lock.
+use Rattle.std.proofs.Common.{◌≡◌, ◌<◌, ℕ, ◌+◌, List, [], ◌∷◌, ◌++◌, length, Result, Ok, Err, sym, ap, subst, ◌∙◌, append_assoc}
+use Rattle.std.specs.List.{enumerate_from}
+use Rattle.std.specs.Prelude.{IfOk, OnErr, Vec, vec_len}
+use Rattle.std.specs.declared.alloc.Global.{Global}
+use Rattle.tp_model.specs.declared.entry.Entry.{Entry}
+use Rattle.tp_model.specs.NodeState.{NodeState}
+use Rattle.tp_model.specs.Network.{Network}
+use Rattle.tp_book.specs.Book.{BookValue, next_in_book}
+use Rattle.tp_book.specs.Host.{shown_from, ShowsUpto}
+use Rattle.tp_shared.specs.Gains.{HoldNoted}
+use Rattle.tp_shared.specs.Receipted.{Receipted}
+use Rattle.tp_shared.specs.Seals.{IsTied, Stage}
+use Rattle.tp_work.specs.Sessions.{DidJust, HasPort, ShowsJust}
+use Rattle.tp_work.specs.declared.host_fault.ShownFault.{ShownFault}
+
+-- the port is there
+pub has_port : (start : Network NodeState) (port : ℕ) (b : BookValue) → length b.state.start.nodes ≡ length start.nodes → length b.state.ports ≡ length start.ports → port < length start.ports
+    → HasPort start port b
+has_port start port b nodes ports there = record { nodes = nodes; ports = ports; there = subst (λ n. port < n) (sym ports) there }
+
+-- the book was seen as it was found and as it was left
+pub seen_twice : (old between new : List BookValue) (found left : BookValue) → between ≡ old ++ found ∷ [] → new ≡ between ++ left ∷ [] → new ≡ old ++ found ∷ left ∷ []
+seen_twice old between new found left before behind = behind ∙ ap (λ xs. xs ++ left ∷ []) before ∙ append_assoc old (found ∷ []) (left ∷ [])
+
+-- what is shown of a book
+pub shows_just : (b : BookValue) (port mark from : ℕ) (r : Result (Vec ℕ Global) ShownFault) → IfOk r (λ bytes. bytes.items ≡ shown_from b port mark from) → IfOk r (λ bytes. ShowsUpto b port mark (from + vec_len bytes))
+    → ShowsJust b port mark from r
+shows_just b port mark from (Ok bytes) is upto = (is, upto)
+shows_just b port mark from (Err fault) is upto = tt
+
+-- what was noted in the hold has the numbers that the book gave
+pub did_just : {F : Type 0} (r : Result Receipted F) (first : ℕ) (found left : Stage) (made : BookValue) (entries : List Entry) → IfOk r (λ receipt. left.book ≡ made)
+    → IfOk r (λ receipt. receipt.number ≡ next_in_book left.book) → IfOk r (λ receipt. HoldNoted (λ es. es ≡ entries) first found left [] receipt.seat) → OnErr r (left ≡ found)
+    → IsTied first found.all found.book → DidJust found.book left.book made entries r
+did_just (Ok receipt) first found left made entries book number noted err tied =
+    (book, number, noted.seat ∙ ap (λ n. enumerate_from n noted.entries) tied.next ∙ ap (enumerate_from (next_in_book found.book)) noted.are)
+did_just (Err fault) first found left made entries book number noted err tied = ap (λ (s : Stage). s.book) err

@@ -1,0 +1,26 @@
+use Rattle.std.proofs.Common.{[], ◌∷◌, ◌++◌, sym, ap, ◌∙◌}
+use Rattle.tp_book.specs.Acts.{confirm_entries}
+use Rattle.tp_book.specs.Host.{after_confirm}
+use Rattle.tp_shared.specs.Seals.{Stage}
+use Rattle.tp_work.proofs.Sessions.{did_just, has_port, seen_twice}
+use Rattle.tp_work.proofs.holds.confirm_seen.Goals as goal
+
+pub returns-clause-confirmed : goal.returns-clause-confirmed
+returns-clause-confirmed g c =
+    let E = c.confirm-done.ensures in
+    let found = c.show.new.self in
+    let left = c.confirm-done.new.held in
+    let K = c.known.ensures in
+    record {
+      found = found.book;
+      left = left.book;
+      seen =
+          seen_twice c.args.seen.now c.show.new.sights c.show-2.new.sights found.book left.book
+          (c.show.ensures.seen ∙ ap (λ (s : Stage). c.args.seen.now ++ s.book ∷ []) (sym c.show.ensures.same)) c.show-2.ensures.seen;
+      has = has_port g.J.Naming.start c.args.port found.book K.nodes K.ports c.requires.there;
+      exact = E.answer;
+      nothing = E.nothing;
+      did =
+          did_just c.confirm-done.result g.J.Naming.first found left (after_confirm found.book c.args.port c.args.upto) (confirm_entries found.book c.args.port c.args.upto)
+          E.book E.number E.noted E.err K.tied;
+    }

@@ -1,0 +1,73 @@
+-- What a session's calls found and did, in books that were seen under their lock.
+use Rattle.std.specs.Prelude.{◌≡◌, ◌<◌, ◌≤◌, ℕ, ◌+◌, List, [], ◌∷◌, ◌++◌, length, map, Result, Ok, Err, IsOk, Vec, vec_len}
+use Rattle.std.specs.declared.alloc.Global.{Global}
+use Rattle.std.specs.List.{enumerate_from}
+use Rattle.tp_model.specs.declared.entry.Entry.{Entry}
+use Rattle.tp_model.specs.declared.entry.Entry.TheVariants.{HostIn}
+use Rattle.tp_model.specs.NodeState.{NodeState}
+use Rattle.tp_model.specs.Network.{Network}
+use Rattle.tp_book.specs.Acts.{confirm_entries}
+use Rattle.tp_book.specs.Book.{BookValue, next_in_book}
+use Rattle.tp_book.specs.Host.{after_confirm, after_inputs, accepted_of, port_in, shown_from, ShowsUpto}
+use Rattle.tp_shared.specs.Receipted.{Receipted}
+use Rattle.tp_work.specs.Answers.{RefusesFor}
+use Rattle.tp_work.specs.Offers.{offer_fault}
+use Rattle.tp_work.specs.Outputs.{confirm_fault, shown_fault}
+use Rattle.tp_work.specs.declared.host_fault.ConfirmFault.{ConfirmFault}
+use Rattle.tp_work.specs.declared.host_fault.ConfirmFault.TheVariants.{Memory as NoMemoryToConfirm}
+use Rattle.tp_work.specs.declared.host_fault.OfferFault.{OfferFault}
+use Rattle.tp_work.specs.declared.host_fault.OfferFault.TheVariants.{Memory as NoMemoryToOffer}
+use Rattle.tp_work.specs.declared.host_fault.ShownFault.{ShownFault}
+use Rattle.tp_work.specs.declared.host_fault.ShownFault.TheVariants.{Memory as NoMemoryToShow}
+
+-- A book with as many nodes and ports as the network, the session's port among these.
+pub record HasPort (start : Network NodeState) (port : ℕ) (b : BookValue) : Type 0 where
+  pub nodes : length b.state.start.nodes ≡ length start.nodes
+  pub ports : length b.state.ports ≡ length start.ports
+  pub there : port < length b.state.ports
+
+-- ## Outputs that are shown
+
+-- the outputs of the port from a position on that the mark shows, all of them and no others
+abbrev pub ShowsJust : BookValue → ℕ → ℕ → ℕ → Result (Vec ℕ Global) ShownFault → Type 0
+ShowsJust b port mark from (Ok bytes) = (bytes.items ≡ shown_from b port mark from) × ShowsUpto b port mark (from + vec_len bytes)
+ShowsJust b port mark from (Err fault) = Unit {0}
+
+-- The book was seen once, behind all that was seen before. In it the answer is just what the mark shows, or the first reason why it
+-- doesn't reach the position, or memory was refused.
+pub record ShownIn (start : Network NodeState) (port mark from : ℕ) (answer : Result (Vec ℕ Global) ShownFault) (old new : List BookValue) : Type 0 where
+  pub found : BookValue
+  pub seen : new ≡ old ++ found ∷ []
+  pub has : HasPort start port found
+  pub exact : RefusesFor NoMemoryToShow (shown_fault found port mark from) answer
+  pub shows : ShowsJust found port mark from answer
+
+-- ## What is journalled
+
+-- Of the book that was found the call made this one, and the receipt has the slips of just these entries, under the numbers that the
+-- book gave them, and the next number. Where it is refused the book is left as it was found.
+abbrev pub DidJust : {F : Type 0} → BookValue → BookValue → BookValue → List Entry → Result Receipted F → Type 0
+DidJust found left made entries (Ok receipt) = (left ≡ made) × (receipt.number ≡ next_in_book left) × (receipt.seat ≡ enumerate_from (next_in_book found) entries)
+DidJust found left made entries (Err fault) = left ≡ found
+
+-- The book was seen as it was found and as it was left, behind all that was seen before. The bytes were handed to the port, or refused
+-- for the first reason that holds in the book that was found; memory is wanting only where none holds and there are bytes.
+pub record OfferedIn (start : Network NodeState) (port at : ℕ) (bytes : List ℕ) (answer : Result Receipted OfferFault) (old new : List BookValue) : Type 0 where
+  pub found : BookValue
+  pub left : BookValue
+  pub seen : new ≡ old ++ found ∷ left ∷ []
+  pub has : HasPort start port found
+  pub exact : RefusesFor NoMemoryToOffer (offer_fault found port at (length bytes)) answer
+  pub nothing : length bytes ≡ 0 → at ≡ accepted_of (port_in found port) → IsOk answer
+  pub did : DidJust found left (after_inputs found port bytes) (map (HostIn port) bytes) answer
+
+-- So it was as outputs of the port were confirmed up to a position: one that the mark shows, or it is refused. Up to one that was confirmed
+-- before it isn't, and nothing is done.
+pub record ConfirmedIn (start : Network NodeState) (port mark upto : ℕ) (answer : Result Receipted ConfirmFault) (old new : List BookValue) : Type 0 where
+  pub found : BookValue
+  pub left : BookValue
+  pub seen : new ≡ old ++ found ∷ left ∷ []
+  pub has : HasPort start port found
+  pub exact : RefusesFor NoMemoryToConfirm (confirm_fault found port mark upto) answer
+  pub nothing : upto ≤ (port_in found port).out_base → IsOk answer
+  pub did : DidJust found left (after_confirm found port upto) (confirm_entries found port upto) answer
