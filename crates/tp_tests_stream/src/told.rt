@@ -45,7 +45,7 @@ impl Source for Late {
 }
 
 /// The streams of a port whose input is late.
-fn late(alloc: Global) -> Result<Streams<MemSink, Late>, AllocError> {
+fn late_streams(alloc: Global) -> Result<Streams<MemSink, Late>, AllocError> {
     let (mut outputs, mut inputs) = (Vec::new(alloc), Vec::new(alloc));
     outputs.push(Output::new(0, None, MemSink::empty(alloc)))?;
     inputs.push(Input::new(
@@ -67,7 +67,7 @@ where
     R: AllocGlobal,
 {
     let alloc = rt.alloc();
-    let mut streams = late(alloc)?;
+    let mut streams = late_streams(alloc)?;
     let mut told = nobody();
     let task = Task { tells, ..QUIET };
     let done = play(
