@@ -1,5 +1,4 @@
 pub mod Ends
 pub mod Histories
-mod Shown
 mod Statuses
 mod Stayed
