@@ -21,6 +21,7 @@ mod Tails
 mod Trimming
 mod SwitchingCalls
 mod SwitchingEnds
+mod Unswitched
 mod Rooms
 mod Forms
 pub mod Follows

@@ -16,7 +16,9 @@ use Rattle.tp_flush.proofs.flusher.Flusher.raise.Given as given
 use Rattle.tp_flush.proofs.flusher.Flusher.raise.Goals as goal
 
 pub raise-requires : goal.raise-requires
-raise-requires g c = c.self.invariant.1 ∙ sym c.mark.ensures
+raise-requires g c =
+    let W = c.self.invariant.3 in
+    record { mark = c.self.invariant.1; stored = W.next; disk = W.disk; reached = W.reached }
 
 kept : (g : given.Over) (c : goal.After-raised g)
     → KeepsWorld g.D.Disk.keeps g.J.Naming.formatted g.J.Naming.before c.of-parts.result.known (g.D.Disk.state c.self.inside.parts.store.disk) c.self.inside.parts.store.place c.self.inside.parts.store.broken c.raise.new.raiser.at
@@ -86,6 +88,9 @@ looked g c =
 
 pub returns-clause-looked : goal.returns-clause-looked
 returns-clause-looked g c = looked g c
+
+pub returns-clause-net : goal.returns-clause-net
+returns-clause-net g c = ap (λ (k : Known). k.world.net) c.of-parts.ensures ∙ ap (λ (v : Flushing). v.world.net) c.self.view_is
 
 pub returns-clause-goes : goal.returns-clause-goes
 returns-clause-goes g c =
