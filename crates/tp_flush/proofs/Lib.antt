@@ -21,7 +21,7 @@ mod Tails
 mod Trimming
 mod SwitchingCalls
 mod SwitchingEnds
-mod Unswitched
+mod Reasons
 mod Rooms
 mod Forms
 pub mod Follows

@@ -1,6 +1,6 @@
 use Rattle.std.proofs.Common.{[], length, inl, subst, sym, ◌∙◌, arith, rules}
 use Rattle.tp_flush.proofs.Imaging.{imaged_between}
-use Rattle.tp_flush.proofs.Unswitched.{why_still}
+use Rattle.tp_flush.proofs.Reasons.{why_still}
 use Rattle.tp_flush.specs.CopiedIn.{CopiedIn}
 use Rattle.tp_flush.specs.Flushing.{FlushedOn}
 use Rattle.tp_flush.specs.Ends.{WaitsBehind}
