@@ -52,7 +52,7 @@ fn main(rt: HostRuntime) -> ExitCode {
             None
         };
         let mut feed = Threaded::new(rt, reader);
-        let mut looker = Looker::new(&rt, err.is_terminal());
+        let mut looker = Looker::new(&rt, err.is_terminal(), out.is_terminal());
         let status = answer_stream(
             &rt,
             words.as_slice(),
