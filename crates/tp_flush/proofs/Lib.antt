@@ -21,6 +21,7 @@ mod Tails
 mod Trimming
 mod SwitchingCalls
 mod SwitchingEnds
+mod Reasons
 mod Rooms
 mod Forms
 pub mod Follows

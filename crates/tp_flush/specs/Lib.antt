@@ -6,6 +6,7 @@ pub mod Images
 pub mod Known
 pub mod Flushing
 pub mod Ends
+pub mod Unswitched
 pub mod Refused
 pub mod Settled
 pub mod All

@@ -5,20 +5,23 @@ ghost use Rattle.tp_model.specs.WriteOrder.{Resting};
 ghost use Rattle.tp_flush.specs.Flushing.{FlushedOn};
 ghost use Rattle.tp_flush.specs.Ends.{Checkpointed, switched_of};
 ghost use Rattle.tp_flush.specs.Images.{ImagedIn, LookedIn};
+ghost use Rattle.tp_flush.specs.Unswitched.{WhyUnswitched};
 
 use crate::fault::FlushFault;
 use crate::flusher::Flusher;
 use crate::imaged::Images;
+use crate::unswitched::Unswitched;
 use std::alloc::Global;
 use std::sync::Wait;
 use tp_disk::Disk;
 use tp_shared::{Gate, Locked, Look, Naming, Shared, Sights};
 
-/// What a turn did for the snapshot that runs: what became of its images, and whether the areas were switched.
+/// What a turn did for the snapshot that runs: what became of its images, whether the areas were switched, and why not.
 #[derive(Clone, Copy)]
 pub(crate) struct Checkpoint {
     pub(crate) images: Images,
     pub(crate) switched: bool,
+    pub(crate) unswitched: Option<Unswitched>,
 }
 
 /// A look at the snapshot, once the book's lock is had; none where no snapshot runs, and then no node is looked at. The book was seen.
@@ -58,6 +61,7 @@ impl<J: Naming, D: Disk> Flusher<J, D> {
         requires rests { self.old.world.at ≡ Resting }
         ensures checkpointed { Checkpointed (switched_of result) self.old self.new }
         ensures imaged { IfOk result (λ done. done.switched ≡ false → ImagedIn (length J.start.nodes) done.images looked.old looked.new self.old self.new) }
+        ensures unswitched { IfOk result (λ done. done.switched ≡ false → WhyUnswitched done.unswitched done.images self.new) }
         ensures goes { FlushedOn D.keeps J.formatted J.before self.old self.new }
     {
         self.known();
@@ -65,11 +69,16 @@ impl<J: Naming, D: Disk> Flusher<J, D> {
             return Ok(Checkpoint {
                 images: Images::NoSnapshot,
                 switched: false,
+                unswitched: None,
             });
         };
         self.clear(rt, shared)?;
         let images = self.copy_images(rt, shared, gate, &look)?;
         let switched = self.switch(rt, alloc, shared)?;
-        Ok(Checkpoint { images, switched })
+        Ok(Checkpoint {
+            images,
+            switched: switched.done,
+            unswitched: switched.why,
+        })
     }
 }

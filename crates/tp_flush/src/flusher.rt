@@ -14,6 +14,7 @@ ghost use Rattle.tp_flush.specs.Known.{Began, Reached};
 ghost use Rattle.tp_flush.specs.Flushing.{position};
 
 use crate::progress::Progress;
+use crate::stored_mark::StoredMark;
 use crate::whole::Whole;
 use std::marker::Model;
 use std::snapshot::Snapshot;
@@ -31,7 +32,7 @@ use tp_token::Key;
 pub(crate) struct Parts<D: Disk> {
     pub(crate) store: Store<D>,
     pub(crate) key: Key<Told>,
-    pub(crate) raiser: Raiser,
+    pub(crate) raiser: StoredMark,
     pub(crate) topology: Topology,
     pub(crate) progress: Progress,
     pub(crate) pages_a_turn: usize,
@@ -130,7 +131,7 @@ impl<J: Naming, D: Disk> Flusher<J, D> {
             parts: Parts {
                 store,
                 key,
-                raiser,
+                raiser: StoredMark::over(raiser),
                 topology,
                 progress: Progress::new(),
                 pages_a_turn: usize::MAX,

@@ -20,10 +20,12 @@ mod raising;
 mod settle;
 mod settle_all;
 mod snapshot;
+mod stored_mark;
 mod switching;
 mod telling;
 mod topology;
 mod turn;
+mod unswitched;
 mod whole;
 
 pub use fault::FlushFault;
@@ -36,4 +38,5 @@ pub use settle::stored_slips_are_recovered;
 pub use snapshot::Begun;
 pub use topology::topology_of;
 pub use turn::FLUSHER;
+pub use unswitched::Unswitched;
 pub use whole::Whole;

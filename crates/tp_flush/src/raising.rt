@@ -15,13 +15,12 @@ impl<J: Naming, D: Disk> Flusher<J, D> {
         ensures reaches { self.old.world.stored ≤ result }
         ensures up { self.old.world.mark ≤ result }
         ensures looked { OnlyLooked self.old self.new }
+        ensures net { self.new.world.net ≡ self.old.world.net }
         ensures goes { FlushedOn D.keeps J.formatted J.before self.old self.new }
     {
         self.known();
         let Flusher { parts, .. } = self;
-        shared
-            .mark()
-            .raise(&mut parts.raiser, parts.store.place.next);
+        parts.raiser.raise(shared, &parts.store, &parts.whole);
         parts.whole = Whole::of(&*parts);
         parts.raiser.raised()
     }

@@ -26,7 +26,7 @@ impl<J: Naming, D: Disk> Flusher<J, D> {
         ensures mark { pass.old.at ≤ self.old.world.mark }
     {
         let Flusher { parts, .. } = self;
-        shared.mark().settle(&mut parts.raiser, pass);
+        parts.raiser.settle(shared, pass);
     }
 
     /// Changes nothing. Each slip's entry stands in the flusher's journal at its number, where that reaches so far.

@@ -1,4 +1,4 @@
-use Rattle.std.proofs.Common.{rules, sym, ap, true, length, Ok, Err}
+use Rattle.std.proofs.Common.{rules, refl, sym, ap, true, length, Ok, Err}
 use Rattle.tp_model.specs.Topology.{Topology}
 use Rattle.tp_flush.specs.declared.progress.Progress.{Progress}
 use Rattle.tp_flush.specs.declared.imaged.Images.{Images}
@@ -34,7 +34,7 @@ returns-in_err-switched-clause-goes g c =
 
 pub returns-clause-checkpointed : goal.returns-clause-checkpointed
 returns-clause-checkpointed g c =
-    checkpointed_on (Ok c.in_ok-switched.switched) c.args.self.now c.copy_images.new.self c.switch.new.self
+    checkpointed_on (Ok c.in_ok-switched.switched.done) c.args.self.now c.copy_images.new.self c.switch.new.self
     (went_then c.args.self.now c.clear.new.self c.copy_images.new.self c.in_ok-clear.ensures.tried c.in_ok-images.ensures.tried) c.in_ok-switched.ensures.checkpointed
 
 pub returns-clause-goes : goal.returns-clause-goes
@@ -58,3 +58,9 @@ returns-clause-imaged g c stays =
           c.clear.new.self.progress c.copy_images.new.self.progress c.args.self.now.progress c.switch.new.self.progress
           (sym L.is.0) L.is.1 (ap (λ (t : Topology). length t.pages) (sym c.switch.ensures.goes.process.topology)) c.clear.ensures.out (ap (λ (p : Progress). p.out) (sym same)) c.in_ok-images.images c.in_ok-images.ensures.imaged;
     }
+
+pub returns-in_default-clause-unswitched : goal.returns-in_default-clause-unswitched
+returns-in_default-clause-unswitched g c stays = refl
+
+pub returns-clause-unswitched : goal.returns-clause-unswitched
+returns-clause-unswitched g c stays = c.in_ok-switched.ensures.unswitched stays c.in_ok-images.images

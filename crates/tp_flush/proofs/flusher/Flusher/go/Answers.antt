@@ -1,5 +1,6 @@
 use Rattle.std.proofs.Common.{[], length, inl, subst, sym, ◌∙◌, arith, rules}
 use Rattle.tp_flush.proofs.Imaging.{imaged_between}
+use Rattle.tp_flush.proofs.Reasons.{why_still}
 use Rattle.tp_flush.specs.CopiedIn.{CopiedIn}
 use Rattle.tp_flush.specs.Flushing.{FlushedOn}
 use Rattle.tp_flush.specs.Ends.{WaitsBehind}
@@ -114,3 +115,8 @@ returns-clause-imaged g c stays =
     (c.in_ok-done.ensures.imaged stays) c.new-looked.ensures
     (c.raise.ensures.looked.progress ∙ c.append_all.ensures.progress ∙ c.copy_under.ensures.looked.progress)
     c.raise-mark.ensures.looked.progress c.raise-mark.ensures.looked.topology
+
+pub returns-clause-unswitched : goal.returns-clause-unswitched
+returns-clause-unswitched g c stays =
+    let L = c.raise-mark.ensures.looked in
+    why_still c.in_ok-done.done.unswitched c.in_ok-done.done.images c.checkpoint.new.self c.raise-mark.new.self L.topology L.progress L.place c.raise-mark.ensures.net (c.in_ok-done.ensures.unswitched stays)

@@ -16,14 +16,16 @@ use Rattle.tp_flush.proofs.flusher.Flusher.raise.Given as given
 use Rattle.tp_flush.proofs.flusher.Flusher.raise.Goals as goal
 
 pub raise-requires : goal.raise-requires
-raise-requires g c = c.self.invariant.1 ∙ sym c.mark.ensures
+raise-requires g c =
+    let W = c.self.invariant.3 in
+    record { mark = c.self.invariant.1; stored = W.next; disk = W.disk; reached = W.reached }
 
 kept : (g : given.Over) (c : goal.After-raised g)
-    → KeepsWorld g.D.Disk.keeps g.J.Naming.formatted g.J.Naming.before c.of-parts.result.known (g.D.Disk.state c.self.inside.parts.store.disk) c.self.inside.parts.store.place c.self.inside.parts.store.broken c.raise.new.raiser.at
+    → KeepsWorld g.D.Disk.keeps g.J.Naming.formatted g.J.Naming.before c.of-parts.result.known (g.D.Disk.state c.self.inside.parts.store.disk) c.self.inside.parts.store.place c.self.inside.parts.store.broken c.raise.new.self.at
 kept g c =
     let p = c.self.inside.parts in
     let s : State = g.D.Disk.state p.store.disk in
-    subst (λ (k : Known). KeepsWorld g.D.Disk.keeps g.J.Naming.formatted g.J.Naming.before k s p.store.place p.store.broken c.raise.new.raiser.at) (sym c.of-parts.ensures)
+    subst (λ (k : Known). KeepsWorld g.D.Disk.keeps g.J.Naming.formatted g.J.Naming.before k s p.store.place p.store.broken c.raise.new.self.at) (sym c.of-parts.ensures)
     (subst (KeepsWorld g.D.Disk.keeps g.J.Naming.formatted g.J.Naming.before (record { world = record p.whole.known.world { mark = max p.whole.known.world.mark p.whole.known.world.stored }; opened = p.whole.known.opened }) s p.store.place p.store.broken)
     (sym (ap (λ (r : RaiserValue). r.at) c.raise.ensures))
     (raise_keeps g.D.Disk.keeps g.J.Naming.formatted g.J.Naming.before p.whole.known s p.store.place p.store.broken p.raiser.at c.self.invariant.3))
@@ -86,6 +88,9 @@ looked g c =
 
 pub returns-clause-looked : goal.returns-clause-looked
 returns-clause-looked g c = looked g c
+
+pub returns-clause-net : goal.returns-clause-net
+returns-clause-net g c = ap (λ (k : Known). k.world.net) c.of-parts.ensures ∙ ap (λ (v : Flushing). v.world.net) c.self.view_is
 
 pub returns-clause-goes : goal.returns-clause-goes
 returns-clause-goes g c =

@@ -1,0 +1,37 @@
+-- Why the store didn't switch.
+use Rattle.std.proofs.Common.{◌≡◌, ◌∙◌, ℕ, Bool, true, false, Option, Some, None, refl, sym, subst}
+use Rattle.std.specs.Prelude.{if◌then◌else◌, is_some}
+use Rattle.std.specs.Borrow.{Bor}
+use Rattle.std.specs.Option.{option_copied}
+use Rattle.tp_model.specs.NodeState.{NodeState}
+use Rattle.tp_model.specs.Snapshot.{MarkedNetwork}
+use Rattle.tp_model.specs.Topology.{Topology}
+use Rattle.tp_model.specs.WholeCut.{whole}
+use Rattle.tp_area.specs.declared.place.Place.{Place}
+use Rattle.tp_flush.specs.declared.imaged.Images.{Images}
+use Rattle.tp_flush.specs.declared.progress.Progress.{Progress}
+use Rattle.tp_flush.specs.declared.unswitched.Unswitched.{Unswitched}
+use Rattle.tp_flush.specs.declared.unswitched.Unswitched.TheVariants.{CutOpen, PagesKept}
+use Rattle.tp_flush.specs.Flushing.{Flushing}
+use Rattle.tp_flush.specs.Unswitched.{IsReason, WhyUnswitched}
+
+-- what is borrowed is there where it is there
+pub some_copied : {T : Type 0} → (o : Option (Bor T)) → is_some o ≡ is_some (option_copied o)
+some_copied None = refl
+some_copied (Some x) = refl
+
+-- no copy was to be had of the book that was told of
+pub unready_reason : (why : Unswitched) (is_whole : Bool) (t : Topology) (p : Progress) (generation : ℕ) (net : MarkedNetwork NodeState) → why ≡ (if is_whole then PagesKept else CutOpen)
+    → is_whole ≡ is_some (whole net) → IsReason why t p generation net
+unready_reason why true t p generation net is tells = subst (λ (x : Unswitched). IsReason x t p generation net) (sym is) (sym tells)
+unready_reason why false t p generation net is tells = subst (λ (x : Unswitched). IsReason x t p generation net) (sym is) (sym tells)
+
+-- the reason stays, where nothing that it speaks of changed
+pub why_still : (why : Option Unswitched) (images : Images) (a b : Flushing) → b.topology ≡ a.topology → b.progress ≡ a.progress → b.place ≡ a.place → b.world.net ≡ a.world.net
+    → WhyUnswitched why images a → WhyUnswitched why images b
+why_still None images a b topology progress place net is = is
+why_still (Some why) images a b topology progress place net is =
+    subst (λ (x : Topology). IsReason why x b.progress b.place.generation b.world.net) (sym topology)
+    (subst (λ (x : Progress). IsReason why a.topology x b.place.generation b.world.net) (sym progress)
+    (subst (λ (x : Place). IsReason why a.topology a.progress x.generation b.world.net) (sym place)
+    (subst (λ (x : MarkedNetwork NodeState). IsReason why a.topology a.progress a.place.generation x) (sym net) is)))

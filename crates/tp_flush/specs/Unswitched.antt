@@ -1,0 +1,34 @@
+-- Why the store didn't switch to its other area.
+use Rattle.std.specs.Prelude.{◌≡◌, ◌<◌, ◌≤◌, ◌+◌, ℕ, Bool, true, false, length, Option, Some, None, is_some, Result, Ok, Err}
+use Rattle.tp_model.specs.declared.limits.TheConstants.{NUMBER_LIMIT}
+use Rattle.tp_model.specs.NodeState.{NodeState}
+use Rattle.tp_model.specs.Snapshot.{MarkedNetwork}
+use Rattle.tp_model.specs.Topology.{Topology}
+use Rattle.tp_model.specs.WholeCut.{whole}
+use Rattle.tp_flush.specs.declared.fault.FlushFault.{FlushFault}
+use Rattle.tp_flush.specs.declared.imaged.Images.{Images}
+use Rattle.tp_flush.specs.declared.imaged.Images.TheVariants.{NoSnapshot}
+use Rattle.tp_flush.specs.declared.progress.Progress.{Progress}
+use Rattle.tp_flush.specs.declared.switching.Switch.{Switch}
+use Rattle.tp_flush.specs.declared.unswitched.Unswitched.{Unswitched}
+use Rattle.tp_flush.specs.declared.unswitched.Unswitched.TheVariants.{ImageMissing, LastGeneration, CutOpen, PagesKept}
+use Rattle.tp_flush.specs.Progress.{is_out}
+use Rattle.tp_flush.specs.Flushing.{Flushing}
+
+-- It is a reason, on a device of this topology, with these images out, with an open area of this generation, and where the flusher was
+-- told this of the book last.
+abbrev pub IsReason : Unswitched → Topology → Progress → ℕ → MarkedNetwork NodeState → Type 0
+IsReason ImageMissing t p generation net = (i : ℕ) × (i < length t.pages) × (is_out p i ≡ false)
+IsReason LastGeneration t p generation net = NUMBER_LIMIT ≤ generation + 1
+IsReason CutOpen t p generation net = is_some (whole net) ≡ false
+IsReason PagesKept t p generation net = is_some (whole net) ≡ true
+
+-- Where a turn didn't switch, no snapshot ran, or there is a reason.
+abbrev pub WhyUnswitched : Option Unswitched → Images → Flushing → Type 0
+WhyUnswitched None images v = images ≡ NoSnapshot
+WhyUnswitched (Some why) images v = IsReason why v.topology v.progress v.place.generation v.world.net
+
+-- whether the store switched, beside why not
+abbrev pub done_of : Result Switch FlushFault → Result Bool FlushFault
+done_of (Ok s) = Ok s.done
+done_of (Err fault) = Err fault

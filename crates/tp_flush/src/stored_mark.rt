@@ -1,0 +1,68 @@
+//! The mark's raiser in the flusher's hand.
+
+ghost use Rattle.std.specs.Prelude.{◌≡◌, ◌≤◌, max};
+ghost use Rattle.tp_flush.specs.Known.{Began, Reached};
+
+use crate::whole::Whole;
+use std::marker::Model;
+use tp_area::Store;
+use tp_disk::Disk;
+use tp_ready::{Pass, Raiser};
+use tp_shared::{Naming, Shared};
+
+/// The mark's raiser. Its field is this file's alone: who raises the mark does it by `raise`, and shows what that asks for.
+#[derive(Drop)]
+pub(crate) struct StoredMark {
+    raiser: Raiser,
+}
+
+impl Model for StoredMark {
+    ghost use Rattle.tp_ready.specs.Seen.{RaiserValue};
+
+    ghost Value = { RaiserValue };
+
+    ghost view = { λ m. m.raiser };
+}
+
+impl StoredMark {
+    /// Over the raiser that came with the mark.
+    pub(crate) fn over(raiser: Raiser) -> StoredMark
+        ensures { result ≡ raiser }
+    {
+        StoredMark { raiser }
+    }
+
+    /// The mark's number.
+    pub(crate) fn raised(&self) -> u64
+        ensures { result ≡ self.now.at }
+    {
+        self.raiser.raised()
+    }
+
+    /// Raises the mark to the number of the next group of `store`. Whoever calls it shows that a run leads to a world that has stored
+    /// so far, and whose device is the store's as it is at this moment: so whoever loads the mark, at whatever moment, loads a number
+    /// that the device had when the mark was raised to it.
+    pub(crate) fn raise<J: Naming, D: Disk>(
+        &mut self,
+        shared: &Shared<J>,
+        store: &Store<D>,
+        whole: &Whole,
+    )
+        requires mark { self.old.mark ≡ J.mark }
+        requires stored { store.now.place.next ≡ whole.now.known.world.stored }
+        requires disk { D.keeps → whole.now.known.world.disk ≡ (D.state store.now.disk).now }
+        requires reached { D.keeps → Began J.formatted J.before whole.now.known.opened → Reached J.formatted whole.now.known.world }
+        ensures { self.new ≡ record self.old { at = max self.old.at store.now.place.next } }
+    {
+        shared.mark().raise(&mut self.raiser, store.place.next);
+    }
+
+    /// Changes nothing. What `pass` saw is at most the mark's number.
+    pub(crate) fn settle<J: Naming>(&mut self, shared: &Shared<J>, pass: &mut Pass)
+        requires marks { (self.old.mark ≡ J.mark) × (pass.old.mark ≡ J.mark) }
+        ensures same { (self.new ≡ self.old) × (pass.new ≡ pass.old) }
+        ensures settled { pass.old.at ≤ self.old.at }
+    {
+        shared.mark().settle(&mut self.raiser, pass);
+    }
+}
