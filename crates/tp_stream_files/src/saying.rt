@@ -25,13 +25,13 @@ fn say<E: Write>(err: &mut E, bytes: &[u8])
     }
 }
 
-/// What is written of a line: over the one before it, or behind what stands there.
+/// What is written of a line: over the one before it, in one row of the terminal, however narrow that is; or behind what stands there.
 fn written(alloc: Global, is_over: bool, line: &Line) -> Result<String, AllocError>
     ensures { IfOk result (λ text. string_bytes text ≡ written is_over line.now) }
 {
     let text = text_of(alloc, line)?;
     if is_over {
-        format!(in alloc; "\r{text}\x1b[K")
+        format!(in alloc; "\r\x1b[?7l{text}\x1b[K\x1b[?7h")
     } else {
         format!(in alloc; "{text}\n")
     }

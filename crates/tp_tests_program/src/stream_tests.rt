@@ -185,9 +185,9 @@ const SHOWN: &[Shown] = &[
 
 /// Whether this is said of a stream of 8 turns: each line that is written over ends where its rest is cleared, and the last one is ended.
 fn is_shown(text: &str, shown: &Shown) -> bool {
-    let over = text.contains("\rnext 1 +0/s mark 1 area 0% generation 1 turns ")
-        && text.contains("\x1b[K\r")
-        && text.contains("\x1b[K\nnext 1 ");
+    let over = text.contains("\r\x1b[?7lnext 1 +0/s mark 1 area 0% generation 1 turns ")
+        && text.contains("\x1b[K\x1b[?7h\r")
+        && text.contains("\x1b[K\x1b[?7h\nnext 1 ");
     let lines = text.contains("/s\nnext 1 +0/s mark 1 area 0% generation 1 turns ");
     let has_none = !text.contains("\r") && !text.contains("\x1b");
     over == shown.over && lines == shown.lines && has_none != over

@@ -285,7 +285,7 @@ fn said(alloc: Global, case: &Case) -> Vec<u8> {
 /// What is to be said then.
 fn wanted(alloc: Global, case: &Case) -> Result<String, AllocError> {
     let (start, end) = if case.is_over {
-        ("\r", "\x1b[K")
+        ("\r\x1b[?7l", "\x1b[K\x1b[?7h")
     } else {
         ("", "\n")
     };
