@@ -1,6 +1,6 @@
 use Rattle.std.proofs.Common.{rules}
 use denote.Param.Send.{sendable}
-use Rattle.tp_program.proofs.program.answer_asked.Goals as goal
+use Rattle.tp_program.proofs.program.answer_held.Goals as goal
 
 pub carry_out-status-requires : goal.carry_out-status-requires
 carry_out-status-requires g c κs within =
