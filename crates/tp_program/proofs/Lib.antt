@@ -1,4 +1,5 @@
 pub mod Ends
 pub mod Histories
+mod Shown
 mod Statuses
 mod Stayed

@@ -1,5 +1,5 @@
 -- What `run --stream` does.
-use Rattle.std.specs.Prelude.{◌≡◌, ℕ, Result, Ok, Err, ◌||◌, is_some, min, unwrap_or}
+use Rattle.std.specs.Prelude.{◌≡◌, ℕ, Bool, Result, Ok, Err, ◌||◌, is_some, min, unwrap_or}
 use Rattle.tp_model.specs.NodeState.{NodeState}
 use Rattle.tp_model.specs.Network.{Network}
 use Rattle.tp_model.specs.DiskHistory.{State}
@@ -29,6 +29,19 @@ task_of run = record {
   spare = min run.spare 65535;
   every = run.every;
   tells = run.has_progress || is_some run.progress_every;
+}
+
+-- what it is asked where standard error may be a terminal: there it says how far it has come, whatever was typed
+abbrev pub shown_on : Bool → Task → Task
+shown_on on_terminal task = record {
+  turns = task.turns;
+  until_quiet = task.until_quiet;
+  stop_on_halt = task.stop_on_halt;
+  until_asked = task.until_asked;
+  quantum = task.quantum;
+  spare = task.spare;
+  every = task.every;
+  tells = task.tells || on_terminal;
 }
 
 -- after how many seconds it is said again how far a stream has come

@@ -77,7 +77,7 @@ fn copy_once<D: Disk, K: Disk, E: Write>(
 }
 
 /// Makes a copy of a device that another process may be running, over what is in `copy`, which has to have as many bytes at least. Answers
-/// the number of the copy's next entry: the device opens then, the copy has what of it counts, opens to the same areas, open area,
+/// the number of the copy's next entry: the device opens then, the copy has what of it counts, opens to its areas, open area,
 /// generation, end of the groups and number, and all of it is synced. Else says why not, as `show` does where the device doesn't open, and
 /// answers the status, 1: of the copy nothing is known then. Nothing is written to the device, and a crash finds nothing there that the
 /// call made.

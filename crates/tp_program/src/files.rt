@@ -208,7 +208,7 @@ fn look_file<
     }
 }
 
-/// `tpnet status`, on a device's file, which stays as it is: one look, or one each so many seconds for as long as a further one is wanted
+/// `tpnet status`, on a device's file, which stays as it is: one look, or one each `seconds` for as long as a further one is wanted
 /// and none is refused.
 pub fn status_file<
     R: Files<File = F> + AllocGlobal,

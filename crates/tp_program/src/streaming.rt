@@ -9,7 +9,7 @@ ghost use Rattle.tp_recover.specs.declared.unopened.Unopened.{Unopened};
 ghost use Rattle.tp_run.specs.Ran.{History};
 ghost use Rattle.tp_stream.specs.Quiet.{IsAsked};
 ghost use Rattle.tp_stream.specs.Streamed.{StaysUnstreamed, Streamed as StreamLeft};
-ghost use Rattle.tp_program.specs.Streaming.{IsOfEnds, IsUnopened, FindsNothingNew, StreamedOn, end_status, ending_status, fault_status, seconds_of, stream_status, task_of};
+ghost use Rattle.tp_program.specs.Streaming.{IsOfEnds, IsUnopened, FindsNothingNew, StreamedOn, end_status, ending_status, fault_status, seconds_of, shown_on, stream_status, task_of};
 ghost use Rattle.tp_words.specs.StreamArgs.{IsStreamRun};
 
 use crate::stop_file::{StopFault, StopFile, report_stop, stop_fault};
@@ -65,6 +65,16 @@ fn task_of(asked: &StreamRun) -> Task
         spare: asked.spare.min(u16::MAX as u64) as u16,
         every: asked.every,
         tells: asked.has_progress || asked.progress_every.is_some(),
+    }
+}
+
+/// The task, where standard error may be a terminal: there it is told how far the stream has come, whatever was typed.
+fn shown_on(task: Task, on_terminal: bool) -> Task
+    ensures value { result ≡ shown_on on_terminal task }
+{
+    Task {
+        tells: task.tells || on_terminal,
+        ..task
     }
 }
 
@@ -190,7 +200,7 @@ fn stream_opened<
     ensures unopened { D.keeps → IsErr (verdict (D.state disk).now.bytes) → (unopened : Unopened) × (result.1 ≡ Err (StreamFault.Opening unopened)) }
     ensures why { IfOk result.1 (λ ended. IsAsked (task_of asked.now) ended.why) }
 {
-    let task = task_of(asked);
+    let task = shown_on(task_of(asked), onlooker.is_terminal());
     let standard_out = asked.ends.standard_out();
     let standard_in = asked.ends.standard_in();
     let seconds = seconds_of(asked);

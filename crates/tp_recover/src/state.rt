@@ -18,7 +18,8 @@ impl Opened {
         journal_room(self.head.topology(), self.head.areas().length)
     }
 
-    /// The state that a book is opened from: the network's parts are made anew, and the entries are moved.
+    /// The state that a book is opened from: the network's parts are made anew, each node's image
+    /// as the node goes, and the entries are moved.
     ///
     /// It can be opened whatever the device was, also where it doesn't keep the model.
     pub fn into_state(self, alloc: Global) -> Result<NetState, AllocError>
@@ -35,8 +36,8 @@ impl Opened {
     {
         let _topology = self.head.topology();
         let area = self.head.areas().length;
-        let (mut network, kept, next) = self.replay.into_parts();
-        let net = network.parts(alloc)?;
+        let (network, kept, next) = self.replay.into_parts();
+        let net = network.into_net(alloc)?;
         Ok(NetState {
             cut: self.cut,
             net,

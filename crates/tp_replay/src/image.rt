@@ -43,6 +43,19 @@ pub(crate) fn image_of(alloc: Global, node: &mut Node) -> Result<Vec<u8>, AllocE
     }
 }
 
+/// The image of each node, and each node goes as soon as its image is made: so the memory holds few pages twice.
+pub(crate) fn images_taken(alloc: Global, nodes: Vec<Node>) -> Result<Vec<Vec<u8>>, AllocError>
+    requires { AreThawed nodes.items }
+    ensures { IfOk result (λ images. map (λ bytes. bytes.items) images.items ≡ map (λ node. image node.live) nodes.items) }
+{
+    let mut images = Vec::new(alloc);
+    for node in nodes {
+        let mut node = node;
+        images.push(image_of(alloc, &mut node)?)?;
+    }
+    Ok(images)
+}
+
 /// The image of each node.
 pub(crate) fn images_of(alloc: Global, nodes: &mut Vec<Node>) -> Result<Vec<Vec<u8>>, AllocError>
     requires { AreThawed nodes.old.items }

@@ -1,12 +1,13 @@
 //! A flat network read out.
 
-ghost use Rattle.std.specs.Prelude.{◌≡◌, ◌<◌, IfOk, Some, length, map};
-ghost use Rattle.tp_model.specs.Image.{node_of};
+ghost use Rattle.std.specs.Prelude.{◌≡◌, ◌<◌, IfOk, Some, length, map, slice_get};
+ghost use Rattle.std.specs.Option.{option_map};
+ghost use Rattle.tp_model.specs.Image.{image, node_at, node_of};
 ghost use Rattle.tp_model.specs.Network.{on_line};
 ghost use Rattle.tp_book.specs.Parts.{network_made};
 ghost use Rattle.tp_replay.specs.PartsOf.{ArePartsOf};
 
-use crate::image::images_of;
+use crate::image::{image_of, images_of, images_taken};
 use crate::network::FlatNetwork;
 use std::alloc::{AllocError, Global};
 use tp_book::{NetParts, all_parts};
@@ -39,6 +40,34 @@ fn all_tokens(alloc: Global, lines: &Lines) -> Result<Vec<Vec<Token>>, AllocErro
 }
 
 impl FlatNetwork {
+    /// The network as its parts, with each node as its image, which spells it: they are that network again. Each node goes as soon as its
+    /// image is made, so the memory is hardly more than that of the nodes at any time.
+    pub fn into_net(self, alloc: Global) -> Result<NetParts, AllocError>
+        ensures parts { IfOk result (λ parts. ArePartsOf parts self) }
+        ensures spelt { IfOk result (λ parts. map (λ image. node_of image.items) parts.images.items ≡ map Some self.nodes) }
+        ensures again { IfOk result (λ parts. network_made parts ≡ self) }
+    {
+        let (wires, nodes, lines, ports) = self.into_fields();
+        Ok(NetParts {
+            images: images_taken(alloc, nodes)?,
+            wires,
+            lines: all_tokens(alloc, &lines)?,
+            ports: all_parts(alloc, &ports)?,
+        })
+    }
+
+    /// The image of a node, which spells it, where it is there. The network stays as it is.
+    pub fn image(&mut self, alloc: Global, node: usize) -> Result<Option<Vec<u8>>, AllocError>
+        ensures image { IfOk result (λ shown. option_map (λ bytes. bytes.items) shown ≡ option_map image (slice_get self.old.nodes node)) }
+        ensures again { IfOk result (λ shown. option_map (λ bytes. node_at bytes.items) shown ≡ slice_get self.old.nodes node) }
+        ensures same { self.new ≡ self.old }
+    {
+        if node >= self.nodes.len() {
+            return Ok(None);
+        }
+        Ok(Some(image_of(alloc, &mut self.nodes[node])?))
+    }
+
     /// The network as its parts, with each node as its image, which spells it: they are that network again. It stays as it is.
     pub fn parts(&mut self, alloc: Global) -> Result<NetParts, AllocError>
         ensures parts { IfOk result (λ parts. ArePartsOf parts self.old) }

@@ -3,7 +3,9 @@
 story letter
 # The node sends a letter on link 0. Nobody is there, so it waits for good: the last line says so, where no further step is.
 image a.img
+keep a.img
 tpnet trace a.img
+stay
 tpnet trace a.img --steps 3
 # Where there is a further step there is no such line.
 tpnet trace a.img --steps=2
@@ -66,6 +68,41 @@ tpnet trace empty.img
 tpnet trace text.img
 tpnet trace busy.img
 tpnet trace later.img
+# An end of a link is at work: an output waits, an input waits, or an alternative has enabled it.
+image out.img
+set out.img 44 01
+set out.img 52 00 00 00 80 01
+image in.img
+set in.img 108 01
+set in.img 116 00 00 00 80 01
+image enabled.img
+set enabled.img 108 02
+tpnet trace out.img
+tpnet trace in.img
+tpnet trace enabled.img
+# An image has a head of 172 bytes, and at least 4 pages of 1024 bytes behind it, as its head says.
+fill short.img 171 00
+tpnet trace short.img
+image short.img
+cut short.img 171
+tpnet trace short.img
+image short.img
+cut short.img 172
+tpnet trace short.img
+image short.img
+set short.img 2 03
+cut short.img 3244
+tpnet trace short.img
+image short.img
+cut short.img 4267
+tpnet trace short.img
+image long.img
+set long.img 4268 00
+length long.img
+tpnet trace long.img
+image page.img
+set page.img 2 05
+tpnet trace page.img
 # A file that is not there can not be read.
 tpnet trace a.img
 # A number of steps that is none, or out of its range.

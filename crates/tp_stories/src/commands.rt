@@ -1,5 +1,7 @@
 //! The program's commands.
 
+ghost use Rattle.std.specs.Prelude.{false};
+
 use crate::printed::print_lines;
 use crate::stage::Stage;
 use std::alloc::Global;
@@ -105,6 +107,10 @@ struct Steps {
 impl Onlooker for Steps {
     ghost times = { λ steps. steps.times.told };
 
+    ghost terminal = { λ _. false };
+
+    ghost output_terminal = { λ _. false };
+
     fn now(&mut self) -> u64 {
         self.now = self.now.saturating_add(PACE);
         self.times = self.times.answered(self.now);
@@ -112,6 +118,10 @@ impl Onlooker for Steps {
     }
 
     fn is_terminal(&self) -> bool {
+        false
+    }
+
+    fn is_output_terminal(&self) -> bool {
         false
     }
 }

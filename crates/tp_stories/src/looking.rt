@@ -41,7 +41,7 @@ fn tell_length<R: Files>(rt: &R, stage: &mut Stage, file: &str) -> io::Result<()
     write!(stage.transcript, "= {length}\n")
 }
 
-/// Whether two files have the same bytes.
+/// Whether the bytes of two files are equal.
 fn are_equal<R: Files + AllocGlobal>(rt: &R, one: &str, other: &str) -> io::Result<bool> {
     let (one, other) = (fs::read(rt, one)?, fs::read(rt, other)?);
     Ok(one.as_slice() == other.as_slice())

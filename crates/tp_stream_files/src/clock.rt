@@ -1,21 +1,31 @@
 //! What is said by time stands beside: what time it is, and who looks at it.
 
-ghost use Rattle.std.specs.Prelude.{◌≡◌, ℕ, List, [], ◌∷◌, ◌++◌};
+ghost use Rattle.std.specs.Prelude.{◌≡◌, ℕ, Bool, List, [], ◌∷◌, ◌++◌};
 ghost use Rattle.std.specs.Borrow.{ftrue};
 
 use std::marker::Model;
 
-/// Who looks at what is said of a stream: what time it is there, and whether it is a terminal.
+/// Who looks at what is said of a stream: what time it is there, and what is a terminal.
 pub trait Onlooker {
     /// The times that were answered, the oldest first.
     ghost times: { Self → List ℕ };
+
+    /// Whether what is said stands on a terminal, and whether standard output is one.
+    ghost terminal: { Self → Bool };
+
+    ghost output_terminal: { Self → Bool };
 
     /// How many milliseconds have gone by since some start. It is asked anew each time.
     fn now(&mut self) -> u64
         ensures { times self.new ≡ times self.old ++ result ∷ [] };
 
-    /// Whether lines stand on a terminal, where one may be written over.
-    fn is_terminal(&self) -> bool;
+    /// Whether what is said stands on a terminal, where a line may be written over.
+    fn is_terminal(&self) -> bool
+        ensures { result ≡ terminal self.now };
+
+    /// Whether standard output is a terminal: what a port puts there then stands between what is said.
+    fn is_output_terminal(&self) -> bool
+        ensures { result ≡ output_terminal self.now };
 }
 
 /// A list of times without bytes: contracts alone see it, and no call reads it.

@@ -25,12 +25,12 @@ fn say<E: Write>(err: &mut E, bytes: &[u8])
     }
 }
 
-/// What is written of a line: over the one before it, on a terminal; else a line.
-fn written(alloc: Global, on_terminal: bool, line: &Line) -> Result<String, AllocError>
-    ensures { IfOk result (λ text. string_bytes text ≡ written on_terminal line.now) }
+/// What is written of a line: over the one before it, or behind what stands there.
+fn written(alloc: Global, is_over: bool, line: &Line) -> Result<String, AllocError>
+    ensures { IfOk result (λ text. string_bytes text ≡ written is_over line.now) }
 {
     let text = text_of(alloc, line)?;
-    if on_terminal {
+    if is_over {
         format!(in alloc; "\r{text}\x1b[K")
     } else {
         format!(in alloc; "{text}\n")
@@ -38,10 +38,10 @@ fn written(alloc: Global, on_terminal: bool, line: &Line) -> Result<String, Allo
 }
 
 /// Writes a line. Where there is no memory for it, or it isn't taken, it is let go.
-pub(crate) fn say_line<E: Write>(alloc: Global, err: &mut E, on_terminal: bool, line: &Line)
-    ensures { AppendsFront (E.contents err.old) (E.contents err.new) (written on_terminal line.now) }
+pub(crate) fn say_line<E: Write>(alloc: Global, err: &mut E, is_over: bool, line: &Line)
+    ensures { AppendsFront (E.contents err.old) (E.contents err.new) (written is_over line.now) }
 {
-    if let Ok(text) = written(alloc, on_terminal, line) {
+    if let Ok(text) = written(alloc, is_over, line) {
         say(err, text.as_bytes());
     }
 }

@@ -1,6 +1,7 @@
 //! What is said of a stream on standard error.
 
-ghost use Rattle.tp_stream_files.specs.Said.{WasHeard};
+ghost use Rattle.std.specs.Prelude.{◌≡◌, ◌*◌, None};
+ghost use Rattle.tp_stream_files.specs.Said.{WasHeard, are_over};
 
 use crate::clock::Onlooker;
 use crate::lines::Meter;
@@ -19,13 +20,15 @@ pub struct Teller<'a, E, W> {
     out: Option<u8>,
     input: Option<u8>,
     meter: Meter,
-    on_terminal: bool,
-    /// Whether a line stands on the terminal that isn't ended.
+    /// Whether each line is written over the one before it.
+    is_over: bool,
+    /// Whether a line stands there that isn't ended.
     is_open: bool,
 }
 
 impl<'a, E: Write, W: Onlooker> Teller<'a, E, W> {
-    /// Says it on a writer, and each so many seconds how far the stream has come.
+    /// Says it on a writer, and each so many seconds how far the stream has come: on a terminal each line over the one before it, but where
+    /// a port puts its output on one.
     pub fn new(
         alloc: Global,
         err: &'a mut E,
@@ -33,8 +36,11 @@ impl<'a, E: Write, W: Onlooker> Teller<'a, E, W> {
         out: Option<u8>,
         input: Option<u8>,
         seconds: u32,
-    ) -> Teller<'a, E, W> {
-        let on_terminal = onlooker.is_terminal();
+    ) -> Teller<'a, E, W>
+        ensures meter { result.meter ≡ record { every = seconds * 1000; last = None } }
+        ensures over { result.is_over ≡ are_over (W.terminal onlooker.old) (W.output_terminal onlooker.old) out }
+    {
+        let is_over = onlooker.is_terminal() && (out.is_none() || !onlooker.is_output_terminal());
         Teller {
             alloc,
             err,
@@ -42,12 +48,12 @@ impl<'a, E: Write, W: Onlooker> Teller<'a, E, W> {
             out,
             input,
             meter: Meter::new(seconds),
-            on_terminal,
+            is_over,
             is_open: false,
         }
     }
 
-    /// Ends the line that stands on a terminal.
+    /// Ends the line that isn't ended.
     pub fn end(&mut self) {
         if self.is_open {
             let _ = write!(self.err, "\n");
@@ -70,13 +76,13 @@ impl<'a, E: Write, W: Onlooker> Listener for Teller<'a, E, W> {
     }
 
     fn progress(&mut self, progress: Progress)
-        ensures { WasHeard progress self.old.on_terminal (W.times self.old.onlooker.now) (W.times self.new.onlooker.now)
+        ensures { WasHeard progress self.old.is_over (W.times self.old.onlooker.now) (W.times self.new.onlooker.now)
             self.old.meter self.new.meter (E.contents self.old.err.now) (E.contents self.new.err.now) }
     {
         let now = self.onlooker.now();
         if let Some(line) = self.meter.hear(now, progress) {
-            say_line(self.alloc, self.err, self.on_terminal, &line);
-            self.is_open = self.on_terminal;
+            say_line(self.alloc, self.err, self.is_over, &line);
+            self.is_open = self.is_over;
         }
     }
 

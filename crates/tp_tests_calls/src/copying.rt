@@ -49,7 +49,7 @@ fn look(alloc: Global, bytes: &[u8]) -> Result<(u64, Form, usize), Fail> {
     Ok((opened.next(), opened.form(), opened.kept().len()))
 }
 
-/// Whether what is left of a copy opens to the same as the device, in an area of the same form, has its bytes behind the gate up to the closed
+/// Whether what is left of a copy opens to what the device opens to, in an area of its form, has its bytes behind the gate up to the closed
 /// gate, and its head.
 fn is_left(
     alloc: Global,
@@ -96,7 +96,7 @@ fn the_open_area_is_copied(rt: HostRuntime) -> Result<(), Fail> {
     Ok(())
 }
 
-/// A device with these bytes, a call of which fails where one is told.
+/// A device with these bytes. A call fails where one is told.
 fn disk_of(alloc: Global, bytes: &[u8], call: Option<u64>) -> Result<MemDisk, Fail> {
     let disk = MemDisk::of_bytes(Vec::from_slice(alloc, bytes)?);
     let Some(call) = call else {
@@ -270,7 +270,7 @@ fn a_copy_that_does_not_open_to_the_same_is_none(rt: HostRuntime) -> Result<(), 
     Ok(())
 }
 
-/// What copying answers where the device, or the copy, has so many bytes.
+/// What copying answers where the device, or the copy, has that many bytes.
 fn sized(alloc: Global, source: usize, copy: usize) -> Result<Answer, Fail> {
     let bytes = turned(alloc)?;
     let mut short = MemDisk::of_bytes(Vec::from_slice(alloc, bytes.get(..source).unwrap_or(&[]))?);

@@ -204,7 +204,7 @@ fn play<J: Naming, R: Wait + Abort>(
     Ok(())
 }
 
-/// Plays the same with new names.
+/// Plays it with new names.
 fn play_device<R: Wait + Abort>(
     rt: &R,
     alloc: Global,

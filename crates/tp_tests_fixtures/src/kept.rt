@@ -83,7 +83,7 @@ pub struct Kept {
     pub next: u64,
 }
 
-/// Freshly formatted; behind the first turns; with the letter confirmed; the same while a checkpoint isn't done; behind the
+/// Freshly formatted; behind the first turns; with the letter confirmed; that while a checkpoint isn't done; behind the
 /// checkpoint; and with two runs behind that.
 pub const KEPT: [Kept; 6] = [
     Kept {

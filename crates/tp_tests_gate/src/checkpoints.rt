@@ -207,7 +207,7 @@ fn images_after<R: Wait>(
     play_in(rt, alloc, opening_of(alloc, marked(alloc)?)?, snapshots)
 }
 
-/// Whether the nodes have the same after `snapshots` as after none.
+/// Whether the nodes have after `snapshots` what they have after none.
 fn is_same<R: Wait>(rt: &R, alloc: Global, snapshots: u8) -> Result<bool, Fail> {
     let without = images_after(rt, alloc, 0)?;
     let with = images_after(rt, alloc, snapshots)?;

@@ -87,7 +87,7 @@ pub(crate) fn formatted_with(
     Ok(disk)
 }
 
-/// The device of a text with so many nodes, freshly formatted.
+/// The device of a text with `nodes` nodes, freshly formatted.
 fn formatted_as(alloc: Global, text: &[u8], nodes: u8) -> Result<MemDisk, Fail> {
     let images = images(alloc, nodes)?;
     let topology = Topology::read(alloc, text)?;

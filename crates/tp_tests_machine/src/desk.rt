@@ -95,7 +95,7 @@ impl Desk {
         }
     }
 
-    /// Whether it is the same as another, word for word.
+    /// Whether it is another, word for word.
     pub fn is(&self, other: &Desk) -> bool {
         self.cpu == other.cpu && self.has_words_of(other)
     }

@@ -154,7 +154,7 @@ fn arrivals(rt: HostRuntime) {
     }
 }
 
-/// An end; what enabling it by the process 201 answers, and the end then; the same of disabling it.
+/// An end; what enabling it by the process 201 answers, and the end then; and both of disabling it.
 type Guard = (
     InEnd,
     Result<bool, LinkBusy>,

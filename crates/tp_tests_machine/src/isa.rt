@@ -181,7 +181,7 @@ fn reads_no_instruction(rt: HostRuntime) {
     }
 }
 
-/// Sixteen prefix bytes are read, a seventeenth is one too many, and an instruction may end there all the same.
+/// Sixteen prefix bytes are read, a seventeenth is one too many, and an instruction may still end there.
 fn reads_prefixes() -> bool {
     let mut decoder = Decoder::new();
     for _ in 0..16 {

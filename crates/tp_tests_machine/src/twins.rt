@@ -1,4 +1,4 @@
-//! The memory that copies before it writes beside its slow twin: the same commands give the same bytes.
+//! The memory that copies before it writes beside its slow twin: commands give equal bytes in both.
 
 ghost use Rattle.std.specs.Prelude.{◌≤◌};
 
@@ -22,7 +22,7 @@ fn make_twins(alloc: Global, spare: usize) -> Result<Twins, AllocError>
     Ok(Twins { cow, flat })
 }
 
-/// Whether a write goes the same way, where a frame is not wanted.
+/// Whether a write goes one way in both, where a frame is not wanted.
 fn write(twins: &mut Twins, address: u32, word: u32) -> bool {
     let first = if word % 2 == 0 {
         twins.cow.write_word(address, word)
@@ -40,7 +40,7 @@ fn write(twins: &mut Twins, address: u32, word: u32) -> bool {
     first.is_ok() == second.is_ok()
 }
 
-/// Whether both are frozen alike, and a frozen page of both is the same.
+/// Whether both are frozen alike, and a frozen page of both is equal.
 fn page(twins: &Twins, page: usize) -> bool {
     let mut one = [1; 1024];
     let mut other = [1; 1024];
@@ -67,7 +67,7 @@ fn thaw(twins: &mut Twins) {
     twins.flat.drop_frozen();
 }
 
-/// Whether a command, by a number, goes the same way.
+/// Whether a command, by a number, goes one way in both.
 fn command(twins: &mut Twins, number: u32) -> bool {
     let address = 0x8000_0000 + (number >> 8) % 4200;
     match number >> 27 {
@@ -89,7 +89,7 @@ fn command(twins: &mut Twins, number: u32) -> bool {
     }
 }
 
-/// Whether all words are the same.
+/// Whether all words are equal.
 fn same_words(twins: &Twins) -> bool {
     for place in 0..1024 {
         let address = 0x8000_0000 + 4 * place;
@@ -100,7 +100,7 @@ fn same_words(twins: &Twins) -> bool {
     true
 }
 
-/// Whether 2,000 commands all go the same way.
+/// Whether 2,000 commands all go one way in both.
 fn agree(twins: &mut Twins) -> bool {
     let mut number = 1u32;
     for _ in 0..2000 {

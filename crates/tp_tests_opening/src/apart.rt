@@ -1,4 +1,4 @@
-//! Devices that are opened each node by itself, by several workers, and in one thread: both calls say the same.
+//! Devices that are opened each node by itself, by several workers, and in one thread: both calls agree.
 
 use crate::checkpointed::Known;
 use crate::devices::{LETTER, Letter, MORE, append, disk_of, fresh, held_in, is_same, store_of};
@@ -106,7 +106,7 @@ const ONE: &[Content<'static>] = &[
     },
 ];
 
-/// Two nodes, each of which sends the letter A on link 0, which is wired to the other.
+/// Two nodes. Each sends the letter A on link 0, which is wired to the other.
 const PAIR: &[u8] = b"node left 4\nnode right 4\nport h\nwire left.0 right.0\nwire right.3 h\n";
 
 /// Bytes of an area of their device, and its group: each makes 3 steps, and takes the letter of the other.
@@ -176,7 +176,7 @@ fn pair(alloc: Global) -> Result<Vec<u8>, Fail> {
     Ok(bytes)
 }
 
-/// Whether two devices hold the same, each opened by one of both calls.
+/// Whether two devices, each opened by one of both calls, hold equal things.
 fn hold_same(alloc: Global, one: Opened, other: Opened) -> Result<bool, Fail> {
     let same = one.second() == other.second()
         && (one.generation(), one.base(), one.end())
@@ -187,7 +187,7 @@ fn hold_same(alloc: Global, one: Opened, other: Opened) -> Result<bool, Fail> {
     Ok(same && is_same(&one, &other))
 }
 
-/// Whether both calls say the same.
+/// Whether both calls agree.
 fn is_said_by_both(
     alloc: Global,
     one: Result<Opened, Unopened>,
@@ -200,7 +200,7 @@ fn is_said_by_both(
     }
 }
 
-/// Whether both calls say the same of a device, by so many workers.
+/// Whether both calls agree on a device, by `workers` workers.
 fn say_same<R: Threads + Sync>(
     rt: &R,
     alloc: Global,
@@ -213,7 +213,7 @@ fn say_same<R: Threads + Sync>(
     is_said_by_both(alloc, whole, apart)
 }
 
-/// Whether both calls say the same of a device, however many workers there are.
+/// Whether both calls agree on a device, however many workers there are.
 fn all_say_same<R: Threads + Sync>(rt: &R, alloc: Global, bytes: &[u8]) -> Result<bool, Fail> {
     for workers in WORKERS {
         if !say_same(rt, alloc, bytes, workers)? {
@@ -319,7 +319,7 @@ fn both_pieces_meet_at_the_gate(rt: HostRuntime) -> Result<(), Fail> {
     Ok(())
 }
 
-/// Whether both calls say the same of each device.
+/// Whether both calls agree on each device.
 fn are_said_by_both<R: Threads + Sync>(
     rt: &R,
     alloc: Global,

@@ -155,7 +155,7 @@ fn an_area_has_a_form(rt: HostRuntime) -> Result<(), Fail> {
 /// A turn: the node takes the acknowledge and makes 16 steps.
 const TURN: &[u8] = &[5, 0, 16, 0, 0, 0, 0, 0, 2, 0, 0, 0, 0, 0, 2, 0];
 
-/// What makes of the four entries three, of which it is the last; what puts it in front of the run; and what puts one without steps there.
+/// What makes of the four entries three, the last of them; what puts it in front of the run; and what puts one without steps there.
 const A_TURN: &[(usize, &[u8])] = &[(13_035, &[3]), (13_081, TURN), (13_097, &[0])];
 
 const A_TURN_AND_A_RUN: &[(usize, &[u8])] = &[(13_081, TURN)];

@@ -44,7 +44,7 @@ fn add_nodes(text: &mut String, nodes: u16, last: u16) -> Result<(), fmt::Error>
     Ok(())
 }
 
-/// The image of a node of so many pages in which no process runs.
+/// The image of a node of `pages` pages in which no process runs.
 fn image(alloc: Global, pages: u16) -> Result<Vec<u8>, AllocError> {
     let mut image = idle(alloc)?;
     image.resize(IMAGE_HEAD_BYTES + PAGE_BYTES * pages as usize, 0)?;
@@ -67,7 +67,7 @@ fn network(alloc: Global, row: &Row) -> Result<Letter, Fail> {
     Ok(Letter { topology, images })
 }
 
-/// Whether a device of so many bytes is refused for its areas.
+/// Whether a device of that size is refused for its areas.
 fn is_full(alloc: Global, letter: &Letter, size: usize, area: u64) -> Result<bool, AllocError> {
     let mut disk = MemDisk::zeroed(alloc, size)?;
     Ok(letter.format(alloc, &mut disk, area) == Err(FormatFault::AreaFull))

@@ -75,7 +75,7 @@ fn prints_once<
     Ok(false)
 }
 
-/// By many workers the same letter is printed once, whatever the order of the turns.
+/// By many workers that letter is printed once, whatever the order of the turns.
 #[test]
 fn many_workers_print_it_once(rt: HostRuntime) -> Result<(), Fail> {
     let alloc = rt.alloc();

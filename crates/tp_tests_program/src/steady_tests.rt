@@ -17,7 +17,7 @@ use tp_tests_fixtures::{ONE_NODE, SIZE, letter};
 /// A command that reads a device.
 #[derive(Clone, Copy)]
 enum Reader {
-    /// By so many threads.
+    /// By that many threads.
     Recover(u8),
     Show,
     Look(View),
@@ -135,7 +135,7 @@ fn is_alike(one: &Output, other: &Output) -> bool {
         && one.err.as_slice() == other.err.as_slice()
 }
 
-/// Whether that was said of a moment between two, of which none is damaged.
+/// Whether that was said of a moment between two that aren't damaged.
 fn is_of_a_moment(said: &[Output], from: usize, upto: usize, output: &Output) -> bool {
     said.iter()
         .take(upto.saturating_add(1))
@@ -311,7 +311,7 @@ const TRIES: &[(Reader, u8, bool)] = &[
     (Reader::Backup, 20, false),
 ];
 
-/// Before which call of a try the device is written, where one makes so many: behind the first look, or before the last one, which is the
+/// Before which call of a try the device is written, where one makes that many: behind the first look, or before the last one, which is the
 /// only one of a backup.
 fn call_of(reader: Reader, calls: u64) -> u64 {
     match reader {
@@ -320,7 +320,7 @@ fn call_of(reader: Reader, calls: u64) -> u64 {
     }
 }
 
-/// Whether a command says what it has to of a device that is written once in each of so many tries.
+/// Whether a command says what it has to of a device that is written once in each try.
 fn is_tried<R: AllocGlobal + Threads + Sync>(
     rt: &R,
     reader: Reader,

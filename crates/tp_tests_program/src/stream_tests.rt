@@ -15,20 +15,45 @@ use tp_tests_files::scratch::{Output, Scratch};
 /// The words of a stream of the folder's device.
 const STREAM: &[&str] = &["run", "@device", "--stream", "--quantum=64"];
 
-/// A clock that stands still, and no terminal.
+/// Who looks: at a clock that goes ten seconds each time, and at terminals, or at none.
 #[derive(Drop)]
-struct Still(Times);
+struct Screen {
+    now: u64,
+    is_terminal: bool,
+    is_output_terminal: bool,
+    times: Times,
+}
 
-impl Onlooker for Still {
-    ghost times = { λ still. still.0.told };
+impl Screen {
+    fn new(is_terminal: bool, is_output_terminal: bool) -> Screen {
+        Screen {
+            now: 0,
+            is_terminal,
+            is_output_terminal,
+            times: Times::new(),
+        }
+    }
+}
+
+impl Onlooker for Screen {
+    ghost times = { λ screen. screen.times.told };
+
+    ghost terminal = { λ screen. screen.is_terminal };
+
+    ghost output_terminal = { λ screen. screen.is_output_terminal };
 
     fn now(&mut self) -> u64 {
-        self.0 = self.0.answered(0);
-        0
+        self.now = self.now.saturating_add(10_000);
+        self.times = self.times.answered(self.now);
+        self.now
     }
 
     fn is_terminal(&self) -> bool {
-        false
+        self.is_terminal
+    }
+
+    fn is_output_terminal(&self) -> bool {
+        self.is_output_terminal
     }
 }
 
@@ -45,7 +70,7 @@ pub(crate) fn stream<R: Files<File = F> + AllocGlobal + Wait, F: FileExt + OpenF
     Ok(Output { status, out, err })
 }
 
-/// The status that a stream ends with, and what it wrote on standard error, with this writer as standard output.
+/// The status that a stream ends with, and what it wrote on standard error, with this writer as standard output, and no terminal.
 pub(crate) fn stream_to<
     R: Files<File = F> + AllocGlobal + Wait,
     F: FileExt + OpenFile + Drop,
@@ -57,6 +82,25 @@ pub(crate) fn stream_to<
     input: &[u8],
     out: &mut O,
 ) -> Result<(u8, Vec<u8>), Fail> {
+    stream_before(
+        rt,
+        scratch,
+        words,
+        input,
+        out,
+        &mut Screen::new(false, false),
+    )
+}
+
+/// As above, where it is looked at so.
+fn stream_before<R: Files<File = F> + AllocGlobal + Wait, F: FileExt + OpenFile + Drop, O: Write>(
+    rt: &R,
+    scratch: &Scratch,
+    words: &[&str],
+    input: &[u8],
+    out: &mut O,
+    screen: &mut Screen,
+) -> Result<(u8, Vec<u8>), Fail> {
     let alloc = rt.alloc();
     let mut line = scratch.line(alloc, STREAM)?;
     for word in words {
@@ -67,9 +111,110 @@ pub(crate) fn stream_to<
     }
     let mut err = Vec::new(alloc);
     let mut feed = Plain::new(input);
-    let mut still = Still(Times::new());
-    let status = answer_stream(rt, line.as_slice(), &mut feed, out, &mut err, &mut still);
+    let status = answer_stream(rt, line.as_slice(), &mut feed, out, &mut err, screen);
     Ok((status, err))
+}
+
+/// Whether standard error and standard output are terminals, the words of a stream of 8 turns, and whether it says how far it has come: over
+/// the line before, and in lines.
+struct Shown {
+    terminals: (bool, bool),
+    words: &'static [&'static str],
+    over: bool,
+    lines: bool,
+}
+
+/// Where standard error is a terminal it says so whatever was typed, and else just where that was asked for. Where a port's output comes on
+/// that terminal, nothing is written over. Of `--progress-every 60` no line is due within 8 turns.
+const SHOWN: &[Shown] = &[
+    Shown {
+        terminals: (false, false),
+        words: &["--discard", "0"],
+        over: false,
+        lines: false,
+    },
+    Shown {
+        terminals: (false, true),
+        words: &["--out", "0=-"],
+        over: false,
+        lines: false,
+    },
+    Shown {
+        terminals: (false, false),
+        words: &["--discard", "0", "--progress"],
+        over: false,
+        lines: true,
+    },
+    Shown {
+        terminals: (false, false),
+        words: &["--discard", "0", "--progress-every", "10"],
+        over: false,
+        lines: true,
+    },
+    Shown {
+        terminals: (true, false),
+        words: &["--discard", "0"],
+        over: true,
+        lines: false,
+    },
+    Shown {
+        terminals: (true, true),
+        words: &["--discard", "0", "--progress"],
+        over: true,
+        lines: false,
+    },
+    Shown {
+        terminals: (true, false),
+        words: &["--out", "0=-"],
+        over: true,
+        lines: false,
+    },
+    Shown {
+        terminals: (true, true),
+        words: &["--out", "0=-"],
+        over: false,
+        lines: true,
+    },
+    Shown {
+        terminals: (true, false),
+        words: &["--discard", "0", "--progress-every", "60"],
+        over: false,
+        lines: false,
+    },
+];
+
+/// Whether this is said of a stream of 8 turns: each line that is written over ends where its rest is cleared, and the last one is ended.
+fn is_shown(text: &str, shown: &Shown) -> bool {
+    let over = text.contains("\rnext 1 +0/s mark 1 area 0% generation 1 turns ")
+        && text.contains("\x1b[K\r")
+        && text.contains("\x1b[K\nnext 1 ");
+    let lines = text.contains("/s\nnext 1 +0/s mark 1 area 0% generation 1 turns ");
+    let has_none = !text.contains("\r") && !text.contains("\x1b");
+    over == shown.over && lines == shown.lines && has_none != over
+}
+
+#[test]
+fn lines_are_shown_on_a_terminal(rt: HostRuntime) -> Result<(), Fail> {
+    let alloc = rt.alloc();
+    let scratch = device(&rt, "stream_shown", echo(alloc)?.as_slice(), "16384")?;
+    for shown in SHOWN {
+        let mut words = Vec::new(alloc);
+        words.push("--turns=8")?;
+        words.extend_from_slice(shown.words)?;
+        let (mut out, (is_terminal, is_output_terminal)) = (Vec::new(alloc), shown.terminals);
+        let mut screen = Screen::new(is_terminal, is_output_terminal);
+        let (status, err) = stream_before(
+            &rt,
+            &scratch,
+            words.as_slice(),
+            b"",
+            &mut out,
+            &mut screen,
+        )?;
+        let text = String::from_utf8(err)?;
+        assert!(rt; status == 0 && is_shown(text.as_str(), shown));
+    }
+    scratch.remove(&rt)
 }
 
 /// A standard output that takes nothing.

@@ -69,7 +69,7 @@ fn add_work<J: Naming>(work: &mut Work<J>, other: Work<J>) {
     work.is_refused = work.is_refused || is_refused;
 }
 
-/// Two threads make `count` turns each, of the nodes 0 and 1 at the same time. Then nodes 0, 1 and 0 make four more each. All slips
+/// Two threads make `count` turns each, of the nodes 0 and 1 at once. Then nodes 0, 1 and 0 make four more each. All slips
 /// are audited.
 pub fn work_of_both<J: Naming + Send + Sync, R: Threads + Wait + Sync>(
     rt: &R,

@@ -33,12 +33,14 @@ pub(crate) enum Act {
     Flush(bool),
     /// That many times a node and the host make a turn, and then the flusher one, which doesn't switch.
     Groups(u8),
+    /// That many turns of the processes that wait longest, whatever they do.
+    Turns(u32),
     /// A turn of the flusher in which the device fails.
     Fails,
 }
 
 impl Act {
-    /// The same where no snapshot begins.
+    /// What is done in its place where no snapshot begins.
     fn plain(self) -> Act {
         match self {
             Act::Begin | Act::Flush(_) | Act::Fails => Act::Flush(false),
@@ -48,7 +50,7 @@ impl Act {
     }
 }
 
-/// The entry of a turn in which a node takes this on its link 0, and makes so many steps.
+/// The entry of a turn in which a node takes this on its link 0, and makes `count` steps.
 pub(crate) fn turn(node: u8, first: Received, count: u16) -> Entry {
     Entry::Turn {
         node,
@@ -134,6 +136,24 @@ fn are_groups<J: Naming, R: Wait>(
     true
 }
 
+/// Whether that many turns are made.
+fn are_turns<J: Naming, R: Wait>(
+    rt: &R,
+    net: &Net<J, NoGate>,
+    seat: &mut Seat<J>,
+    count: u32,
+) -> bool
+    requires { seat.old.hand.of ≡ Some net.now.queue }
+    ensures { seat.new.hand.of ≡ Some net.now.queue }
+{
+    for _ in 0..count {
+        if net.turn(rt, seat).is_err() {
+            return false;
+        }
+    }
+    true
+}
+
 /// Whether it comes as it was told.
 fn does<J: Naming, R: Wait>(
     rt: &R,
@@ -155,6 +175,7 @@ fn does<J: Naming, R: Wait>(
         Act::Book(next, is_whole) => is_book(rt, shared, next, is_whole),
         Act::Flush(switched) => is_flushed(rt, alloc, shared, flusher, switched),
         Act::Groups(count) => are_groups(rt, alloc, net, seat, flusher, count),
+        Act::Turns(count) => are_turns(rt, net, seat, count),
         Act::Fails => matches!(
             flusher.turn(rt, alloc, shared),
             Err(FlushFault::DeviceFailed)
@@ -237,7 +258,7 @@ fn play<J: Naming, R: Wait>(
     Ok(if are_done { Some(bytes) } else { None })
 }
 
-/// The same with new names. Without snapshots where `is_plain`.
+/// What is left of it, with new names. Without snapshots where `is_plain`.
 pub(crate) fn play_in<R: Wait>(
     rt: &R,
     alloc: Global,

@@ -5,6 +5,10 @@
 #[cfg(test)]
 mod acts;
 #[cfg(test)]
+mod journals;
+#[cfg(test)]
+mod many;
+#[cfg(test)]
 mod script;
 #[cfg(test)]
 mod small;
@@ -14,3 +18,5 @@ mod stops;
 mod unkind;
 #[cfg(test)]
 mod worked;
+#[cfg(test)]
+mod worked_stories;

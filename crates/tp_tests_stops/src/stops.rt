@@ -1,6 +1,5 @@
 //! A script whose device fails, or stops it, at each of its calls: what the device then opens to, and how it goes on.
 
-use crate::acts::turn;
 use crate::script::{Done, Step, Told, play_in};
 use crate::unkind::{Ending, Fault, RawUnkind, Torn};
 use std::alloc::{AllocError, Global};
@@ -11,7 +10,7 @@ use std::sync::Wait;
 use std::test::Fail;
 use tp_area::format;
 use tp_disk::MemDisk;
-use tp_model::{Entry, Form, Received, Token};
+use tp_model::{Entry, Form};
 use tp_net::Topology;
 use tp_recover::{Unopened, open};
 use tp_replay::FlatNetwork;
@@ -20,7 +19,7 @@ use tp_tests_begun::plain::{is_network, replayed};
 use tp_tests_fixtures::{AREA, KEPT, ONE_NODE, SIZE, letter};
 
 /// The script, over a device without entries.
-const SCRIPT: &[Step<'static>] = &[
+pub(crate) const SCRIPT: &[Step<'static>] = &[
     Step::Offer(0, b"ab"),
     Step::Turns(4),
     Step::Flush,
@@ -87,7 +86,7 @@ fn formatted(alloc: Global, topology: &Topology, images: &[Vec<u8>]) -> Result<M
 }
 
 /// The device, freshly formatted.
-fn fresh(alloc: Global) -> Result<Vec<u8>, Fail> {
+pub(crate) fn fresh(alloc: Global) -> Result<Vec<u8>, Fail> {
     let images = Vec::from_array(alloc, [letter(alloc)?])?;
     let topology = Topology::read(alloc, ONE_NODE)?;
     let disk = formatted(alloc, &topology, &images)?;
@@ -95,21 +94,21 @@ fn fresh(alloc: Global) -> Result<Vec<u8>, Fail> {
 }
 
 /// The one that was formatted for this network before areas had forms, and kept.
-fn kept(alloc: Global) -> Result<Vec<u8>, AllocError> {
+pub(crate) fn kept(alloc: Global) -> Result<Vec<u8>, AllocError> {
     KEPT[0].bytes(alloc)
 }
 
 /// What a run leaves: the bytes, how many calls were made, how far it came, and what was told.
 #[derive(Drop)]
-struct Left {
-    bytes: Vec<u8>,
+pub(crate) struct Left {
+    pub(crate) bytes: Vec<u8>,
     calls: u64,
-    done: Done,
-    told: Told,
+    pub(crate) done: Done,
+    pub(crate) told: Told,
 }
 
 /// Steps over a device, where a call may end badly.
-fn run<R: Wait>(
+pub(crate) fn run<R: Wait>(
     rt: &R,
     alloc: Global,
     bytes: &[u8],
@@ -129,7 +128,7 @@ fn run<R: Wait>(
 }
 
 /// What was told at first.
-fn untold(alloc: Global) -> Told {
+pub(crate) fn untold(alloc: Global) -> Told {
     Told {
         mark: 0,
         journal: Vec::new(alloc),
@@ -170,7 +169,7 @@ fn opened_as(alloc: Global, bytes: &[u8]) -> Result<Option<(u64, FlatNetwork)>, 
 
 /// The next number of what a run left, where it opens to a plain replay of the journal up to there, with all below the greatest mark that
 /// was read; `None` otherwise.
-fn recovered(alloc: Global, first: &[u8], left: &Left) -> Result<Option<u64>, Fail> {
+pub(crate) fn recovered(alloc: Global, first: &[u8], left: &Left) -> Result<Option<u64>, Fail> {
     let Some((next, mut network)) = opened_as(alloc, &left.bytes)? else {
         return Ok(None);
     };
@@ -347,7 +346,7 @@ impl Script {
 
 /// Whether a device that was opened is what the script leaves: its first area was written anew, and of the `next` entries the last run alone
 /// isn't in its cut.
-fn is_last(alloc: Global, bytes: &[u8], next: u64) -> Result<bool, Fail> {
+pub(crate) fn is_last(alloc: Global, bytes: &[u8], next: u64) -> Result<bool, Fail> {
     let mut disk = MemDisk::of_bytes(Vec::from_slice(alloc, bytes)?);
     let opened = open(alloc, &mut disk)?;
     Ok(
@@ -358,91 +357,6 @@ fn is_last(alloc: Global, bytes: &[u8], next: u64) -> Result<bool, Fail> {
             && opened.next() == next
             && opened.form() == Form::Turns,
     )
-}
-
-/// A byte of the input.
-fn input(byte: u8) -> Entry {
-    Entry::HostIn { port: 0, byte }
-}
-
-/// A whole turn's steps.
-const RUN_9: Entry = Entry::Run { node: 0, count: 9 };
-
-/// The letter as the host takes it.
-const LETTER: Entry = Entry::Take {
-    line: 0,
-    token: Token::Data(0x41),
-};
-
-/// Whether `entries` are what is journalled over a device whose areas have turns: the node takes a byte, which it holds, and makes three
-/// steps; it sends a letter, which the host takes; it takes the acknowledge, and goes round, in its next turns too.
-fn is_journal(entries: &[Entry]) -> bool {
-    let journal = [
-        input(b'a'),
-        input(b'b'),
-        turn(0, Received::JustData(b'a'), 3),
-        LETTER,
-        turn(0, Received::JustAck, 9),
-        RUN_9,
-        input(b'c'),
-        RUN_9,
-    ];
-    entries == journal.as_slice()
-}
-
-/// The same over one whose first area has none.
-fn is_plain_journal(entries: &[Entry]) -> bool {
-    let journal = [
-        input(b'a'),
-        input(b'b'),
-        Entry::Take {
-            line: 4,
-            token: Token::Data(b'a'),
-        },
-        Entry::Run { node: 0, count: 3 },
-        LETTER,
-        Entry::Take {
-            line: 4,
-            token: Token::Ack,
-        },
-        RUN_9,
-        RUN_9,
-        input(b'c'),
-        RUN_9,
-    ];
-    entries == journal.as_slice()
-}
-
-/// Whether the script journals over a device what it ought to, and the device then is what the script leaves. The first area `is_plain`, or
-/// has turns.
-fn is_journalled<R: Wait>(
-    rt: &R,
-    alloc: Global,
-    first: &[u8],
-    is_plain: bool,
-) -> Result<bool, Fail> {
-    let left = run(rt, alloc, first, None, SCRIPT, untold(alloc))?;
-    let next = left.told.journal.len() as u64;
-    let is_journal = if is_plain {
-        is_plain_journal(&left.told.journal)
-    } else {
-        is_journal(&left.told.journal)
-    };
-    Ok(
-        left.done == Done::All
-            && left.told.mark == next
-            && is_journal
-            && recovered(alloc, first, &left)? == Some(next)
-            && is_last(alloc, &left.bytes, next)?,
-    )
-}
-
-#[test]
-fn a_script_journals_what_it_does(rt: HostRuntime) -> Result<(), Fail> {
-    let alloc = rt.alloc();
-    assert!(rt; is_journalled(&rt, alloc, &fresh(alloc)?, false)?);
-    assert!(rt; is_journalled(&rt, alloc, &kept(alloc)?, true)?);
-    Ok(())
 }
 
 /// Whether a device isn't opened whose call fails or stops the opening, and is as it was.

@@ -72,7 +72,7 @@ fn reaches<R: Threads + Wait + Abort + Sync>(
     told
 }
 
-/// The journal has room for 105 entries. With checkpoints a network that never ends goes on all the same, and its letter is printed
+/// The journal has room for 105 entries. With checkpoints a network that never ends still goes on, and its letter is printed
 /// once.
 #[test]
 fn a_short_journal_never_stays_full(rt: HostRuntime) -> Result<(), Fail> {

@@ -134,7 +134,7 @@ fn formatted_by(
     device
 }
 
-/// The bytes of a device of a topology, with areas of `area` bytes. All nodes have the same code, where the first begins `begin` bytes behind
+/// The bytes of a device of a topology, with areas of `area` bytes. All nodes have one code, where the first begins `begin` bytes behind
 /// the others.
 pub(crate) fn formatted_from(
     alloc: Global,

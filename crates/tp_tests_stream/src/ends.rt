@@ -11,7 +11,7 @@ use std::sync::Wait;
 use std::test::Fail;
 use tp_stream::{Ending, MemSink, Output, Sink, SinkFault, Source, StreamFault, Streams, Task};
 
-/// Nine numbered bytes, of which the source says that they are nine.
+/// Nine numbered bytes. The source says that they are nine.
 const NINE: Step = Step {
     input: 9,
     length: Some(9),
@@ -109,7 +109,7 @@ impl Sink for Leaving {
     }
 }
 
-/// A sink that takes so many pieces.
+/// A sink that takes that many pieces.
 fn sink_of(alloc: Global, pieces: u32) -> Leaving {
     Leaving {
         bytes: Vec::new(alloc),
@@ -117,7 +117,7 @@ fn sink_of(alloc: Global, pieces: u32) -> Leaving {
     }
 }
 
-/// The streams of two ports whose sinks take so many pieces.
+/// The streams of two ports whose sinks take that many pieces.
 fn two_leaving(
     alloc: Global,
     one: u32,
@@ -130,12 +130,12 @@ fn two_leaving(
     Ok(Streams { outputs, inputs })
 }
 
-/// A sink that has so many letters.
+/// A sink that has that many letters.
 fn lettered(alloc: Global, count: u64) -> Result<MemSink, AllocError> {
     Ok(MemSink::new(Vec::from_elem(alloc, b'A', count as usize)?))
 }
 
-/// The streams of two ports whose sinks have so many letters.
+/// The streams of two ports whose sinks have that many letters.
 fn two_lettered(
     alloc: Global,
     one: u64,

@@ -1,6 +1,8 @@
 //! What a teller says by time of how far a stream has come, at times and of numbers that it is given.
 
-use std::alloc::Global;
+use std::alloc::{AllocError, Global};
+use std::io;
+use std::io::{ErrorKind, Write};
 use std::test::Fail;
 use tp_stream_files::{Listener, Onlooker, Progress, Stopped, Teller, Times};
 
@@ -15,8 +17,8 @@ struct Row {
     put: [Option<u64>; 2],
 }
 
-/// Lines begin with the first row. They are due a second, two, and one and a half later, and not a millisecond before, nor where the clock went
-/// back. The second output is there in the last row alone.
+/// Lines begin with the first row. They are due a second, two, one and a half, and a second and a millisecond later, and not a millisecond
+/// before, nor where the clock went back or stands. The second output is there in the last rows alone.
 const ROWS: &[Row] = &[
     Row {
         at: 1000,
@@ -72,29 +74,157 @@ const ROWS: &[Row] = &[
         turns: 1163,
         put: [Some(9), Some(7)],
     },
+    Row {
+        at: 6501,
+        next: 34,
+        mark: 33,
+        used: 1,
+        generation: 2,
+        turns: 2164,
+        put: [Some(9), Some(1008)],
+    },
+    Row {
+        at: 6501,
+        next: 35,
+        mark: 35,
+        used: 1,
+        generation: 2,
+        turns: 2165,
+        put: [Some(9), Some(1009)],
+    },
 ];
 
-/// The lines, each with its end, and what is said of a node behind them.
-const LINES: &str = "next 30 +20/s mark 28 area 3% generation 1 turns 160 +60/s out 0 9 +4/s
-next 33 +1/s mark 33 area 0% generation 2 turns 1160 +500/s out 0 9 +0/s
-next 33 +0/s mark 33 area 0% generation 2 turns 1163 +2/s out 0 9 +0/s out 1 7
-waits 0
-";
+/// The lines, each without an end.
+const LINES: &[&str] = &[
+    "next 30 +20/s mark 28 area 3% generation 1 turns 160 +60/s out 0 9 +4/s",
+    "next 33 +1/s mark 33 area 0% generation 2 turns 1160 +500/s out 0 9 +0/s",
+    "next 33 +0/s mark 33 area 0% generation 2 turns 1163 +2/s out 0 9 +0/s out 1 7",
+    "next 34 +0/s mark 33 area 1% generation 2 turns 2164 +1000/s out 0 9 +0/s out 1 1008 +1000/s",
+];
 
-/// The same on a terminal: each stands over the one before it, and the last one is ended before more is said.
-const ON_TERMINAL: &str =
-    "\rnext 30 +20/s mark 28 area 3% generation 1 turns 160 +60/s out 0 9 +4/s\x1b[K\rnext 33 +1/s mark 33 area 0% generation 2 turns 1160 +500/s out 0 9 +0/s\x1b[K\rnext 33 +0/s mark 33 area 0% generation 2 turns 1163 +2/s out 0 9 +0/s out 1 7\x1b[K\nwaits 0\n";
+/// A writer: it says of its first writes that they failed so, and takes so many bytes of each other one.
+#[derive(Drop)]
+struct Taker {
+    bytes: Vec<u8>,
+    failed: u32,
+    how: ErrorKind,
+    most: usize,
+}
+
+impl Write for Taker {
+    fn write(&mut self, buf: &[u8]) -> io::Result<usize> {
+        if self.failed > 0 {
+            self.failed = self.failed.saturating_sub(1);
+            return Err(io::Error::from(self.how));
+        }
+        let count = buf.len().min(self.most);
+        self.bytes.extend_from_slice(&buf[..count])?;
+        Ok(count)
+    }
+
+    fn flush(&mut self) -> io::Result<()> {
+        Ok(())
+    }
+}
+
+/// What looks at the lines: whether there is a terminal, whether standard output is one, too, and whether a port's output goes there; how the
+/// first writes fail, and how many bytes each other one takes. And from which line on they are said, and whether each is written over the
+/// one before it.
+struct Case {
+    is_terminal: bool,
+    is_output_terminal: bool,
+    out: Option<u8>,
+    failed: u32,
+    how: ErrorKind,
+    most: usize,
+    from: usize,
+    is_over: bool,
+}
+
+/// A writer that takes all, and is no terminal.
+const PLAIN: Case = Case {
+    is_terminal: false,
+    is_output_terminal: false,
+    out: None,
+    failed: 0,
+    how: ErrorKind::BrokenPipe,
+    most: 4096,
+    from: 0,
+    is_over: false,
+};
+
+/// Lines are written over each other on a terminal, but where a port's output stands between them. One that isn't taken counts as said, and
+/// one that is taken byte by byte, behind interrupts, is whole.
+const CASES: &[Case] = &[
+    PLAIN,
+    Case {
+        is_terminal: true,
+        is_over: true,
+        ..PLAIN
+    },
+    Case {
+        is_terminal: true,
+        is_output_terminal: true,
+        is_over: true,
+        ..PLAIN
+    },
+    Case {
+        is_terminal: true,
+        out: Some(1),
+        is_over: true,
+        ..PLAIN
+    },
+    Case {
+        is_terminal: true,
+        is_output_terminal: true,
+        out: Some(1),
+        ..PLAIN
+    },
+    Case {
+        is_output_terminal: true,
+        out: Some(1),
+        ..PLAIN
+    },
+    Case {
+        failed: 1,
+        from: 1,
+        ..PLAIN
+    },
+    Case {
+        failed: 2,
+        from: 2,
+        ..PLAIN
+    },
+    Case {
+        failed: 3,
+        how: ErrorKind::Interrupted,
+        most: 1,
+        ..PLAIN
+    },
+    Case {
+        failed: 1,
+        is_terminal: true,
+        from: 1,
+        is_over: true,
+        ..PLAIN
+    },
+];
 
 /// Who looks, at the times of the rows, one behind the other.
 #[derive(Drop)]
 struct Script {
     asked: usize,
     is_terminal: bool,
+    is_output_terminal: bool,
     times: Times,
 }
 
 impl Onlooker for Script {
     ghost times = { λ script. script.times.told };
+
+    ghost terminal = { λ script. script.is_terminal };
+
+    ghost output_terminal = { λ script. script.is_output_terminal };
 
     fn now(&mut self) -> u64 {
         let now = match ROWS.get(self.asked) {
@@ -108,6 +238,10 @@ impl Onlooker for Script {
 
     fn is_terminal(&self) -> bool {
         self.is_terminal
+    }
+
+    fn is_output_terminal(&self) -> bool {
+        self.is_output_terminal
     }
 }
 
@@ -126,26 +260,55 @@ fn progress_of(row: &Row) -> Progress {
 }
 
 /// What is said each second of the rows, and of a node behind them.
-fn said(alloc: Global, is_terminal: bool) -> Vec<u8> {
-    let mut err = Vec::new(alloc);
+fn said(alloc: Global, case: &Case) -> Vec<u8> {
+    let mut err = Taker {
+        bytes: Vec::new(alloc),
+        failed: case.failed,
+        how: case.how,
+        most: case.most,
+    };
     let mut script = Script {
         asked: 0,
-        is_terminal,
+        is_terminal: case.is_terminal,
+        is_output_terminal: case.is_output_terminal,
         times: Times::new(),
     };
-    let mut teller = Teller::new(alloc, &mut err, &mut script, None, None, 1);
+    let mut teller = Teller::new(alloc, &mut err, &mut script, case.out, None, 1);
     for row in ROWS {
         teller.progress(progress_of(row));
     }
     teller.stopped(0, Stopped::Waits);
     teller.end();
-    err
+    err.bytes
+}
+
+/// What is to be said then.
+fn wanted(alloc: Global, case: &Case) -> Result<String, AllocError> {
+    let (start, end) = if case.is_over {
+        ("\r", "\x1b[K")
+    } else {
+        ("", "\n")
+    };
+    let mut text = String::new(alloc);
+    for line in LINES.iter().skip(case.from) {
+        text.push_str(start)?;
+        text.push_str(line)?;
+        text.push_str(end)?;
+    }
+    let end = if case.is_over {
+        "\nwaits 0\n"
+    } else {
+        "waits 0\n"
+    };
+    text.push_str(end)?;
+    Ok(text)
 }
 
 #[test]
 fn lines_are_due_by_time(rt: HostRuntime) -> Result<(), Fail> {
-    for (is_terminal, wanted) in [(false, LINES), (true, ON_TERMINAL)] {
-        assert!(rt; said(rt.alloc(), is_terminal).as_slice() == wanted.as_bytes());
+    for case in CASES {
+        let text = wanted(rt.alloc(), case)?;
+        assert!(rt; said(rt.alloc(), case).as_slice() == text.as_bytes());
     }
     Ok(())
 }

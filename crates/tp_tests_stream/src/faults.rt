@@ -35,7 +35,7 @@ where
     })
 }
 
-/// Whether the next stream, with the same sink, puts all the rest, where the first `safe` bytes were put and were safe: no more than those
+/// Whether the next stream, with that sink, puts all the rest, where the first `safe` bytes were put and were safe: no more than those
 /// were confirmed.
 fn goes_on<R: Wait + Abort>(rt: &R, desk: &mut Desk, safe: u64) -> Result<bool, Fail>
 where

@@ -132,7 +132,7 @@ const FAILED: Drained = Drained {
     has_ended: false,
 };
 
-/// A feed's bytes are the same in whatever pieces they come, and a read that fails is no end.
+/// A feed's bytes don't depend on the pieces in which they come, and a read that fails is no end.
 #[test]
 fn pieces_are_put_together(rt: HostRuntime) -> Result<(), Fail> {
     for (piece, fails, wanted) in CASES {

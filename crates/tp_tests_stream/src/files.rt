@@ -36,7 +36,7 @@ pub(crate) struct FakeFile {
 }
 
 impl FakeFile {
-    /// A file of these bytes, no call of which fails.
+    /// A file of these bytes. No call fails.
     pub(crate) fn new(bytes: Vec<u8>) -> FakeFile {
         FakeFile {
             bytes,

@@ -50,7 +50,7 @@ fn a_node_that_wants_frames_is_not_quiet(rt: HostRuntime) -> Result<(), Fail> {
     Ok(())
 }
 
-/// The streams of a host that waits for each of its answers, of which there are to be forty.
+/// The streams of a host that waits for each of its forty answers.
 fn asking<'a>(
     alloc: Global,
     answers: &'a Cell<u64>,

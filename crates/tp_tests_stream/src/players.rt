@@ -109,7 +109,7 @@ pub(crate) fn nobody() -> Told {
     }
 }
 
-/// Who asks a stream to stop: behind so many looks that found nothing, and from then on; `None`: nobody does.
+/// Who asks a stream to stop: behind that many looks that found nothing, and from then on; `None`: nobody does.
 #[derive(Drop)]
 pub(crate) struct Asks {
     behind: Option<u32>,
@@ -332,7 +332,7 @@ fn sink_of(alloc: Global, streams: Streams<MemSink, Pieces>) -> (u64, MemSink) {
     }
 }
 
-/// The same sink, where one of its calls fails behind so many.
+/// This sink, where one of its calls fails behind that many.
 fn failing(sink: MemSink, fails: Option<u32>) -> MemSink {
     match fails {
         Some(calls) => sink.failing(calls),

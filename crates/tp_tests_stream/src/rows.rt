@@ -50,7 +50,7 @@ fn a_long_input_comes_back(rt: HostRuntime) -> Result<(), Fail> {
     Ok(())
 }
 
-/// How many bytes go through in processes of few turns, of which each is handed all of them, and how many processes there are.
+/// How many bytes go through in processes of few turns that are each handed all of them, and how many processes there are.
 const FEW: usize = 300;
 
 const PROCESSES: u32 = 60;

@@ -66,7 +66,7 @@ fn goes_on<R: Threads + Wait + Abort + Sync>(
     Ok(is_kept && is_told && later.is_ok() && then.as_slice() == printed)
 }
 
-/// A run over a device one call of which fails, and one behind it. Answers whether the first one failed; none where what was printed
+/// A run over a device with one call that fails, and one behind it. Answers whether the first one failed; none where what was printed
 /// isn't there: it is printed again, or was confirmed.
 fn play_fault<R: Threads + Wait + Abort + Sync>(
     rt: &R,

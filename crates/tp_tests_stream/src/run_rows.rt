@@ -104,7 +104,7 @@ const LETTER: Entry = Entry::Take {
 
 const CONFIRMED: Entry = Entry::Confirm { port: 0, upto: 1 };
 
-/// A turn in which the node takes this on its link 0 and makes so many steps.
+/// A turn in which the node takes this on its link 0 and makes `count` steps.
 fn turn(first: Received, count: u16) -> Entry {
     Entry::Turn {
         node: 0,

@@ -54,7 +54,7 @@ impl<J: Naming> Right<J> {
     }
 }
 
-/// Counts one more on both sides, which had the same count; none past the last count.
+/// Counts one more on both sides, which had one count; none past the last count.
 pub fn step<J: Naming>(left: &mut Left<J>, right: &mut Right<J>)
     ensures agreed { left.old.count ≡ right.old.count }
     ensures left { left.old.count + 1 < 2 ^ 64 → left.new.count ≡ left.old.count + 1 }
@@ -68,7 +68,7 @@ pub fn step<J: Naming>(left: &mut Left<J>, right: &mut Right<J>)
     }
 }
 
-/// Changes nothing. Both sides have the same count.
+/// Changes nothing. Both sides have one count.
 pub fn compare<J: Naming>(left: &mut Left<J>, right: &mut Right<J>)
     ensures same { (left.new.count ≡ left.old.count) × (right.new.count ≡ right.old.count) }
     ensures agreed { left.old.count ≡ right.old.count }

@@ -24,7 +24,7 @@ pub struct Day<J: Naming> {
     pub right: Right<J>,
 }
 
-/// Two threads write `first` and `second` at the same time. Each number of the journal is then in the seat of one of
+/// Two threads write `first` and `second` at once. Each number of the journal is then in the seat of one of
 /// them, once, with the entry that the journal has there, and no other number is. None without memory.
 pub fn day_of<J: Naming + Send + Sync, R: Threads + Wait + Sync>(
     rt: &R,

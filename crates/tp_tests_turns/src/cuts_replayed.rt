@@ -82,7 +82,7 @@ fn is_network(cut: &Cut, images: &[Vec<u8>], parts: &NetParts) -> bool {
         && are_images(images, &parts.images)
 }
 
-/// Whether two networks are the same.
+/// Whether two networks are equal.
 fn are_same(one: &NetParts, other: &NetParts) -> bool {
     one.lines == other.lines
         && are_ports(&one.ports, &other.ports)

@@ -5,7 +5,7 @@ ghost use Rattle.std.specs.Prelude.{◌<◌};
 use std::alloc::{AllocError, Global};
 use tp_tests_fixtures::{HEAD, idle, place};
 
-/// Pseudo-random numbers, the same at each run.
+/// Pseudo-random numbers, alike at each run.
 #[derive(Drop)]
 pub(crate) struct Chance {
     pub(crate) state: u64,

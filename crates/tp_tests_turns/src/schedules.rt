@@ -142,7 +142,7 @@ fn play_drawn(
     told
 }
 
-/// Plays schedules, each of a network of its own. Answers the same of all of them together.
+/// Plays schedules, each of a network of its own. Answers that of all of them together.
 fn play_all(alloc: Global, schedules: u16) -> Result<Option<Told>, Fail> {
     let mut chance = Chance { state: SEED };
     let mut told = Told::none();

@@ -24,7 +24,7 @@ const SELF: &[u8] = b"node a 4\nport h\nwire a.1 a.2\nwire a.3 h\n";
 
 const ACKNOWLEDGE: [Received; 4] = [JustAck, Nothing, Nothing, Nothing];
 
-/// What is done: a node's whole turn of at most so many steps, the host's turn, or a snapshot begins.
+/// What is done: a node's whole turn of at most that many steps, the host's turn, or a snapshot begins.
 #[derive(Clone, Copy, Debug, PartialEq, Eq)]
 enum Step {
     Node(u8, u16),
@@ -179,7 +179,7 @@ fn a_marker_in_front_is_closed(rt: HostRuntime) -> Result<(), Fail> {
     Ok(())
 }
 
-/// What a turn sends on a link that is wired to another of the same node isn't taken in it.
+/// What a turn sends on a link that is wired to another of that node isn't taken in it.
 #[test]
 fn a_node_that_is_wired_to_itself_takes_what_stood_there(rt: HostRuntime) -> Result<(), Fail> {
     let tasks: [&[Task]; 1] = [&[Task::Once(2), Task::Relay(1, 0)]];

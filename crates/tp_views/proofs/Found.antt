@@ -9,7 +9,3 @@ told_past f xs k far = slice_get-map f xs k ∙ ap (option_map f) (slice_get_pas
 -- before it there is what is told of the item
 pub told_at : {A B : Type 0} (f : A → B) (xs : List A) (k : ℕ) (x : A) → k < length xs → x ≡ get_or xs k x → slice_get (map f xs) k ≡ Some (f x)
 told_at f xs k x near is = slice_get-map f xs k ∙ ap (option_map f) (slice_get_read xs (length xs) k x refl near is)
-
--- where two lists tell alike, so they do at a place
-pub told_alike : {B C : Type 0} (h : C → B) (bs : List B) (cs : List C) (k : ℕ) → bs ≡ map h cs → slice_get bs k ≡ option_map h (slice_get cs k)
-told_alike h bs cs k same = ap (λ zs. slice_get zs k) same ∙ slice_get-map h cs k

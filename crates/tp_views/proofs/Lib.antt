@@ -1,4 +1,3 @@
 pub mod Fit
 pub mod Found
-pub mod Spelt
 pub mod Traces

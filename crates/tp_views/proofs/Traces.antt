@@ -1,15 +1,20 @@
 -- Lines that are printed one behind the other.
-use Rattle.std.proofs.Common.{◌≡◌, ◌∙◌, ℕ, zero, suc, ◌+◌, ◌<◌, ◌≤◌, true, false, List, [], ◌++◌, length, take, drop, Option, Some, None, Ok, Err, Result, OnOk, refl, sym, ap, subst, append_assoc, append-nil, arith}
+use Rattle.std.proofs.Common.{◌≡◌, ◌∙◌, ℕ, zero, suc, ◌+◌, ◌<◌, ◌≤◌, Bool, true, false, List, [], ◌++◌, length, take, drop, Option, Some, None, Ok, Err, Result, OnOk, refl, sym, ap, subst, append_assoc, append-nil, arith}
 use Rattle.std.proofs.Math.Seq.{take-add, take-append_seam, drop-append_seam}
 use Rattle.std.proofs.lemmas.List.{take-append-drop}
+use Rattle.std.proofs.lemmas.Option.{cond_some}
 use Rattle.std.specs.Io.KnownBytes.{Appends}
+use Rattle.tp_law_machine.proofs.Images.{node_of_bytes}
+use Rattle.tp_law_machine.proofs.Numbers.{AreBytes}
+use Rattle.tp_law_machine.specs.NodeOfBytes.{IsNodeOfBytes}
+use Rattle.tp_model.specs.CutImage.{only_if}
+use Rattle.tp_model.specs.Image.{has_idle_links, node_of}
 use Rattle.tp_model.specs.NodeState.{NodeState}
-use Rattle.tp_stream_files.proofs.Fronts.{none_appended}
 use Rattle.tp_node.specs.Standing.{standing}
-use Rattle.tp_node.specs.declared.standing.Standing.{Standing}
+use Rattle.tp_stream_files.proofs.Fronts.{none_appended}
 use Rattle.tp_trace.specs.Lines.{step_line, stop_line}
-use Rattle.tp_trace.specs.Steps.{Saw, seen, stepped}
-use Rattle.tp_trace.specs.declared.stepping.Seen.{Seen}
+use Rattle.tp_trace.specs.Steps.{seen, stepped}
+use Rattle.tp_turn.specs.Tried.{fresh_image}
 use Rattle.tp_views.specs.Front.{AppendsFront}
 use Rattle.tp_views.specs.Traced.{Makes, by_step, last_text, next_text, traced}
 
@@ -61,35 +66,6 @@ by_some node next lines is = ap (λ o. by_step o node lines) is
 
 by_none : (node : NodeState) (lines : NodeState → List ℕ) → stepped node ≡ None → by_step (stepped node) node lines ≡ stop_line (standing node)
 by_none node lines is = ap (λ o. by_step o node lines) is
-
-step_text : (number : ℕ) (was now : NodeState) (one : Seen) → Saw (Some one) was now → step_line number one ≡ next_text number was
-step_text number was now one saw = ap (step_line number) saw.1 ∙ sym (by_some was now (λ next. step_line number (seen was next)) saw.0)
-
-stop_text : (was now : NodeState) (how : Standing) (lines : NodeState → List ℕ) → Saw None was now → how ≡ standing now → stop_line how ≡ by_step (stepped was) was lines
-stop_text was now how lines saw is = ap stop_line (is ∙ ap standing saw.1) ∙ sym (by_none was lines saw.0)
-
--- the line of a step that was made
-pub step_made : (number : ℕ) (was now : NodeState) (one : Seen) (old new : Option (List ℕ)) → Saw (Some one) was now → Appends old new (step_line number one) → Makes number true was now old new
-step_made number was now one old new saw shown = record { step = saw.0; shown = subst (λ bytes. Appends old new bytes) (step_text number was now one saw) shown }
-
-pub step_front : (number : ℕ) (was now : NodeState) (one : Seen) (old new : Option (List ℕ)) → Saw (Some one) was now → AppendsFront old new (step_line number one) → AppendsFront old new (next_text number was)
-step_front number was now one old new saw front = subst (λ bytes. AppendsFront old new bytes) (step_text number was now one saw) front
-
--- and the one of a node that has none
-pub stop_made : (number : ℕ) (was now : NodeState) (how : Standing) (old new : Option (List ℕ)) → Saw None was now → how ≡ standing now → Appends old new (stop_line how) → Makes number false was now old new
-stop_made number was now how old new saw is shown =
-    record { step = saw; shown = subst (λ bytes. Appends old new bytes) (stop_text was now how (λ next. step_line number (seen was next)) saw is) shown }
-
-pub stop_front : (was now : NodeState) (how : Standing) (lines : NodeState → List ℕ) (old new : Option (List ℕ)) → Saw None was now → how ≡ standing now → AppendsFront old new (stop_line how)
-    → AppendsFront old new (by_step (stepped was) was lines)
-stop_front was now how lines old new saw is front = subst (λ bytes. AppendsFront old new bytes) (stop_text was now how lines saw is) front
-
--- behind the last step that was asked for
-pub last_made : (was now : NodeState) (how : Standing) (old new : Option (List ℕ)) → Saw None was now → how ≡ standing now → Appends old new (stop_line how) → Appends old new (last_text was)
-last_made was now how old new saw is shown = subst (λ bytes. Appends old new bytes) (stop_text was now how (λ next. []) saw is) shown
-
-pub last_none : (was now : NodeState) (one : Seen) (old : Option (List ℕ)) → Saw (Some one) was now → Appends old old (last_text was)
-last_none was now one old saw = subst (λ bytes. Appends old old bytes) (sym (by_some was now (λ next. []) saw.0)) (none_appended old)
 
 -- ## Lines
 
@@ -188,3 +164,14 @@ pub goes_ended_front : (was then now : Option (List ℕ)) (whole : List ℕ) (st
     → AppendsFront then now (last_text node) → AppendsFront was now whole
 goes_ended_front was then now whole steps index node g all front =
     subst (λ bytes. AppendsFront was now bytes) (sym (last_is was then whole steps index node g all)) (then_front was then now g.done (last_text node) g.appended front)
+
+-- ## The image
+
+-- a node that is there with a test is there
+has_test : {A : Type 0} (test : A → Bool) (o : Option A) (x : A) → only_if test o ≡ Some x → o ≡ Some x
+has_test test None x is = cc
+has_test test (Some y) x is = ap Some (cond_some (test y) y x is).1
+
+-- the node of an image whose links are idle has bytes
+pub fresh_bytes : (image : List ℕ) (node : NodeState) → AreBytes image → fresh_image image ≡ Some node → IsNodeOfBytes node
+fresh_bytes image node bytes is = node_of_bytes image node bytes (has_test has_idle_links (node_of image) node is)

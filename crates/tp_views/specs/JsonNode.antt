@@ -13,7 +13,8 @@ use Rattle.tp_model.specs.declared.processor.State.{State}
 use Rattle.tp_model.specs.Image.{halt_byte, page_count}
 use Rattle.tp_model.specs.NodeState.{NodeState}
 use Rattle.tp_views.specs.Json.{json_bool, json_list}
-use Rattle.tp_views.specs.Names.{halt_name, state_name}
+use Rattle.tp_trace.specs.Names.{state_name}
+use Rattle.tp_views.specs.Names.{halt_name}
 
 -- ## The processor
 

@@ -9,7 +9,8 @@ use Rattle.tp_node.specs.Standing.{standing}
 use Rattle.tp_node.specs.declared.standing.Standing.{Standing}
 use Rattle.tp_node.specs.declared.standing.Standing.TheVariants.{Halted, Waits, Free}
 use Rattle.tp_views.specs.Json.{json_items}
-use Rattle.tp_views.specs.Names.{fault_name, form_name}
+use Rattle.tp_trace.specs.Names.{fault_name}
+use Rattle.tp_views.specs.Names.{form_name}
 use Rattle.tp_views.specs.Status.{bytes_accepted, accepted_before, millis_since, next_before, out_before, percent, port_before, bytes_put_out, entries_room, status_line}
 use Rattle.tp_views.specs.declared.status.PortSeen.{PortSeen}
 use Rattle.tp_views.specs.declared.status.Seen.{Seen}

@@ -1,12 +1,15 @@
 -- What `trace` does.
-use Rattle.std.specs.Prelude.{◌≡◌, ◌⊎◌, ℕ, Bool, zero, suc, ◌+◌, List, [], ◌++◌, Option, Some, None}
+use Rattle.std.specs.Prelude.{◌≡◌, ◌⊎◌, ℕ, Bool, zero, suc, ◌+◌, List, [], ◌++◌, Option, Some, None, IsSome, Result, Ok, Err}
 use Rattle.std.specs.Io.KnownBytes.{Appends}
 use Rattle.tp_model.specs.NodeState.{NodeState}
 use Rattle.tp_node.specs.Standing.{standing}
 use Rattle.tp_trace.specs.Lines.{step_line, stop_line}
 use Rattle.tp_trace.specs.Steps.{Stepped, seen, stepped}
 use Rattle.tp_turn.specs.Tried.{fresh_image}
+use Rattle.tp_turn.specs.declared.image.TryFault.TheVariants.{BadImage, Memory as NodeMemory}
 use Rattle.tp_views.specs.Front.{AppendsFront}
+use Rattle.tp_views.specs.declared.refusal.Refusal.{Refusal}
+use Rattle.tp_views.specs.declared.refusal.Refusal.TheVariants.{DeviceFailed, Memory, Trial}
 
 -- what is printed of a node, by the node after its next step: how it stands, where it has none
 abbrev pub by_step : Option NodeState → NodeState → (NodeState → List ℕ) → List ℕ
@@ -37,6 +40,26 @@ pub record Traces (image : List ℕ) (steps : ℕ) (was now : Option (List ℕ))
   pub is : fresh_image image ≡ Some node
   pub shown : Appends was now (traced steps 1 node)
 
+-- The bytes are such an image, and a front of those lines was appended.
+abbrev pub TracesSome : List ℕ → ℕ → Option (List ℕ) → Option (List ℕ) → Type 0
+TracesSome image steps was now = (node : NodeState) × (fresh_image image ≡ Some node) × AppendsFront was now (traced steps 1 node)
+
 -- Nothing was appended, or the bytes are such an image, and a front of those lines was.
 abbrev pub TracesFront : List ℕ → ℕ → Option (List ℕ) → Option (List ℕ) → Type 0
-TracesFront image steps was now = (now ≡ was) ⊎ ((node : NodeState) × (fresh_image image ≡ Some node) × AppendsFront was now (traced steps 1 node))
+TracesFront image steps was now = (now ≡ was) ⊎ TracesSome image steps was now
+
+-- why a line was not printed
+abbrev pub IsLineFault : Refusal → Type 0
+IsLineFault DeviceFailed = Unit {0}
+IsLineFault Memory = Unit {0}
+IsLineFault other = ⊥
+
+-- The answer: an image that is none is refused, and nothing was written then, nor where memory was wanting for its node. Where the output
+-- fails, or memory is wanting for a line, a front of the lines was.
+abbrev pub TraceAnswer : List ℕ → ℕ → Option (List ℕ) → Option (List ℕ) → Result (Unit {0}) Refusal → Type 0
+TraceAnswer image steps was now (Ok done) = Traces image steps was now
+TraceAnswer image steps was now (Err (Trial BadImage)) = (fresh_image image ≡ None) × (now ≡ was)
+TraceAnswer image steps was now (Err (Trial NodeMemory)) = IsSome (fresh_image image) × (now ≡ was)
+TraceAnswer image steps was now (Err DeviceFailed) = TracesSome image steps was now
+TraceAnswer image steps was now (Err Memory) = TracesSome image steps was now
+TraceAnswer image steps was now (Err other) = ⊥

@@ -5,13 +5,14 @@ ghost use Rattle.tp_model.specs.Image.{node_at};
 ghost use Rattle.tp_views.specs.Json.{comma, json_items, json_list};
 ghost use Rattle.tp_views.specs.JsonNode.{cpu_fields, idle_item, input_item, node_fields, node_json, number_fields, output_item, pointer_fields, queue_field, stack_fields, state_fields, working_item};
 
-use crate::formats::{halt_name, state_name};
-use crate::image_fields::{cpu_in, inputs_in, outputs_in, pages_in};
+use crate::formats::halt_name;
+use crate::image_fields::{inputs_in, outputs_in, pages_in};
 use crate::json::{comma, json_bool, push};
 use std::alloc::{AllocError, Global};
 use std::fmt::Write;
 use tp_model::{Cpu, Fault, InEnd, OutEnd, Queue, Regs, State, Transfer};
 use tp_node::halt_byte;
+use tp_trace::{cpu_in, state_name};
 
 fn push_number(
     text: &mut String,

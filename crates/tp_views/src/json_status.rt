@@ -6,7 +6,7 @@ ghost use Rattle.tp_views.specs.Json.{comma, json_items};
 ghost use Rattle.tp_views.specs.JsonStatus.{accepted_front, accepted_json, all_halted_items, front_json, generation_part, halted_items, halts_json, journal_json, look_text, next_part, out_front, out_json, pending_part, percent_part, port_item, port_items, rate, room_part, running_part, status_json, unconfirmed_part};
 ghost use Rattle.tp_views.specs.Status.{percent};
 
-use crate::formats::{fault_name, form_name};
+use crate::formats::form_name;
 use crate::json::{comma, push};
 use crate::status::{
     PortSeen, Seen, Since, accepted, accepted_before, millis_since, next_before, out_before,
@@ -18,6 +18,7 @@ use tp_book::HostPort;
 use tp_model::Form;
 use tp_node::{Node, Standing};
 use tp_recover::Opened;
+use tp_trace::fault_name;
 
 /// Appends by how much a count grew in a second, or null.
 fn push_rate(text: &mut String, now: u128, since: Option<Since>) -> Result<(), AllocError>

@@ -1,12 +1,12 @@
 //! `tpnet trace`: the steps of a node alone, a line each.
 
-ghost use Rattle.std.specs.Prelude.{◌≡◌, ◌≤◌, None, IfOk, IsErr, OnOk};
+ghost use Rattle.std.specs.Prelude.{◌≡◌, ◌≤◌, None, IfErr, IfOk, OnOk};
 ghost use Rattle.std.specs.Io.KnownBytes.{Appends};
 ghost use Rattle.tp_law_machine.specs.NodeOfBytes.{IsNodeOfBytes};
 ghost use Rattle.tp_trace.specs.Lines.{step_line, stop_line};
 ghost use Rattle.tp_turn.specs.Tried.{fresh_image};
 ghost use Rattle.tp_views.specs.Front.{AppendsFront};
-ghost use Rattle.tp_views.specs.Traced.{Makes, Traces, TracesFront, last_text, next_text, traced};
+ghost use Rattle.tp_views.specs.Traced.{IsLineFault, Makes, TraceAnswer, Traces, TracesFront, last_text, next_text, traced};
 
 use crate::commands::{put, refuse};
 use crate::refusal::Refusal;
@@ -20,6 +20,7 @@ use tp_turn::lone_node;
 fn put_step<O: Write>(alloc: Global, number: u64, seen: Seen, out: &mut O) -> Result<(), Refusal>
     ensures printed { OnOk result (Appends (O.contents out.old) (O.contents out.new) (step_line number seen)) }
     ensures front { AppendsFront (O.contents out.old) (O.contents out.new) (step_line number seen) }
+    ensures refused { IfErr result IsLineFault }
 {
     match step_line(alloc, number, seen) {
         Ok(text) => put(out, text.as_bytes()),
@@ -31,6 +32,7 @@ fn put_step<O: Write>(alloc: Global, number: u64, seen: Seen, out: &mut O) -> Re
 fn put_stop<O: Write>(alloc: Global, standing: Standing, out: &mut O) -> Result<(), Refusal>
     ensures printed { OnOk result (Appends (O.contents out.old) (O.contents out.new) (stop_line standing)) }
     ensures front { AppendsFront (O.contents out.old) (O.contents out.new) (stop_line standing) }
+    ensures refused { IfErr result IsLineFault }
 {
     match stop_line(alloc, standing) {
         Ok(text) => put(out, text.as_bytes()),
@@ -49,6 +51,7 @@ fn put_next<O: Write>(
     requires bytes { IsNodeOfBytes node.old.live }
     ensures printed { IfOk result (λ goes. Makes number goes node.old.live node.new.live (O.contents out.old) (O.contents out.new)) }
     ensures front { AppendsFront (O.contents out.old) (O.contents out.new) (next_text number node.old.live) }
+    ensures refused { IfErr result IsLineFault }
     ensures thawed { node.new.frozen ≡ None }
     ensures bytes { IsNodeOfBytes node.new.live }
 {
@@ -70,6 +73,7 @@ fn put_last<O: Write>(alloc: Global, node: &mut Node, out: &mut O) -> Result<(),
     requires bytes { IsNodeOfBytes node.old.live }
     ensures printed { OnOk result (Appends (O.contents out.old) (O.contents out.new) (last_text node.old.live)) }
     ensures front { AppendsFront (O.contents out.old) (O.contents out.new) (last_text node.old.live) }
+    ensures refused { IfErr result IsLineFault }
 {
     match trace_step(node) {
         Some(_) => Ok(()),
@@ -88,6 +92,7 @@ fn put_steps<O: Write>(
     requires bytes { IsNodeOfBytes node.old.live }
     ensures printed { OnOk result (Appends (O.contents out.old) (O.contents out.new) (traced steps 1 node.old.live)) }
     ensures front { AppendsFront (O.contents out.old) (O.contents out.new) (traced steps 1 node.old.live) }
+    ensures refused { IfErr result IsLineFault }
 {
     for index in 0..steps {
         if !put_next(alloc, node, u64::from(index) + 1, out)? {
@@ -99,9 +104,7 @@ fn put_steps<O: Write>(
 
 /// Traces the node of an image.
 fn trace<O: Write>(alloc: Global, image: &[u8], steps: u32, out: &mut O) -> Result<(), Refusal>
-    ensures done { OnOk result (Traces image.now steps (O.contents out.old) (O.contents out.new)) }
-    ensures front { TracesFront image.now steps (O.contents out.old) (O.contents out.new) }
-    ensures refused { fresh_image image.now ≡ None → (IsErr result) × (O.contents out.new ≡ O.contents out.old) }
+    ensures { TraceAnswer image.now steps (O.contents out.old) (O.contents out.new) result }
 {
     match lone_node(alloc, image) {
         Ok(mut node) => put_steps(alloc, &mut node, steps, out),

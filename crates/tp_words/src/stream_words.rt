@@ -108,7 +108,7 @@ const STREAM: Form = Form {
         ),
         Word::Flag(
             "progress",
-            "say on standard error how far it has come, each 10 seconds, also while it waits for input",
+            "say on standard error how far it has come, each 10 seconds, as on a terminal in any case",
         ),
         Word::Value("progress-every", "S", "say so each S seconds, 1 to 3600"),
         Word::Value(

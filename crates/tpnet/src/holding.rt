@@ -11,7 +11,7 @@ const TRIES: u64 = 20;
 /// How many milliseconds lie between two of them.
 const PAUSE: u64 = 1000 / TRIES;
 
-/// Takes the lock of a file, and tries again for so many seconds while another process has it, once at least: one that only looks at it has
+/// Takes the lock of a file, and tries again for `seconds` while another process has it, once at least: one that only looks at it has
 /// it for less than the pause. A file of a system that knows no locks has none.
 fn lock_file<R: Clock>(rt: &R, file: &File, seconds: u32) -> Result<(), InUse> {
     for turn in 0..=(u64::from(seconds) * TRIES).max(1) {

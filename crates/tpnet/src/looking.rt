@@ -3,20 +3,22 @@
 use std::time::Clock;
 use tp_stream_files::{Onlooker, Times};
 
-/// Goes by the system's clock, and was told whether standard error is a terminal.
+/// Goes by the system's clock, and was told whether standard error and standard output are terminals.
 #[derive(Drop)]
 pub(crate) struct Looker<'a, R> {
     rt: &'a R,
     is_terminal: bool,
+    is_output_terminal: bool,
     times: Times,
 }
 
 impl<'a, R> Looker<'a, R> {
     /// No time was asked for.
-    pub(crate) fn new(rt: &'a R, is_terminal: bool) -> Looker<'a, R> {
+    pub(crate) fn new(rt: &'a R, is_terminal: bool, is_output_terminal: bool) -> Looker<'a, R> {
         Looker {
             rt,
             is_terminal,
+            is_output_terminal,
             times: Times::new(),
         }
     }
@@ -33,6 +35,10 @@ fn millis<R: Clock>(rt: &R) -> u64 {
 impl<'a, R: Clock> Onlooker for Looker<'a, R> {
     ghost times = { λ looker. looker.times.told };
 
+    ghost terminal = { λ looker. looker.is_terminal };
+
+    ghost output_terminal = { λ looker. looker.is_output_terminal };
+
     fn now(&mut self) -> u64 {
         let now = millis(self.rt);
         self.times = self.times.answered(now);
@@ -41,5 +47,9 @@ impl<'a, R: Clock> Onlooker for Looker<'a, R> {
 
     fn is_terminal(&self) -> bool {
         self.is_terminal
+    }
+
+    fn is_output_terminal(&self) -> bool {
+        self.is_output_terminal
     }
 }

@@ -46,7 +46,7 @@ fn main(rt: HostRuntime) -> ExitCode {
     let locks = SystemLocks::new(&rt);
     if is_stream(words.as_slice()) {
         let mut feed = Late::new(rt);
-        let mut looker = Looker::new(&rt, err.is_terminal());
+        let mut looker = Looker::new(&rt, err.is_terminal(), out.is_terminal());
         let status = answer_stream_locking(
             &rt,
             locks,
