@@ -32,7 +32,7 @@ CarriedOut keeps history (Compact device wait_lock) old new was now status = Com
 CarriedOut keeps history (Help text) old new was now status = Helped (string_bytes text) old new was now status
 CarriedOut keeps history _ old new was now status = new ≡ old
 
--- The same, or it was refused before.
+-- What was asked for was done, or it was refused before.
 abbrev pub AnsweredHeld : (keeps : Type 0) → History → Asked → (old new : List DeviceCall) → (was now : Option (List ℕ)) → ℕ → Type 0
 AnsweredHeld keeps history asked old new was now status = WasRefused old new was now status ⊎ CarriedOut keeps history asked old new was now status
 

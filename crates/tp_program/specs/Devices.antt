@@ -2,7 +2,7 @@
 use Rattle.std.specs.Prelude.{◌≡◌, ◌≤◌, ℕ, Bool, List, [], ◌∷◌, ◌++◌, Option}
 use Rattle.tp_model.specs.DiskHistory.{State}
 
--- The device at a path was asked for, for so many seconds while another process had it, and it was got or not. Or it was opened, or one was
+-- The device at a path was asked for, for some seconds while another process had it, and it was got or not. Or it was opened, or one was
 -- given back; and what had become of it then.
 pub data DeviceCall : Type 0 where
   Holds : (path : List ℕ) → (seconds : ℕ) → (ok : Bool) → DeviceCall

@@ -33,7 +33,7 @@ impl DeviceCalls {
         DeviceCalls::of(&())
     }
 
-    /// The device at a path was asked for, for so many seconds while another process had it, and got or not.
+    /// The device at a path was asked for, for `seconds` while another process had it, and got or not.
     pub(crate) fn held(&self, path: &str, seconds: u32, ok: bool) -> DeviceCalls
         ensures { result.told ≡ self.now.told ++ Holds path.now seconds ok ∷ [] }
     {

@@ -24,7 +24,7 @@ pub trait Devices {
     /// The path of the device that is held: no other process has it. No call lets it go.
     ghost held: { Self → Option (List ℕ) };
 
-    /// Asks for the device at a path, and again for so many seconds while another process has it. Once it is got, it is held.
+    /// Asks for the device at a path, and again for `seconds` while another process has it. Once it is got, it is held.
     fn hold(&mut self, path: &str, seconds: u32) -> Result<(), InUse>
         ensures noted { calls self.new ≡ calls self.old ++ Holds path.now seconds (is_ok result) ∷ [] }
         ensures got { OnOk result (held self.new ≡ Some path.now) };

@@ -32,7 +32,7 @@ impl<K: Drop> Held<K> {
 pub trait Locks {
     type Lock: Drop;
 
-    /// Takes the lock of the device's file at a path, and tries again for so many seconds while another process has it.
+    /// Takes the lock of the device's file at a path, and tries again for `seconds` while another process has it.
     fn take(&mut self, path: &str, seconds: u32) -> Result<Held<Self::Lock>, InUse>
         ensures { IfOk result (λ held. path_held held.noted.told ≡ path.now) };
 }

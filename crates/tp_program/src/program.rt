@@ -262,7 +262,7 @@ fn answer_untold<
     answer_over(rt, devices, watch, words, out, err)
 }
 
-/// The same with the devices in files of the system, whose locks `locks` takes.
+/// As above, with the devices in files of the system, whose locks `locks` takes.
 pub fn answer_locking<
     R: Files<File = F> + AllocGlobal + Threads + Wait + Sync,
     F: FileExt + OpenFile + Drop + Send,
@@ -278,7 +278,7 @@ pub fn answer_locking<
     answer_untold(rt, &mut devices, watch, words, out, err)
 }
 
-/// The same where nobody else has a device, and `status` takes one look.
+/// As above, where nobody else has a device, and `status` takes one look.
 pub fn answer<
     R: Files<File = F> + AllocGlobal + Threads + Wait + Sync,
     F: FileExt + OpenFile + Drop + Send,
