@@ -81,8 +81,7 @@ fn is_stream_refused<R: Files<File = F> + AllocGlobal + Wait, F: FileExt + OpenF
     };
     let mut screen = Screen::new(false, false);
     let words = line.as_slice();
-    let status =
-        answer_stream_locking(rt, Busy, words, &mut feed, &mut out, &mut err, &mut screen);
+    let status = answer_stream_locking(rt, Busy, words, &mut feed, &mut out, &mut err, &mut screen);
     Ok(Output { status, out, err }.is(1, "", IN_USE) && !feed.was_asked)
 }
 
