@@ -70,7 +70,9 @@ fn task_of(asked: &StreamRun) -> Task
 
 /// The task, where standard error may be a terminal: there it is told how far the stream has come, whatever was typed.
 fn shown_on(task: Task, on_terminal: bool) -> Task
+    requires { task.quantum ≤ MAX_STEPS }
     ensures value { result ≡ shown_on on_terminal task }
+    ensures quantum { result.quantum ≤ MAX_STEPS }
 {
     Task {
         tells: task.tells || on_terminal,
