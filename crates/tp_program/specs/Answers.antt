@@ -1,5 +1,5 @@
 -- What the program does for the words of a command line.
-use Rattle.std.specs.Prelude.{◌≡◌, ◌⊎◌, ◌≤◌, ℕ, List, Option, string_bytes}
+use Rattle.std.specs.Prelude.{◌≡◌, ◌⊎◌, ◌≤◌, ◌++◌, ◌∷◌, ℕ, Bool, true, false, List, [], Option, Some, string_bytes}
 use Rattle.std.specs.Io.KnownBytes.{Appends}
 use Rattle.std.specs.declared.alloc.Global.{Global}
 use Rattle.std.specs.declared.string.String.{String}
@@ -8,14 +8,15 @@ use Rattle.tp_words.specs.Args.{WasTyped}
 use Rattle.tp_words.specs.BackupArgs.{WasBackupTyped}
 use Rattle.tp_words.specs.StreamArgs.{WasStreamTyped}
 use Rattle.tp_words.specs.declared.args.Asked.{Asked}
-use Rattle.tp_words.specs.declared.args.Asked.TheVariants.{Help, Run as Runs, Compact}
+use Rattle.tp_words.specs.declared.args.Asked.TheVariants.{Help, Format, Run as Runs, Compact}
 use Rattle.tp_words.specs.declared.backup_args.BackupAsked.{BackupAsked}
 use Rattle.tp_words.specs.declared.backup_args.BackupAsked.TheVariants.{Help as BackupHelp, Make}
 use Rattle.tp_words.specs.declared.stream_args.StreamAsked.{StreamAsked}
 use Rattle.tp_words.specs.declared.stream_args.StreamAsked.TheVariants.{Help as StreamHelp, Run as Streams}
+use Rattle.tp_words.specs.declared.stream_args.StreamRun.{StreamRun}
 use Rattle.tp_program.specs.Backups.{PrintsCopied}
 use Rattle.tp_program.specs.CompactFile.{CompactedFile}
-use Rattle.tp_program.specs.Devices.{DeviceCall, WasRefused}
+use Rattle.tp_program.specs.Devices.{DeviceCall, Holds, WasRefused}
 use Rattle.tp_program.specs.RunFile.{RanFile}
 use Rattle.tp_program.specs.StreamFile.{StreamedFile}
 
@@ -31,9 +32,30 @@ CarriedOut keeps history (Compact device wait_lock) old new was now status = Com
 CarriedOut keeps history (Help text) old new was now status = Helped (string_bytes text) old new was now status
 CarriedOut keeps history _ old new was now status = new ≡ old
 
--- The same, or it was refused before.
+-- What was asked for was done, or it was refused before.
+abbrev pub AnsweredHeld : (keeps : Type 0) → History → Asked → (old new : List DeviceCall) → (was now : Option (List ℕ)) → ℕ → Type 0
+AnsweredHeld keeps history asked old new was now status = WasRefused old new was now status ⊎ CarriedOut keeps history asked old new was now status
+
+-- the call that asks for the device that is to be written, where one is, for as many seconds as are asked for
+abbrev pub asking_for : Asked → Bool → List DeviceCall
+asking_for (Format new) ok = Holds (string_bytes new.device) new.wait_lock ok ∷ []
+asking_for (Runs run) ok = Holds (string_bytes run.device) run.wait_lock ok ∷ []
+asking_for (Compact device wait_lock) ok = Holds (string_bytes device) wait_lock ok ∷ []
+asking_for _ ok = []
+
+-- The device that is to be written, where one is, is held.
+abbrev pub HoldsWritten : Asked → (held : Option (List ℕ)) → Type 0
+HoldsWritten (Format new) held = held ≡ Some (string_bytes new.device)
+HoldsWritten (Runs run) held = held ≡ Some (string_bytes run.device)
+HoldsWritten (Compact device wait_lock) held = held ≡ Some (string_bytes device)
+HoldsWritten _ held = Unit {0}
+
+-- Another process had the device that is to be written, and it was refused. Or it was got, where one is to be written, before all else; and
+-- then it was refused, or what was asked for was done.
 abbrev pub AnsweredAs : (keeps : Type 0) → History → Asked → (old new : List DeviceCall) → (was now : Option (List ℕ)) → ℕ → Type 0
-AnsweredAs keeps history asked old new was now status = WasRefused old new was now status ⊎ CarriedOut keeps history asked old new was now status
+AnsweredAs keeps history asked old new was now status =
+    WasRefused (old ++ asking_for asked false) new was now status
+    ⊎ AnsweredHeld keeps history asked (old ++ asking_for asked true) new was now status
 
 -- What `backup` printed that was asked for.
 abbrev pub BackedUp : BackupAsked → (was now : Option (List ℕ)) → ℕ → Type 0
@@ -60,17 +82,24 @@ abbrev pub Answered : (keeps : Type 0) → History → List (String Global) → 
 Answered keeps history words old new was now status =
     WasRefused old new was now status ⊎ (IsOfBackup words old new was now status ⊎ DidAsked keeps history words old new was now status)
 
+-- Another process had the device, and it was refused, before anything was read of standard input (`unread`). Or it was got, before all else;
+-- and then it was streamed.
+abbrev pub StreamedHeld : (keeps : Type 0) → History → (unread : Type 0) → StreamRun → (old new : List DeviceCall) → (was now : Option (List ℕ)) → ℕ → Type 0
+StreamedHeld keeps history unread run old new was now status =
+    WasRefused (old ++ Holds (string_bytes run.device) run.wait_lock false ∷ []) new was now status × unread
+    ⊎ StreamedFile keeps history run (old ++ Holds (string_bytes run.device) run.wait_lock true ∷ []) new was now status
+
 -- What a command line with `--stream` did that was asked for.
-abbrev pub StreamCarriedOut : (keeps : Type 0) → History → StreamAsked → (old new : List DeviceCall) → (was now : Option (List ℕ)) → ℕ → Type 0
-StreamCarriedOut keeps history (StreamHelp text) old new was now status = Helped (string_bytes text) old new was now status
-StreamCarriedOut keeps history (Streams run) old new was now status = StreamedFile keeps history run old new was now status
+abbrev pub StreamCarriedOut : (keeps : Type 0) → History → (unread : Type 0) → StreamAsked → (old new : List DeviceCall) → (was now : Option (List ℕ)) → ℕ → Type 0
+StreamCarriedOut keeps history unread (StreamHelp text) old new was now status = Helped (string_bytes text) old new was now status
+StreamCarriedOut keeps history unread (Streams run) old new was now status = StreamedHeld keeps history unread run old new was now status
 
 -- The words were read so, and that was done.
-pub record DidStreamAsked (keeps : Type 0) (history : History) (words : List (String Global)) (old new : List DeviceCall) (was now : Option (List ℕ)) (status : ℕ) : Type 0 where
+pub record DidStreamAsked (keeps : Type 0) (history : History) (unread : Type 0) (words : List (String Global)) (old new : List DeviceCall) (was now : Option (List ℕ)) (status : ℕ) : Type 0 where
   pub asked : StreamAsked
   pub typed : WasStreamTyped words asked
-  pub did : StreamCarriedOut keeps history asked old new was now status
+  pub did : StreamCarriedOut keeps history unread asked old new was now status
 
 -- What the program did for the words of a command line with `--stream`: it was refused, or they were read so, and that was done.
-abbrev pub StreamAnswered : (keeps : Type 0) → History → List (String Global) → (old new : List DeviceCall) → (was now : Option (List ℕ)) → ℕ → Type 0
-StreamAnswered keeps history words old new was now status = WasRefused old new was now status ⊎ DidStreamAsked keeps history words old new was now status
+abbrev pub StreamAnswered : (keeps : Type 0) → History → (unread : Type 0) → List (String Global) → (old new : List DeviceCall) → (was now : Option (List ℕ)) → ℕ → Type 0
+StreamAnswered keeps history unread words old new was now status = WasRefused old new was now status ⊎ DidStreamAsked keeps history unread words old new was now status

@@ -1,13 +1,22 @@
--- Devices that were opened to be written, and given back.
-use Rattle.std.specs.Prelude.{◌≡◌, ◌≤◌, ℕ, List, [], ◌∷◌, ◌++◌, Option}
+-- Devices that were asked for, opened to be written, and given back.
+use Rattle.std.specs.Prelude.{◌≡◌, ◌≤◌, ℕ, Bool, List, [], ◌∷◌, ◌++◌, Option}
 use Rattle.tp_model.specs.DiskHistory.{State}
 
--- The device at a path was opened, or one was given back; and what had become of it then.
+-- The device at a path was asked for, for some seconds while another process had it, and it was got or not. Or it was opened, or one was
+-- given back; and what had become of it then.
 pub data DeviceCall : Type 0 where
+  Holds : (path : List ℕ) → (seconds : ℕ) → (ok : Bool) → DeviceCall
   Opens : (path : List ℕ) → (state : State) → DeviceCall
   Closes : (state : State) → DeviceCall
 
--- It was refused: no device was opened, and nothing printed.
+-- the path that the first of some calls asked for
+abbrev pub path_held : List DeviceCall → List ℕ
+path_held [] = []
+path_held (Holds path seconds ok ∷ calls) = path
+path_held (Opens path state ∷ calls) = []
+path_held (Closes state ∷ calls) = []
+
+-- It was refused: no device was asked for or opened, and nothing printed.
 pub record WasRefused (old new : List DeviceCall) (was now : Option (List ℕ)) (status : ℕ) : Type 0 where
   pub refused : 1 ≤ status
   pub unopened : new ≡ old

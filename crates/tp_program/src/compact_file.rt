@@ -1,6 +1,6 @@
 //! `tpnet compact`, on a device's file.
 
-ghost use Rattle.std.specs.Prelude.{◌≤◌, string_bytes};
+ghost use Rattle.std.specs.Prelude.{◌≡◌, ◌≤◌, Some, string_bytes};
 ghost use Rattle.tp_run.specs.Ran.{History};
 ghost use Rattle.tp_program.specs.CompactFile.{CompactedFile};
 
@@ -13,7 +13,7 @@ use std::sync::Wait;
 use tp_disk::Disk;
 use tp_views::{Refusal, is_device_file, refuse};
 
-/// `tpnet compact`, on a device's file, which is opened as it is, and keeps its length. What the system said of a call on it that failed
+/// `tpnet compact`, on a device's file, which is held. It is opened as it is, and keeps its length. What the system said of a call on it that failed
 /// is put into `system`.
 pub(crate) fn compact_file<
     R: Files + AllocGlobal + Wait,
@@ -30,6 +30,7 @@ pub(crate) fn compact_file<
     err: &mut E,
 ) -> u8
     ghost history: { History }
+    requires { S.held devices.old ≡ Some (string_bytes device.now) }
     ensures few { result ≤ 1 }
     ensures compacted { CompactedFile D.keeps history (string_bytes device.now) (S.calls devices.old) (S.calls devices.new) (O.contents out.old) (O.contents out.new) result }
 {

@@ -1,8 +1,8 @@
-//! Which devices were opened and given back, as contracts alone see it.
+//! Which devices were asked for, opened and given back, as contracts alone see it.
 
 ghost use Rattle.std.specs.Prelude.{◌≡◌, List, [], ◌∷◌, ◌++◌};
 ghost use Rattle.std.specs.Borrow.{ftrue};
-ghost use Rattle.tp_program.specs.Devices.{DeviceCall, Opens, Closes};
+ghost use Rattle.tp_program.specs.Devices.{DeviceCall, Holds, Opens, Closes};
 
 use std::marker::Model;
 use tp_disk::Disk;
@@ -26,11 +26,18 @@ impl DeviceCalls {
         DeviceCalls {}
     }
 
-    /// No device was opened.
+    /// No device was asked for.
     pub(crate) fn new() -> DeviceCalls
         ensures { result.told ≡ [] }
     {
         DeviceCalls::of(&())
+    }
+
+    /// The device at a path was asked for, for `seconds` while another process had it, and got or not.
+    pub(crate) fn held(&self, path: &str, seconds: u32, ok: bool) -> DeviceCalls
+        ensures { result.told ≡ self.now.told ++ Holds path.now seconds ok ∷ [] }
+    {
+        DeviceCalls::of(&(self, path, seconds, ok))
     }
 
     /// The device at a path was opened.

@@ -1,10 +1,12 @@
-//! The devices that commands write: who opens them, and takes them back.
+//! The devices that commands write: who holds them, opens them, and takes them back.
 
-ghost use Rattle.std.specs.Prelude.{◌≡◌, List, [], ◌∷◌, ◌++◌, IfOk, OnErr};
-ghost use Rattle.tp_program.specs.Devices.{DeviceCall, Opens, Closes};
+ghost use Rattle.std.specs.Prelude.{◌≡◌, ℕ, List, [], ◌∷◌, ◌++◌, Option, Some, None, is_ok, IfOk, OnOk, OnErr};
+ghost use Rattle.std.specs.Option.{option_map};
+ghost use Rattle.tp_program.specs.Devices.{DeviceCall, Holds, Opens, Closes, path_held};
 
 use crate::device_calls::DeviceCalls;
 use crate::files::read_refusal;
+use crate::locks::{Held, InUse, Locks};
 use std::fs::{Files, OpenFile};
 use std::io;
 use std::io::Write;
@@ -12,48 +14,80 @@ use std::os::unix::fs::FileExt;
 use tp_disk::{Counted, Disk, NotedFile, RawFile};
 use tp_views::refuse;
 
-/// Opens devices to be written, and takes them back.
+/// Holds devices, opens them to be written, and takes them back.
 pub trait Devices {
     type Device: Disk + Drop;
 
-    /// Which were opened and given back, and what had become of each then, the oldest first.
+    /// Which were asked for, opened and given back, and what had become of each then, the oldest first.
     ghost calls: { Self → List DeviceCall };
 
-    /// Opens the device at a path, as it is.
+    /// The path of the device that is held: no other process has it. No call lets it go.
+    ghost held: { Self → Option (List ℕ) };
+
+    /// Asks for the device at a path, and again for `seconds` while another process has it. Once it is got, it is held.
+    fn hold(&mut self, path: &str, seconds: u32) -> Result<(), InUse>
+        ensures noted { calls self.new ≡ calls self.old ++ Holds path.now seconds (is_ok result) ∷ [] }
+        ensures got { OnOk result (held self.new ≡ Some path.now) };
+
+    /// Opens the device at a path, which is held, as it is.
     fn open(&mut self, path: &str) -> io::Result<Self::Device>
+        requires { held self.old ≡ Some path.now }
         ensures opened { IfOk result (λ device. calls self.new ≡ calls self.old ++ Opens path.now (Self.Device.state device) ∷ []) }
-        ensures refused { OnErr result (calls self.new ≡ calls self.old) };
+        ensures refused { OnErr result (calls self.new ≡ calls self.old) }
+        ensures kept { held self.new ≡ held self.old };
 
     /// Takes a device back. Answers what the system said of the last call of it that failed.
     fn close(&mut self, device: Self::Device) -> Option<io::Error>
-        ensures { calls self.new ≡ calls self.old ++ Closes (Self.Device.state device) ∷ [] };
+        ensures noted { calls self.new ≡ calls self.old ++ Closes (Self.Device.state device) ∷ [] }
+        ensures kept { held self.new ≡ held self.old };
 }
 
 /// The devices in files of the system.
 ///
 /// That each method here makes the one call that it notes is held by reading alone: no contract can say what a file takes.
 #[derive(Drop)]
-pub struct FileDevices<'r, R> {
+pub struct FileDevices<'r, R, L: Drop, K: Drop> {
     rt: &'r R,
+    locks: L,
+    /// The lock of the device that is held, until all is let go.
+    held: Option<Held<K>>,
     noted: DeviceCalls,
 }
 
-impl<'r, R> FileDevices<'r, R> {
-    /// No device was opened.
-    pub fn new(rt: &'r R) -> FileDevices<'r, R>
-        ensures { result.noted.told ≡ [] }
+impl<'r, R, L: Drop, K: Drop> FileDevices<'r, R, L, K> {
+    /// No device was asked for.
+    pub fn new(rt: &'r R, locks: L) -> FileDevices<'r, R, L, K>
+        ensures none { result.noted.told ≡ [] }
+        ensures free { result.held ≡ None }
     {
         FileDevices {
             rt,
+            locks,
+            held: None,
             noted: DeviceCalls::new(),
         }
     }
 }
 
-impl<'r, R: Files<File = F>, F: FileExt + OpenFile + Drop> Devices for FileDevices<'r, R> {
+impl<
+    'r,
+    R: Files<File = F>,
+    F: FileExt + OpenFile + Drop,
+    L: Locks<Lock = K> + Drop,
+    K: Drop,
+> Devices for FileDevices<'r, R, L, K> {
     type Device = Counted<RawFile<NotedFile<F>>>;
 
     ghost calls = { λ devices. devices.noted.told };
+
+    ghost held = { λ devices. option_map (λ held. path_held held.noted.told) devices.held };
+
+    fn hold(&mut self, path: &str, seconds: u32) -> Result<(), InUse> {
+        let taken = self.locks.take(path, seconds);
+        self.noted = self.noted.held(path, seconds, taken.is_ok());
+        self.held = Some(taken?);
+        Ok(())
+    }
 
     fn open(&mut self, path: &str) -> io::Result<Counted<RawFile<NotedFile<F>>>> {
         let device = Counted::open(self.rt, path)?;

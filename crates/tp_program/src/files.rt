@@ -1,12 +1,7 @@
-//! The commands on files.
+//! The commands on files that write no device.
 
-ghost use Rattle.std.specs.Prelude.{◌≡◌, ◌≤◌, true, IfErr, IfSome};
-ghost use Rattle.tp_model.specs.Device.{areas_end};
-ghost use Rattle.tp_model.specs.Head.{areas_of_length};
-ghost use Rattle.tp_model.specs.Topology.{is_topology};
-ghost use Rattle.tp_words.specs.declared.args.TheConstants.{MAX_AREA};
+ghost use Rattle.std.specs.Prelude.{◌≡◌, ◌≤◌, IfErr};
 
-use crate::formatting::format_on;
 use crate::watching::Watch;
 use std::alloc::Global;
 use std::fs::{Files, OpenFile};
@@ -14,16 +9,13 @@ use std::io::Write;
 use std::os::unix::fs::FileExt;
 use std::thread::Threads;
 use std::{fs, io};
-use tp_area::{head_length, version_for};
-use tp_disk::{Counted, NewDisk, NotedFile, RawFile};
-use tp_model::HeadVersion;
+use tp_disk::{Counted, NotedFile, RawFile};
 use tp_net::{Named, Topology};
-use tp_stream_files::is_one_file;
 use tp_views::{
     Refusal, Seen, check_on, is_device_file, recover_on, refuse, show_on, status_on, trace_on,
     try_on, view_on,
 };
-use tp_words::{NewDevice, View};
+use tp_words::View;
 
 /// Why a file wasn't read.
 pub(crate) fn read_refusal(error: &io::Error) -> Refusal {
@@ -71,7 +63,7 @@ pub(crate) fn read_file<R: Files + AllocGlobal>(rt: &R, path: &str) -> Result<Ve
 }
 
 /// The path of a node's image.
-fn image_path(alloc: Global, folder: &str, name: &str) -> Result<String, Refusal> {
+pub(crate) fn image_path(alloc: Global, folder: &str, name: &str) -> Result<String, Refusal> {
     match format!(in alloc; "{folder}/{name}.img") {
         Ok(path) => Ok(path),
         Err(_) => Err(Refusal::Memory),
@@ -94,87 +86,8 @@ fn read_images<R: Files + AllocGlobal>(
     Ok(images)
 }
 
-/// The path of the first image whose file is the device's.
-fn image_replaced<R: Files + AllocGlobal>(
-    rt: &R,
-    new: &NewDevice,
-    names: &[&str],
-) -> Result<Option<String>, Refusal> {
-    for node in names {
-        let path = image_path(rt.alloc(), new.images.as_str(), node)?;
-        if is_one_file(rt, new.device.as_str(), path.as_str()) {
-            return Ok(Some(path));
-        }
-    }
-    Ok(None)
-}
-
-/// Says that the device would replace a file that it is made from. Answers the status. A failed write is let go.
-fn refuse_source<E: Write>(err: &mut E, device: &str, what: &str, path: &str) -> u8
-    ensures { result ≡ 2 }
-{
-    let _ = write!(
-        err,
-        "tpnet: DEVICE {device} is the file of the {what} {path}: name another file for the device; nothing was written\n"
-    );
-    2
-}
-
-/// Says which of the files that a device is made from it would replace. Answers the status; none where each stays.
-fn refuse_sources<R: Files + AllocGlobal, E: Write>(
-    rt: &R,
-    new: &NewDevice,
-    names: &[&str],
-    err: &mut E,
-) -> Option<u8>
-    ensures { IfSome result (λ status. status ≤ 2) }
-{
-    let (device, topology) = (new.device.as_str(), new.topology.as_str());
-    if is_one_file(rt, device, topology) {
-        return Some(refuse_source(err, device, "topology", topology));
-    }
-    match image_replaced(rt, new, names) {
-        Ok(Some(path)) => Some(refuse_source(err, device, "image", path.as_str())),
-        Ok(None) => None,
-        Err(refusal) => Some(refuse(err, refusal)),
-    }
-}
-
-/// Why a device wasn't made.
-fn making_refusal(error: &io::Error) -> Refusal {
-    match error.kind() {
-        io::ErrorKind::AlreadyExists => Refusal::DeviceExists,
-        _ => Refusal::DeviceFailed,
-    }
-}
-
-/// How many bytes a device has, with a head of a version and two areas of `area` bytes.
-fn device_length(version: HeadVersion, area: u64) -> u64
-    requires { area ≤ MAX_AREA }
-    ensures { result ≡ areas_end (areas_of_length version area) }
-{
-    head_length(version) as u64 + 2 * area
-}
-
-/// A device that has room for the head of its topology and two areas, in a file that is made for it, or in one that is there.
-fn new_disk<R: Files<File = F>, F: FileExt + OpenFile + Drop>(
-    rt: &R,
-    new: &NewDevice,
-    topology: &Topology,
-) -> io::Result<NewDisk<F>>
-    requires { new.now.area ≤ MAX_AREA }
-{
-    let size = device_length(version_for(topology), new.area);
-    let path = new.device.as_str();
-    if new.only_new {
-        NewDisk::create_new(rt, path, size)
-    } else {
-        NewDisk::create(rt, path, size)
-    }
-}
-
 /// What is formatted: the topology, and the image of each node.
-fn read_network<'a, R: Files + AllocGlobal>(
+pub(crate) fn read_network<'a, R: Files + AllocGlobal>(
     rt: &R,
     text: &'a [u8],
     folder: &str,
@@ -182,76 +95,6 @@ fn read_network<'a, R: Files + AllocGlobal>(
     let named = Topology::read_named(rt.alloc(), text)?;
     let images = read_images(rt, folder, named.names.as_slice())?;
     Ok((named, images))
-}
-
-/// Formats the device of this network. What the system said of a call that failed is put into `system`.
-fn format_network<
-    R: Files<File = F> + AllocGlobal,
-    F: FileExt + OpenFile + Drop,
-    O: Write,
-    E: Write,
->(
-    rt: &R,
-    new: &NewDevice,
-    topology: &Topology,
-    images: &[Vec<u8>],
-    system: &mut Option<io::Error>,
-    out: &mut O,
-    err: &mut E,
-) -> u8
-    requires area { new.now.area ≤ MAX_AREA }
-    requires valid { is_topology topology.now ≡ true }
-    ensures { result ≤ 1 }
-{
-    if !new.only_new && !is_device_file(rt, new.device.as_str()) {
-        return refuse(err, Refusal::DeviceFailed);
-    }
-    match new_disk(rt, new, topology) {
-        Ok(mut disk) => {
-            let status = format_on(rt.alloc(), &mut disk, topology, images, new.area, out, err);
-            *system = disk.into_raw().into_failure();
-            status
-        }
-        Err(error) => {
-            let refusal = making_refusal(&error);
-            *system = Some(error);
-            refuse(err, refusal)
-        }
-    }
-}
-
-/// `tpnet format`, on files. A file that is there stays as it is until nothing is left to refuse; the topology's and the images' files
-/// always do.
-pub fn format_file<
-    R: Files<File = F> + AllocGlobal,
-    F: FileExt + OpenFile + Drop,
-    O: Write,
-    E: Write,
->(rt: &R, new: &NewDevice, system: &mut Option<io::Error>, out: &mut O, err: &mut E) -> u8
-    requires { new.now.area ≤ MAX_AREA }
-    ensures { result ≤ 2 }
-{
-    let text = match read_file(rt, new.topology.as_str()) {
-        Ok(text) => text,
-        Err(refusal) => return refuse(err, refusal),
-    };
-    let (named, images) = match read_network(rt, text.as_slice(), new.images.as_str()) {
-        Ok(network) => network,
-        Err(refusal) => return refuse(err, refusal),
-    };
-    if let Some(status) = refuse_sources(rt, new, named.names.as_slice(), err) {
-        return status;
-    }
-    let _rules = named.topology.pages();
-    format_network(
-        rt,
-        new,
-        &named.topology,
-        images.as_slice(),
-        system,
-        out,
-        err,
-    )
 }
 
 /// `tpnet check`, on files. Nothing is written.

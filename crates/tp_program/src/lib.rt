@@ -10,8 +10,10 @@ mod compacting;
 mod device_calls;
 mod devices;
 mod files;
+mod format_file;
 mod formatting;
 mod in_use;
+mod locks;
 mod program;
 mod run_file;
 mod running;
@@ -26,10 +28,11 @@ pub use compacting::compact_on;
 pub use devices::{Devices, FileDevices};
 pub use formatting::format_on;
 pub use in_use::refuse_in_use;
-pub use program::{answer, answer_over, answer_watching};
+pub use locks::{Held, InUse, Locks, NoLock, NoLocks};
+pub use program::{answer, answer_locking, answer_over};
 pub use running::run_on;
 pub use stop_file::StopFault;
-pub use stream_program::{answer_stream, answer_stream_over};
+pub use stream_program::{answer_stream, answer_stream_locking, answer_stream_over};
 pub use streaming::{FilesFault, Streamed, stream_on};
 pub use tp_views::{
     Seen, TRY_QUANTUM, check_on, is_device_file, recover_on, show_on, status_on, trace_on, try_on,

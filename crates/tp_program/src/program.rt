@@ -1,16 +1,19 @@
 //! What the program does for the words of its command line.
 
-ghost use Rattle.std.specs.Prelude.{◌≡◌, ◌≤◌};
+ghost use Rattle.std.specs.Prelude.{◌≡◌, ◌≤◌, ◌++◌, is_ok, OnOk};
 ghost use Rattle.tp_run.specs.Ran.{History};
 ghost use Rattle.tp_words.specs.Args.{IsInRange};
-ghost use Rattle.tp_program.specs.Answers.{Answered, AnsweredAs, CarriedOut};
+ghost use Rattle.tp_program.specs.Answers.{Answered, AnsweredAs, AnsweredHeld, CarriedOut, HoldsWritten, asking_for};
 
 use crate::backup_program::answer_backup;
 use crate::compact_file::compact_file;
 use crate::devices::{Devices, FileDevices};
 use crate::files::{
-    check_file, format_file, recover_file, show_file, status_file, trace_file, try_file, view_file,
+    check_file, recover_file, show_file, status_file, trace_file, try_file, view_file,
 };
+use crate::format_file::format_file;
+use crate::in_use::refuse_in_use;
+use crate::locks::{InUse, Locks, NoLocks};
 use crate::run_file::run_file;
 use crate::watching::{OneLook, Watch};
 use std::fs::{Files, OpenFile};
@@ -25,7 +28,7 @@ use tp_views::{explain, print_help, tell_halted};
 use tp_words::{Asked, has_word, is_backup, read_args};
 
 /// Does what was asked for. Answers the program's status: 0 where it was done, 1 where it was refused, 2 where a node or port
-/// isn't there. What the system said of a call on a device that failed is put into `system`.
+/// isn't there. The device that is to be written is held. What the system said of a call on a device that failed is put into `system`.
 fn carry_out<
     R: Files<File = F> + AllocGlobal + Threads + Wait + Sync,
     F: FileExt + OpenFile + Drop,
@@ -44,7 +47,8 @@ fn carry_out<
     err: &mut E,
 ) -> u8
     ghost history: { History }
-    requires { IsInRange asked.now }
+    requires range { IsInRange asked.now }
+    requires held { HoldsWritten asked.now (S.held devices.old) }
     ensures few { result ≤ 2 }
     ensures done { CarriedOut D.keeps history asked.now (S.calls devices.old) (S.calls devices.new) (O.contents out.old) (O.contents out.new) result }
 {
@@ -52,7 +56,7 @@ fn carry_out<
         Asked::Help(text) => print_help(text.as_str(), out, err),
         Asked::Try { image, turns } => try_file(rt, image.as_str(), *turns, out, err),
         Asked::Trace { image, steps } => trace_file(rt, image.as_str(), *steps, out, err),
-        Asked::Format(new) => format_file(rt, new, system, out, err),
+        Asked::Format(new) => format_file(rt, devices, new, system, out, err),
         Asked::Run(run) => run_file(rt, devices, run, system, out, err),
         Asked::Compact { device, .. } => compact_file(rt, devices, device, system, out, err),
         Asked::Recover { device, workers } => {
@@ -132,7 +136,61 @@ fn say_more<R: Files<File = F> + AllocGlobal, F: FileExt + OpenFile + Drop, E: W
     }
 }
 
-/// Does what was asked for, unless what is printed would be written over the device. Answers the program's status.
+/// Does what was asked for, unless what is printed would be written over the device. The device that is to be written is held. Answers the
+/// program's status.
+fn answer_held<
+    R: Files<File = F> + AllocGlobal + Threads + Wait + Sync,
+    F: FileExt + OpenFile + Drop,
+    S: Devices<Device = D>,
+    D: Disk + Drop + Send,
+    W: Watch,
+    O: Write,
+    E: Write,
+>(
+    rt: &R,
+    devices: &mut S,
+    watch: &mut W,
+    words: &[String],
+    asked: &Asked,
+    out: &mut O,
+    err: &mut E,
+) -> u8
+    ghost history: { History }
+    requires range { IsInRange asked.now }
+    requires held { HoldsWritten asked.now (S.held devices.old) }
+    ensures few { result ≤ 2 }
+    ensures answered { AnsweredHeld D.keeps history asked.now (S.calls devices.old) (S.calls devices.new) (O.contents out.old) (O.contents out.new) result }
+{
+    if prints_into_device(rt, asked) {
+        return refuse_output(err);
+    }
+    let mut system = None;
+    let status = carry_out(rt, devices, watch, asked, &mut system, out, err);
+    say_more(rt, words, asked, status, system.as_ref(), err);
+    status
+}
+
+/// Asks for the device that is to be written, where one is.
+fn hold_written<S: Devices>(devices: &mut S, asked: &Asked) -> Result<(), InUse>
+    ensures noted { S.calls devices.new ≡ S.calls devices.old ++ asking_for asked.now (is_ok result) }
+    ensures got { OnOk result (HoldsWritten asked.now (S.held devices.new)) }
+{
+    match asked {
+        Asked::Format(new) => devices.hold(new.device.as_str(), new.wait_lock),
+        Asked::Run(run) => devices.hold(run.device.as_str(), run.wait_lock),
+        Asked::Compact { device, wait_lock } => devices.hold(device.as_str(), *wait_lock),
+        Asked::Help(_)
+        | Asked::Try { .. }
+        | Asked::Trace { .. }
+        | Asked::Recover { .. }
+        | Asked::Show { .. }
+        | Asked::Status { .. }
+        | Asked::Check { .. }
+        | Asked::View { .. } => Ok(()),
+    }
+}
+
+/// Does what was asked for, unless another process has the device that is to be written. Answers the program's status.
 fn answer_asked<
     R: Files<File = F> + AllocGlobal + Threads + Wait + Sync,
     F: FileExt + OpenFile + Drop,
@@ -155,18 +213,15 @@ fn answer_asked<
     ensures few { result ≤ 2 }
     ensures answered { AnsweredAs D.keeps history asked.now (S.calls devices.old) (S.calls devices.new) (O.contents out.old) (O.contents out.new) result }
 {
-    if prints_into_device(rt, asked) {
-        return refuse_output(err);
+    match hold_written(devices, asked) {
+        Ok(()) => answer_held(rt, devices, watch, words, asked, out, err),
+        Err(InUse) => refuse_in_use(words, err),
     }
-    let mut system = None;
-    let status = carry_out(rt, devices, watch, asked, &mut system, out, err);
-    say_more(rt, words, asked, status, system.as_ref(), err);
-    status
 }
 
 /// Does what the words of a command line ask for, the program's name first. Answers the program's status: that of the
 /// command, or 2 where the words ask for nothing; no file is opened then. Asking for help is no fault.
-/// `devices` opens a device that is written, and `watch` says who holds one that `status` looks at.
+/// `devices` holds and opens a device that is written, and `watch` says who holds one that `status` looks at.
 pub fn answer_over<
     R: Files<File = F> + AllocGlobal + Threads + Wait + Sync,
     F: FileExt + OpenFile + Drop,
@@ -207,20 +262,23 @@ fn answer_untold<
     answer_over(rt, devices, watch, words, out, err)
 }
 
-/// The same with the devices in files of the system.
-pub fn answer_watching<
+/// As above, with the devices in files of the system, whose locks `locks` takes.
+pub fn answer_locking<
     R: Files<File = F> + AllocGlobal + Threads + Wait + Sync,
     F: FileExt + OpenFile + Drop + Send,
+    L: Locks<Lock = K> + Drop,
+    K: Drop,
     W: Watch,
     O: Write,
     E: Write,
->(rt: &R, watch: &mut W, words: &[String], out: &mut O, err: &mut E) -> u8
+>(rt: &R, locks: L, watch: &mut W, words: &[String], out: &mut O, err: &mut E) -> u8
     ensures { result ≤ 2 }
 {
-    answer_untold(rt, &mut FileDevices::new(rt), watch, words, out, err)
+    let mut devices = FileDevices::new(rt, locks);
+    answer_untold(rt, &mut devices, watch, words, out, err)
 }
 
-/// The same where nobody else holds a device, and `status` takes one look.
+/// As above, where nobody else has a device, and `status` takes one look.
 pub fn answer<
     R: Files<File = F> + AllocGlobal + Threads + Wait + Sync,
     F: FileExt + OpenFile + Drop + Send,
@@ -229,5 +287,5 @@ pub fn answer<
 >(rt: &R, words: &[String], out: &mut O, err: &mut E) -> u8
     ensures { result ≤ 2 }
 {
-    answer_watching(rt, &mut OneLook, words, out, err)
+    answer_locking(rt, NoLocks, &mut OneLook, words, out, err)
 }

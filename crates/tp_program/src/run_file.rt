@@ -1,6 +1,6 @@
 //! `tpnet run`, on a device's file.
 
-ghost use Rattle.std.specs.Prelude.{◌≡◌, ◌≤◌, [], None, IfOk};
+ghost use Rattle.std.specs.Prelude.{◌≡◌, ◌≤◌, [], None, Some, IfOk, string_bytes};
 ghost use Rattle.tp_run.specs.Ran.{History};
 ghost use Rattle.tp_words.specs.Args.{IsRun};
 ghost use Rattle.tp_program.specs.RunFile.{RanFile, RanWith};
@@ -27,7 +27,7 @@ fn read_input<R: Files + AllocGlobal>(rt: &R, run: &Run) -> Result<Vec<u8>, Refu
     }
 }
 
-/// Opens the device, runs it with this input, and gives it back.
+/// Opens the device, which is held, runs it with this input, and gives it back.
 fn run_device<
     R: Files + AllocGlobal + Threads + Wait + Sync,
     S: Devices<Device = D>,
@@ -44,7 +44,8 @@ fn run_device<
     err: &mut E,
 ) -> u8
     ghost history: { History }
-    requires { IsRun run.now }
+    requires range { IsRun run.now }
+    requires held { S.held devices.old ≡ Some (string_bytes run.now.device) }
     ensures few { result ≤ 2 }
     ensures ran { RanWith D.keeps history run.now input.now (S.calls devices.old) (S.calls devices.new) (O.contents out.old) (O.contents out.new) result }
 {
@@ -60,7 +61,7 @@ fn run_device<
     status
 }
 
-/// `tpnet run`, on files. The input is read first. The device's file is opened as it is, and keeps its length. What the system said of
+/// `tpnet run`, on files, where the device is held. The input is read first. The device's file is opened as it is, and keeps its length. What the system said of
 /// a call on it that failed is put into `system`.
 pub(crate) fn run_file<
     R: Files + AllocGlobal + Threads + Wait + Sync,
@@ -77,7 +78,8 @@ pub(crate) fn run_file<
     err: &mut E,
 ) -> u8
     ghost history: { History }
-    requires { IsRun run.now }
+    requires range { IsRun run.now }
+    requires held { S.held devices.old ≡ Some (string_bytes run.now.device) }
     ensures few { result ≤ 2 }
     ensures ran { RanFile D.keeps history run.now (S.calls devices.old) (S.calls devices.new) (O.contents out.old) (O.contents out.new) result }
 {

@@ -1,12 +1,14 @@
 //! What the program does for the words of a command line with `--stream`.
 
-ghost use Rattle.std.specs.Prelude.{◌≡◌, ◌≤◌};
+ghost use Rattle.std.specs.Prelude.{◌≡◌, ◌≤◌, Some, string_bytes};
 ghost use Rattle.tp_run.specs.Ran.{History};
 ghost use Rattle.tp_words.specs.StreamArgs.{IsStreamRun};
-ghost use Rattle.tp_program.specs.Answers.{StreamAnswered};
+ghost use Rattle.tp_program.specs.Answers.{StreamAnswered, StreamedHeld};
 ghost use Rattle.tp_program.specs.StreamFile.{StreamedFile};
 
 use crate::devices::{Devices, FileDevices};
+use crate::in_use::refuse_in_use;
+use crate::locks::{InUse, Locks, NoLocks};
 use crate::stream_explain::explain_stream;
 use crate::streaming::{FilesFault, Streamed, stream_on};
 use std::fs::{Files, OpenFile};
@@ -49,7 +51,7 @@ fn unopened<E: Write>(err: &mut E, system: Option<io::Error>) -> Outcome
     }
 }
 
-/// `tpnet run --stream`, on files. The device's file is opened as it is, and keeps its length.
+/// `tpnet run --stream`, on files. The device's file, which is held, is opened as it is, and keeps its length.
 fn stream_file<
     R: Files<File = F> + AllocGlobal + Wait,
     F: FileExt + OpenFile + Drop,
@@ -69,7 +71,8 @@ fn stream_file<
     onlooker: &mut W,
 ) -> Outcome
     ghost history: { History }
-    requires { IsStreamRun asked.now }
+    requires range { IsStreamRun asked.now }
+    requires held { S.held devices.old ≡ Some (string_bytes asked.now.device) }
     ensures few { result.status ≤ 3 }
     ensures streamed { StreamedFile D.keeps history asked.now (S.calls devices.old) (S.calls devices.new) (O.contents out.old) (O.contents out.new) result.status }
 {
@@ -105,7 +108,8 @@ fn stream_and_explain<
     onlooker: &mut W,
 ) -> u8
     ghost history: { History }
-    requires { IsStreamRun asked.now }
+    requires range { IsStreamRun asked.now }
+    requires held { S.held devices.old ≡ Some (string_bytes asked.now.device) }
     ensures few { result ≤ 3 }
     ensures streamed { StreamedFile D.keeps history asked.now (S.calls devices.old) (S.calls devices.new) (O.contents out.old) (O.contents out.new) result }
 {
@@ -116,7 +120,38 @@ fn stream_and_explain<
     ended.status
 }
 
-/// Does what the words of a command line with `--stream` ask for, the program's name first; `feed` is standard input, `devices` opens
+/// Asks for the device first, and streams on it unless another process has it. Answers the status.
+fn hold_and_stream<
+    R: Files<File = F> + AllocGlobal + Wait,
+    F: FileExt + OpenFile + Drop,
+    S: Devices<Device = D>,
+    D: Disk + Drop,
+    I: Feed,
+    O: Write,
+    E: Write,
+    W: Onlooker,
+>(
+    rt: &R,
+    devices: &mut S,
+    words: &[String],
+    asked: &StreamRun,
+    feed: &mut I,
+    out: &mut O,
+    err: &mut E,
+    onlooker: &mut W,
+) -> u8
+    ghost history: { History }
+    requires { IsStreamRun asked.now }
+    ensures few { result ≤ 3 }
+    ensures streamed { StreamedHeld D.keeps history (feed.new ≡ feed.old) asked.now (S.calls devices.old) (S.calls devices.new) (O.contents out.old) (O.contents out.new) result }
+{
+    match devices.hold(asked.device.as_str(), asked.wait_lock) {
+        Ok(()) => stream_and_explain(rt, devices, words, asked, feed, out, err, onlooker),
+        Err(InUse) => refuse_in_use(words, err),
+    }
+}
+
+/// Does what the words of a command line with `--stream` ask for, the program's name first; `feed` is standard input, `devices` holds and opens
 /// the device, and `onlooker` looks at `err` and has the time. Answers the program's status: that of the stream, 3 where it ended since a node halted, or 2 where the words ask for
 /// nothing; no file is opened then. Asking for help is no fault.
 pub fn answer_stream_over<
@@ -139,12 +174,12 @@ pub fn answer_stream_over<
 ) -> u8
     ghost history: { History }
     ensures few { result ≤ 3 }
-    ensures answered { StreamAnswered D.keeps history words.now (S.calls devices.old) (S.calls devices.new) (O.contents out.old) (O.contents out.new) result }
+    ensures answered { StreamAnswered D.keeps history (feed.new ≡ feed.old) words.now (S.calls devices.old) (S.calls devices.new) (O.contents out.old) (O.contents out.new) result }
 {
     match read_stream_args(rt.alloc(), words) {
         Ok(StreamAsked::Help(text)) => print_help(text.as_str(), out, err),
         Ok(StreamAsked::Run(asked)) => {
-            stream_and_explain(rt, devices, words, &asked, feed, out, err, onlooker)
+            hold_and_stream(rt, devices, words, &asked, feed, out, err, onlooker)
         }
         Err(fault) => {
             let _ = write!(err, "{fault}");
@@ -177,7 +212,32 @@ fn answer_stream_untold<
     answer_stream_over(rt, devices, words, feed, out, err, onlooker)
 }
 
-/// As above, with the devices in files of the system.
+/// As above, with the devices in files of the system, whose locks `locks` takes.
+pub fn answer_stream_locking<
+    R: Files<File = F> + AllocGlobal + Wait,
+    F: FileExt + OpenFile + Drop,
+    L: Locks<Lock = K> + Drop,
+    K: Drop,
+    I: Feed,
+    O: Write,
+    E: Write,
+    W: Onlooker,
+>(
+    rt: &R,
+    locks: L,
+    words: &[String],
+    feed: &mut I,
+    out: &mut O,
+    err: &mut E,
+    onlooker: &mut W,
+) -> u8
+    ensures { result ≤ 3 }
+{
+    let mut devices = FileDevices::new(rt, locks);
+    answer_stream_untold(rt, &mut devices, words, feed, out, err, onlooker)
+}
+
+/// As above, where nobody else has a device.
 pub fn answer_stream<
     R: Files<File = F> + AllocGlobal + Wait,
     F: FileExt + OpenFile + Drop,
@@ -188,13 +248,5 @@ pub fn answer_stream<
 >(rt: &R, words: &[String], feed: &mut I, out: &mut O, err: &mut E, onlooker: &mut W) -> u8
     ensures { result ≤ 3 }
 {
-    answer_stream_untold(
-        rt,
-        &mut FileDevices::new(rt),
-        words,
-        feed,
-        out,
-        err,
-        onlooker,
-    )
+    answer_stream_locking(rt, NoLocks, words, feed, out, err, onlooker)
 }

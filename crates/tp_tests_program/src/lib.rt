@@ -12,6 +12,8 @@ mod file_tests;
 #[cfg(test)]
 mod format_tests;
 #[cfg(test)]
+mod holding_tests;
+#[cfg(test)]
 mod opening_tests;
 #[cfg(test)]
 mod program;

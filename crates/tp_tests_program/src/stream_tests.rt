@@ -17,7 +17,7 @@ const STREAM: &[&str] = &["run", "@device", "--stream", "--quantum=64"];
 
 /// Who looks: at a clock that goes ten seconds each time, and at terminals, or at none.
 #[derive(Drop)]
-struct Screen {
+pub(crate) struct Screen {
     now: u64,
     is_terminal: bool,
     is_output_terminal: bool,
@@ -25,7 +25,7 @@ struct Screen {
 }
 
 impl Screen {
-    fn new(is_terminal: bool, is_output_terminal: bool) -> Screen {
+    pub(crate) fn new(is_terminal: bool, is_output_terminal: bool) -> Screen {
         Screen {
             now: 0,
             is_terminal,

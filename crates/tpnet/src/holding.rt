@@ -3,45 +3,13 @@
 use std::fs::{File, Files, OpenOptions, TryLockError};
 use std::thread::sleep;
 use std::time::{Clock, Duration};
-use tp_program::{Asked, StreamAsked, is_device_file, is_stream, read_args, read_stream_args};
+use tp_program::{Held, InUse, Locks, is_device_file};
 
 /// How many times a second a device is tried again that another process holds.
 const TRIES: u64 = 20;
 
 /// How many milliseconds lie between two of them.
 const PAUSE: u64 = 1000 / TRIES;
-
-/// That another process holds the device.
-#[derive(Drop)]
-pub(crate) struct InUse;
-
-/// A device that is to be written, and how many seconds another process is waited for that holds it.
-struct Target<'a> {
-    device: &'a str,
-    wait: u32,
-}
-
-/// The device that is to be written, if one is.
-fn written(asked: &Asked) -> Option<Target<'_>> {
-    let (device, wait) = match asked {
-        Asked::Run(run) => (run.device.as_str(), run.wait_lock),
-        Asked::Format(new) => (new.device.as_str(), new.wait_lock),
-        Asked::Compact { device, wait_lock } => (device.as_str(), *wait_lock),
-        _ => return None,
-    };
-    Some(Target { device, wait })
-}
-
-/// The device whose network lives on streams, if one does.
-fn streamed(asked: &StreamAsked) -> Option<Target<'_>> {
-    match asked {
-        StreamAsked::Run(run) => Some(Target {
-            device: run.device.as_str(),
-            wait: run.wait_lock,
-        }),
-        StreamAsked::Help(_) => None,
-    }
-}
 
 /// Takes the lock of a file, and tries again for `seconds` while another process has it, once at least: one that only looks at it has
 /// it for less than the pause. A file of a system that knows no locks has none.
@@ -62,11 +30,9 @@ fn lock_file<R: Clock>(rt: &R, file: &File, seconds: u32) -> Result<(), InUse> {
 /// no device's file, and a file of a system that knows no locks.
 fn hold_file<R: Files<File = File> + Clock>(
     rt: &R,
-    written: Option<Target<'_>>,
+    device: &str,
+    seconds: u32,
 ) -> Result<Option<File>, InUse> {
-    let Some(Target { device, wait }) = written else {
-        return Ok(None);
-    };
     if !is_device_file(rt, device) {
         return Ok(None);
     }
@@ -74,23 +40,27 @@ fn hold_file<R: Files<File = File> + Clock>(
     let Ok(file) = how.read(true).write(true).open(rt, device) else {
         return Ok(None);
     };
-    lock_file(rt, &file, wait)?;
+    lock_file(rt, &file, seconds)?;
     Ok(Some(file))
 }
 
-/// Holds the device that a command line asks to write, if it asks for that.
-pub(crate) fn hold<R: Files<File = File> + Clock + AllocGlobal>(
-    rt: &R,
-    words: &[String],
-) -> Result<Option<File>, InUse> {
-    if is_stream(words) {
-        return match read_stream_args(rt.alloc(), words) {
-            Ok(asked) => hold_file(rt, streamed(&asked)),
-            Err(_) => Ok(None),
-        };
+/// Takes the system's locks.
+#[derive(Drop)]
+pub(crate) struct SystemLocks<'a, R> {
+    rt: &'a R,
+}
+
+impl<'a, R> SystemLocks<'a, R> {
+    pub(crate) fn new(rt: &'a R) -> SystemLocks<'a, R> {
+        SystemLocks { rt }
     }
-    match read_args(rt.alloc(), words) {
-        Ok(asked) => hold_file(rt, written(&asked)),
-        Err(_) => Ok(None),
+}
+
+impl<'a, R: Files<File = File> + Clock> Locks for SystemLocks<'a, R> {
+    type Lock = Option<File>;
+
+    fn take(&mut self, path: &str, seconds: u32) -> Result<Held<Option<File>>, InUse> {
+        let lock = hold_file(self.rt, path, seconds)?;
+        Ok(Held::new(path, lock))
     }
 }

@@ -2,19 +2,20 @@
 #![tactic(auto)]
 
 mod holding;
+mod late;
 mod looking;
 mod stand_ins;
 mod watching;
 
-use holding::hold;
+use holding::SystemLocks;
+use late::Late;
 use looking::Looker;
 use stand_ins::stand_in;
 use std::io::{IsTerminal, Write};
 use std::process::ExitCode;
 use std::rt::Env;
 use std::{env, io};
-use tp_program::{answer_stream, answer_watching, is_stream, refuse_in_use, wants_input};
-use tp_stream_files::Threaded;
+use tp_program::{answer_locking, answer_stream_locking, is_stream};
 use watching::Watcher;
 
 fn words_of<R: Env + AllocGlobal>(rt: &R) -> io::Result<Vec<String>> {
@@ -42,19 +43,13 @@ fn main(rt: HostRuntime) -> ExitCode {
         Ok(words) => words,
         Err(error) => return refuse_words(&mut err, &error),
     };
-    let Ok(_held) = hold(&rt, words.as_slice()) else {
-        return ExitCode::from(refuse_in_use(words.as_slice(), &mut err));
-    };
+    let locks = SystemLocks::new(&rt);
     if is_stream(words.as_slice()) {
-        let reader = if wants_input(words.as_slice()) {
-            Some(rt.reader())
-        } else {
-            None
-        };
-        let mut feed = Threaded::new(rt, reader);
+        let mut feed = Late::new(rt);
         let mut looker = Looker::new(&rt, err.is_terminal(), out.is_terminal());
-        let status = answer_stream(
+        let status = answer_stream_locking(
             &rt,
+            locks,
             words.as_slice(),
             &mut feed,
             &mut out,
@@ -64,6 +59,6 @@ fn main(rt: HostRuntime) -> ExitCode {
         return ExitCode::from(status);
     }
     let mut watch = Watcher::new(&rt);
-    let status = answer_watching(&rt, &mut watch, words.as_slice(), &mut out, &mut err);
+    let status = answer_locking(&rt, locks, &mut watch, words.as_slice(), &mut out, &mut err);
     ExitCode::from(status)
 }

@@ -1,4 +1,4 @@
 use Rattle.tp_program.proofs.program.answer_asked.Given as goal
 
-abbrev pub ghost-carry_out : goal.ghost-carry_out
-ghost-carry_out g a = g.history
+abbrev pub ghost-answer_held : goal.ghost-answer_held
+ghost-answer_held g a = g.history

@@ -21,5 +21,5 @@ pub returns-in-Ok-Run-clause-answered : goal.returns-in-Ok-Run-clause-answered
 returns-in-Ok-Run-clause-answered g c = inr (record {
   asked = Run c.in-Ok-Run.asked;
   typed = subst (λ (asked : StreamAsked). WasStreamTyped c.args.words.now asked) c.in-Ok-Run.field-0-is c.in-Ok-Run.ensures.typed;
-  did = c.stream_and_explain.ensures.streamed;
+  did = c.hold_and_stream.ensures.streamed;
 })

@@ -1,4 +1,4 @@
 use Rattle.tp_program.proofs.stream_program.answer_stream_over.Given as goal
 
-abbrev pub ghost-stream_and_explain : goal.ghost-stream_and_explain
-ghost-stream_and_explain g a = g.history
+abbrev pub ghost-hold_and_stream : goal.ghost-hold_and_stream
+ghost-hold_and_stream g a = g.history
