@@ -6,7 +6,7 @@ use std::io::{ErrorKind, Write};
 use std::test::Fail;
 use tp_stream_files::{Listener, Onlooker, Progress, Stopped, Teller, Times};
 
-/// How far a stream has come at a time in milliseconds, with two outputs.
+/// How far a stream has come at a time in milliseconds, with the first two outputs.
 struct Row {
     at: u64,
     next: u64,
@@ -14,7 +14,8 @@ struct Row {
     used: u64,
     generation: u64,
     turns: u64,
-    put: [Option<u64>; 2],
+    first: Option<u64>,
+    second: Option<u64>,
 }
 
 /// Lines begin with the first row. They are due a second, two, one and a half, and a second and a millisecond later, and not a millisecond
@@ -27,7 +28,8 @@ const ROWS: &[Row] = &[
         used: 1,
         generation: 1,
         turns: 100,
-        put: [Some(5), None],
+        first: Some(5),
+        second: None,
     },
     Row {
         at: 1999,
@@ -36,7 +38,8 @@ const ROWS: &[Row] = &[
         used: 2,
         generation: 1,
         turns: 150,
-        put: [Some(8), None],
+        first: Some(8),
+        second: None,
     },
     Row {
         at: 2000,
@@ -45,7 +48,8 @@ const ROWS: &[Row] = &[
         used: 3,
         generation: 1,
         turns: 160,
-        put: [Some(9), None],
+        first: Some(9),
+        second: None,
     },
     Row {
         at: 4000,
@@ -54,7 +58,8 @@ const ROWS: &[Row] = &[
         used: 0,
         generation: 2,
         turns: 1160,
-        put: [Some(9), None],
+        first: Some(9),
+        second: None,
     },
     Row {
         at: 900,
@@ -63,7 +68,8 @@ const ROWS: &[Row] = &[
         used: 0,
         generation: 2,
         turns: 1161,
-        put: [Some(9), None],
+        first: Some(9),
+        second: None,
     },
     Row {
         at: 5500,
@@ -72,7 +78,8 @@ const ROWS: &[Row] = &[
         used: 0,
         generation: 2,
         turns: 1163,
-        put: [Some(9), Some(7)],
+        first: Some(9),
+        second: Some(7),
     },
     Row {
         at: 6501,
@@ -81,7 +88,8 @@ const ROWS: &[Row] = &[
         used: 1,
         generation: 2,
         turns: 2164,
-        put: [Some(9), Some(1008)],
+        first: Some(9),
+        second: Some(1008),
     },
     Row {
         at: 6501,
@@ -90,7 +98,8 @@ const ROWS: &[Row] = &[
         used: 1,
         generation: 2,
         turns: 2165,
-        put: [Some(9), Some(1009)],
+        first: Some(9),
+        second: Some(1009),
     },
 ];
 
@@ -102,7 +111,7 @@ const LINES: &[&str] = &[
     "next 34 +0/s mark 33 area 1% generation 2 turns 2164 +1000/s out 0 9 +0/s out 1 1008 +1000/s",
 ];
 
-/// A writer: it says of its first writes that they failed so, and takes so many bytes of each other one.
+/// A writer: it says of its first writes that they failed so, and takes at most that many bytes of each other one.
 #[derive(Drop)]
 struct Taker {
     bytes: Vec<u8>,
@@ -247,8 +256,8 @@ impl Onlooker for Script {
 
 fn progress_of(row: &Row) -> Progress {
     let mut put = [None; 8];
-    put[0] = row.put[0];
-    put[1] = row.put[1];
+    put[0] = row.first;
+    put[1] = row.second;
     Progress {
         next: row.next,
         mark: row.mark,
