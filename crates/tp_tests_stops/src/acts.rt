@@ -5,6 +5,7 @@ ghost use Rattle.tp_model.specs.declared.limits.TheConstants.{MAX_STEPS};
 ghost use Rattle.tp_shared.specs.Named.{Names};
 ghost use Rattle.tp_tests_begun.specs.Spelt.{IsSpelt};
 
+use crate::script::{Done, make_turns};
 use std::alloc::Global;
 use std::marker::Brand;
 use std::sync::Wait;
@@ -136,24 +137,6 @@ fn are_groups<J: Naming, R: Wait>(
     true
 }
 
-/// Whether that many turns are made.
-fn are_turns<J: Naming, R: Wait>(
-    rt: &R,
-    net: &Net<J, NoGate>,
-    seat: &mut Seat<J>,
-    count: u32,
-) -> bool
-    requires { seat.old.hand.of ≡ Some net.now.queue }
-    ensures { seat.new.hand.of ≡ Some net.now.queue }
-{
-    for _ in 0..count {
-        if net.turn(rt, seat).is_err() {
-            return false;
-        }
-    }
-    true
-}
-
 /// Whether it comes as it was told.
 fn does<J: Naming, R: Wait>(
     rt: &R,
@@ -175,7 +158,7 @@ fn does<J: Naming, R: Wait>(
         Act::Book(next, is_whole) => is_book(rt, shared, next, is_whole),
         Act::Flush(switched) => is_flushed(rt, alloc, shared, flusher, switched),
         Act::Groups(count) => are_groups(rt, alloc, net, seat, flusher, count),
-        Act::Turns(count) => are_turns(rt, net, seat, count),
+        Act::Turns(count) => make_turns(rt, net, seat, count) == Done::All,
         Act::Fails => matches!(
             flusher.turn(rt, alloc, shared),
             Err(FlushFault::DeviceFailed)
