@@ -235,9 +235,12 @@ for folder in sys.argv[5:]:
         with_them, without = times[10000], times[NEVER]
         said("entries", with_them, without, "with %.0f, without %.0f a second, %d checkpoints a run" % (
             1 / statistics.median(with_them), 1 / statistics.median(without), statistics.median(switches)))
+        # four turns of each process, in which one checkpoint is due, behind the second turn of most nodes
+        nodes = int(sizes.split()[1])
+        turns, due = 4 * (nodes + 1), 30 * nodes // 16
         def checkpoint():
-            plain = run(file, 68, 1, NEVER)[0]
-            took, count, entries = run(file, 68, 1, 30)
+            plain = run(file, turns, 1, NEVER)[0]
+            took, count, entries = run(file, turns, 1, due)
             assert count == 1, count
             return took - plain
         def copy():
