@@ -1,8 +1,8 @@
 use Rattle.std.proofs.Common.{◌≡◌, ◌∙◌, ◌++◌, length, length-append, take, drop, arith, ap, sym, ℕ, List}
 use Rattle.tp_token.specs.Sound.{shown, item_of}
 use Rattle.tp_token.proofs.Gathered.{shown-part}
-use Rattle.tp_tests_threads.specs.declared.journal.Entry.{Entry}
-use Rattle.tp_tests_threads.proofs.day.ended.Goals as goal
+use Rattle.tp_tests_shared.specs.declared.journal.Entry.{Entry}
+use Rattle.tp_tests_shared.proofs.day.ended.Goals as goal
 
 pub returns-clause-each : goal.returns-clause-each
 returns-clause-each g c n =

@@ -1,4 +1,4 @@
-use Rattle.tp_tests_threads.proofs.day.sum.Given as goal
+use Rattle.tp_tests_shared.proofs.day.sum.Given as goal
 
 abbrev pub ghost-pair : goal.ghost-pair
 ghost-pair g a = 0

@@ -1,4 +1,4 @@
-use Rattle.tp_tests_threads.proofs.seat.Seat.new.Given as goal
+use Rattle.tp_tests_shared.proofs.seat.Seat.new.Given as goal
 
 abbrev pub ghost-empty : goal.ghost-empty
 ghost-empty g a = g.J.Naming.roll

@@ -16,7 +16,7 @@ pub struct Seat<J: Naming> {
 
 impl<J: Naming> Model for Seat<J> {
     ghost use Rattle.std.specs.Prelude.{◌≡◌, ℕ, List};
-    ghost use Rattle.tp_tests_threads.specs.declared.journal.Entry.{Entry};
+    ghost use Rattle.tp_tests_shared.specs.declared.journal.Entry.{Entry};
 
     ghost Value = { List (ℕ × Entry) };
 
