@@ -1,6 +1,7 @@
 -- What lies under the book's lock stays together.
 use Rattle.std.proofs.Common.{◌≡◌, ℕ, ◌+◌, ◌<◌, ◌≤◌, Bool, List, [], ◌++◌, length, map, drop, refl, sym, ap, subst, ◌∙◌, arith, Option, Some, get_or, slice_get}
 use Rattle.std.proofs.lemmas.Option.{slice_get_read}
+use Rattle.std.specs.List.{AllByRecursion}
 use Rattle.tp_token.specs.declared.roll.Roll.{Roll}
 use Rattle.tp_token.specs.declared.twin.Seal.{Seal}
 use Rattle.tp_model.specs.declared.entry.Entry.{Entry}
@@ -9,6 +10,7 @@ use Rattle.tp_model.specs.Network.{Network}
 use Rattle.tp_model.specs.Runs.{World}
 use Rattle.tp_book.specs.Book.{BookValue, next_in_book}
 use Rattle.tp_shared.specs.BookActs.{Grown, HostActed}
+use Rattle.tp_shared.specs.Holds.{HadThen}
 use Rattle.tp_shared.specs.Positions.{IsNumberedFrom}
 use Rattle.tp_shared.specs.Seals.{Stage, Sealed}
 use Rattle.tp_shared.specs.Thawed.{ThawedAsTold}
@@ -19,17 +21,18 @@ use Rattle.tp_shared.specs.declared.told.Told.{Told}
 use Rattle.tp_shared.proofs.Copying.{since_flag}
 use Rattle.tp_shared.proofs.Positioned.{numbered_grown, numbered_still}
 use Rattle.tp_shared.proofs.Sealing.{all_after, floor_after, sealed_still, tied_after, tied_still}
+use Rattle.tp_shared.proofs.Sighting.{all_had_more}
 use Rattle.tp_shared.proofs.Telling.{since_more, since_still, told_fewer}
 use Rattle.tp_shared.proofs.Writing.{as_many, paired}
 
-module _ {roll_name first : ℕ} {start : Network NodeState} {node : ℕ → ℕ} {flusher : ℕ} {room : Option ℕ} {before : World NodeState} {b : BookValue} {seals : List NodeSeal} {roll : Roll Entry} {told : Seal Told}
-    (T : AreTogether roll_name first start node flusher room before b seals roll told) where
+module _ {roll_name first : ℕ} {start : Network NodeState} {node : ℕ → ℕ} {flusher : ℕ} {room : Option ℕ} {before : World NodeState} {b : BookValue} {seals : List NodeSeal} {roll : Roll Entry} {told : Seal Told} {seen : List BookValue}
+    (T : AreTogether roll_name first start node flusher room before b seals roll told seen) where
   -- the seal that stands at a node's number
   pub seal_at : (i : ℕ) (s : NodeSeal) → i < length start.nodes → s ≡ get_or seals i s → slice_get seals i ≡ Some s
   seal_at i s there is = slice_get_read seals (length seals) i s refl (let count = T.seal_count in omega (arith, count, there)) is
 
   told_so : {now : Seal Told} → now.name ≡ told.name → ToldSince now.value (told_of before first (record { book = b; all = roll.items; numbered_from = now.value.numbered_from })) → ThawedAsTold now.value seals
-      → IsNumberedFrom now.value.numbered_from b → now.value.numbered_from ≤ now.value.base + length now.value.net.entries → AreTogether roll_name first start node flusher room before b seals roll now
+      → IsNumberedFrom now.value.numbered_from b → now.value.numbered_from ≤ now.value.base + length now.value.net.entries → AreTogether roll_name first start node flusher room before b seals roll now seen
   told_so name since thawed numbered reaches = record {
     idle = T.idle;
     seal_count = T.seal_count;
@@ -48,17 +51,18 @@ module _ {roll_name first : ℕ} {start : Network NodeState} {node : ℕ → ℕ
     thawed = thawed;
     numbered = numbered;
     reaches = reaches;
+    seen_were = T.seen_were;
   }
 
   -- the flusher is told nothing else
-  pub told_still : {now : Seal Told} → now.name ≡ told.name → now.value ≡ told.value → AreTogether roll_name first start node flusher room before b seals roll now
+  pub told_still : {now : Seal Told} → now.name ≡ told.name → now.value ≡ told.value → AreTogether roll_name first start node flusher room before b seals roll now seen
   told_still name is =
       told_so name (subst (λ (t : Told). ToldSince t (told_of before first (record { book = b; all = roll.items; numbered_from = t.numbered_from }))) (sym is) T.since) (subst (λ t. ThawedAsTold t seals) (sym is) T.thawed)
       (subst (λ (t : Told). IsNumberedFrom t.numbered_from b) (sym is) T.numbered) (subst (λ (t : Told). t.numbered_from ≤ t.base + length t.net.entries) (sym is) T.reaches)
 
   -- it is told of the book as it is
   pub told_anew : {now : Seal Told} (flag : Bool) → now.name ≡ told.name → now.value ≡ record (told_of before first (record { book = b; all = roll.items; numbered_from = told.value.numbered_from })) { thawed = flag }
-      → ThawedAsTold now.value seals → AreTogether roll_name first start node flusher room before b seals roll now
+      → ThawedAsTold now.value seals → AreTogether roll_name first start node flusher room before b seals roll now seen
   told_anew flag name is thawed =
       let stage : Stage = record { book = b; all = roll.items; numbered_from = told.value.numbered_from } in
       let low : told.value.numbered_from ≤ next_in_book b = let more = told_fewer before first told.value stage T.since in let reaches = T.reaches in omega (arith, more, reaches) in
@@ -66,7 +70,7 @@ module _ {roll_name first : ℕ} {start : Network NodeState} {node : ℕ → ℕ
       (subst (λ (t : Told). IsNumberedFrom t.numbered_from b) (sym is) T.numbered) (subst (λ (t : Told). t.numbered_from ≤ t.base + length t.net.entries) (sym is) low)
 
   -- the book is as it was, beside other seals
-  pub sealed_anew : {others : List NodeSeal} → length others ≡ length seals → Sealed node others b → ThawedAsTold told.value others → AreTogether roll_name first start node flusher room before b others roll told
+  pub sealed_anew : {others : List NodeSeal} → length others ≡ length seals → Sealed node others b → ThawedAsTold told.value others → AreTogether roll_name first start node flusher room before b others roll told seen
   sealed_anew many sealed thawed = record {
     idle = T.idle;
     seal_count = many ∙ T.seal_count;
@@ -85,11 +89,35 @@ module _ {roll_name first : ℕ} {start : Network NodeState} {node : ℕ → ℕ
     thawed = thawed;
     numbered = T.numbered;
     reaches = T.reaches;
+    seen_were = T.seen_were;
+  }
+
+  -- other books were seen
+  pub sighted_anew : {others : List BookValue} → AllByRecursion (HadThen first roll.items) others → AreTogether roll_name first start node flusher room before b seals roll told others
+  sighted_anew had = record {
+    idle = T.idle;
+    seal_count = T.seal_count;
+    run_count = T.run_count;
+    sealed = T.sealed;
+    roll_is = T.roll_is;
+    first_is = T.first_is;
+    tied = T.tied;
+    wires_are = T.wires_are;
+    count_is = T.count_is;
+    flusher_is = T.flusher_is;
+    since = T.since;
+    wire_count = T.wire_count;
+    room_is = T.room_is;
+    floor = T.floor;
+    thawed = T.thawed;
+    numbered = T.numbered;
+    reaches = T.reaches;
+    seen_were = had;
   }
 
   -- nothing was journalled
   pub acted_still : {new : BookValue} {others : List NodeSeal} → Grown (λ entries. entries ≡ []) b new → length new.runs ≡ length b.runs → length others ≡ length seals → Sealed node others new → ThawedAsTold told.value others
-      → AreTogether roll_name first start node flusher room before new others roll told
+      → AreTogether roll_name first start node flusher room before new others roll told seen
   acted_still {new} G runs many sealed thawed = record {
     idle = G.ready ∙ T.idle;
     seal_count = many ∙ T.seal_count;
@@ -108,13 +136,14 @@ module _ {roll_name first : ℕ} {start : Network NodeState} {node : ℕ → ℕ
     thawed = thawed;
     numbered = numbered_still told.value.numbered_from b new G T.numbered;
     reaches = T.reaches;
+    seen_were = T.seen_were;
   }
 
   -- what was journalled was written onto the roll
   pub acted_written : {Are : List Entry → Type 0} {new : BookValue} {others : List NodeSeal} {now : Roll Entry} (es : List (Entry × ℕ)) → map (λ (e : Entry × ℕ). e.0) es ≡ b.state.entries → map (λ (e : Entry × ℕ). e.1) es ≡ b.numbers
       → Grown Are b new → length new.runs ≡ length b.runs → length others ≡ length seals → Sealed node others new → ThawedAsTold told.value others
       → now.name ≡ roll.name → now.first ≡ roll.first → now.items ≡ roll.items ++ drop (length es) new.state.entries
-      → AreTogether roll_name first start node flusher room before new others now told
+      → AreTogether roll_name first start node flusher room before new others now told seen
   acted_written {Are} {new} {others} {now} es entries_are numbers_are G runs many sealed thawed name same is =
       let counted = as_many es b.state.entries entries_are in
       record {
@@ -135,15 +164,16 @@ module _ {roll_name first : ℕ} {start : Network NodeState} {node : ℕ → ℕ
         thawed = thawed;
         numbered = numbered_grown Are told.value.numbered_from b new G (paired es b.state.entries b.numbers entries_are numbers_are) T.numbered;
         reaches = T.reaches;
+        seen_were = subst (λ (all : List Entry). AllByRecursion (HadThen first all) seen) (sym is) (all_had_more first roll.items (drop (length es) new.state.entries) seen T.seen_were);
       }
 
   -- acts of the host, of which nothing was journalled
-  pub hosted_still : {new : BookValue} → HostActed (λ entries. entries ≡ []) b new → AreTogether roll_name first start node flusher room before new seals roll told
+  pub hosted_still : {new : BookValue} → HostActed (λ entries. entries ≡ []) b new → AreTogether roll_name first start node flusher room before new seals roll told seen
   hosted_still {new} H = acted_still H.grown (ap length H.runs) refl (sealed_still (λ (entries : List Entry). entries ≡ []) node seals b new T.sealed H) T.thawed
 
   -- acts of the host, and what was journalled was written onto the roll
   pub hosted_written : {Are : List Entry → Type 0} {new : BookValue} {now : Roll Entry} (es : List (Entry × ℕ)) → map (λ (e : Entry × ℕ). e.0) es ≡ b.state.entries → map (λ (e : Entry × ℕ). e.1) es ≡ b.numbers
       → HostActed Are b new → now.name ≡ roll.name → now.first ≡ roll.first → now.items ≡ roll.items ++ drop (length es) new.state.entries
-      → AreTogether roll_name first start node flusher room before new seals now told
+      → AreTogether roll_name first start node flusher room before new seals now told seen
   hosted_written {Are} {new} es entries_are numbers_are H name same is =
       acted_written es entries_are numbers_are H.grown (ap length H.runs) refl (sealed_still Are node seals b new T.sealed H) T.thawed name same is

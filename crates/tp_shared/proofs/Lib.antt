@@ -19,3 +19,4 @@ pub mod Positioned
 pub mod Keeping
 pub mod Gaining
 pub mod Seen
+pub mod Sighting

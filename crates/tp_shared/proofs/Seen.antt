@@ -6,16 +6,17 @@ use Rattle.tp_model.specs.NodeState.{NodeState}
 use Rattle.tp_model.specs.Network.{Network}
 use Rattle.tp_book.specs.Book.{BookValue}
 use Rattle.tp_shared.specs.Gains.{Gained, HoldNoted}
-use Rattle.tp_shared.specs.Holds.{WasHeld, IsBookOf, in_hand}
+use Rattle.tp_shared.specs.Holds.{WasHeld, IsBookOf, IsSince, in_hand}
 use Rattle.tp_shared.specs.Seals.{IsTied, Stage}
 
 -- What lies under the lock is tied to the book, as it is found and as it is left, so that what was noted between is what the book got.
 pub held_by : (Are : List Entry → Type 0) (start : Network NodeState) (first : ℕ) (found left : Stage) (was between seen : List BookValue) (old new : List (ℕ × Entry))
-    → IsBookOf start found.book → between ≡ was ++ found.book ∷ [] → seen ≡ between ++ left.book ∷ [] → IsTied first found.all found.book → IsTied first left.all left.book
+    → IsBookOf start found.book → AllByRecursion (λ earlier. IsSince earlier found.book) was → between ≡ was ++ found.book ∷ [] → seen ≡ between ++ left.book ∷ [] → IsTied first found.all found.book → IsTied first left.all left.book
     → HoldNoted Are first found left old new → WasHeld start found.book left.book (in_hand was old) (in_hand seen new)
-held_by Are start first found left was between seen old new of before behind tied after noted = record {
+held_by Are start first found left was between seen old new of since before behind tied after noted = record {
   of = of;
   seen = behind ∙ ap (λ books. books ++ left.book ∷ []) before ∙ append_assoc was (found.book ∷ []) (left.book ∷ []);
+  since = since;
   entries = noted.entries;
   history = sym after.are ∙ noted.journal ∙ ap (λ entries. entries ++ noted.entries) tied.are;
   slips = noted.seat ∙ ap (λ n. old ++ enumerate_from n noted.entries) tied.next;

@@ -12,6 +12,7 @@ pub mod Holds
 pub mod NodeTurned
 pub mod TurnsMade
 pub mod RecordedIn
+pub mod StoodAs
 pub mod Parted
 pub mod Named
 pub mod Pieces

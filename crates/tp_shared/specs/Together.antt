@@ -1,6 +1,7 @@
 -- What lies under the book's lock, and what it keeps together with all that lies elsewhere: the nodes' cells, which have the keys of the
 -- seals; the seats, whose slips are of the roll; the flusher, which has the key of what it was told; and the journal on the device.
 use Rattle.std.specs.Prelude.{◌≡◌, ◌≤◌, ◌+◌, ◌-◌, ◌*◌, ℕ, List, length, Option, None}
+use Rattle.std.specs.List.{AllByRecursion}
 use Rattle.tp_token.specs.declared.roll.Roll.{Roll}
 use Rattle.tp_token.specs.declared.twin.Seal.{Seal}
 use Rattle.tp_model.specs.declared.entry.Entry.{Entry}
@@ -8,6 +9,7 @@ use Rattle.tp_model.specs.NodeState.{NodeState}
 use Rattle.tp_model.specs.Network.{Network}
 use Rattle.tp_model.specs.Runs.{World}
 use Rattle.tp_book.specs.Book.{BookValue}
+use Rattle.tp_shared.specs.Holds.{HadThen}
 use Rattle.tp_shared.specs.Positions.{IsNumberedFrom}
 use Rattle.tp_shared.specs.Seals.{Sealed, IsTied}
 use Rattle.tp_shared.specs.Thawed.{ThawedAsTold}
@@ -15,10 +17,10 @@ use Rattle.tp_shared.specs.Told.{ToldSince, told_of}
 use Rattle.tp_shared.specs.declared.seal.NodeSeal.{NodeSeal}
 use Rattle.tp_shared.specs.declared.told.Told.{Told}
 
--- A book, the seals of its nodes, the roll, and the seal of what the flusher was told, whenever nobody holds the lock. The other
+-- A book, the seals of its nodes, the roll, the seal of what the flusher was told, and the books that were seen, whenever nobody holds the lock. The other
 -- arguments say which network, tokens and history they belong to.
 pub record AreTogether (roll_name first : ℕ) (start : Network NodeState) (node : ℕ → ℕ) (flusher : ℕ) (room : Option ℕ) (before : World NodeState)
-    (book : BookValue) (seals : List NodeSeal) (roll : Roll Entry) (told : Seal Told) : Type 0 where
+    (book : BookValue) (seals : List NodeSeal) (roll : Roll Entry) (told : Seal Told) (seen : List BookValue) : Type 0 where
   -- no take is made ready
   pub idle : book.ready ≡ None
   -- there is a seal for each node
@@ -53,3 +55,5 @@ pub record AreTogether (roll_name first : ℕ) (start : Network NodeState) (node
   pub numbered : IsNumberedFrom told.value.numbered_from book
   -- it isn't behind the entries that were told
   pub reaches : told.value.numbered_from ≤ told.value.base + length told.value.net.entries
+  -- the entries begin with those of each book that was seen
+  pub seen_were : AllByRecursion (HadThen first roll.items) seen

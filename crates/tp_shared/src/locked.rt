@@ -41,6 +41,7 @@ pub struct Locked<J: Naming> {
 }
 
 impl<J: Naming> Model for Locked<J> {
+    ghost use Rattle.std.specs.Prelude.{map};
     ghost use Rattle.tp_shared.specs.Seals.{Stage};
     ghost use Rattle.tp_shared.specs.Together.{AreTogether};
 
@@ -48,7 +49,7 @@ impl<J: Naming> Model for Locked<J> {
 
     ghost view = { λ l. record { book = l.book; all = l.roll.items; numbered_from = l.told.value.numbered_from } };
 
-    ghost invariant = { λ l. AreTogether J.roll J.first J.start J.node J.flusher J.room J.before l.book l.seals.items l.roll l.told };
+    ghost invariant = { λ l. AreTogether J.roll J.first J.start J.node J.flusher J.room J.before l.book l.seals.items l.roll l.told (map (λ sight. sight.value) l.sights.roll.items) };
 }
 
 impl<J: Naming> Locked<J> {
@@ -68,6 +69,7 @@ impl<J: Naming> Locked<J> {
         requires tied { IsTied J.first roll.items book }
         requires room { (book.room ≡ J.room) × (book.floor ≤ J.first - book.base) }
         requires told { (told.name ≡ J.flusher) × (told.value ≡ told_of J.before J.first (record { book = book; all = []; numbered_from = J.first })) }
+        requires unseen { sights.roll.items ≡ [] }
         ensures { result ≡ record { book = book; all = []; numbered_from = J.first } }
     {
         let _count = book.entries().len();

@@ -6,9 +6,11 @@ ghost use Rattle.tp_model.specs.FrozenAs.{IsFrozenAs};
 ghost use Rattle.tp_model.specs.NodeState.{NodeState};
 ghost use Rattle.tp_book.specs.Book.{world_of};
 ghost use Rattle.tp_shared.specs.Agreement.{at_rest};
+ghost use Rattle.tp_shared.specs.Holds.{IsBookOf};
 ghost use Rattle.tp_shared.specs.Pieces.{IsFrozenHead, IsFrozenPage};
 ghost use Rattle.tp_shared.specs.Seals.{KeyShows};
 ghost use Rattle.tp_shared.specs.Told.{ToldSince, told_of};
+ghost use Rattle.tp_turn.specs.Moments.{IsNodeOf};
 
 use crate::locked::Locked;
 use crate::naming::Naming;
@@ -21,7 +23,8 @@ use tp_node::Node;
 use tp_token::{Key, agree, turn};
 
 impl<J: Naming> Locked<J> {
-    /// Changes nothing. Where the node is frozen, it is as the book has it recorded in the snapshot that runs.
+    /// Changes nothing. The node is the one that the book's entries make; where it is frozen, it is as the book has it recorded in the
+    /// snapshot that runs.
     pub(crate) fn audit_frozen(&mut self, place: &mut Place, number: u8)
         requires there { number < length J.start.nodes }
         requires named { place.old.key.name ≡ J.node number }
@@ -30,6 +33,8 @@ impl<J: Naming> Locked<J> {
         ensures node { place.new.node ≡ place.old.node }
         ensures named { place.new.key.name ≡ place.old.key.name }
         ensures shows { KeyShows place.new }
+        ensures of { IsBookOf J.start self.old.book }
+        ensures is { IsNodeOf self.old.book number place.old.node }
         ensures frozen { (node : NodeState) → place.old.node.frozen ≡ Some node → IsFrozenAs (world_of self.old.book) number node }
     {
         self.book.known();

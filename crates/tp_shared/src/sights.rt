@@ -1,6 +1,8 @@
 //! What is seen of the book under its lock.
 
 ghost use Rattle.std.specs.Prelude.{◌≡◌, [], ◌∷◌, ◌++◌};
+ghost use Rattle.std.specs.List.{AllByRecursion};
+ghost use Rattle.tp_shared.specs.Holds.{IsSince};
 
 use crate::locked::Locked;
 use crate::naming::Naming;
@@ -12,7 +14,7 @@ use tp_token::{Roll, Slips, empty, write};
 /// The roll of all that was seen of the book. It lies beside it.
 #[derive(Drop)]
 pub(crate) struct SightRoll<J: Naming> {
-    roll: Roll<Snapshot<Book>>,
+    pub(crate) roll: Roll<Snapshot<Book>>,
     of: PhantomData<J>,
     pub ghost named: { roll.name ≡ J.sights },
 }
@@ -20,6 +22,7 @@ pub(crate) struct SightRoll<J: Naming> {
 impl<J: Naming> SightRoll<J> {
     pub(crate) fn over(roll: Roll<Snapshot<Book>>) -> SightRoll<J>
         requires { roll.name ≡ J.sights }
+        ensures { result.roll ≡ roll }
     {
         SightRoll {
             roll,
@@ -60,10 +63,11 @@ impl<J: Naming> Sights<J> {
 }
 
 impl<J: Naming> Locked<J> {
-    /// Changes nothing. The book as it is was seen.
+    /// Changes nothing. The book as it is was seen. It came behind each that was seen before.
     pub fn show(&mut self, sights: &mut Sights<J>)
         ensures same { self.new ≡ self.old }
         ensures seen { sights.new ≡ sights.old ++ self.old.book ∷ [] }
+        ensures since { AllByRecursion (λ earlier. IsSince earlier self.old.book) sights.old }
     {
         let now = Snapshot::of(&self.book);
         write(&mut self.sights.roll, &mut sights.slips, &now);

@@ -7,13 +7,13 @@ use std::sync::Wait;
 use tp_book::Book;
 use tp_model::limits::MAX_HELD;
 use tp_node::Standing;
-use tp_shared::{Naming, Shared};
+use tp_shared::{Naming, Shared, Sights};
 use tp_stream_files::{Ending, Listener, Stopped};
 
 /// Whether a node has halted.
 pub(crate) fn find_halted<J: Naming, R: Wait>(rt: &R, shared: &Shared<J>) -> bool {
     for node in 0..shared.nodes() {
-        if let Standing::Halted { .. } = shared.standing(rt, node) {
+        if let Standing::Halted { .. } = shared.standing(rt, node, &mut Sights::new()) {
             return true;
         }
     }
@@ -64,7 +64,7 @@ pub(crate) fn tell_stopped<J: Naming, L: Listener, R: Wait>(
 ) {
     let is_stuck = is_stuck(rt, shared, why, rests);
     for node in 0..shared.nodes() {
-        if let Some(how) = stopped(shared.standing(rt, node), is_stuck) {
+        if let Some(how) = stopped(shared.standing(rt, node, &mut Sights::new()), is_stuck) {
             listener.stopped(node, how);
         }
     }

@@ -1,19 +1,34 @@
-use Rattle.std.proofs.Common.{◌≡◌, ◌+◌, ◌*◌, ◌/◌, ◌<◌, Some, IfSome, length, slice_get, sym, subst, ap, ◌∙◌, arith, refl}
+use Rattle.std.proofs.Common.{◌≡◌, ◌+◌, ◌*◌, ◌/◌, ◌<◌, length, refl, sym, ap, subst, ◌∙◌, arith}
 use Rattle.std.proofs.lemmas.Option.{slice_get_read}
-use Rattle.tp_node.specs.Standing.{standing}
+use Rattle.tp_shared.proofs.Placing.{celled_after}
 use Rattle.tp_shared.proofs.cell.Cell.standing.Goals as goal
 
-pub index-requires : goal.index-requires
-index-requires g c =
+pub index_mut-place-requires : goal.index_mut-place-requires
+index_mut-place-requires g c =
     let same : 4 * (c.args.number / 4) + g.row.I ≡ c.args.number = omega (arith, c.requires.here) in
     let below : 4 * (c.args.number / 4) + g.row.I < length g.J.Naming.start.nodes = subst (λ n. n < length g.J.Naming.start.nodes) (sym same) c.requires.there in
     let inside = c.self.invariant.all (c.args.number / 4) below in
     omega (arith, inside)
 
-pub returns : goal.returns
-returns g c =
+pub standing_of-requires-clause-named : goal.standing_of-requires-clause-named
+standing_of-requires-clause-named g c =
     let same : 4 * (c.args.number / 4) + g.row.I ≡ c.args.number = omega (arith, c.requires.here) in
     let below : 4 * (c.args.number / 4) + g.row.I < length g.J.Naming.start.nodes = subst (λ n. n < length g.J.Naming.start.nodes) (sym same) c.requires.there in
-    let read = slice_get_read c.self.inside.places.items (length c.self.inside.places.items) (c.args.number / 4) c.index.result.now refl (c.self.invariant.all (c.args.number / 4) below) c.index.ensures in
-    let at : slice_get c.args.self.now (c.args.number / 4) ≡ Some c.index.result.now = ap (λ places. slice_get places (c.args.number / 4)) (sym c.self.view_is) ∙ read in
-    subst (λ found. IfSome found (λ place. c.standing.result ≡ standing place.node.live)) (sym at) c.standing.ensures
+    let at = slice_get_read c.self.inside.places.items (length c.self.inside.places.items) (c.args.number / 4) c.index_mut-place.result.now refl (c.self.invariant.all (c.args.number / 4) below) c.index_mut-place.ensures.value in
+    (c.self.invariant.each (c.args.number / 4) c.index_mut-place.result.now at).named ∙ ap g.J.Naming.node same
+
+pub standing_of-requires-clause-shows : goal.standing_of-requires-clause-shows
+standing_of-requires-clause-shows g c =
+    let same : 4 * (c.args.number / 4) + g.row.I ≡ c.args.number = omega (arith, c.requires.here) in
+    let below : 4 * (c.args.number / 4) + g.row.I < length g.J.Naming.start.nodes = subst (λ n. n < length g.J.Naming.start.nodes) (sym same) c.requires.there in
+    let at = slice_get_read c.self.inside.places.items (length c.self.inside.places.items) (c.args.number / 4) c.index_mut-place.result.now refl (c.self.invariant.all (c.args.number / 4) below) c.index_mut-place.ensures.value in
+    (c.self.invariant.each (c.args.number / 4) c.index_mut-place.result.now at).shows
+
+pub invariant_of-self : goal.invariant_of-self
+invariant_of-self g c =
+    let same : 4 * (c.args.number / 4) + g.row.I ≡ c.args.number = omega (arith, c.requires.here) in
+    let below : 4 * (c.args.number / 4) + g.row.I < length g.J.Naming.start.nodes = subst (λ n. n < length g.J.Naming.start.nodes) (sym same) c.requires.there in
+    let at = slice_get_read c.self.inside.places.items (length c.self.inside.places.items) (c.args.number / 4) c.index_mut-place.result.now refl (c.self.invariant.all (c.args.number / 4) below) c.index_mut-place.ensures.value in
+    let was = c.self.invariant.each (c.args.number / 4) c.index_mut-place.result.now at in
+    celled_after g.row.I g.J.Naming.node (length g.J.Naming.start.nodes) c.self.inside.places.items (c.args.number / 4) c.index_mut-place.result.now c.standing_of.new.place c.self.invariant at
+    (record { there = below; named = c.standing_of.ensures.named ∙ was.named; shows = c.standing_of.ensures.shows })

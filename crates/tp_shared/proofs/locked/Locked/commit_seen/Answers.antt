@@ -1,6 +1,8 @@
-use Rattle.std.proofs.Common.{◌≡◌, ◌++◌, List, ◌∷◌, [], ap, sym, ◌∙◌}
+use Rattle.std.proofs.Common.{◌≡◌, ◌++◌, List, ◌∷◌, [], ap, subst, sym, ◌∙◌}
+use Rattle.std.specs.List.{AllByRecursion}
 use Rattle.tp_model.specs.declared.entry.Entry.{Entry}
 use Rattle.tp_turn.specs.Opened.{opened_entries}
+use Rattle.tp_shared.specs.Holds.{IsSince}
 use Rattle.tp_shared.specs.Seals.{Stage}
 use Rattle.tp_shared.proofs.Seen.{gained_by, held_by}
 use Rattle.tp_shared.proofs.locked.Locked.commit_seen.Goals as goal
@@ -15,7 +17,7 @@ returns-clause-committed g c =
       left = left.book;
       held =
           held_by (λ (entries : List Entry). entries ≡ opened_entries c.args.number c.args.opened c.args.stretch.ran.count) g.J.Naming.start g.J.Naming.first found left
-          c.args.seen.now c.show.new.sights c.show-2.new.sights c.args.seat.now c.commit-ran.new.seat C.of
+          c.args.seen.now c.show.new.sights c.show-2.new.sights c.args.seat.now c.commit-ran.new.seat C.of (subst (λ (s : Stage). AllByRecursion (λ earlier. IsSince earlier s.book) c.args.seen.now) (sym c.show.ensures.same) c.show.ensures.since)
           (c.show.ensures.seen ∙ ap (λ (s : Stage). c.args.seen.now ++ s.book ∷ []) (sym c.show.ensures.same)) c.show-2.ensures.seen c.known.ensures.tied c.known-2.ensures.tied C.noted;
       added = C.added;
     }

@@ -1,5 +1,7 @@
-use Rattle.std.proofs.Common.{◌++◌, ◌∷◌, [], length, ap, sym, ◌∙◌}
+use Rattle.std.proofs.Common.{◌++◌, ◌∷◌, [], length, ap, subst, sym, ◌∙◌}
+use Rattle.std.specs.List.{AllByRecursion}
 use Rattle.tp_shared.specs.Entries.{TakesOf}
+use Rattle.tp_shared.specs.Holds.{IsSince}
 use Rattle.tp_shared.specs.Seals.{Stage}
 use Rattle.tp_shared.proofs.Seen.{gained_by, held_by}
 use Rattle.tp_shared.proofs.locked.Locked.host_turn_seen.Goals as goal
@@ -14,7 +16,7 @@ returns-clause-went g c =
       left = left.book;
       held =
           held_by (TakesOf g.J.Naming.start (length g.J.Naming.start.nodes) c.host_turn-done.result) g.J.Naming.start g.J.Naming.first found left
-          c.args.seen.now c.show.new.sights c.show-2.new.sights c.args.seat.now c.host_turn-done.new.seat H.of
+          c.args.seen.now c.show.new.sights c.show-2.new.sights c.args.seat.now c.host_turn-done.new.seat H.of (subst (λ (s : Stage). AllByRecursion (λ earlier. IsSince earlier s.book) c.args.seen.now) (sym c.show.ensures.same) c.show.ensures.since)
           (c.show.ensures.seen ∙ ap (λ (s : Stage). c.args.seen.now ++ s.book ∷ []) (sym c.show.ensures.same)) c.show-2.ensures.seen c.known.ensures.tied c.known-2.ensures.tied H.noted;
       did = H.did;
     }

@@ -1,6 +1,8 @@
-use Rattle.std.proofs.Common.{◌≡◌, ◌+◌, ◌≤◌, List, length, sym, ap, subst, ◌∙◌, arith}
+use Rattle.std.proofs.Common.{◌≡◌, ◌+◌, ◌≤◌, List, length, map, sym, ap, subst, ◌∙◌, arith}
+use Rattle.std.specs.List.{AllByRecursion}
 use Rattle.tp_model.specs.declared.entry.Entry.{Entry}
 use Rattle.tp_book.specs.Book.{next_in_book}
+use Rattle.tp_shared.specs.Holds.{HadThen}
 use Rattle.tp_shared.specs.Positions.{IsNumberedFrom}
 use Rattle.tp_shared.specs.Told.{ToldSince, told_of}
 use Rattle.tp_shared.specs.declared.told.Told.{Told}
@@ -34,4 +36,5 @@ invariant_of-result g c =
       thawed = thaws_none c.args.told.value c.args.seals.items (ap (λ (t : Told). t.thawed) is);
       numbered = subst (λ (t : Told). IsNumberedFrom t.numbered_from c.args.book) (sym is) (positions_below g.J.Naming.first c.args.book.base c.args.book.numbers (omega (arith, many, last)));
       reaches = subst (λ (t : Told). t.numbered_from ≤ t.base + length t.net.entries) (sym is) (omega (arith, last));
+      seen_were = subst (λ sights. AllByRecursion (HadThen g.J.Naming.first c.args.roll.items) (map (λ sight. sight.value) sights)) (sym c.requires.unseen) tt;
     }

@@ -55,3 +55,6 @@ new-requires-clause-wires g c =
 
 pub over-requires : goal.over-requires
 over-requires g c = ap (λ v. v.sights) c.parts.view_is ∙ c.requires.sights_is
+
+pub new-requires-clause-unseen : goal.new-requires-clause-unseen
+new-requires-clause-unseen g c = ap (λ r. r.items) c.over.ensures ∙ c.parts.invariant.unseen
