@@ -41,7 +41,7 @@ impl CutNetwork {
         CutNetwork::of(parts)
     }
 
-    /// The same network again.
+    /// Another value that names this network.
     pub fn again(&self) -> CutNetwork
         ensures { result.network ≡ self.now.network }
     {

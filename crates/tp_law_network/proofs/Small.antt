@@ -11,7 +11,7 @@ use Rattle.tp_model.specs.Areas.{Held}
 use Rattle.tp_law_network.proofs.Partial.{bind_some, cond_some}
 use Rattle.tp_law_network.specs.Small.{small_byte, is_small_open, begins, current_of, current, entries_at, held_at, if_possible, small_verdict}
 
--- the same byte, the same gate
+-- an equal byte is an equal gate
 pub same_gate : (bytes left : List ℕ) (place : ℕ) → small_byte left place ≡ small_byte bytes place → is_small_open left place ≡ is_small_open bytes place
 same_gate bytes left place same = ap (λ x. x == GATE_OPEN) same
 
@@ -68,7 +68,7 @@ entries_split bytes left (suc more) place same = go (is_small_open bytes place) 
         let here_still : place ≡ place + 0 = omega arith in
         λ i. entries_at left (all i) (here_still i)
 
--- where the next gate is closed, the same is read
+-- where the next gate is closed, what was read is read again
 pub entries_same : (bytes left : List ℕ) (more place : ℕ)
     → ((q : ℕ) → place ≤ q → q < place + 2 * length (entries_at bytes more place) → small_byte left q ≡ small_byte bytes q)
     → (length (entries_at bytes more place) < more → is_small_open left (place + 2 * length (entries_at bytes more place)) ≡ false)

@@ -67,7 +67,7 @@ module _ {Node : Type 0} (M : Machine Node) (image : ℕ → Network Node) (byte
           ∙ V.is
     ]
 
-    -- the same is read
+    -- what was read is read again
     keeps : HeadStays → OtherStays → (count < 2 → is_small_open left gate ≡ false) → small_verdict M image left ≡ Some h
     keeps head other closed =
         let entries = entries_same bytes left 2 (begins V.second + 4) (λ q low high. head q (omega arith) high) closed in

@@ -151,9 +151,9 @@ fn hold_and_stream<
     }
 }
 
-/// Does what the words of a command line with `--stream` ask for, the program's name first; `feed` is standard input, `devices` holds and opens
-/// the device, and `onlooker` looks at `err` and has the time. Answers the program's status: that of the stream, 3 where it ended since a node halted, or 2 where the words ask for
-/// nothing; no file is opened then. Asking for help is no fault.
+/// Does what the words of a command line with `--stream` ask for, the program's name first; `feed` is standard input, `devices` holds and
+/// opens the device, and `onlooker` looks at `err` and has the time. Answers the program's status: that of the stream, 3 where it ended
+/// since a node halted, or 2 where the words ask for nothing; no file is opened then. Asking for help is no fault.
 pub fn answer_stream_over<
     R: Files<File = F> + AllocGlobal + Wait,
     F: FileExt + OpenFile + Drop,

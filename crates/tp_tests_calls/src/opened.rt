@@ -48,7 +48,7 @@ fn opens(alloc: Global, disk: &mut MemDisk) -> Result<bool, Unopened> {
     Ok(is_grown(&open(alloc, disk)?))
 }
 
-/// The same with a store, over a device that is lent.
+/// Whether the device opens so with a store, over a device that is lent.
 fn opens_store(alloc: Global, disk: &mut MemDisk) -> Result<bool, Unopened> {
     let (opened, store) = open_store(alloc, disk)?;
     Ok(is_grown(&opened) && store.place == opened.place())
@@ -68,7 +68,8 @@ fn has(disk: &MemDisk, bytes: &[u8]) -> bool {
     disk.failures() == 0 && disk.bytes() == bytes
 }
 
-/// Whether a device of `bytes` opens, with a store where that is asked for, as what it holds, and nothing is written; where memory was refused, it opens so then.
+/// Whether a device of `bytes` opens as what it holds, with a store where that is asked for, and nothing is written; where memory was
+/// refused, it opens so then.
 fn opens_again(alloc: Global, disk: &mut MemDisk, bytes: &[u8], with_store: bool) -> bool {
     let mut told = opens_by(alloc, disk, with_store);
     if told == Err(Unopened::Memory) && has(disk, bytes) {

@@ -129,7 +129,7 @@ fn is_behind(book: &Book, opened: &Opened, switches: u8) -> bool {
         && is_journal(book, opened)
 }
 
-/// The same of the book under its lock.
+/// Whether the area of a device that opened is behind the book under its lock.
 fn is_left_behind<J: Naming, R: Wait>(
     rt: &R,
     shared: &Shared<J>,
@@ -180,7 +180,7 @@ fn play<J: Naming, R: Wait>(
     Ok(if goes_over { images } else { None })
 }
 
-/// The same with new names.
+/// Plays all rounds under new names.
 fn play_in<R: Wait>(
     rt: &R,
     alloc: Global,

@@ -256,7 +256,7 @@ fn goes_on(
     Ok(store.disk.failures() == 1 && known.holds(alloc, store.disk.bytes(), 2)?)
 }
 
-/// The same on what a broken store leaves.
+/// Opens what a broken store leaves, and appends both groups there.
 fn goes_on_behind(alloc: Global, known: &Known, store: Store<MemDisk>) -> Result<bool, Fail> {
     let (next, mut store) = reopened(alloc, store)?;
     let told = goes_on(alloc, known, next, &mut store);

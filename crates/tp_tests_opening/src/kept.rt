@@ -86,7 +86,7 @@ fn kept_devices_open(rt: HostRuntime) -> Result<(), Fail> {
     Ok(())
 }
 
-/// What the node does in the turns, said apart: it takes the acknowledge and makes steps. Behind the checkpoint it takes what the port was handed.
+/// The node's turns, said apart: it takes the acknowledge and makes steps. Behind the checkpoint it takes what the port was handed.
 const APART: [Entry; 4] = [
     Entry::Confirm { port: 0, upto: 1 },
     Entry::HostIn {

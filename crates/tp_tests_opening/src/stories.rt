@@ -159,7 +159,7 @@ pub(crate) fn behind_kept(alloc: Global) -> Result<Known, Fail> {
     known
 }
 
-/// The same of one that was kept while its first checkpoint wasn't done: that is made anew over what stands in the second area.
+/// A device that was kept while its first checkpoint wasn't done: that is made anew over what stands in the second area.
 pub(crate) fn behind_a_stop(alloc: Global) -> Result<Known, Fail> {
     let round = [ROUND];
     let story = Story {

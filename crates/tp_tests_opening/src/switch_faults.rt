@@ -79,7 +79,7 @@ fn is_told(known: &Known, store: &mut Store<MemDisk>, case: Case) -> bool {
     }
 }
 
-/// The same, and what a crash leaves behind it.
+/// Whether a checkpoint with a fault is told as failed, and what a crash leaves behind it.
 fn told(alloc: Global, known: &Known, case: Case) -> Result<(bool, Vec<u8>), Fail> {
     let mut store = known.store(alloc, case)?;
     let is_told = is_told(known, &mut store, case);

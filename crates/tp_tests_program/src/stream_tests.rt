@@ -115,8 +115,8 @@ fn stream_before<R: Files<File = F> + AllocGlobal + Wait, F: FileExt + OpenFile 
     Ok((status, err))
 }
 
-/// Whether standard error and standard output are terminals, the words of a stream of 8 turns, and whether it says how far it has come: over
-/// the line before, and in lines.
+/// Whether standard error and standard output are terminals, the words of a stream of 8 turns, and whether it says how far it has come:
+/// over the line before, and in lines.
 struct Shown {
     terminals: (bool, bool),
     words: &'static [&'static str],

@@ -26,7 +26,7 @@ pub struct Ended {
     pub again: bool,
 }
 
-/// The same, and both nodes' images as they recorded.
+/// What came of a snapshot, and both nodes' images as they recorded.
 #[derive(Drop)]
 pub struct Checkpointed {
     pub first: Vec<u8>,

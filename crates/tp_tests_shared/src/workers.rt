@@ -113,7 +113,7 @@ fn work_of_parts<J: Naming + Send + Sync, R: Threads + Wait + Sync>(
     (done.taken, done.steps, done.is_refused)
 }
 
-/// The same with new names.
+/// Has both nodes make their turns under new names.
 pub fn work_of_pair<R: Threads + Wait + Sync>(
     rt: &R,
     parts: Parts,

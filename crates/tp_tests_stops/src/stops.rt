@@ -344,8 +344,8 @@ impl Script {
     }
 }
 
-/// Whether a device that was opened is what the script leaves: its first area was written anew, and of the `next` entries the last run alone
-/// isn't in its cut.
+/// Whether a device that was opened is what the script leaves: its first area was written anew, and of the `next` entries the last run
+/// alone isn't in its cut.
 pub(crate) fn is_last(alloc: Global, bytes: &[u8], next: u64) -> Result<bool, Fail> {
     let mut disk = MemDisk::of_bytes(Vec::from_slice(alloc, bytes)?);
     let opened = open(alloc, &mut disk)?;
@@ -383,8 +383,8 @@ fn an_opening_whose_device_fails_changes_nothing(rt: HostRuntime) -> Result<(), 
 /// What a folder has in which all is tried.
 const ALL: &str = "each-stop";
 
-/// Ends the script over a device at each of its calls, in each way. Answers how often it was ended and how many calls the checkpoints behind
-/// them had, or the call at which something wasn't as it ought to be.
+/// Ends the script over a device at each of its calls, in each way. Answers how often it was ended and how many calls the checkpoints
+/// behind them had, or the call at which something wasn't as it ought to be.
 fn end_each<R: Wait>(
     rt: &R,
     alloc: Global,
@@ -403,7 +403,7 @@ fn end_each<R: Wait>(
     Ok(Ok((calls.saturating_mul(tears.len() as u64), behind)))
 }
 
-/// The same, and what it answers is written.
+/// Ends the script over a device at each of its calls, and writes how often.
 fn tell_each<R: AllocGlobal + Wait + Abort, O: Write>(
     rt: &R,
     first: Vec<u8>,
