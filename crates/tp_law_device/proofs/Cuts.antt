@@ -114,7 +114,7 @@ ports_same base at (suc count) xs ys ports h is =
 
 -- ## The cut
 
--- The cut is the same in contents that are the same in front of the groups.
+-- The cut is read alike in contents that agree in front of the groups.
 pub cut_same : (E : EndsSeen NodeState) (t : Topology) (at : ℕ) (xs ys : List ℕ) (s : Network NodeState) → length t.wires ≡ line_count t
     → SameFront (groups_place t) xs ys → cut_in E t at xs ≡ Ok s → cut_in E t at ys ≡ Ok s
 unfolding cut_in

@@ -184,7 +184,7 @@ first_of version bytes head is = ap (λ (h : Head). h.areas.first) (sym is)
 pub head_first : (bytes : List ℕ) (head : Head) → head_of bytes ≡ Ok head → head.areas.first ≡ head_length head.version
 head_first bytes head is = first_of head.version bytes head (head_parts bytes head is).read
 
--- A device with the same first bytes, as long as the other, has the same head.
+-- A device with equal first bytes, as long as the other, has its head.
 pub head_same : (xs ys : List ℕ) (head : Head) → length ys ≡ length xs → SameFront head.areas.first xs ys → head_of xs ≡ Ok head → head_of ys ≡ Ok head
 head_same xs ys head size h is =
     let H = head_parts xs head is in

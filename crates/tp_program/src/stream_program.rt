@@ -188,7 +188,7 @@ pub fn answer_stream_over<
     }
 }
 
-/// As above, over devices that tell nothing of what was called.
+/// Does what the words ask for, as `answer_stream_over`, over devices that tell nothing of what was called.
 fn answer_stream_untold<
     R: Files<File = F> + AllocGlobal + Wait,
     F: FileExt + OpenFile + Drop,
@@ -212,7 +212,7 @@ fn answer_stream_untold<
     answer_stream_over(rt, devices, words, feed, out, err, onlooker)
 }
 
-/// As above, with the devices in files of the system, whose locks `locks` takes.
+/// Does what the words ask for, as `answer_stream_over`, with the devices in files of the system, whose locks `locks` takes.
 pub fn answer_stream_locking<
     R: Files<File = F> + AllocGlobal + Wait,
     F: FileExt + OpenFile + Drop,
@@ -237,7 +237,7 @@ pub fn answer_stream_locking<
     answer_stream_untold(rt, &mut devices, words, feed, out, err, onlooker)
 }
 
-/// As above, where nobody else has a device.
+/// Does what the words ask for, as `answer_stream_over`, where nobody else has a device.
 pub fn answer_stream<
     R: Files<File = F> + AllocGlobal + Wait,
     F: FileExt + OpenFile + Drop,

@@ -11,7 +11,7 @@ use Rattle.tp_model.specs.declared.limits.TheConstants.{GATE_CLOSED, GATE_OPEN}
 abbrev pub area_kept : Opened → Kept
 area_kept o = record { areas = o.head.areas; second = o.second; generation = o.generation; form = o.form; end = o.end; next = next_of o }
 
--- bytes with a range of others over them, at the same place
+-- bytes with a range of others over them, at the place that it has there
 abbrev pub with_range : ℕ → ℕ → List ℕ → List ℕ → List ℕ
 with_range at count source old = written old at (take count (drop at source))
 

@@ -26,7 +26,7 @@ const KEPT: [Numbered; 2] = [
     },
 ];
 
-/// Whether it opens as what it holds.
+/// Whether a device opened as what it holds.
 fn is_grown(opened: &Opened) -> bool {
     let (network, kept) = (opened.network(), KEPT);
     let is_pending = match network.ports() {
@@ -54,7 +54,7 @@ fn opens_store(alloc: Global, disk: &mut MemDisk) -> Result<bool, Unopened> {
     Ok(is_grown(&opened) && store.place == opened.place())
 }
 
-/// Either of them.
+/// Whether the device opens so, with a store where that is asked for.
 fn opens_by(alloc: Global, disk: &mut MemDisk, with_store: bool) -> Result<bool, Unopened> {
     if with_store {
         opens_store(alloc, disk)
@@ -63,7 +63,7 @@ fn opens_by(alloc: Global, disk: &mut MemDisk, with_store: bool) -> Result<bool,
     }
 }
 
-/// Whether it has `bytes`, and no call of it failed.
+/// Whether a device has `bytes`, and no call of it failed.
 fn has(disk: &MemDisk, bytes: &[u8]) -> bool {
     disk.failures() == 0 && disk.bytes() == bytes
 }

@@ -57,7 +57,7 @@ fn goes<J: Naming, R: Wait>(
     }
 }
 
-/// Whether all steps do.
+/// Whether all steps of a story go as they should.
 fn are_gone<J: Naming, R: Wait>(rt: &R, alloc: Global, desk: &mut Desk<J>, story: &Story) -> bool {
     let offered = story.offered.len() as u64;
     let accepted = offer(rt, desk, 0, story.offered);

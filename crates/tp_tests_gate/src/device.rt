@@ -100,12 +100,12 @@ pub(crate) fn formatted(alloc: Global) -> Result<MemDisk, Fail> {
     formatted_as(alloc, TEXT, NODES)
 }
 
-/// The one with a wide head.
+/// The device with a wide head, freshly formatted.
 pub(crate) fn formatted_wide(alloc: Global) -> Result<MemDisk, Fail> {
     formatted_as(alloc, WIDE, NODES + 1)
 }
 
-/// That device as it was made before areas had forms: its first area has no turns.
+/// A device as it was made before areas had forms: its first area has no turns.
 pub(crate) fn without_turns(disk: MemDisk) -> MemDisk {
     let mut bytes = disk.crash();
     place(&mut bytes, FORM, &[0, 0]);

@@ -162,7 +162,7 @@ fn are_stored_beside<J: Naming + Send + Sync, D: Disk + Drop, R: Threads + Wait 
     (flusher, worked && is_so)
 }
 
-/// Whether it goes as it should. The first entry has the number `first`.
+/// Whether a scene goes as it should. The first entry has the number `first`.
 fn act<J: Naming + Send + Sync, D: Disk + Drop, R: Threads + Wait + Sync>(
     rt: &R,
     alloc: Global,
@@ -247,8 +247,8 @@ fn is_switched<J: Naming, R: Wait>(
     Ok(is_replay? && is_turned && is_switched && looked.is_ok())
 }
 
-/// Whether it goes as it should, and what the flusher leaves then is the book's journal. Where an image was copied meanwhile, the area with
-/// it is gone over to.
+/// Whether a scene goes as it should, and what the flusher leaves then is the book's journal. Where an image was copied meanwhile, the area
+/// with it is gone over to.
 fn play<J: Naming + Send + Sync, R: Threads + Wait + Sync>(
     rt: &R,
     alloc: Global,

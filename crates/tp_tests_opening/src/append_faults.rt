@@ -170,7 +170,7 @@ fn is_whole(alloc: Global, known: &Known, case: Case) -> Result<bool, Fail> {
     told
 }
 
-/// Whether they are however a call ends.
+/// Whether the groups are there so, however a call ends.
 fn is_whole_at(alloc: Global, known: &Known, call: usize) -> Result<bool, Fail> {
     for (ending, torn) in ENDINGS {
         if !is_whole(alloc, known, Case { call, ending, torn })? {
@@ -275,7 +275,7 @@ fn is_broken(alloc: Global, known: &Known, case: Case) -> Result<bool, Fail> {
     told
 }
 
-/// Whether it does however a call ends.
+/// Whether a store stays broken so, however a call ends.
 fn is_broken_at(alloc: Global, known: &Known, call: usize) -> Result<bool, Fail> {
     for (ending, torn) in ENDINGS {
         if !is_broken(alloc, known, Case { call, ending, torn })? {

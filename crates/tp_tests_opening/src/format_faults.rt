@@ -230,7 +230,7 @@ fn is_torn(alloc: Global, whole: &[u8], fault: PlannedFault) -> Result<bool, Fai
     told
 }
 
-/// Whether it is so where the last sync isn't reached, where it fails, and where the run stops within it.
+/// Whether that is so where the last sync isn't reached, where it fails, and where the run stops within it.
 fn are_torn(alloc: Global, whole: &[u8]) -> Result<bool, Fail> {
     let before = is_torn(alloc, whole, PlannedFault::StopsBefore)?;
     let torn = Vec::new(alloc);
@@ -288,7 +288,7 @@ fn is_like(alloc: Global, before: Vec<u8>, fresh: &Held, grown: &Held) -> Result
     told
 }
 
-/// Whether it is so over `used`, which has a group, over opened gates, and over ones.
+/// Whether formats over `used`, which has a group, over opened gates and over ones hold that.
 fn are_like(alloc: Global, used: Vec<u8>, fresh: &Held, grown: &Held) -> Result<bool, Fail> {
     let is_used = is_like(alloc, used, fresh, grown)?;
     let gates = is_like(alloc, Vec::from_elem(alloc, 0xA5, SIZE)?, fresh, grown)?;

@@ -60,7 +60,7 @@ fn opens<R: Threads + Sync>(rt: &R, alloc: Global, kept: &Kept) -> Result<bool, 
     )
 }
 
-/// Whether it does so with a group more, which is appended in that area.
+/// Whether a kept device takes a further group in that area, and then opens to a plain replay.
 fn goes_on(alloc: Global, kept: &Kept) -> Result<bool, Fail> {
     let more = [Entry::HostIn {
         port: 0,

@@ -92,7 +92,7 @@ pub(crate) fn stream_to<
     )
 }
 
-/// As above, where it is looked at so.
+/// The status that a stream ends with, and what it wrote on standard error, where `screen` looks on.
 fn stream_before<R: Files<File = F> + AllocGlobal + Wait, F: FileExt + OpenFile + Drop, O: Write>(
     rt: &R,
     scratch: &Scratch,

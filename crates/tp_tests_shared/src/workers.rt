@@ -55,7 +55,7 @@ pub fn make_turns<J: Naming, R: Wait>(
     work
 }
 
-/// What is done with `other` is done too.
+/// Adds the work of `other` to `work`.
 fn add_work<J: Naming>(work: &mut Work<J>, other: Work<J>) {
     let Work {
         seat,

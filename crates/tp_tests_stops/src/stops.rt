@@ -40,13 +40,13 @@ const GOES_ON: &[Step<'static>] = &[Step::More(b'z'), Step::Turns(2), Step::Flus
 /// How a call ends, and how the range that was written last and the others are torn then.
 type Tear = (Ending, Torn, Torn);
 
-/// Those that the gate tries.
+/// The ends and tears that the gate tries.
 const SOME: &[Tear] = &[
     (Ending::Within, Torn::Filled(0xA5), Torn::Filled(0xA5)),
     (Ending::Fails, Torn::Drawn(1), Torn::Drawn(1)),
 ];
 
-/// All.
+/// All ends and tears.
 const EACH: &[Tear] = &[
     (Ending::Before, Torn::Old, Torn::Old),
     (Ending::Before, Torn::New, Torn::New),
@@ -93,7 +93,7 @@ pub(crate) fn fresh(alloc: Global) -> Result<Vec<u8>, Fail> {
     Ok(disk.crash())
 }
 
-/// The one that was formatted for this network before areas had forms, and kept.
+/// The device that was formatted for this network before areas had forms, and kept.
 pub(crate) fn kept(alloc: Global) -> Result<Vec<u8>, AllocError> {
     KEPT[0].bytes(alloc)
 }

@@ -121,7 +121,7 @@ fn formatted_with(
     Ok(bytes)
 }
 
-/// The bytes of a device all of whose nodes have this code, where the first begins `begin` bytes behind the others.
+/// The bytes of a device whose nodes all have this code, where the first begins `begin` bytes behind the others.
 fn formatted_by(
     alloc: Global,
     topology: &Topology,
