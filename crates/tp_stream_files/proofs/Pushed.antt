@@ -13,3 +13,7 @@ pub map_more : {X Y : Type 0} (f : X → Y) (xs : List X) (i : ℕ) (last : X) (
 map_more f xs i last ys now y low front is grew =
     grew ∙ ap (λ front. front ++ y ∷ []) front ∙ ap (λ z. map f (take i xs) ++ z ∷ []) is
     ∙ sym (map-append f (take i xs) (get_or xs i last ∷ [])) ∙ ap (map f) (sym (take_more xs i last low))
+
+-- so it is of what is taken of each
+pub map_last : {X Y : Type 0} (f : X → Y) (was now : List X) (x : X) → now ≡ was ++ x ∷ [] → map f now ≡ map f was ++ f x ∷ []
+map_last f was now x grew = ap (map f) grew ∙ map-append f was (x ∷ [])

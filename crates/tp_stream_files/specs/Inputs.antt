@@ -1,5 +1,5 @@
 -- A port's input, and what is known of it.
-use Rattle.std.specs.Prelude.{◌≡◌, ◌≤◌, ℕ, List, length, take, drop, Option, Some, None}
+use Rattle.std.specs.Prelude.{◌≡◌, ◌≤◌, ℕ, Bool, ◌||◌, List, length, take, drop, Option, Some, None, is_some}
 
 -- Where the whole input is known, `bytes` are those from position `at` on, as many as there are.
 abbrev pub AreFrom : Option (List ℕ) → ℕ → List ℕ → Type 0
@@ -15,6 +15,15 @@ IsLength n (Some all) = n ≡ Some (length all)
 abbrev pub HasAtLeast : ℕ → Option (List ℕ) → Type 0
 HasAtLeast n None = Unit {0}
 HasAtLeast n (Some all) = n ≤ length all
+
+-- Where the whole input is known, none of its bytes is at position `at` or behind it.
+abbrev pub IsBehind : ℕ → Option (List ℕ) → Type 0
+IsBehind at None = Unit {0}
+IsBehind at (Some all) = length all ≤ at
+
+-- Whether nothing is left of an input that its port may take: the end was come to, at a position, or the port had no room for more.
+abbrev pub is_over : Option ℕ → Bool → Bool
+is_over ended blocked = is_some ended || blocked
 
 -- An input as it is given: its port, and all of its bytes, where they are known.
 pub record GivenInput : Type 0 where

@@ -3,6 +3,7 @@ pub mod Held
 pub mod Inputs
 pub mod Lines
 pub mod Named
+pub mod Notices
 pub mod Opening
 pub mod Outputs
 pub mod Said

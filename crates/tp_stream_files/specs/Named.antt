@@ -22,6 +22,10 @@ output_to haves end = fresh_output end.port (have_in haves end.port)
 abbrev pub output_away : ℕ → OutputValue
 output_away port = fresh_output port None
 
+-- the ports of all inputs, in order
+abbrev pub inputs_named : Ends → List ℕ
+inputs_named ends = map (λ (end : PortFile). end.port) ends.ins.items
+
 -- the outputs of all ends, each with what its own reader has
 abbrev pub outputs_named : Ends → List OutputValue
 outputs_named ends = map (output_to ends.haves.items) ends.outs.items ++ map output_away ends.discards.items

@@ -1,27 +1,32 @@
 //! A port's input: read piece by piece.
 
-ghost use Rattle.std.specs.Prelude.{◌≡◌, ◌<◌, ◌≤◌, length, take, Some, IfSome, IfNone, IfOk};
-ghost use Rattle.tp_stream_files.specs.Inputs.{AreFrom, HasAtLeast, IsLength};
+ghost use Rattle.std.specs.Prelude.{◌≡◌, ◌⊎◌, ◌<◌, ◌≤◌, length, take, true, false, Ok, Some, None, is_some, IfSome, IfNone, IfOk};
+ghost use Rattle.tp_stream_files.specs.Inputs.{AreFrom, HasAtLeast, IsBehind, IsLength, is_over};
 
 use crate::source::{Source, SourceFailed};
 use std::marker::Model;
 
-/// A port's whole input and where it comes from, whether its end was come to, and whether the port had no room for more.
+/// A port's whole input and where it comes from, the position at which its end was come to, and whether the port had no room for more.
 #[derive(Drop)]
 pub struct Input<I: Source> {
     port: u8,
     source: I,
-    has_ended: bool,
+    ended: Option<u64>,
     is_blocked: bool,
+    pub ghost end: { IfSome ended (λ at. IsBehind at (I.input source)) },
 }
 
 impl<I: Source> Input<I> {
     /// The input of the port `port` from a source.
-    pub fn new(port: u8, source: I) -> Input<I> {
+    pub fn new(port: u8, source: I) -> Input<I>
+        ensures port { result.port ≡ port }
+        ensures source { result.source ≡ source }
+        ensures over { (result.ended ≡ None) × (result.is_blocked ≡ false) }
+    {
         Input {
             port,
             source,
-            has_ended: false,
+            ended: None,
             is_blocked: false,
         }
     }
@@ -44,37 +49,48 @@ impl<I: Source> Input<I> {
         }
     }
 
-    /// Whether nothing is left that its port may take.
-    pub fn is_over(&self) -> bool {
-        self.has_ended || self.is_blocked
+    /// Whether nothing is left that its port may take. Where its end was come to, none of its bytes is at that position or behind it.
+    pub fn is_over(&self) -> bool
+        ensures { result ≡ is_over self.now.ended self.now.is_blocked }
+    {
+        self.ended.is_some() || self.is_blocked
     }
 
     /// Whether a read would wait for bytes that haven't come yet, where the port has accepted those up to `at`.
+    #[tactic(auto, using(crate::proofs::Read::behind_stays))]
     pub fn would_wait(&mut self, at: u64) -> bool
         ensures same { (self.new.port ≡ self.old.port) × (I.input self.new.source ≡ I.input self.old.source) }
+        ensures over { (self.new.ended ≡ self.old.ended) × (self.new.is_blocked ≡ self.old.is_blocked) }
     {
-        !self.has_ended && self.source.would_wait(at)
+        self.ended.is_none() && self.source.would_wait(at)
     }
 
     /// Notes whether the port has no room for more.
     pub fn block(&mut self, is_blocked: bool)
         ensures same { (self.new.port ≡ self.old.port) × (I.input self.new.source ≡ I.input self.old.source) }
+        ensures over { (self.new.ended ≡ self.old.ended) × (self.new.is_blocked ≡ is_blocked) }
     {
         self.is_blocked = is_blocked;
     }
 
-    /// Reads bytes from a position on into `out`, and answers how many. None where `out` has no place, or the end was come to.
-    #[tactic(auto, using(crate::proofs::Read::none_from))]
+    /// Reads bytes from a position on into `out`, and answers how many. None where `out` has no place, or the end was come to, which is
+    /// kept.
+    #[tactic(auto, using(crate::proofs::Read::none_from, crate::proofs::Read::behind_stays, crate::proofs::Read::behind_here))]
     pub fn read(&mut self, at: u64, out: &mut [u8]) -> Result<usize, SourceFailed>
         ensures few { IfOk result (λ count. count ≤ length out.new) }
         ensures same { (self.new.port ≡ self.old.port) × (I.input self.new.source ≡ I.input self.old.source) }
         ensures bytes { IfOk result (λ count. AreFrom (I.input self.old.source) at (take count out.new)) }
+        ensures end { IfOk result (λ count. count ≡ 0 → 0 < length out.new → is_some self.new.ended ≡ true) }
+        ensures ended { (self.new.ended ≡ self.old.ended) ⊎ ((result ≡ Ok 0) × (self.new.ended ≡ Some at)) }
+        ensures blocked { self.new.is_blocked ≡ self.old.is_blocked }
     {
-        if out.is_empty() || self.has_ended {
+        if out.is_empty() || self.ended.is_some() {
             return Ok(0);
         }
         let count = self.source.read(at, out)?;
-        self.has_ended = count == 0;
+        if count == 0 {
+            self.ended = Some(at);
+        }
         Ok(count)
     }
 }

@@ -1,5 +1,8 @@
 //! What is told of a stream as it goes.
 
+ghost use Rattle.std.specs.Prelude.{List, [], ◌∷◌, Option, None};
+ghost use Rattle.tp_stream_files.specs.Notices.{Notice, OutputBegins, InputBegins, HasCome, NodeStopped, Noticed};
+
 use crate::ending::Stopped;
 use tp_model::limits::MAX_PORTS;
 
@@ -22,16 +25,23 @@ pub struct Progress {
 
 /// Who is told.
 pub trait Listener {
+    /// What it was told, the oldest first, where that is known.
+    ghost told: { Self → Option (List Notice) } = { λ _. None };
+
     /// The first byte that is put of a port's output has this position.
-    fn output(&mut self, port: u8, position: u64);
+    fn output(&mut self, port: u8, position: u64)
+        ensures { Noticed (OutputBegins port position ∷ []) (told self.old) (told self.new) };
 
     /// A port has accepted the bytes of its input up to `accepted`.
-    fn input(&mut self, port: u8, accepted: u64);
+    fn input(&mut self, port: u8, accepted: u64)
+        ensures { Noticed (InputBegins port accepted ∷ []) (told self.old) (told self.new) };
 
     /// How far it has come. Where that is to be told at all, it is told behind each flush, and so while input is waited for, too.
-    fn progress(&mut self, progress: Progress);
+    fn progress(&mut self, progress: Progress)
+        ensures told { Noticed (HasCome progress ∷ []) (told self.old) (told self.new) };
 
     /// How a node stands at the end, where it has halted or waits though a port has input that no node has taken. Nodes are told in
     /// order.
-    fn stopped(&mut self, node: u8, how: Stopped);
+    fn stopped(&mut self, node: u8, how: Stopped)
+        ensures { Noticed (NodeStopped node how ∷ []) (told self.old) (told self.new) };
 }

@@ -1,7 +1,7 @@
 //! How ends are opened.
 
 ghost use Rattle.std.specs.Prelude.{◌≡◌, ◌++◌, [], map, IfOk, OnOk};
-ghost use Rattle.tp_stream_files.specs.Named.{output_away, output_to, outputs_named};
+ghost use Rattle.tp_stream_files.specs.Named.{inputs_named, output_away, output_to, outputs_named};
 ghost use Rattle.tp_stream_files.specs.Opening.{KeepsFiles};
 
 use crate::ends::{EndFault, Ends, PortFile};
@@ -153,7 +153,8 @@ fn inputs_of<'a, S: EndFiles<File = F> + Looks, F: EndFile + Drop, I: Feed>(
     taken: &mut Taken,
     feed: &'a mut I,
 ) -> Result<Vec<Input<AnySource<'a, F, I>>>, EndFault>
-    ensures { KeepsFiles (S.calls files.old) (S.calls files.new) }
+    ensures kept { KeepsFiles (S.calls files.old) (S.calls files.new) }
+    ensures ports { IfOk result (λ inputs. map (λ i. i.port) inputs.items ≡ inputs_named ends.now) }
 {
     let mut inputs = Vec::new(alloc);
     let mut feed = Some(feed);
@@ -180,6 +181,7 @@ pub fn open_ends_over<'a, S: EndFiles<File = F> + Looks, F: EndFile + Drop, I: F
 ) -> Result<Streams<AnySink<'a, F, O>, AnySource<'a, F, I>>, EndFault>
     ensures kept { KeepsFiles (S.calls files.old) (S.calls files.new) }
     ensures outputs { IfOk result (λ streams. streams.outputs.items ≡ outputs_named ends.now) }
+    ensures inputs { IfOk result (λ streams. map (λ i. i.port) streams.inputs.items ≡ inputs_named ends.now) }
 {
     if let Some(port) = same_file(files, device, ends) {
         return Err(EndFault::SameFile(port));
@@ -206,7 +208,8 @@ pub fn open_ends<
     feed: &'a mut I,
     out: &'a mut O,
 ) -> Result<Streams<AnySink<'a, OutsideFile<F>, O>, AnySource<'a, OutsideFile<F>, I>>, EndFault>
-    ensures { IfOk result (λ streams. streams.outputs.items ≡ outputs_named ends.now) }
+    ensures outputs { IfOk result (λ streams. streams.outputs.items ≡ outputs_named ends.now) }
+    ensures inputs { IfOk result (λ streams. map (λ i. i.port) streams.inputs.items ≡ inputs_named ends.now) }
 {
     open_ends_over(&mut Outside::new(rt), rt.alloc(), device, ends, feed, out)
 }

@@ -1,7 +1,7 @@
 //! Where a port's input comes from.
 
-ghost use Rattle.std.specs.Prelude.{◌≡◌, ◌≤◌, ℕ, List, length, take, Option, None, IfOk};
-ghost use Rattle.tp_stream_files.specs.Inputs.{AreFrom, IsLength};
+ghost use Rattle.std.specs.Prelude.{◌≡◌, ◌<◌, ◌≤◌, ℕ, List, length, take, Option, None, IfOk};
+ghost use Rattle.tp_stream_files.specs.Inputs.{AreFrom, IsBehind, IsLength};
 
 /// Bytes couldn't be read.
 #[derive(Clone, Copy, Debug, PartialEq, Eq)]
@@ -25,5 +25,6 @@ pub trait Source {
     fn read(&mut self, at: u64, out: &mut [u8]) -> Result<usize, SourceFailed>
         ensures few { IfOk result (λ count. count ≤ length out.new) }
         ensures same { input self.new ≡ input self.old }
-        ensures bytes { IfOk result (λ count. AreFrom (input self.old) at (take count out.new)) };
+        ensures bytes { IfOk result (λ count. AreFrom (input self.old) at (take count out.new)) }
+        ensures end { IfOk result (λ count. count ≡ 0 → 0 < length out.new → IsBehind at (input self.old)) };
 }

@@ -1,7 +1,7 @@
 //! Where a port's input comes from in the program: a file, or standard input.
 
-ghost use Rattle.std.specs.Prelude.{◌≡◌, ◌≤◌, ℕ, List, Option, None, length, take, IfOk};
-ghost use Rattle.tp_stream_files.specs.Inputs.{AreFrom, IsLength};
+ghost use Rattle.std.specs.Prelude.{◌≡◌, ◌<◌, ◌≤◌, ℕ, List, Option, None, length, take, IfOk};
+ghost use Rattle.tp_stream_files.specs.Inputs.{AreFrom, IsBehind, IsLength};
 
 use crate::feeds::Feed;
 use crate::pipes::Pipe;
@@ -41,6 +41,7 @@ impl<'a, F: EndFile + Drop, I: Feed> Source for AnySource<'a, F, I> {
         ensures few { IfOk result (λ count. count ≤ length out.new) }
         ensures same { let none : Option (List ℕ) = None in none ≡ none }
         ensures bytes { IfOk result (λ count. AreFrom None at (take count out.new)) }
+        ensures end { IfOk result (λ count. count ≡ 0 → 0 < length out.new → IsBehind at None) }
         ensures asked { WasRead F.calls I.given at result out.new self.old self.new }
     {
         match self {

@@ -1,6 +1,7 @@
 //! What is said of a stream on standard error.
 
-ghost use Rattle.std.specs.Prelude.{◌≡◌, ◌*◌, None};
+ghost use Rattle.std.specs.Prelude.{◌≡◌, ◌*◌, [], ◌∷◌, None};
+ghost use Rattle.tp_stream_files.specs.Notices.{HasCome, Noticed};
 ghost use Rattle.tp_stream_files.specs.Said.{WasHeard, are_over};
 
 use crate::clock::Onlooker;
@@ -76,7 +77,8 @@ impl<'a, E: Write, W: Onlooker> Listener for Teller<'a, E, W> {
     }
 
     fn progress(&mut self, progress: Progress)
-        ensures { WasHeard progress self.old.is_over (W.times self.old.onlooker.now) (W.times self.new.onlooker.now)
+        ensures told { Noticed (HasCome progress ∷ []) None None }
+        ensures heard { WasHeard progress self.old.is_over (W.times self.old.onlooker.now) (W.times self.new.onlooker.now)
             self.old.meter self.new.meter (E.contents self.old.err.now) (E.contents self.new.err.now) }
     {
         let now = self.onlooker.now();
