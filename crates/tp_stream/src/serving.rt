@@ -16,7 +16,7 @@ use crate::endings::{are_over, ending, is_asked, may_wait};
 use crate::fault::StreamFault;
 use crate::flushing::{finish, flush};
 use crate::pace::Pace;
-use crate::pumping::{Pumped, are_awaited, can_confirm, pump, rest};
+use crate::pumping::{Pumped, can_confirm, pump, rest};
 use crate::rounds::round;
 use crate::settling::settle;
 use crate::stopping::{find_halted, tell_stopped};
@@ -58,8 +58,7 @@ fn make_turns<J: Naming, I: Source, R: Wait>(
     if pumped == Pumped::Moved {
         turns.moved();
     }
-    if lacks_input && pace.task.rests() && are_awaited(rt, shared, pace, inputs) {
-        rest(rt);
+    if lacks_input && pace.task.rests() && rest(rt, shared, pace, inputs) {
         return Ok(());
     }
     if turns.is_full || lacks_input {

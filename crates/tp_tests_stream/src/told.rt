@@ -26,7 +26,7 @@ impl Source for Late {
         None
     }
 
-    fn would_wait(&mut self, _at: u64) -> bool {
+    fn would_wait(&mut self, _at: u64, _millis: u64) -> bool {
         let waits = self.questions > 0;
         self.questions = self.questions.saturating_sub(1);
         waits

@@ -7,6 +7,7 @@ use std::io;
 use std::io::{ErrorKind, Input, Read};
 use std::sync::Wait;
 use std::thread::Threads;
+use std::time::Clock;
 use tp_model::limits::MAX_HELD;
 use tp_stream_files::{Feed, SourceFailed, Threaded, Trace};
 
@@ -74,12 +75,12 @@ impl<R: Wait + Drop> Late<R> {
     }
 }
 
-impl<R: Wait + Drop> Feed for Late<R> {
+impl<R: Wait + Clock + Drop> Feed for Late<R> {
     ghost given = { λ late. late.trace.told };
 
-    fn would_wait(&mut self) -> bool {
+    fn would_wait(&mut self, millis: u64) -> bool {
         self.begin();
-        self.feed.would_wait()
+        self.feed.would_wait(millis)
     }
 
     fn next(&mut self, out: &mut [u8; MAX_HELD]) -> Result<usize, SourceFailed> {
