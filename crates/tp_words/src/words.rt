@@ -2,7 +2,7 @@
 
 use crate::help::{
     BACKUP_REFUSALS, CHECK_REFUSALS, COMPACT_REFUSALS, FORMAT_REFUSALS, OPENING_REFUSALS,
-    RUN_REFUSALS, STATUS_REFUSALS, TRACE_REFUSALS, TRY_REFUSALS,
+    RUN_REFUSALS, STATUS_REFUSALS, STOP_REFUSALS, TRACE_REFUSALS, TRY_REFUSALS,
 };
 use clap::{Arg, ArgAction, Command};
 use std::alloc::{AllocError, Global};
@@ -174,6 +174,20 @@ const RUN: Form = Form {
     ],
 };
 
+const STOP: Form = Form {
+    name: "stop",
+    about: "Asks the stream that another tpnet runs on a device to end, as it does by --stop-file, and prints asked; with --wait it waits for that, and prints ended",
+    words: &[
+        EXPLAIN,
+        Word::Place("DEVICE", "the device's file, of which nothing is read or written"),
+        Word::Value(
+            "wait",
+            "SECONDS",
+            "seconds to wait until no other tpnet holds DEVICE, 1 to 4294967 (without it none: it is asked, and that is all)",
+        ),
+    ],
+};
+
 const COMPACT: Form = Form {
     name: "compact",
     about: "Writes all of a device's network into its other area, which empties the journal, and prints the generation, the number of the next entry and how many entries the journal takes",
@@ -283,6 +297,7 @@ enum Name {
     Check,
     Format,
     Run,
+    Stop,
     Compact,
     Backup,
     Recover,
@@ -301,6 +316,7 @@ const NAMES: &[Name] = &[
     Name::Check,
     Name::Format,
     Name::Run,
+    Name::Stop,
     Name::Compact,
     Name::Backup,
     Name::Recover,
@@ -320,6 +336,7 @@ fn form_of(name: Name) -> Form {
         Name::Check => CHECK,
         Name::Format => FORMAT,
         Name::Run => RUN,
+        Name::Stop => STOP,
         Name::Compact => COMPACT,
         Name::Backup => BACKUP,
         Name::Recover => RECOVER,
@@ -340,6 +357,7 @@ fn refusals_of(name: Name) -> &'static str {
         Name::Check => CHECK_REFUSALS,
         Name::Format => FORMAT_REFUSALS,
         Name::Run => RUN_REFUSALS,
+        Name::Stop => STOP_REFUSALS,
         Name::Compact => COMPACT_REFUSALS,
         Name::Backup => BACKUP_REFUSALS,
         Name::Status => STATUS_REFUSALS,
