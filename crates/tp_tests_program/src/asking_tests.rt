@@ -108,6 +108,16 @@ const ASKED: &[Case] = &[
         err: "tpnet: StopExists\n",
     },
     Case {
+        options: &["--explain"],
+        vain: FOR_GOOD,
+        takes: 0,
+        before: Stands::Text,
+        then: Stands::Text,
+        status: 1,
+        out: "",
+        err: "tpnet: StopExists\n  scratch/asked/device.stop: it is there, and no empty file, so it is no request, and stays\n  Move it, and give the same command again.\n",
+    },
+    Case {
         options: &["--wait=3"],
         vain: FOR_GOOD,
         takes: 0,
@@ -161,6 +171,16 @@ const WAITED: &[Case] = &[
         status: 1,
         out: "",
         err: "tpnet: StillRunning\n",
+    },
+    Case {
+        options: &["--explain", "--wait=1"],
+        vain: FOR_GOOD,
+        takes: 0,
+        before: Stands::Nothing,
+        then: Stands::Empty,
+        status: 1,
+        out: "",
+        err: "tpnet: StillRunning\n  It is asked to stop, by scratch/waited/device.stop, and another tpnet has scratch/waited/device still. A stream ends behind its next flush, and takes the file away;\n  run without --stream, compact and format never look for it.\n  Give the same command again, or end that process: a kill loses nothing that was shown.\n",
     },
     Case {
         options: &["--wait", "1"],

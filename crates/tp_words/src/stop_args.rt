@@ -6,7 +6,8 @@ ghost use Rattle.std.specs.Option.{option_map};
 ghost use Rattle.tp_words.specs.Given.{given};
 ghost use Rattle.tp_words.specs.StopArgs.{IsStopInRange, IsWait, WasStopTyped};
 
-use crate::args::{ArgFault, MAX_WAIT, MAX_WORDS};
+use crate::arg_fault::ArgFault;
+use crate::args::{MAX_WAIT, MAX_WORDS};
 use crate::found::{option_number, text_of};
 use crate::words::command;
 use clap::ArgMatches;
