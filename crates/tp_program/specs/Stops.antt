@@ -3,7 +3,7 @@ use Rattle.std.specs.Prelude.{◌≡◌, ◌⊎◌, ◌<◌, ℕ, Bool, true, fa
 use Rattle.std.specs.Io.KnownBytes.{Appends}
 use Rattle.tp_words.specs.declared.stop_args.StopRequest.{StopRequest}
 use Rattle.tp_program.specs.declared.asking.Unasked.{Unasked}
-use Rattle.tp_program.specs.declared.asking.Unasked.TheVariants.{Device, NotRunning, Request, StillRunning}
+use Rattle.tp_program.specs.declared.asking.Unasked.TheVariants.{Device, NoDevice, NotRunning, Request, StillRunning}
 use Rattle.tp_program.specs.Devices.{DeviceCall, Holds}
 
 -- where a stream of a device is asked to stop
@@ -40,10 +40,19 @@ abbrev pub WaitedInVain : Option ℕ → (path : List ℕ) → (old new : List D
 WaitedInVain None path old new = ⊥
 WaitedInVain (Some seconds) path old new = new ≡ old ++ replicate seconds (Holds path 1 false)
 
+-- It is said where nobody else has the device.
+abbrev pub IsOfNobody : Unasked → Type 0
+IsOfNobody (Device refusal) = ⊥
+IsOfNobody (NoDevice refusal) = Unit {0}
+IsOfNobody NotRunning = Unit {0}
+IsOfNobody (Request unmade) = ⊥
+IsOfNobody StillRunning = ⊥
+
 -- Why a stream wasn't asked, or hasn't ended: before the device was asked for; since nobody else had it; since the request couldn't be
 -- made; or since another process had it still.
 abbrev pub WasUnasked : Unasked → Option ℕ → (path : List ℕ) → (old new : List DeviceCall) → Type 0
 WasUnasked (Device refusal) wait path old new = new ≡ old
+WasUnasked (NoDevice refusal) wait path old new = new ≡ old ++ Holds path 0 true ∷ []
 WasUnasked NotRunning wait path old new = new ≡ old ++ Holds path 0 true ∷ []
 WasUnasked (Request unmade) wait path old new = new ≡ old ++ Holds path 0 false ∷ []
 WasUnasked StillRunning wait path old new = WaitedInVain wait path (old ++ Holds path 0 false ∷ []) new

@@ -3,17 +3,19 @@
 ghost use Rattle.std.specs.Prelude.{◌≡◌, ◌≤◌, [], ◌∷◌, ◌++◌, false, true, replicate, IfErr, OnOk, string_bytes};
 ghost use Rattle.std.specs.Io.KnownBytes.{Appends};
 ghost use Rattle.tp_program.specs.Devices.{Holds};
-ghost use Rattle.tp_program.specs.Stops.{AskedAs, GotWithin, HasAsked, WasUnasked, stop_line};
+ghost use Rattle.tp_program.specs.Stops.{AskedAs, GotWithin, HasAsked, IsOfNobody, WasUnasked, stop_line};
 
 use crate::asking_explain::explain_unasked;
 use crate::devices::Devices;
-use crate::files::read_refusal;
+use crate::files::{disk_to_read, read_refusal};
 use crate::locks::InUse;
 use crate::request_file::RequestFile;
-use std::fs::{Files, OpenOptions};
+use std::fs::{Files, OpenFile, OpenOptions};
 use std::io;
 use std::io::Write;
+use std::os::unix::fs::FileExt;
 use thiserror::Error;
+use tp_recover::read_head;
 use tp_views::{Refusal, is_device_file, put, refuse};
 use tp_words::{StopRequest, has_word};
 
@@ -37,6 +39,9 @@ pub enum Unasked {
     /// The device's file can't be opened to be read and written, or memory was refused, before it was asked who has it.
     #[error(transparent)]
     Device(Refusal),
+    /// No other process has what is there, and by its head it is no device.
+    #[error(transparent)]
+    NoDevice(Refusal),
     /// No other process has the device.
     #[error("NotRunning")]
     NotRunning,
@@ -65,6 +70,37 @@ fn look_at<R: Files>(
             let refusal = read_refusal(&error);
             *system = Some(error);
             Err(refusal)
+        }
+    }
+}
+
+/// Why what is at a path is no device, by its head alone, where it is none.
+fn head_fault<R: Files<File = F>, F: FileExt + OpenFile + Drop>(
+    rt: &R,
+    device: &str,
+) -> Option<Refusal> {
+    match disk_to_read(rt, device) {
+        Ok(mut disk) => match read_head(&mut disk) {
+            Ok(_head) => None,
+            Err(unopened) => Some(Refusal::Opening(unopened)),
+        },
+        Err(refusal) => Some(refusal),
+    }
+}
+
+/// Why nobody is asked where nobody else has the device: it is held here. A request that was left beside a device is taken away.
+fn nobody_asked<R: Files<File = F>, F: FileExt + OpenFile + Drop>(
+    rt: &R,
+    device: &str,
+    file: &RequestFile,
+) -> Unasked
+    ensures { IsOfNobody result }
+{
+    match head_fault(rt, device) {
+        Some(refusal) => Unasked::NoDevice(refusal),
+        None => {
+            let _gone = file.clear(rt);
+            Unasked::NotRunning
         }
     }
 }
@@ -138,9 +174,9 @@ fn wait_for<R: Files, S: Devices>(
     false
 }
 
-/// Asks the stream that has a device to end, where another process has it, and waits for that as long as it is asked. Nothing of the
-/// device is read or written.
-fn ask_to_stop<R: Files + AllocGlobal, S: Devices>(
+/// Asks the stream that has a device to end, where another process has it, and waits for that as long as it is asked. Nothing is read
+/// of the device then, and nothing is ever written to it.
+fn ask_to_stop<R: Files<File = F> + AllocGlobal, F: FileExt + OpenFile + Drop, S: Devices>(
     rt: &R,
     devices: &mut S,
     asked: &StopRequest,
@@ -157,8 +193,7 @@ fn ask_to_stop<R: Files + AllocGlobal, S: Devices>(
         return Err(Unasked::Device(Refusal::Memory));
     };
     let Err(InUse) = devices.hold(device, 0) else {
-        let _gone = file.clear(rt);
-        return Err(Unasked::NotRunning);
+        return Err(nobody_asked(rt, device, &file));
     };
     if let Err(unmade) = make_request(rt, &file, system) {
         return Err(Unasked::Request(unmade));
@@ -205,7 +240,13 @@ fn refuse_unasked<E: Write>(err: &mut E, fault: Unasked) -> u8
 
 /// `tpnet stop`: asks the stream that has a device to end, waits for that as long as it is asked, and says so, or why not; more of that
 /// where the words ask for it. Answers the status.
-pub(crate) fn stop_stream<R: Files + AllocGlobal, S: Devices, O: Write, E: Write>(
+pub(crate) fn stop_stream<
+    R: Files<File = F> + AllocGlobal,
+    F: FileExt + OpenFile + Drop,
+    S: Devices,
+    O: Write,
+    E: Write,
+>(
     rt: &R,
     devices: &mut S,
     words: &[String],
@@ -222,7 +263,7 @@ pub(crate) fn stop_stream<R: Files + AllocGlobal, S: Devices, O: Write, E: Write
         Err(fault) => {
             let status = refuse_unasked(err, fault);
             if has_word(words, "--explain") {
-                explain_unasked(rt.alloc(), asked, fault, system.as_ref(), err);
+                explain_unasked(rt, asked, fault, system.as_ref(), err);
             }
             status
         }

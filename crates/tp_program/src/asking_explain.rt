@@ -1,11 +1,13 @@
 //! What `--explain` says of a stream that wasn't asked to stop, or hasn't ended: which file, why, and the way out.
 
 use crate::asking::{Unasked, Unmade};
-use std::alloc::{AllocError, Global};
+use std::alloc::AllocError;
 use std::fmt::Write as Push;
+use std::fs::{Files, OpenFile};
 use std::io;
 use std::io::Write;
-use tp_views::{Refusal, push_file};
+use std::os::unix::fs::FileExt;
+use tp_views::{Refusal, push_file, push_opening};
 use tp_words::StopRequest;
 
 /// Says why the device's file isn't opened.
@@ -46,16 +48,19 @@ fn push_unmade(
 }
 
 /// What is said of a stream that wasn't asked, or hasn't ended.
-fn explanation(
-    alloc: Global,
+fn explanation<R: Files<File = F> + AllocGlobal, F: FileExt + OpenFile + Drop>(
+    rt: &R,
     asked: &StopRequest,
     fault: Unasked,
     system: Option<&io::Error>,
 ) -> Result<String, AllocError> {
-    let mut text = String::new(alloc);
+    let mut text = String::new(rt.alloc());
     let device = asked.device.as_str();
     match fault {
         Unasked::Device(refusal) => push_device(&mut text, device, refusal, system)?,
+        Unasked::NoDevice(_) => {
+            let _opened = push_opening(rt, &mut text, device)?;
+        }
         Unasked::NotRunning => write!(
             text,
             "  No other tpnet has {device}, as far as the system says: there is nobody to ask. Nothing was changed.\n"
@@ -70,14 +75,18 @@ fn explanation(
 }
 
 /// Says more of a stream that wasn't asked to stop, or hasn't ended, on standard error.
-pub(crate) fn explain_unasked<E: Write>(
-    alloc: Global,
+pub(crate) fn explain_unasked<
+    R: Files<File = F> + AllocGlobal,
+    F: FileExt + OpenFile + Drop,
+    E: Write,
+>(
+    rt: &R,
     asked: &StopRequest,
     fault: Unasked,
     system: Option<&io::Error>,
     err: &mut E,
 ) {
-    if let Ok(text) = explanation(alloc, asked, fault, system) {
+    if let Ok(text) = explanation(rt, asked, fault, system) {
         let _ = err.write_all(text.as_bytes());
     }
 }

@@ -36,6 +36,10 @@ there device.stop
 tpnet stop fresh --wait 60
 there fresh.stop
 tpnet stop /dev/null
+text text precious
+text text.stop
+tpnet stop text --wait 60
+there text.stop
 
 story explained
 # What --explain says of these.
@@ -47,6 +51,9 @@ tpnet stop --explain fresh 2>err
 starts err tpnet: ReadFailed\n  fresh:
 folder folder
 tpnet stop --explain folder
+text text precious
+tpnet stop --explain text 2>err
+has err doesn't begin with TPNET
 
 story words_of_stop
 # Words that ask for nothing, and words that ask how to call it.

@@ -143,7 +143,7 @@ pub const STOP: Form = Form {
     about: "Asks the stream that another tpnet runs on a device to end, as it does by --stop-file, and prints asked; with --wait it waits for that, and prints ended",
     words: &[
         EXPLAIN,
-        Word::Place("DEVICE", "the device's file, of which nothing is read or written"),
+        Word::Place("DEVICE", "the device's file, to which nothing is written"),
         Word::Value(
             "wait",
             "SECONDS",
