@@ -1,5 +1,5 @@
 -- What `run --stream` does.
-use Rattle.std.specs.Prelude.{◌≡◌, ℕ, Bool, Result, Ok, Err, ◌||◌, is_some, min, unwrap_or}
+use Rattle.std.specs.Prelude.{◌≡◌, ℕ, Bool, true, Result, Ok, Err, ◌||◌, is_some, min, unwrap_or}
 use Rattle.tp_model.specs.NodeState.{NodeState}
 use Rattle.tp_model.specs.Network.{Network}
 use Rattle.tp_model.specs.DiskHistory.{State}
@@ -18,13 +18,13 @@ use Rattle.tp_program.specs.declared.streaming.FilesFault.{FilesFault}
 use Rattle.tp_program.specs.declared.streaming.FilesFault.TheVariants.{End, Stop, Stream}
 use Rattle.tp_words.specs.declared.stream_args.StreamRun.{StreamRun}
 
--- what a network is asked: a number of frames that no node has is the greatest of its kind
+-- what a network is asked: it may be asked to stop whatever was typed, and a number of frames that no node has is the greatest of its kind
 abbrev pub task_of : StreamRun → Task
 task_of run = record {
   turns = run.turns;
   until_quiet = run.until_quiet;
   stop_on_halt = run.stop_on_halt;
-  until_asked = is_some run.stop_file;
+  until_asked = true;
   quantum = run.quantum;
   spare = min run.spare 65535;
   every = run.every;
