@@ -1,16 +1,26 @@
 -- Bytes that were read.
-use Rattle.std.proofs.Common.{◌≡◌, ℕ, List, take, Option, Some, None, refl, sym, subst}
-use Rattle.std.specs.Prelude.{IfSome}
-use Rattle.tp_stream_files.specs.Inputs.{AreFrom, IsBehind}
+use Rattle.std.proofs.Common.{◌≡◌, ◌≤◌, ℕ, List, length, take, Option, Some, None, refl, sym, subst, ◌∙◌}
+use Rattle.tp_stream_files.specs.Inputs.{AreFrom, EndsThere, IsBehind}
 
 -- none
 pub none_from : (input : Option (List ℕ)) (at : ℕ) (out : List ℕ) → AreFrom input at (take 0 out)
 none_from None at out = tt
 none_from (Some all) at out = refl
 
--- where the end was come to stays so as long as the input is what it was
-pub behind_stays : (ended : Option ℕ) (old new : Option (List ℕ)) → new ≡ old → IfSome ended (λ at. IsBehind at old) → IfSome ended (λ at. IsBehind at new)
-behind_stays ended old new same end = subst (λ all. IfSome ended (λ at. IsBehind at all)) (sym same) end
+-- ## The end of an input
 
-pub behind_here : (at : ℕ) (old new : Option (List ℕ)) → new ≡ old → IsBehind at old → IsBehind at new
-behind_here at old new same end = subst (IsBehind at) (sym same) end
+pub ends_nowhere : (input : Option (List ℕ)) → EndsThere None input
+ends_nowhere input at all is known = absurd (cc)
+
+-- where it was come to stays so as long as the input is what it was
+pub ends_still : (ended : Option ℕ) (old new : Option (List ℕ)) → new ≡ old → EndsThere ended old → EndsThere ended new
+ends_still ended old new same end at all is known = end at all is (sym same ∙ known)
+
+behind_known : (at : ℕ) (input : Option (List ℕ)) (all : List ℕ) → input ≡ Some all → IsBehind at input → length all ≤ at
+behind_known at input all known behind = subst (IsBehind at) known behind
+
+pub ends_here : (at : ℕ) (old new : Option (List ℕ)) → new ≡ old → IsBehind at old → EndsThere (Some at) new
+ends_here at old new same behind there all is known = subst (λ n. length all ≤ n) (same_place at there is) (behind_known at old all (sym same ∙ known) behind)
+  where
+    same_place : (x y : ℕ) → Some x ≡ Some y → x ≡ y
+    same_place x y e = cc

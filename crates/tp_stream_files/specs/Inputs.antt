@@ -21,6 +21,10 @@ abbrev pub IsBehind : ℕ → Option (List ℕ) → Type 0
 IsBehind at None = Unit {0}
 IsBehind at (Some all) = length all ≤ at
 
+-- Where an input's end was come to, at a position, and the whole input is known: none of its bytes is there or behind.
+abbrev pub EndsThere : Option ℕ → Option (List ℕ) → Type 0
+EndsThere ended input = (at : ℕ) (all : List ℕ) → ended ≡ Some at → input ≡ Some all → length all ≤ at
+
 -- Whether nothing is left of an input that its port may take: the end was come to, at a position, or the port had no room for more.
 abbrev pub is_over : Option ℕ → Bool → Bool
 is_over ended blocked = is_some ended || blocked

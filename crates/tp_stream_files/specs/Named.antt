@@ -1,9 +1,18 @@
 -- Ends as they are named.
-use Rattle.std.specs.Prelude.{◌≡◌, ℕ, Bool, Option, Some, None, List, [], ◌∷◌, ◌++◌, if◌then◌else◌, nat_eq, map, string_bytes}
+use Rattle.std.specs.Prelude.{◌≡◌, ℕ, Bool, Option, Some, None, List, [], ◌∷◌, ◌++◌, if◌then◌else◌, nat_eq, bytes_eq, map, string_bytes}
 use Rattle.tp_stream_files.specs.Outputs.{OutputValue}
 use Rattle.tp_stream_files.specs.declared.ends.Ends.{Ends}
 use Rattle.tp_stream_files.specs.declared.ends.PortFile.{PortFile}
 use Rattle.tp_stream_files.specs.declared.ends.PortNumber.{PortNumber}
+
+-- an end is standard input or output
+abbrev pub is_standard : PortFile → Bool
+is_standard file = bytes_eq (string_bytes file.path) (45 ∷ [])
+
+-- the port of the first one that is
+abbrev pub standard_port : List PortFile → Option ℕ
+standard_port [] = None
+standard_port (file ∷ files) = if is_standard file then Some file.port else standard_port files
 
 -- up to where the reader of a port has its output: the first number that is named for it
 abbrev pub have_in : List PortNumber → ℕ → Option ℕ

@@ -1,6 +1,7 @@
 //! What a stream's ports live on, by the names of files.
 
 ghost use Rattle.std.specs.Prelude.{◌≡◌};
+ghost use Rattle.tp_stream_files.specs.Named.{standard_port};
 
 use thiserror::Error;
 
@@ -12,9 +13,13 @@ pub struct PortFile {
 }
 
 impl PortFile {
+    ghost use Rattle.tp_stream_files.specs.Named.{is_standard};
+
     /// Whether it is standard input or output.
-    pub fn is_standard(&self) -> bool {
-        self.path.as_str() == "-"
+    pub fn is_standard(&self) -> bool
+        ensures { result ≡ is_standard self.now }
+    {
+        self.path.as_bytes() == b"-".as_slice()
     }
 }
 
@@ -35,8 +40,10 @@ pub struct Ends {
     pub ins: Vec<PortFile>,
 }
 
-/// The port that lives on standard input or output.
-fn standard_of(files: &[PortFile]) -> Option<u8> {
+/// The port of the first file that is standard input or output.
+fn standard_of(files: &[PortFile]) -> Option<u8>
+    ensures { result ≡ standard_port files.now }
+{
     for file in files {
         if file.is_standard() {
             return Some(file.port);
@@ -49,12 +56,16 @@ impl Ends {
     ghost use Rattle.tp_stream_files.specs.Named.{have_in};
 
     /// The port whose output goes to standard output.
-    pub fn standard_out(&self) -> Option<u8> {
+    pub fn standard_out(&self) -> Option<u8>
+        ensures { result ≡ standard_port self.now.outs.items }
+    {
         standard_of(&self.outs)
     }
 
     /// The port whose input comes from standard input.
-    pub fn standard_in(&self) -> Option<u8> {
+    pub fn standard_in(&self) -> Option<u8>
+        ensures { result ≡ standard_port self.now.ins.items }
+    {
         standard_of(&self.ins)
     }
 

@@ -1,7 +1,7 @@
 //! A port's input: read piece by piece.
 
 ghost use Rattle.std.specs.Prelude.{◌≡◌, ◌⊎◌, ◌<◌, ◌≤◌, length, take, true, false, Ok, Some, None, is_some, IfSome, IfNone, IfOk};
-ghost use Rattle.tp_stream_files.specs.Inputs.{AreFrom, HasAtLeast, IsBehind, IsLength, is_over};
+ghost use Rattle.tp_stream_files.specs.Inputs.{AreFrom, EndsThere, HasAtLeast, IsLength, is_over};
 
 use crate::source::{Source, SourceFailed};
 use std::marker::Model;
@@ -13,7 +13,7 @@ pub struct Input<I: Source> {
     source: I,
     ended: Option<u64>,
     is_blocked: bool,
-    pub ghost end: { IfSome ended (λ at. IsBehind at (I.input source)) },
+    pub ghost end: { EndsThere ended (I.input source) },
 }
 
 impl<I: Source> Input<I> {
@@ -58,7 +58,7 @@ impl<I: Source> Input<I> {
 
     /// Whether a read would wait for bytes that haven't come yet, where the port has accepted those up to `at`. It waits for them itself,
     /// `millis` milliseconds or less.
-    #[tactic(auto, using(crate::proofs::Read::behind_stays))]
+    #[tactic(auto, using(crate::proofs::Read::ends_still))]
     pub fn would_wait(&mut self, at: u64, millis: u64) -> bool
         ensures same { (self.new.port ≡ self.old.port) × (I.input self.new.source ≡ I.input self.old.source) }
         ensures over { (self.new.ended ≡ self.old.ended) × (self.new.is_blocked ≡ self.old.is_blocked) }
@@ -76,7 +76,7 @@ impl<I: Source> Input<I> {
 
     /// Reads bytes from a position on into `out`, and answers how many. None where `out` has no place, or the end was come to, which is
     /// kept.
-    #[tactic(auto, using(crate::proofs::Read::none_from, crate::proofs::Read::behind_stays, crate::proofs::Read::behind_here))]
+    #[tactic(auto, using(crate::proofs::Read::none_from, crate::proofs::Read::ends_still, crate::proofs::Read::ends_here))]
     pub fn read(&mut self, at: u64, out: &mut [u8]) -> Result<usize, SourceFailed>
         ensures few { IfOk result (λ count. count ≤ length out.new) }
         ensures same { (self.new.port ≡ self.old.port) × (I.input self.new.source ≡ I.input self.old.source) }

@@ -1,6 +1,6 @@
 //! Runs with checkpoints.
 
-use crate::devices::{PASSES, RING, WIDE_RING, formatted_from};
+use crate::devices::{PASSES, RING, RING_OF_NINE, WIDE_RING, formatted_from};
 use crate::players::Left;
 use crate::runs::{FOUR, left, letter, run_and_look, run_on, run_twice};
 use std::alloc::Global;
@@ -226,6 +226,7 @@ const TEAMS: &[(&[u8], u8, u32)] = &[
     (RING, 1, 2000),
     (RING, 2, 2000),
     (RING, 16, 100_000),
+    (RING_OF_NINE, 2, 2000),
     (WIDE_RING, 2, 4000),
 ];
 
