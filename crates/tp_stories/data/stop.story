@@ -51,7 +51,7 @@ tpnet stop --explain fresh 2>err
 starts err tpnet: ReadFailed\n  fresh:
 folder folder
 tpnet stop --explain folder
-text text precious
+fill text 600 78
 tpnet stop --explain text 2>err
 has err doesn't begin with TPNET
 
