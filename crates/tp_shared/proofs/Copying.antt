@@ -36,4 +36,4 @@ thawed_all (s ∷ ss) e = let P = and_parts (not s.frozen) (list_all (λ s. not 
 
 -- whatever is told of pages
 pub since_flag : (t : Told) (flag : Bool) → ToldSince (record t { thawed = flag }) t
-since_flag t flag = record { acts = []; none = tt; net = no_act t.net; base = refl; journal = refl; numbered = refl; form = refl }
+since_flag t flag = record { acts = []; none = tt; net = no_act t.net; base = refl; journal = refl; numbered = refl; form = refl; gone = λ i node F none. none }
