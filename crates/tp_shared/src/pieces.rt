@@ -77,6 +77,29 @@ impl<J: Naming> Locked<J> {
         turn(&mut here.seal, key, &now);
         here.frozen = false;
     }
+
+    /// The same. The flusher is told of the book, in which no page of the node is kept.
+    pub(crate) fn thaw_told(
+        &mut self,
+        key: &mut Key<Shown>,
+        told: &mut Key<Told>,
+        node: &Node,
+        number: u8,
+    )
+        requires there { number < length J.start.nodes }
+        requires named { key.old.name ≡ J.node number }
+        requires shown { key.old.value.state ≡ record (at_rest node.now) { frozen = key.old.value.state.frozen } }
+        requires thawed { node.now.frozen ≡ None }
+        requires name { told.old.name ≡ J.flusher }
+        ensures named { key.new.name ≡ key.old.name }
+        ensures shown { key.new.value.state ≡ at_rest node.now }
+        ensures name { told.new.name ≡ told.old.name }
+        ensures since { ToldSince told.old.value told.new.value }
+        ensures gone { keeps_pages told.new.value.frozen number ≡ false }
+    {
+        self.thaw(key, node, number);
+        self.tell(told);
+    }
 }
 
 // A short hold of the book's lock: the frozen node is audited, and the flusher is told of the book.
@@ -189,6 +212,5 @@ pub(crate) fn drop_of<J: Naming, R: Wait>(
     let Place { node, key } = place;
     node.drop_frozen();
     let mut held = book.lock(rt);
-    held.thaw(key, node, number);
-    held.tell(told);
+    held.thaw_told(key, told, node, number);
 }

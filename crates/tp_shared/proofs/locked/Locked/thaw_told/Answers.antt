@@ -3,7 +3,7 @@ use Rattle.tp_shared.specs.Frozen.{keeps_pages}
 use Rattle.tp_shared.specs.Seals.{Stage}
 use Rattle.tp_shared.specs.declared.told.Told.{Told}
 use Rattle.tp_shared.proofs.Gone.{gone_here}
-use Rattle.tp_shared.proofs.pieces.drop_of.Goals as goal
+use Rattle.tp_shared.proofs.locked.Locked.thaw_told.Goals as goal
 
 pub returns-clause-gone : goal.returns-clause-gone
 returns-clause-gone g c =
