@@ -3,6 +3,7 @@
 ghost use Rattle.std.specs.Prelude.{◌≡◌, ◌<◌, ◌≤◌, [], length, IfErr, MatchResult};
 ghost use Rattle.tp_model.specs.declared.limits.TheConstants.{MAX_STEPS};
 ghost use Rattle.tp_shared.specs.Entries.{IsTurnRefusal, CountedTakes, AreTakes, TakesOf, TookAlone};
+ghost use Rattle.tp_shared.specs.Frozen.{frozen_in};
 ghost use Rattle.tp_shared.specs.Gains.{Gained};
 ghost use Rattle.tp_shared.specs.Holds.{in_hand};
 ghost use Rattle.tp_shared.specs.Named.{Names};
@@ -65,7 +66,7 @@ impl<J: Naming> Shared<J> {
         requires { Names J.roll J.first J.start J.node J.mark J.flusher J.sights J.room parts }
         ensures first { J.first ≡ parts.first }
         ensures room { J.room ≡ parts.book.room }
-        ensures key { (result.1.name ≡ J.flusher) × (result.1.value ≡ told_of J.before J.first (record { book = parts.book; all = []; numbered_from = J.first })) }
+        ensures key { (result.1.name ≡ J.flusher) × (result.1.value ≡ told_of J.before J.first (record { book = parts.book; all = []; numbered_from = J.first; frozen = frozen_in parts.seals })) }
     {
         let now = Told::first::<J>(&parts);
         parts.book.known();

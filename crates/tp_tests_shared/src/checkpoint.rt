@@ -176,8 +176,8 @@ fn end<J: Naming, R: Wait>(
 {
     let running = is_running(rt, shared);
     let early = copy(rt, alloc, shared, key)?.is_some();
-    shared.drop_frozen(rt, 0);
-    shared.drop_frozen(rt, 1);
+    shared.drop_frozen(rt, key, 0);
+    shared.drop_frozen(rt, key, 1);
     let kept = !image_of(rt, alloc, shared, key, 1)?.is_empty();
     let Some(copy) = copy(rt, alloc, shared, key)? else {
         return Ok(None);
