@@ -1,5 +1,5 @@
 -- Which faults come where.
-use Rattle.std.specs.Prelude.{◌≡◌, ◌⊎◌, Result, Ok, Err}
+use Rattle.std.specs.Prelude.{Result, Ok, Err}
 use Rattle.tp_run.specs.declared.fault.RunFault.{RunFault}
 use Rattle.tp_run.specs.declared.fault.RunFault.TheVariants.{Opening, Spare, Port, OfferRefused, FlushFailed, OutputFailed, ConfirmRefused, LastFlushFailed, Unaccounted, Memory}
 
@@ -31,11 +31,20 @@ IsSilent (Err LastFlushFailed) = ⊥
 IsSilent (Err Unaccounted) = ⊥
 IsSilent (Err Memory) = ⊥
 
--- a fault of a flush, which answers `given` where the device fails
-abbrev pub IsFlushFault : RunFault → RunFault → Type 0
-IsFlushFault given fault = (fault ≡ given) ⊎ (fault ≡ Memory)
+-- a fault of handing in the input
+abbrev pub IsOfferFault : RunFault → Type 0
+IsOfferFault (Opening unopened) = ⊥
+IsOfferFault Spare = ⊥
+IsOfferFault Port = ⊥
+IsOfferFault OfferRefused = Unit {0}
+IsOfferFault FlushFailed = ⊥
+IsOfferFault OutputFailed = ⊥
+IsOfferFault ConfirmRefused = ⊥
+IsOfferFault LastFlushFailed = ⊥
+IsOfferFault Unaccounted = Unit {0}
+IsOfferFault Memory = Unit {0}
 
--- a fault that comes once the output was begun
+-- a fault of printing and of what comes behind it, but of no call of the device
 abbrev pub IsLate : RunFault → Type 0
 IsLate (Opening unopened) = ⊥
 IsLate Spare = ⊥
@@ -44,9 +53,22 @@ IsLate OfferRefused = ⊥
 IsLate FlushFailed = ⊥
 IsLate OutputFailed = Unit {0}
 IsLate ConfirmRefused = Unit {0}
-IsLate LastFlushFailed = Unit {0}
+IsLate LastFlushFailed = ⊥
 IsLate Unaccounted = Unit {0}
 IsLate Memory = Unit {0}
+
+-- a fault that comes once the input was handed in
+abbrev pub ComesBehind : RunFault → Type 0
+ComesBehind (Opening unopened) = ⊥
+ComesBehind Spare = ⊥
+ComesBehind Port = ⊥
+ComesBehind OfferRefused = ⊥
+ComesBehind FlushFailed = Unit {0}
+ComesBehind OutputFailed = Unit {0}
+ComesBehind ConfirmRefused = Unit {0}
+ComesBehind LastFlushFailed = Unit {0}
+ComesBehind Unaccounted = Unit {0}
+ComesBehind Memory = Unit {0}
 
 -- a fault of a run whose device opened, and which can be made as it is asked
 abbrev pub ComesBegun : RunFault → Type 0
