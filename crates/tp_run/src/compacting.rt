@@ -90,10 +90,8 @@ fn fault_of(refusal: Refusal) -> Option<CompactFault>
     match refusal {
         Refusal::SnapshotRunning => None,
         Refusal::Memory => Some(CompactFault::Memory),
-        Refusal::JournalFull
-        | Refusal::StoreBroken
-        | Refusal::NothingToTake
-        | Refusal::PortFull => Some(CompactFault::NotWhole),
+        Refusal::JournalFull | Refusal::StoreBroken | Refusal::NothingToTake | Refusal::PortFull =>
+            Some(CompactFault::NotWhole),
     }
 }
 
