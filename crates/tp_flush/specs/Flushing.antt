@@ -98,7 +98,7 @@ pub record OnlyLooked (old new : Flushing) : Type 0 where
   pub topology : new.topology ≡ old.topology
   pub progress : new.progress ≡ old.progress
 
--- The process and its device are the same.
+-- The process and its device stayed what they were.
 pub record IsSameProcess (old new : Flushing) : Type 0 where
   pub opened : new.opened ≡ old.opened
   pub size : new.size ≡ old.size
@@ -114,7 +114,7 @@ pub record IsBacklog (w : World NodeState) (entries : List (Entry × ℕ)) (upto
   pub numbers : w.stored + length entries < NUMBER_LIMIT
 
 -- Where this process opened what a run had led to: each moment of the device since is that of a world on the way of one run. The
--- process and its device are the same.
+-- process and its device stay what they are.
 pub record FlushedOn (keeps : Type 0) (start : Network NodeState) (before : World NodeState) (old new : Flushing) : Type 0 where
   pub walks : keeps → Began start before old.opened → Walked old new
   pub process : IsSameProcess old new

@@ -38,7 +38,7 @@ fn look_under<J: Naming>(held: &mut Locked<J>, looked: &mut Sights<J>) -> Option
     Some(held.look())
 }
 
-/// The same under the book's lock.
+/// Takes the book's lock, and looks at the snapshot under it.
 fn look<J: Naming, R: Wait>(rt: &R, shared: &Shared<J>, looked: &mut Sights<J>) -> Option<Look>
     ensures { LookedIn (length J.start.nodes) result looked.old looked.new }
 {

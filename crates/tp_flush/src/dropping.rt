@@ -14,7 +14,7 @@ use tp_disk::Disk;
 use tp_shared::{Naming, Shared};
 
 impl<J: Naming, D: Disk> Flusher<J, D> {
-    /// Lets the frozen pages of `node` go, the head and all pages of whose frozen image stand in the other area: its image is out.
+    /// Lets the frozen pages of `node` go, whose frozen image stands in the other area, the head and all pages: its image is out.
     pub(crate) fn let_go<R: Wait>(&mut self, rt: &R, shared: &Shared<J>, node: u8)
         requires rests { self.old.world.at ≡ Resting }
         requires node { node < length self.old.topology.pages }

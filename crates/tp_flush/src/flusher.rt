@@ -94,7 +94,7 @@ impl<J: Naming, D: Disk> Flusher<J, D> {
         Flusher::over(Snapshot::of(opened), topology, store, key, raiser)
     }
 
-    /// The same, where what was opened is known by contracts alone, since its network is in the book already.
+    /// The flusher over a store, where what was opened is known by contracts alone, since its network is in the book already.
     pub fn over(
         opened: Snapshot<Opened>,
         topology: Topology,

@@ -44,8 +44,8 @@ impl<J: Naming, D: Disk> Flusher<J, D> {
         answer_of(done)
     }
 
-    /// Puts a piece of the frozen image of `node` into the other area, where that image begins at `image`. Where a call of the device fails,
-    /// the book is told.
+    /// Puts a piece of the frozen image of `node` into the other area, where that image begins at `image`. Where a call of the device
+    /// fails, the book is told.
     pub(crate) fn put<R: Wait>(
         &mut self,
         rt: &R,

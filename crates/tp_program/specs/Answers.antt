@@ -82,8 +82,8 @@ abbrev pub Answered : (keeps : Type 0) → History → List (String Global) → 
 Answered keeps history words old new was now status =
     WasRefused old new was now status ⊎ (IsOfBackup words old new was now status ⊎ DidAsked keeps history words old new was now status)
 
--- Another process had the device, and it was refused, before anything was read of standard input (`unread`). Or it was got, before all else;
--- and then it was streamed.
+-- Another process had the device, and it was refused, before anything was read of standard input (`unread`). Or it was got, before all
+-- else; and then it was streamed.
 abbrev pub StreamedHeld : (keeps : Type 0) → History → (unread : Type 0) → StreamRun → (old new : List DeviceCall) → (was now : Option (List ℕ)) → ℕ → Type 0
 StreamedHeld keeps history unread run old new was now status =
     WasRefused (old ++ Holds (string_bytes run.device) run.wait_lock false ∷ []) new was now status × unread

@@ -247,7 +247,7 @@ pub fn answer_over<
     }
 }
 
-/// As above, over devices that tell nothing of what was called.
+/// Does what the words ask for, as `answer_over`, over devices that tell nothing of what was called.
 fn answer_untold<
     R: Files<File = F> + AllocGlobal + Threads + Wait + Sync,
     F: FileExt + OpenFile + Drop,
@@ -262,7 +262,7 @@ fn answer_untold<
     answer_over(rt, devices, watch, words, out, err)
 }
 
-/// As above, with the devices in files of the system, whose locks `locks` takes.
+/// Does what the words ask for, as `answer_over`, with the devices in files of the system, whose locks `locks` takes.
 pub fn answer_locking<
     R: Files<File = F> + AllocGlobal + Threads + Wait + Sync,
     F: FileExt + OpenFile + Drop + Send,
@@ -278,7 +278,7 @@ pub fn answer_locking<
     answer_untold(rt, &mut devices, watch, words, out, err)
 }
 
-/// As above, where nobody else has a device, and `status` takes one look.
+/// Does what the words ask for, as `answer_over`, where nobody else has a device, and `status` takes one look.
 pub fn answer<
     R: Files<File = F> + AllocGlobal + Threads + Wait + Sync,
     F: FileExt + OpenFile + Drop + Send,

@@ -5,7 +5,7 @@ use Rattle.tp_model.specs.Opening.{Opened}
 use Rattle.tp_recover.specs.Reading.{ReadAnswer}
 use Rattle.tp_recover.specs.declared.unopened.Unopened.{Unopened}
 use Rattle.tp_run.specs.declared.fault.RunFault.{RunFault}
-use Rattle.tp_run.specs.declared.fault.RunFault.TheVariants.{Opening, Spare, Port, OfferRefused, FlushFailed, OutputFailed, ConfirmRefused, LastFlushFailed, Unaccounted, Memory}
+use Rattle.tp_run.specs.declared.fault.RunFault.TheVariants.{Opening, Spare, Port, OfferRefused}
 use Rattle.tp_run.specs.declared.job.Job.{Job}
 use Rattle.tp_run.specs.Input.{rest_at}
 use Rattle.tp_run.specs.Made.{job_fault}
@@ -36,12 +36,7 @@ FaultFor given job input (Opening unopened) = IsUnopened given unopened
 FaultFor given job input Spare = OpenedFor given job (Some Spare)
 FaultFor given job input Port = OpenedFor given job (Some Port)
 FaultFor given job input OfferRefused = OpenedWith given (HasInput job input)
-FaultFor given job input FlushFailed = OpenedFor given job None
-FaultFor given job input OutputFailed = OpenedFor given job None
-FaultFor given job input ConfirmRefused = OpenedFor given job None
-FaultFor given job input LastFlushFailed = OpenedFor given job None
-FaultFor given job input Unaccounted = OpenedFor given job None
-FaultFor given job input Memory = OpenedFor given job None
+FaultFor given job input _ = OpenedFor given job None
 
 -- An answer comes where nothing is wrong with either.
 abbrev pub AnswerFor : Result Opened OpenFault → Job → List ℕ → Result ℕ RunFault → Type 0

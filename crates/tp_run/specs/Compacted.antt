@@ -25,41 +25,31 @@ room_behind t area = capacity (journal_of t area)
 
 -- the device isn't written
 abbrev pub StaysUnopened : {A : Type 0} → Result A CompactFault → Type 0
-StaysUnopened (Ok x) = ⊥
 StaysUnopened (Err (Opening unopened)) = Unit {0}
-StaysUnopened (Err NoGeneration) = ⊥
-StaysUnopened (Err DeviceFailed) = ⊥
-StaysUnopened (Err NotWhole) = ⊥
-StaysUnopened (Err Memory) = ⊥
+StaysUnopened _ = ⊥
 
 -- ## Which faults come where
 
 -- whether the open area's generation was the last one
 abbrev pub SaysLast : {A : Type 0} → Result A CompactFault → Bool → Type 0
-SaysLast (Ok done) last = last ≡ false
 SaysLast (Err (Opening unopened)) last = ⊥
 SaysLast (Err NoGeneration) last = last ≡ true
-SaysLast (Err DeviceFailed) last = last ≡ false
-SaysLast (Err NotWhole) last = last ≡ false
 SaysLast (Err Memory) last = Unit {0}
+SaysLast _ last = last ≡ false
 
 -- A fault is the opening's own; or the device opened, and had no generation left just where that is said. Memory may be wanting before
 -- that is looked at.
 abbrev pub CompactAnswer : {A : Type 0} → Result Opened OpenFault → Result A CompactFault → Type 0
-CompactAnswer given (Ok done) = OpenedWith given (λ (opened : Opened). is_full_for_snapshot opened.generation ≡ false)
 CompactAnswer given (Err (Opening unopened)) = IsUnopened given unopened
 CompactAnswer given (Err NoGeneration) = OpenedWith given (λ (opened : Opened). is_full_for_snapshot opened.generation ≡ true)
-CompactAnswer given (Err DeviceFailed) = OpenedWith given (λ (opened : Opened). is_full_for_snapshot opened.generation ≡ false)
-CompactAnswer given (Err NotWhole) = OpenedWith given (λ (opened : Opened). is_full_for_snapshot opened.generation ≡ false)
 CompactAnswer given (Err Memory) = OpenedWith given (λ (opened : Opened). Unit {0})
+CompactAnswer given _ = OpenedWith given (λ (opened : Opened). is_full_for_snapshot opened.generation ≡ false)
 
 -- whether a fault says that a call of the device failed
 abbrev pub is_failure_in : CompactFault → Bool
 is_failure_in (Opening unopened) = failed_to_open unopened
-is_failure_in NoGeneration = false
 is_failure_in DeviceFailed = true
-is_failure_in NotWhole = false
-is_failure_in Memory = false
+is_failure_in _ = false
 
 -- whether an answer does
 abbrev pub has_failed_in : {A : Type 0} → Result A CompactFault → Bool

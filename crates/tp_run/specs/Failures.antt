@@ -8,26 +8,19 @@ use Rattle.tp_flush.specs.declared.fault.FlushFault.{FlushFault}
 use Rattle.tp_flush.specs.declared.fault.FlushFault.TheVariants as flush
 use Rattle.tp_flush.specs.Flushing.{Flushing}
 use Rattle.tp_run.specs.declared.fault.RunFault.{RunFault}
-use Rattle.tp_run.specs.declared.fault.RunFault.TheVariants.{Opening, Spare, Port, OfferRefused, FlushFailed, OutputFailed, ConfirmRefused, LastFlushFailed, Unaccounted, Memory}
+use Rattle.tp_run.specs.declared.fault.RunFault.TheVariants.{Opening, FlushFailed, LastFlushFailed, Unaccounted, Memory}
 
 -- whether a call failed as the device was to be opened
 abbrev pub failed_to_open : Unopened → Bool
-failed_to_open (why.Fault fault) = false
 failed_to_open why.ReadFailed = true
-failed_to_open why.Memory = false
+failed_to_open _ = false
 
 -- whether a fault says that a call failed
 abbrev pub is_failure : RunFault → Bool
 is_failure (Opening unopened) = failed_to_open unopened
-is_failure Spare = false
-is_failure Port = false
-is_failure OfferRefused = false
 is_failure FlushFailed = true
-is_failure OutputFailed = false
-is_failure ConfirmRefused = false
 is_failure LastFlushFailed = true
-is_failure Unaccounted = false
-is_failure Memory = false
+is_failure _ = false
 
 -- whether an answer says so
 abbrev pub has_failed : {A : Type 0} → Result A RunFault → Bool

@@ -2,33 +2,23 @@
 use Rattle.std.specs.Prelude.{◌≡◌, ◌<◌, ◌≤◌, ℕ, List, length, take, Option, Result, Ok, Err}
 use Rattle.std.specs.Io.KnownBytes.{Appends}
 use Rattle.tp_run.specs.declared.fault.RunFault.{RunFault}
-use Rattle.tp_run.specs.declared.fault.RunFault.TheVariants.{Opening, Spare, Port, OfferRefused, FlushFailed, OutputFailed, ConfirmRefused, LastFlushFailed, Unaccounted, Memory}
+use Rattle.tp_run.specs.declared.fault.RunFault.TheVariants.{OutputFailed, ConfirmRefused, LastFlushFailed, Unaccounted, Memory}
 
 -- the fault may come before anything is printed
 abbrev pub ComesSilent : RunFault → Type 0
-ComesSilent (Opening unopened) = Unit {0}
-ComesSilent Spare = Unit {0}
-ComesSilent Port = Unit {0}
-ComesSilent OfferRefused = Unit {0}
-ComesSilent FlushFailed = Unit {0}
 ComesSilent OutputFailed = ⊥
 ComesSilent ConfirmRefused = ⊥
 ComesSilent LastFlushFailed = ⊥
-ComesSilent Unaccounted = Unit {0}
-ComesSilent Memory = Unit {0}
+ComesSilent _ = Unit {0}
 
 -- Of `all` bytes `count` were printed: fewer where the output can't be written, else all.
 abbrev pub FaultPrints : RunFault → ℕ → ℕ → Type 0
-FaultPrints (Opening unopened) count all = ⊥
-FaultPrints Spare count all = ⊥
-FaultPrints Port count all = ⊥
-FaultPrints OfferRefused count all = ⊥
-FaultPrints FlushFailed count all = ⊥
 FaultPrints OutputFailed count all = count < all
 FaultPrints ConfirmRefused count all = all ≤ count
 FaultPrints LastFlushFailed count all = all ≤ count
 FaultPrints Unaccounted count all = all ≤ count
 FaultPrints Memory count all = all ≤ count
+FaultPrints _ count all = ⊥
 
 -- ## Of an answer
 

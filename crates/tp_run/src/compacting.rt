@@ -169,7 +169,7 @@ fn switch_all<J: Naming, D: Disk, R: Wait>(
     })
 }
 
-/// The same over the store of a device that was opened, with the parts that were made of it.
+/// Makes one cut of the network of an opened device, by the parts that were made of it, and switches the areas of its store.
 fn compact_parts<J: Naming, D: Disk, R: Wait>(
     rt: &R,
     alloc: Global,

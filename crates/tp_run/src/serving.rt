@@ -76,7 +76,7 @@ fn print_settled<J: Naming, D: Disk, O: Outlet>(
     print_from(held, flusher, outset, mark, out)
 }
 
-/// The same, once the lock is had.
+/// Takes the book's lock, and prints and confirms under it.
 fn print<J: Naming, D: Disk, O: Outlet, R: Wait>(
     rt: &R,
     shared: &Shared<J>,

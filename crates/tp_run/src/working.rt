@@ -34,8 +34,8 @@ fn begin<J: Naming, R: Wait>(rt: &R, alloc: Global, shared: &Shared<J>, watch: &
     watch.set_due(made, missing_in(&held, watch.every()));
 }
 
-/// Makes turns until none is left. A refused turn counts. It never waits for the flusher. The slips in `seat` are of just the turns made there,
-/// and each number that its hand took is put back.
+/// Makes turns until none is left. A refused turn counts. It never waits for the flusher. `seat` has the slips of just these turns, and its
+/// hand has put each number back that it took.
 fn work<J: Naming, R: Wait>(
     rt: &R,
     alloc: Global,

@@ -137,7 +137,7 @@ module _ {roll_name first : ℕ} {start : Network NodeState} {node : ℕ → ℕ
         reaches = T.reaches;
       }
 
-  -- acts of the host, of which nothing was journalled
+  -- acts of the host that journalled nothing
   pub hosted_still : {new : BookValue} → HostActed (λ entries. entries ≡ []) b new → AreTogether roll_name first start node flusher room before new seals roll told
   hosted_still {new} H = acted_still H.grown (ap length H.runs) refl (sealed_still (λ (entries : List Entry). entries ≡ []) node seals b new T.sealed H) T.thawed
 

@@ -100,8 +100,8 @@ impl<J: Naming> Locked<J> {
     }
 
     /// Opens a node's turn in the form of the book: the node records where it is asked to, takes or receives what it may on links 0 to 3 in
-    /// order, and a turn of it is reserved. Answers how it was opened. What it received for a turn that is one entry stays on its lines, and
-    /// its seal and key say so.
+    /// order, and a turn of it is reserved. Answers how it was opened. What it received for a turn that is one entry stays on its lines,
+    /// and its seal and key say so.
     pub(crate) fn begin(
         &mut self,
         place: &mut Place,

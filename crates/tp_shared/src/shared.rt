@@ -121,12 +121,12 @@ impl<J: Naming> Shared<J> {
         self.ports
     }
 
-    /// A turn of the node `number`, in the form that the book has as it is opened. The node records where a snapshot asks it to. In a book of
-    /// form Plain it takes what came in on its links 0 to 3, in order, at most three tokens of each, a Marker among them, each with an entry.
-    /// In one of form Turns it closes at Markers, and receives what stands in front of its lines, which stays there until the turn's one
-    /// entry. A turn is reserved, and the node runs for at most `quantum` steps while the book's lock is let go. `seat` gets the slips of
-    /// the entries. Where no turn can be reserved, or memory or the store is wanting, nothing ran, and the slips of what was taken are in
-    /// `seat`. `seen` gets the book as it was found and as it was left, for each hold of its lock.
+    /// A turn of the node `number`, in the form that the book has as it is opened. The node records where a snapshot asks it to. In a book
+    /// of form Plain it takes what came in on its links 0 to 3, in order, at most three tokens of each, a Marker among them, each with an
+    /// entry. In one of form Turns it closes at Markers, and receives what stands in front of its lines, which stays there until the turn's
+    /// one entry. A turn is reserved, and the node runs for at most `quantum` steps while the book's lock is let go. `seat` gets the slips
+    /// of the entries. Where no turn can be reserved, or memory or the store is wanting, nothing ran, and the slips of what was taken are
+    /// in `seat`. `seen` gets the book as it was found and as it was left, for each hold of its lock.
     pub fn turn<G: Gate, R: Wait>(
         &self,
         rt: &R,
@@ -162,8 +162,8 @@ impl<J: Naming> Shared<J> {
         }
     }
 
-    /// The node `number` records where a snapshot asks it to. It takes nothing, and nothing runs. Answers whether it recorded, with the book
-    /// as it was found and as it was left.
+    /// The node `number` records where a snapshot asks it to. It takes nothing, and nothing runs. Answers whether it recorded, with the
+    /// book as it was found and as it was left.
     pub fn record<R: Wait>(&self, rt: &R, number: u8) -> Recorded<J>
         requires { number < length J.start.nodes }
         ensures recorded { RecordedIn J.start number result.seen result.done }

@@ -36,7 +36,7 @@ impl Told {
     ghost use Rattle.tp_shared.specs.Told.{told_of};
     ghost use Rattle.tp_shared.specs.declared.told.Told.{Told};
 
-    // What the contract names. A caller names it by what it lends as `_value`.
+    // Gives the ghost value `told`, which a contract says by what is lent as `_value`. It does nothing.
     fn of<T>(_value: &T) -> Told
         ghost told: { Told }
         ensures { result ≡ told }

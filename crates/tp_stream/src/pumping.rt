@@ -97,8 +97,8 @@ fn step_all<J: Naming, D: Disk, S: Sink>(
     Ok(pumped)
 }
 
-/// The same, where the flusher has stored all that the book has: what is put are outputs where its journal leads. Else nothing is put
-/// before its next turn. Right behind one it is so, since nobody else makes entries.
+/// Steps each output where the flusher has stored all that the book has: what is put are outputs where its journal leads. Else
+/// nothing is put before its next turn. Right behind a turn it has, since nobody else makes entries.
 #[tactic(auto, using(crate::proofs::Stepping::all_still))]
 fn step_settled<J: Naming, D: Disk, S: Sink>(
     held: &mut Locked<J>,
@@ -119,7 +119,7 @@ fn step_settled<J: Naming, D: Disk, S: Sink>(
     step_all(held, flusher, outputs)
 }
 
-/// The same, once the lock is had.
+/// Takes the book's lock, and steps each output under it.
 fn step_outputs<J: Naming, D: Disk, S: Sink, R: Wait>(
     rt: &R,
     shared: &Shared<J>,
@@ -211,8 +211,8 @@ fn step_inputs<J: Naming, I: Source, R: Wait>(
     Ok(Pumped::of(has_moved))
 }
 
-/// A step of each stream. Outputs are put and confirmed up to the flusher's mark: what is put are outputs where its journal leads. Where none
-/// has moved, and it may wait, it waits for input that hasn't come yet. Where whoever takes an output has gone, no port takes more.
+/// A step of each stream. Outputs are put and confirmed up to the flusher's mark: what is put are outputs where its journal leads. Where
+/// none has moved, and it may wait, it waits for input that hasn't come yet. Where whoever takes an output has gone, no port takes more.
 pub(crate) fn pump<J: Naming, D: Disk, S: Sink, I: Source, R: Wait>(
     rt: &R,
     shared: &Shared<J>,

@@ -32,8 +32,8 @@ struct Going<J: Naming> {
     seat: Seat<J>,
 }
 
-/// Turns; or, where the journal has no room for one, or nothing is left to do but an input for which it has no room, a snapshot is
-/// brought to its end. Where something else is to be done meanwhile, and nothing is left to do but an input whose bytes haven't come yet, it
+/// Turns; or, where the journal has no room for one, or nothing is left to do but an input for which it has no room, a snapshot is brought
+/// to its end. Where something else is to be done meanwhile, and nothing is left to do but an input whose bytes haven't come yet, it
 /// rests.
 fn make_turns<J: Naming, I: Source, R: Wait>(
     rt: &R,

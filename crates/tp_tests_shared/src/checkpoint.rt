@@ -26,7 +26,7 @@ pub struct Ended {
     pub again: bool,
 }
 
-/// The same, and both nodes' images as they recorded.
+/// What came of a snapshot, and both nodes' images as they recorded.
 #[derive(Drop)]
 pub struct Checkpointed {
     pub first: Vec<u8>,
@@ -116,7 +116,7 @@ fn add_image<J: Naming, R: Wait>(
     add_page(rt, shared, key, number, 4, bytes)
 }
 
-// That image.
+// The image of a node that recorded.
 fn image_of<J: Naming, R: Wait>(
     rt: &R,
     alloc: Global,

@@ -38,7 +38,7 @@ fn is_journal(entries: &[Entry]) -> bool {
     entries == journal.as_slice()
 }
 
-/// Whether they are what is journalled over one whose first area has none.
+/// Whether `entries` are what is journalled over a device whose first area has no turns.
 fn is_plain_journal(entries: &[Entry]) -> bool {
     let journal = [
         input(b'a'),

@@ -40,13 +40,13 @@ const GOES_ON: &[Step<'static>] = &[Step::More(b'z'), Step::Turns(2), Step::Flus
 /// How a call ends, and how the range that was written last and the others are torn then.
 type Tear = (Ending, Torn, Torn);
 
-/// Those that the gate tries.
+/// The ends and tears that the gate tries.
 const SOME: &[Tear] = &[
     (Ending::Within, Torn::Filled(0xA5), Torn::Filled(0xA5)),
     (Ending::Fails, Torn::Drawn(1), Torn::Drawn(1)),
 ];
 
-/// All.
+/// All ends and tears.
 const EACH: &[Tear] = &[
     (Ending::Before, Torn::Old, Torn::Old),
     (Ending::Before, Torn::New, Torn::New),
@@ -93,7 +93,7 @@ pub(crate) fn fresh(alloc: Global) -> Result<Vec<u8>, Fail> {
     Ok(disk.crash())
 }
 
-/// The one that was formatted for this network before areas had forms, and kept.
+/// The device that was formatted for this network before areas had forms, and kept.
 pub(crate) fn kept(alloc: Global) -> Result<Vec<u8>, AllocError> {
     KEPT[0].bytes(alloc)
 }
@@ -344,8 +344,8 @@ impl Script {
     }
 }
 
-/// Whether a device that was opened is what the script leaves: its first area was written anew, and of the `next` entries the last run alone
-/// isn't in its cut.
+/// Whether a device that was opened is what the script leaves: its first area was written anew, and of the `next` entries the last run
+/// alone isn't in its cut.
 pub(crate) fn is_last(alloc: Global, bytes: &[u8], next: u64) -> Result<bool, Fail> {
     let mut disk = MemDisk::of_bytes(Vec::from_slice(alloc, bytes)?);
     let opened = open(alloc, &mut disk)?;
@@ -383,8 +383,8 @@ fn an_opening_whose_device_fails_changes_nothing(rt: HostRuntime) -> Result<(), 
 /// What a folder has in which all is tried.
 const ALL: &str = "each-stop";
 
-/// Ends the script over a device at each of its calls, in each way. Answers how often it was ended and how many calls the checkpoints behind
-/// them had, or the call at which something wasn't as it ought to be.
+/// Ends the script over a device at each of its calls, in each way. Answers how often it was ended and how many calls the checkpoints
+/// behind them had, or the call at which something wasn't as it ought to be.
 fn end_each<R: Wait>(
     rt: &R,
     alloc: Global,
@@ -403,7 +403,7 @@ fn end_each<R: Wait>(
     Ok(Ok((calls.saturating_mul(tears.len() as u64), behind)))
 }
 
-/// The same, and what it answers is written.
+/// Ends the script over a device at each of its calls, and writes how often.
 fn tell_each<R: AllocGlobal + Wait + Abort, O: Write>(
     rt: &R,
     first: Vec<u8>,

@@ -142,7 +142,7 @@ fn pieces_are_put_together(rt: HostRuntime) -> Result<(), Fail> {
     Ok(())
 }
 
-/// So are those that a thread of its own reads.
+/// The bytes that a thread of its own reads don't depend on the pieces in which they come, either.
 #[test]
 fn pieces_of_a_thread_are_put_together(rt: HostRuntime) -> Result<(), Fail> {
     for (piece, fails, wanted) in CASES {

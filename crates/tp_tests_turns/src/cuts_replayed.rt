@@ -172,7 +172,7 @@ fn leads(
     is_led
 }
 
-/// The same from the network of two images on.
+/// Whether the entries in the whole cut come first, from the network of two images on.
 pub(crate) fn comes_first(
     alloc: Global,
     play: &mut Play,

@@ -217,7 +217,7 @@ fn play_each(
     Ok(None)
 }
 
-/// The same from the images of the case's nodes on.
+/// Plays each order of a case, from the images of its nodes on.
 fn play_all(alloc: Global, case: &Case) -> Result<Option<u32>, Fail> {
     let first = image(alloc, case.first)?;
     let second = image(alloc, case.second)?;

@@ -108,7 +108,7 @@ fn tell(
     Ok([acts, cut, plain, replayed, trimmed, more])
 }
 
-/// The same from two images on.
+/// Plays a story from two images on.
 fn play_images(
     alloc: Global,
     story: &Story,
@@ -120,7 +120,7 @@ fn play_images(
     told
 }
 
-/// The same from the images of the story's nodes on.
+/// Plays a story from the images of its nodes on.
 fn play(alloc: Global, story: &Story) -> Result<[bool; 6], Fail> {
     let first = image(alloc, story.first)?;
     let second = image(alloc, story.second)?;

@@ -1,4 +1,4 @@
-//! Standard input, of which nothing is read before the first call.
+//! Standard input that isn't read before the first call.
 
 ghost use Rattle.std.specs.Prelude.{◌≡◌};
 
@@ -44,7 +44,7 @@ impl<
     R: Input<Reader = I> + Threads + Wait + AllocGlobal + Copy + Drop + Send + 'static,
     I: Read + Drop + Send + 'static,
 > Late<R> {
-    /// Standard input, of which nothing is read yet.
+    /// Standard input, unread so far.
     pub(crate) fn new(rt: R) -> Late<R> {
         let (to_tell, reader) = match bounded(rt.alloc(), 1) {
             Ok((to_tell, told)) => {
