@@ -1,0 +1,28 @@
+use Rattle.std.proofs.Common.{◌≡◌, false, sym, ap, subst, ◌∙◌, arith}
+use Rattle.tp_flush.specs.Flushing.{Flushing}
+use Rattle.tp_run.specs.Compacted.{SaysLast, is_failure_in}
+use Rattle.tp_run.specs.declared.compacting.Compaction.{Compaction}
+use Rattle.tp_run.proofs.Compacts.{begin_last, begin_unfailed, fault_as, flush_ended, flush_last}
+use Rattle.tp_run.proofs.Failures.{counted, turn_failures, uncounted}
+use Rattle.tp_run.proofs.compacting.switch_all.Goals as goal
+
+-- ## A snapshot that doesn't begin
+
+pub returns-in-Some-clause-failures : goal.returns-in-Some-clause-failures
+returns-in-Some-clause-failures g c = uncounted _ _ (is_failure_in c.in-Some.fault) (begin_unfailed c.in-Some.fault c.in-Some.ensures) refl
+
+pub returns-in-Some-clause-last : goal.returns-in-Some-clause-last
+returns-in-Some-clause-last g c = begin_last Compaction c.in-Some.fault _ c.in-Some.ensures (sym c.is_last.ensures ∙ c.if-is_last.false)
+
+-- ## A turn that is refused
+
+pub returns-in-Err-clause-failures : goal.returns-in-Err-clause-failures
+returns-in-Err-clause-failures g c =
+    let old = c.args.flusher.now in
+    let new = c.turn.new.self in
+    subst (λ f. new.failures ≡ failures_after (is_failure_in f) old.failures) (sym c.fault_in.ensures)
+    (counted old new _ c.requires.rests (turn_failures c.turn.result old new c.turn.ensures.ended) (flush_ended _ c.in-Err.fault old new c.in-Err.ensures.ended))
+
+pub returns-in-Err-clause-last : goal.returns-in-Err-clause-last
+returns-in-Err-clause-last g c =
+    subst (λ f. SaysLast (fault_as Compaction f) _) (sym c.fault_in.ensures) (flush_last Compaction c.in-Err.fault _ (sym c.is_last.ensures ∙ c.if-is_last.false))
