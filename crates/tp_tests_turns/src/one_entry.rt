@@ -40,6 +40,15 @@ const ACKNOWLEDGE: [Received; 4] = [JustAck, Nothing, Nothing, Nothing];
 
 const NOTHING: [Received; 4] = [Nothing, Nothing, Nothing, Nothing];
 
+/// Another byte; an acknowledge in front of the byte; the byte on another link, alone and with its acknowledge.
+const OTHER_BYTE: [Received; 4] = [JustData(0x59), Nothing, Nothing, Nothing];
+
+const ACKNOWLEDGE_AND_BYTE: [Received; 4] = [AckThenData(0x58), Nothing, Nothing, Nothing];
+
+const OTHER_LINK: [Received; 4] = [Nothing, JustData(0x58), Nothing, Nothing];
+
+const BYTE_AND_ITS_ACKNOWLEDGE: [Received; 4] = [Nothing, JustData(0x58), JustAck, Nothing];
+
 /// The byte is taken by the second node, and its acknowledge by the first; the runs behind these.
 const TAKE_BYTE: Entry = Entry::Take {
     line: 0,
@@ -176,7 +185,7 @@ fn a_turn_leads_where_its_takes_and_its_run_lead(rt: HostRuntime) -> Result<(), 
     let hearing = [turn(1, BYTE, 3)];
     let own = [TAKE_OWN_BYTE, TAKE_OWN_ACK];
     let own_turns = [
-        turn(0, [Nothing, JustData(0x58), Nothing, Nothing], 0),
+        turn(0, OTHER_LINK, 0),
         turn(0, [Nothing, Nothing, JustAck, Nothing], 0),
     ];
     let leads: [Leads; 3] = [
@@ -218,18 +227,18 @@ fn a_turn_takes_what_stood_on_its_lines_before_it(rt: HostRuntime) -> Result<(),
     // where a row begins, and a turn that isn't possible there
     let refused: [(Start, Entry); 9] = [
         // another byte, an acknowledge, and an acknowledge in front of the byte
-        (two_nodes, turn(1, [JustData(0x59), Nothing, Nothing, Nothing], 0)),
+        (two_nodes, turn(1, OTHER_BYTE, 0)),
         (two_nodes, turn(1, ACKNOWLEDGE, 0)),
-        (two_nodes, turn(1, [AckThenData(0x58), Nothing, Nothing, Nothing], 0)),
+        (two_nodes, turn(1, ACKNOWLEDGE_AND_BYTE, 0)),
         // another link, the other node, a node that isn't there
-        (two_nodes, turn(1, [Nothing, JustData(0x58), Nothing, Nothing], 0)),
+        (two_nodes, turn(1, OTHER_LINK, 0)),
         (two_nodes, turn(0, BYTE, 0)),
         (two_nodes, turn(2, BYTE, 0)),
         // nothing is taken; a step too many for any run
         (two_nodes, turn(0, NOTHING, 0)),
         (two_nodes, turn(1, BYTE, 4097)),
         // the acknowledge that the byte's take sends wasn't on its line before the turn
-        (one_node, turn(0, [Nothing, JustData(0x58), JustAck, Nothing], 0)),
+        (one_node, turn(0, BYTE_AND_ITS_ACKNOWLEDGE, 0)),
     ];
     assert_eq!(rt; first_possible(rt.alloc(), &refused)?, None);
     Ok(())
