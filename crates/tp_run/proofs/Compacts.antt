@@ -1,6 +1,6 @@
 -- What is left of a device that was compacted.
-use Rattle.std.proofs.Common.{◌≡◌, ◌≤◌, List, [], ℕ, Bool, false, inl, inr, Result, Ok, Err, sym, ap, subst, ◌∙◌}
-use Rattle.std.specs.Prelude.{IfOk}
+use Rattle.std.proofs.Common.{◌≡◌, ◌≤◌, List, [], ℕ, Result, Ok, Err, subst}
+use Rattle.std.specs.Prelude.{IfErr, IfOk}
 use Rattle.std.proofs.lemmas.Result.{IfOk-weaker}
 use Rattle.tp_model.specs.NodeState.{NodeState}
 use Rattle.tp_model.specs.Network.{Network}
@@ -10,17 +10,13 @@ use Rattle.tp_model.specs.Opening.{Opened, held_of, verdict}
 use Rattle.tp_model.specs.Runs.{World, reopened}
 use Rattle.tp_recover.specs.Reading.{LeavesNothingNew}
 use Rattle.tp_flush.specs.Known.{Began}
-use Rattle.tp_flush.specs.Flushing.{Flushing, Walked, position}
+use Rattle.tp_flush.specs.Flushing.{Flushing, Walked}
 use Rattle.tp_flush.specs.Follows.{Follows}
 use Rattle.tp_flush.proofs.Follows.{read_alone, read_first, stored_follows, walked_either, walked_follows}
 use Rattle.tp_run.specs.declared.compacting.Compaction.{Compaction}
 use Rattle.tp_run.specs.declared.compacting.CompactFault.{CompactFault}
 use Rattle.tp_run.specs.declared.compacting.CompactFault.TheVariants.{Opening, NoGeneration, DeviceFailed, NotWhole, Memory}
-use Rattle.tp_flush.specs.declared.fault.FlushFault.{FlushFault}
-use Rattle.tp_flush.specs.declared.fault.FlushFault.TheVariants as flush
-use Rattle.tp_flush.specs.Ends.{Ended}
-use Rattle.tp_run.proofs.Failures.{refused_as}
-use Rattle.tp_run.specs.Compacted.{Compacted, IsBeginFault, SaysLast, StaysUnopened, flush_fault, is_failure_in}
+use Rattle.tp_run.specs.Compacted.{Compacted, ComesOpened, StaysUnopened}
 
 -- a device that was opened, and whose flusher walked on from there
 pub walked_compacted : (start : Network NodeState) (before : World NodeState) (opened : Opened) (old new : Flushing) (result : Result Compaction CompactFault) → Began start before old.state.now.bytes
@@ -49,38 +45,10 @@ opened_compacted start result old read new L same R = record {
 }
 
 -- what was begun isn't answered as what wasn't
-pub last_compacted : (r : Result Compaction CompactFault) (last : Bool) → SaysLast r last → StaysUnopened r → ⊥
-last_compacted (Ok done) last says unbegun = unbegun
-last_compacted (Err (Opening unopened)) last says unbegun = says
-last_compacted (Err NoGeneration) last says unbegun = unbegun
-last_compacted (Err DeviceFailed) last says unbegun = unbegun
-last_compacted (Err NotWhole) last says unbegun = unbegun
-last_compacted (Err Memory) last says unbegun = unbegun
-
--- ## Faults
-
-abbrev pub fault_as : (A : Type 0) → CompactFault → Result A CompactFault
-fault_as A fault = Err fault
-
-pub begin_last : (A : Type 0) (fault : CompactFault) (last : Bool) → IsBeginFault fault → last ≡ false → SaysLast (fault_as A fault) last
-begin_last A fault last (inl memory) left = subst (λ f. SaysLast (fault_as A f) last) (sym memory) tt
-begin_last A fault last (inr whole) left = subst (λ f. SaysLast (fault_as A f) last) (sym whole) left
-
-pub begin_unfailed : (fault : CompactFault) → IsBeginFault fault → is_failure_in fault ≡ false
-begin_unfailed fault (inl memory) = ap is_failure_in memory
-begin_unfailed fault (inr whole) = ap is_failure_in whole
-
-pub flush_last : (A : Type 0) (fault : FlushFault) (last : Bool) → last ≡ false → SaysLast (fault_as A (flush_fault fault)) last
-flush_last A flush.DeviceFailed last left = left
-flush_last A flush.StoreBroken last left = left
-flush_last A flush.Memory last left = tt
-flush_last A flush.AreaFull last left = left
-
--- the position of a flusher whose turn was refused
-pub flush_ended : (A : Type 0) (fault : FlushFault) (old new : Flushing) → Ended (refused_as A fault) old new → new.world.at ≡ position (is_failure_in (flush_fault fault))
-flush_ended A flush.DeviceFailed old new (inl F) = F.broken
-flush_ended A flush.DeviceFailed old new (inr F) = F.broken
-flush_ended A flush.StoreBroken old new E = ap (λ (v : Flushing). v.world.at) E.1 ∙ E.0
-flush_ended A flush.Memory old new (inl W) = W.0.rested.rests
-flush_ended A flush.Memory old new (inr W) = W.rested.rests
-flush_ended A flush.AreaFull old new E = E.rested.rests
+pub begun_compacted : (r : Result Compaction CompactFault) → IfErr r ComesOpened → StaysUnopened r → ⊥
+begun_compacted (Ok done) begun unbegun = unbegun
+begun_compacted (Err (Opening unopened)) begun unbegun = begun
+begun_compacted (Err NoGeneration) begun unbegun = unbegun
+begun_compacted (Err DeviceFailed) begun unbegun = unbegun
+begun_compacted (Err NotWhole) begun unbegun = unbegun
+begun_compacted (Err Memory) begun unbegun = unbegun

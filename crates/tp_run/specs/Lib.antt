@@ -1,15 +1,12 @@
 pub mod Compacted
 pub mod Composed
 pub mod Accounted
-pub mod Answered
 pub mod Every
-pub mod Failures
 pub mod Faults
 pub mod Input
 pub mod Made
 pub mod Outset
 pub mod Output
-pub mod Prints
 pub mod Ran
 pub mod Shown
 pub mod Worked

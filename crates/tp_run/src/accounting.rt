@@ -3,8 +3,7 @@
 ghost use Rattle.std.specs.Prelude.{◌≡◌, ◌++◌, flat_map, IfErr, IfOk};
 ghost use Rattle.tp_flush.specs.All.{AreAll};
 ghost use Rattle.tp_flush.specs.Known.{Began};
-ghost use Rattle.tp_run.specs.Faults.{IsLate};
-ghost use Rattle.tp_run.specs.Prints.{TellsAllPrinted};
+ghost use Rattle.tp_run.specs.Faults.{ComesBegun, IsLate};
 
 use crate::fault::RunFault;
 use tp_disk::Disk;
@@ -40,7 +39,7 @@ pub(crate) fn account<J: Naming, D: Disk>(
     ensures all { D.keeps → Began J.formatted J.before flusher.old.opened
         → IfOk result (λ answer. AreAll J.first answer flusher.old.world.journal (flat_map (λ seat. seat.slips) seats.items ++ offered.seat ++ confirmed.seat)) }
     ensures late { IfErr result IsLate }
-    ensures told { TellsAllPrinted result }
+    ensures begun { IfErr result ComesBegun }
 {
     let mut all = slips_of(seats);
     all.absorb(offered.into_seat());

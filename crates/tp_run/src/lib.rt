@@ -10,7 +10,6 @@ mod job;
 mod laws;
 mod offering;
 mod opening;
-mod outlet;
 mod outset;
 mod printing;
 mod running;

@@ -1,33 +1,29 @@
 //! What a run does with a network in threads, and its flusher.
 
-ghost use Rattle.std.specs.Prelude.{◌≡◌, ◌<◌, ◌≤◌, ◌+◌, ◌++◌, [], All, flat_map, length, vec_len, IfErr, IfOk, OnErr, Some};
+ghost use Rattle.std.specs.Prelude.{◌≡◌, ◌<◌, ◌≤◌, ◌++◌, [], All, flat_map, length, vec_len, IfErr, IfOk, OnErr, Some};
 ghost use Rattle.tp_shared.specs.Receipted.{AreBelow};
 ghost use Rattle.tp_flush.specs.Known.{Began};
-ghost use Rattle.tp_flush.specs.Flushing.{IsSameProcess, Walked, position};
+ghost use Rattle.tp_flush.specs.Flushing.{IsSameProcess, Walked};
 ghost use Rattle.tp_flush.specs.Settled.{SlipsStand};
 ghost use Rattle.tp_flush.specs.All.{AreAll};
-ghost use Rattle.tp_model.specs.WriteOrder.{Resting};
-ghost use Rattle.tp_run.specs.Failures.{CountsFailures, failures_after, has_failed};
-ghost use Rattle.tp_run.specs.Faults.{ComesBegun, ComesBehind, IsLate, IsOfferFault, IsSilent};
-ghost use Rattle.tp_run.specs.Input.{IsForInput, input_slips, rest_at};
+ghost use Rattle.tp_run.specs.Faults.{ComesBegun, IsLate, IsSilent};
+ghost use Rattle.tp_run.specs.Input.{IsForInput, input_slips};
 ghost use Rattle.tp_run.specs.Output.{IsForOutput};
-ghost use Rattle.tp_run.specs.Prints.{TellsAllPrinted};
 ghost use Rattle.tp_run.specs.Ran.{Settled};
 ghost use Rattle.tp_run.specs.Shown.{AreShownIn, MayPrint, MayShow};
-ghost use Rattle.tp_ready.specs.Past.{IsNew};
-ghost use Rattle.tp_run.specs.Worked.{HasWorked};
+ghost use Rattle.tp_run.specs.Worked.{Worked};
 
 use crate::accounting::account;
 use crate::fault::RunFault;
 use crate::flushing::{flush_meanwhile, flush_upto};
 use crate::job::Job;
 use crate::offering::offer_at;
-use crate::outlet::Outlet;
 use crate::outset::Outset;
 use crate::printing::print_from;
 use crate::watch::Watch;
 use crate::working::work_all;
 use std::alloc::Global;
+use std::io::Write;
 use std::sync::Wait;
 use std::thread::{Threads, join};
 use tp_disk::Disk;
@@ -44,8 +40,7 @@ fn offer<J: Naming, R: Wait>(
 ) -> Result<Receipt<J>, RunFault>
     requires { outset.port < length J.start.ports }
     ensures receipt { IfOk result (IsForInput outset input.now) }
-    ensures refused { IfErr result IsOfferFault }
-    ensures some { IfErr result (λ fault. fault ≡ RunFault.OfferRefused → 0 < length (rest_at outset input.now)) }
+    ensures begun { IfErr result ComesBegun }
 {
     let mut held = shared.book().lock(rt);
     held.known();
@@ -54,7 +49,7 @@ fn offer<J: Naming, R: Wait>(
 
 /// Prints and confirms, under the book's lock, what `mark` shows, which the flusher raised. What is printed are outputs of the port where
 /// the flusher's journal leads.
-fn print_settled<J: Naming, D: Disk, O: Outlet>(
+fn print_settled<J: Naming, D: Disk, O: Write>(
     held: &mut Locked<J>,
     flusher: &mut Flusher<J, D>,
     outset: Outset,
@@ -66,18 +61,19 @@ fn print_settled<J: Naming, D: Disk, O: Outlet>(
     ensures same { flusher.new ≡ flusher.old }
     ensures receipt { IfOk result (IsForOutput outset.port outset.confirmed
         (λ number bytes. D.keeps → Began J.formatted J.before flusher.old.opened → AreShownIn J.formatted flusher.old.world outset.port outset.confirmed number bytes)
-        (O.taken out.old) (O.taken out.new)) }
+        (O.contents out.old) (O.contents out.new)) }
     ensures shown { D.keeps → Began J.formatted J.before flusher.old.opened
-        → MayShow J.formatted flusher.old.world.journal flusher.old.world.mark outset.port outset.confirmed (O.taken out.old) (O.taken out.new) result }
+        → MayShow J.formatted flusher.old.world.journal flusher.old.world.mark outset.port outset.confirmed (O.contents out.old) (O.contents out.new) }
     ensures late { IfErr result IsLate }
+    ensures begun { IfErr result ComesBegun }
     ensures err { OnErr result (held.new ≡ held.old) }
 {
     flusher.settle_book(held);
-    print_from(held, flusher, outset, mark, out)
+    print_from(held, outset, mark, out)
 }
 
 /// Takes the book's lock, and prints and confirms under it.
-fn print<J: Naming, D: Disk, O: Outlet, R: Wait>(
+fn print<J: Naming, D: Disk, O: Write, R: Wait>(
     rt: &R,
     shared: &Shared<J>,
     flusher: &mut Flusher<J, D>,
@@ -90,10 +86,11 @@ fn print<J: Naming, D: Disk, O: Outlet, R: Wait>(
     ensures same { flusher.new ≡ flusher.old }
     ensures receipt { IfOk result (IsForOutput outset.port outset.confirmed
         (λ number bytes. D.keeps → Began J.formatted J.before flusher.old.opened → AreShownIn J.formatted flusher.old.world outset.port outset.confirmed number bytes)
-        (O.taken out.old) (O.taken out.new)) }
+        (O.contents out.old) (O.contents out.new)) }
     ensures shown { D.keeps → Began J.formatted J.before flusher.old.opened
-        → MayShow J.formatted flusher.old.world.journal flusher.old.world.mark outset.port outset.confirmed (O.taken out.old) (O.taken out.new) result }
+        → MayShow J.formatted flusher.old.world.journal flusher.old.world.mark outset.port outset.confirmed (O.contents out.old) (O.contents out.new) }
     ensures late { IfErr result IsLate }
+    ensures begun { IfErr result ComesBegun }
 {
     let mut held = shared.book().lock(rt);
     held.known();
@@ -110,23 +107,22 @@ fn work<J: Naming + Send + Sync, D: Disk + Send + Drop, R: Threads + Wait + Sync
     watch: Watch,
     flusher: Flusher<J, D>,
 ) -> (Flusher<J, D>, Vec<Seat<J>>)
-    requires seats { All (λ seat. (seat.hand.of ≡ Some net.now.queue) × HasWorked J.start net.now.quantum net.now.queue seat.hand.past seat.slips) seats.items }
+    requires seats { All (λ seat. (seat.hand.of ≡ Some net.now.queue) × Worked J.start net.now.quantum seat.slips) seats.items }
     ensures walks { D.keeps → Began J.formatted J.before flusher.opened → Walked flusher result.0 }
     ensures process { IsSameProcess flusher result.0 }
-    ensures failures { CountsFailures flusher result.0 }
     ensures count { vec_len result.1 ≡ vec_len seats }
-    ensures seats { All (λ seat. HasWorked J.start net.now.quantum net.now.queue seat.hand.past seat.slips) result.1.items }
+    ensures seats { All (λ seat. Worked J.start net.now.quantum seat.slips) result.1.items }
 {
     let watching = &watch;
     let shared = net.shared();
     join(
         rt,
         move || -> Flusher<J, D>
-            ensures { (D.keeps → Began J.formatted J.before flusher.opened → Walked flusher result) × IsSameProcess flusher result × CountsFailures flusher result }
+            ensures { (D.keeps → Began J.formatted J.before flusher.opened → Walked flusher result) × IsSameProcess flusher result }
         { flush_meanwhile(rt, alloc, shared, watching, flusher) },
         move || -> Vec<Seat<J>>
-            requires { All (λ seat. (seat.hand.of ≡ Some net.now.queue) × HasWorked J.start net.now.quantum net.now.queue seat.hand.past seat.slips) seats.items }
-            ensures { (vec_len result ≡ vec_len seats) × All (λ seat. HasWorked J.start net.entry.now.quantum net.entry.now.queue seat.hand.past seat.slips) result.items }
+            requires { All (λ seat. (seat.hand.of ≡ Some net.now.queue) × Worked J.start net.now.quantum seat.slips) seats.items }
+            ensures { (vec_len result ≡ vec_len seats) × All (λ seat. Worked J.start net.entry.now.quantum seat.slips) result.items }
         {
             let mut seats = seats;
             work_all(rt, alloc, net, watching, seats.as_mut_slice());
@@ -163,7 +159,7 @@ fn settle<J: Naming, D: Disk, R: Wait>(
     ensures all { D.keeps → Began J.formatted J.before flusher.old.opened
         → IfOk result (λ answer. AreAll J.first answer flusher.old.world.journal (flat_map (λ seat. seat.slips) seats.items ++ offered.seat ++ confirmed.seat)) }
     ensures late { IfErr result IsLate }
-    ensures told { TellsAllPrinted result }
+    ensures begun { IfErr result ComesBegun }
 {
     let mut offered = offered;
     let mut confirmed = confirmed;
@@ -176,10 +172,10 @@ fn settle<J: Naming, D: Disk, R: Wait>(
 /// Flushes, prints what is shown, confirms it, and flushes again. Answers the number that the next entry gets. What is in the receipt
 /// of the input, and in that of the output, is then in the journal, and with what the workers made it is all of it since the opening; and
 /// what was printed are outputs of the port where it leads, however it ends.
-fn finish<J: Naming, D: Disk, O: Outlet, R: Wait>(
+fn finish<J: Naming, D: Disk, O: Write, R: Wait>(
     rt: &R,
     alloc: Global,
-    net: &Net<J, NoGate>,
+    shared: &Shared<J>,
     job: Job,
     outset: Outset,
     offered: Receipt<J>,
@@ -189,23 +185,19 @@ fn finish<J: Naming, D: Disk, O: Outlet, R: Wait>(
 ) -> Result<u64, RunFault>
     requires there { outset.port < length J.start.ports }
     requires first { outset.next ≡ J.first }
-    requires queue { (net.now.queue.count ≡ length J.start.nodes + 1) × (net.now.queue.hands ≡ job.workers) }
-    requires seats { All (λ seat. HasWorked J.start job.quantum net.now.queue seat.hand.past seat.slips) seats.items }
+    requires seats { All (λ seat. Worked J.start job.quantum seat.slips) seats.items }
     requires count { vec_len seats ≡ job.workers }
     ensures walks { D.keeps → Began J.formatted J.before flusher.old.opened → Walked flusher.old flusher.new }
     ensures process { IsSameProcess flusher.old flusher.new }
     ensures stored { IfOk result (λ next. next ≤ flusher.new.world.mark) }
     ensures settled { D.keeps → Began J.formatted J.before flusher.old.opened
-        → IfOk result (Settled J.formatted J.start job outset offered.seat (O.taken out.old) (O.taken out.new) flusher.new.world.journal) }
+        → IfOk result (Settled J.formatted J.start job outset offered.seat (O.contents out.old) (O.contents out.new) flusher.new.world.journal) }
     ensures shown { D.keeps → Began J.formatted J.before flusher.old.opened
-        → MayPrint J.formatted flusher.old flusher.new outset.port outset.confirmed (O.taken out.old) (O.taken out.new) result }
-    ensures silent { IsSilent result → O.taken out.new ≡ O.taken out.old }
-    ensures failures { CountsFailures flusher.old flusher.new }
-    ensures ends { flusher.new.world.at ≡ position (has_failed result) }
-    ensures behind { IfErr result ComesBehind }
+        → MayPrint J.formatted flusher.old flusher.new outset.port outset.confirmed (O.contents out.old) (O.contents out.new) }
+    ensures silent { IsSilent result → O.contents out.new ≡ O.contents out.old }
+    ensures begun { IfErr result ComesBegun }
 {
     flusher.known();
-    let shared = net.shared();
     let number = offered.number();
     let mark = flush_upto(rt, alloc, shared, flusher, number, RunFault::FlushFailed)?;
     let confirmed = print(rt, shared, flusher, outset, mark, out)?;
@@ -228,7 +220,7 @@ fn finish<J: Naming, D: Disk, O: Outlet, R: Wait>(
 pub(crate) fn serve<
     J: Naming + Send + Sync,
     D: Disk + Send + Drop,
-    O: Outlet,
+    O: Write,
     R: Threads + Wait + Sync,
 >(
     rt: &R,
@@ -246,20 +238,15 @@ pub(crate) fn serve<
     requires first { outset.next ≡ J.first }
     requires quantum { net.now.quantum ≡ job.quantum }
     requires seats { All (λ seat. (seat.hand.of ≡ Some net.now.queue) × (seat.slips ≡ [])) seats.items }
-    requires new { All (λ seat. IsNew seat.hand.past) seats.items }
-    requires queue { (net.now.queue.count ≡ length J.start.nodes + 1) × (net.now.queue.hands ≡ job.workers) }
     requires count { vec_len seats ≡ job.workers }
-    requires rests { flusher.world.at ≡ Resting }
     ensures walks { D.keeps → Began J.formatted J.before flusher.opened → Walked flusher result.0 }
     ensures process { IsSameProcess flusher result.0 }
-    ensures failures { result.0.failures ≡ failures_after (has_failed result.1) flusher.failures }
     ensures stored { IfOk result.1 (λ next. next ≤ result.0.world.mark) }
     ensures settled { D.keeps → Began J.formatted J.before flusher.opened
-        → IfOk result.1 (Settled J.formatted J.start job outset (input_slips outset input.now) (O.taken out.old) (O.taken out.new) result.0.world.journal) }
+        → IfOk result.1 (Settled J.formatted J.start job outset (input_slips outset input.now) (O.contents out.old) (O.contents out.new) result.0.world.journal) }
     ensures shown { D.keeps → Began J.formatted J.before flusher.opened
-        → MayPrint J.formatted flusher result.0 outset.port outset.confirmed (O.taken out.old) (O.taken out.new) result.1 }
-    ensures silent { IsSilent result.1 → O.taken out.new ≡ O.taken out.old }
-    ensures some { IfErr result.1 (λ fault. fault ≡ RunFault.OfferRefused → 0 < length (rest_at outset input.now)) }
+        → MayPrint J.formatted flusher result.0 outset.port outset.confirmed (O.contents out.old) (O.contents out.new) }
+    ensures silent { IsSilent result.1 → O.contents out.new ≡ O.contents out.old }
     ensures begun { IfErr result.1 ComesBegun }
 {
     flusher.known();
@@ -273,7 +260,7 @@ pub(crate) fn serve<
     let done = finish(
         rt,
         alloc,
-        net,
+        shared,
         job,
         outset,
         offered,
