@@ -234,7 +234,7 @@ formatted_by f t xs pages head areas size cut rest old new is_pages checked larg
           (formatted_is t areas start old.now.bytes new.now.bytes begins (ap length (sym is_head) ∙ long) (omega arith) (omega arith) both.bytes);
     }
 
--- the same images and areas, whatever came of the calls: what a crash leaves
+-- what a crash leaves of formatting with these images and areas, whatever came of the calls
 pub format_leaves : {X : Type 0} (f : X → List ℕ) (t : Topology) (xs : List X) (pages : List ℕ) (areas : TwoAreas) (cut rest : ℕ) (old new : State)
     → pages ≡ t.pages → Checks (fresh_nodes pages (map f xs)) (Ok tt) → cut ≡ cut_length t → rest ≡ LINE_BYTES * line_count t + PORT_BYTES * t.ports + 1
     → LeavesOnly old new (λ left. ButFor areas.first (2 * areas.length) old.now left ⊎ SameOutside 0 areas.first (with_areas ((area_front cut ++ flat_map f xs) ++ zeros rest) areas old.now.bytes) left)

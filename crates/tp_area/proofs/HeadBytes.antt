@@ -40,7 +40,7 @@ head_bytes-written version t areas start fixed numbered paged filled ends starts
     let to_pages : filled ≡ fields ++ padded room pages = s5 ∙ ap (padded (ends_place version)) (s4 ∙ ap (λ xs. xs ++ pages) to_area) ∙ padded-behind room (ends_place version) fields pages (omega arith) in
     ap (λ n. padded n ends) (sym starts) ∙ ap (padded areas.first) (s6 ∙ ap (λ xs. xs ++ links) to_pages ∙ append_assoc fields (padded room pages) links)
 
--- the same by what the writer sees of the version and the topology
+-- the head's bytes, by what the writer sees of the version and the topology
 pub head_bytes-put : (version : HeadVersion) (t : Topology) (areas : TwoAreas) (byte ports size place count : ℕ) (pages : List ℕ) (wires : List (Option WireEnd)) (numbers empty first start fixed numbered paged filled ends : List ℕ)
     → areas.first ≡ head_length version → size ≡ head_length version → place ≡ ends_place version → byte ≡ version_byte version → pages ≡ t.pages → ports ≡ t.ports → wires ≡ t.wires → count ≡ 4 * length pages
     → numbers ≡ map (end_number version) (take count wires)

@@ -38,7 +38,7 @@ module _ (version : HeadVersion) (bytes : List ℕ) where
   abbrev t : Topology
   t = (head_at version bytes).topology
 
-  -- a head that is one has so few nodes and ports, and its ends are numbers of ends
+  -- a head that is one has few enough nodes and ports, and its ends are numbers of ends
   node_total : length t.pages ≡ u8_at bytes NODES_PLACE
   unfolding head_at
   node_total = length-u16s_at (u8_at bytes NODES_PLACE) (drop PAGES_PLACE bytes)
@@ -153,7 +153,7 @@ fields_in-said version len bytes t areas whole told is test =
 
 -- ## Of a device
 
--- its first bytes say the same, where there are so few nodes
+-- the first bytes of a device say the head that all its bytes say, where it has few enough nodes
 head_at-front : (version : HeadVersion) (xs : List ℕ) → u8_at xs NODES_PLACE ≤ head_nodes version → head_at version (take (head_length version) xs) ≡ head_at version xs
 head_at-front version xs few = head_at_same version xs (take (head_length version) xs) (whole_front (head_length version) xs) few
 

@@ -83,7 +83,7 @@ puts_then at first second s t u room one two =
       are = two.are ∙ ap (λ bytes. written bytes (at + length first) second) one.are ∙ written_twice s.now.bytes at first second room;
     }
 
--- the same bytes, said otherwise
+-- bytes that were put are those that they are equal to
 pub puts_same : (at : ℕ) (bytes other : List ℕ) (s t : State) → bytes ≡ other → Puts at bytes s t → Puts at other s t
 puts_same at bytes other s t is puts = subst (λ xs. Puts at xs s t) is puts
 
@@ -132,7 +132,7 @@ puts_three at one two three second third s t u v room is_second is_third first n
 
 -- ## What a crash leaves on the way
 
--- within a write: outside its range the same as what one before it might leave
+-- what may be left within a write is outside its range what a crash before it might have left
 but_for_write : (m : Moment) (at : ℕ) (bytes left : List ℕ) → at + length bytes ≤ length m.bytes → MayBe (within (Write at bytes) m) left → ButFor at (length bytes) m left
 but_for_write m at bytes left room may =
     let part : List ℕ = take (length bytes) (drop at m.bytes) in

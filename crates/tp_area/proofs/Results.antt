@@ -10,7 +10,7 @@ pub from_err : {T E : Type 0} (r : Result T E) (P Q : Type 0) → (P → Q) → 
 from_err (Ok x) P Q f has = tt
 from_err (Err e) P Q f has = f has
 
--- and the same of what was done
+-- what follows from what was done, follows where it was done
 pub from_ok : {T E : Type 0} (r : Result T E) (P Q : Type 0) → (P → Q) → OnOk r P → OnOk r Q
 from_ok (Ok x) P Q f has = f has
 from_ok (Err e) P Q f has = tt

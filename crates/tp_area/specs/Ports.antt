@@ -18,7 +18,7 @@ is_port_at base bytes = bytes_eq (take PORT_BYTES bytes) (port_bytes (port_at by
 abbrev pub is_zero : ℕ → Bool
 is_zero byte = byte == 0
 
--- the same where the record's numbers of bytes are the given ones: what fills it up is 00, and the positions are reached
+-- the port's rules, where the record holds these numbers of bytes: what fills it up is 00, and its positions were reached
 abbrev pub keeps_rules : ℕ → ℕ → ℕ → List ℕ → Bool
 keeps_rules base held shown bytes =
     list_all is_zero (take (MAX_HELD - held) (drop (20 + held) bytes))

@@ -12,7 +12,7 @@ pub record Puts (at : ℕ) (bytes : List ℕ) (old new : State) : Type 0 where
   pub called : Called (put_calls pieces) old new
   pub are : new.now.bytes ≡ written old.now.bytes at bytes
 
--- Outside this range the same as some content that a crash at that moment might leave.
+-- Outside this range it is some content that a crash at that moment might leave.
 pub record ButFor (at count : ℕ) (m : Moment) (left : List ℕ) : Type 0 where
   pub before : List ℕ
   pub may : MayBe m before

@@ -61,7 +61,7 @@ fn is_number(version: HeadVersion, number: u16) -> bool
     }
 }
 
-/// Whether all of the numbers do.
+/// Whether each of `numbers` stands for such an end, or for none.
 pub(crate) fn are_numbers(version: HeadVersion, numbers: &[u16]) -> bool
     ensures { result ≡ list_all (is_end_number version) numbers.now }
 {

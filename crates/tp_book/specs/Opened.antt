@@ -35,9 +35,9 @@ kept_entries s = map (λ (e : Entry × ℕ). e.0) s.kept.items
 abbrev pub numbers_of : NetState → List ℕ
 numbers_of s = map (λ (e : Entry × ℕ). e.1) s.kept.items
 
--- What opening leaves: the kept entries are in the range of their bytes, are such as the area's form holds, and lead from the kept cut's network to the one that is
--- there, which is sound and has no Markers under way; each node's image spells it; each port holds what it has room for, and has counted no more than there are
--- entries; the number of the next entry and the generation are in their ranges.
+-- What opening leaves: the kept entries are in the range of their bytes, are such as the area's form holds, and lead from the kept cut's
+-- network to the one that is there, which is sound and has no Markers under way; each node's image spells it; each port holds what it has
+-- room for, and has counted no more than there are entries; the number of the next entry and the generation are in their ranges.
 pub record IsWellOpen (s : NetState) : Type 0 where
   pub history : after t414 (cut_of s) (kept_entries s) ≡ Some (now_of s)
   pub sound : Sound t414_ends (now_of s)

@@ -26,7 +26,7 @@ unsafe impl Sync for CutNetwork {}
 impl CutNetwork {
     ghost use Rattle.tp_book.specs.Parts.{network_made};
 
-    /// The network that contracts name of a value. It does nothing.
+    /// Gives the ghost value `network`, which a contract says by what is lent as `_value`. It does nothing.
     pub fn of<T>(_value: &T) -> CutNetwork
         ghost network: { Network NodeState }
         ensures { result.network ≡ network }
@@ -41,7 +41,7 @@ impl CutNetwork {
         CutNetwork::of(parts)
     }
 
-    /// The same network again.
+    /// Another value that names this network.
     pub fn again(&self) -> CutNetwork
         ensures { result.network ≡ self.now.network }
     {

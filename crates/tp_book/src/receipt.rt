@@ -24,7 +24,7 @@ unsafe impl Send for Covered {}
 unsafe impl Sync for Covered {}
 
 impl Covered {
-    /// What contracts name of a value. It does nothing.
+    /// Gives the ghost value `seen`, which a contract says by what is lent as `_value`. It does nothing.
     fn of<T>(_value: &T) -> Covered
         ghost seen: { Covering }
         ensures { result.seen ≡ seen }

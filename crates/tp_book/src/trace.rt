@@ -36,7 +36,7 @@ impl Model for Image {
 }
 
 impl Image {
-    /// The image that contracts name of a value. It does nothing.
+    /// Gives the ghost value `image`, which a contract says by what is lent as `_value`. It does nothing.
     pub fn of<T>(_value: &T) -> Image
         ghost image: { Option NodeState }
         ensures { result.image ≡ image }
@@ -46,7 +46,7 @@ impl Image {
 }
 
 impl Trace {
-    /// What contracts name of a value. It does nothing.
+    /// Gives the ghost value `seen`, which a contract says by what is lent as `_value`. It does nothing.
     pub fn of<T>(_value: &T) -> Trace
         ghost seen: { Seen }
         ensures { result.seen ≡ seen }

@@ -238,7 +238,7 @@ pub fn restore<M: Mem>(cpu: &mut Cpu, mem: &mut M, descriptor: u32) -> Result<()
     Ok(())
 }
 
-/// Does `startp`: queues a process with the workspace A that begins at N + B, at the priority of the one that runs. N is the next instruction.
+/// Does `startp`: queues a process with the workspace A that begins at N + B, at the running one's priority. N is the next instruction.
 pub fn startp<M: Mem>(cpu: &mut Cpu, mem: &mut M) -> Result<(), Undone>
     ensures does { Does startp startp_ranges (M.kept mem.old) cpu.old (M.bytes mem.old) result cpu.new (M.bytes mem.new) }
     ensures kept { M.kept mem.new ≡ kept_after result (M.kept mem.old) (startp_ranges cpu.old (M.bytes mem.old)) }

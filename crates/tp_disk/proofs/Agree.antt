@@ -1,4 +1,4 @@
--- Contents that are the same but for one range, and what a crash may leave as such contents.
+-- Contents that agree but for one range, and what a crash may leave as such contents.
 use Rattle.std.proofs.Common.{◌≡◌, ℕ, ◌+◌, ◌-◌, ◌<◌, ◌≤◌, ◌⊎◌, inl, inr, List, [], ◌∷◌, ◌++◌, length, take, drop, get_or, refl, sym, ap, subst, ◌∙◌, arith, min, append_assoc, length-append, length-drop}
 use Rattle.std.proofs.lemmas.Bool.{cases_lt}
 use Rattle.std.proofs.lemmas.List.{length-take, length-take-le, get_or_append_left, get_or-take, get_or-append_right, get_or-drop, get_or_past, take-append-drop, drop-drop, drop_more, drop_at, take_at}

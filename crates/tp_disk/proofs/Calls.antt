@@ -188,7 +188,7 @@ call_leaves r call s t inside goes was failed =
 
 -- ## A write and a sync
 
--- where all was synced before, a crash within a write leaves what is the same outside its range
+-- where all was synced before, a crash within a write leaves what was there outside its range
 pub same_outside_write : (m : Moment) (at : ℕ) (bytes left : List ℕ) → m.unsynced ≡ [] → MayBe (within (Write at bytes) m) left
     → SameOutside at (length bytes) m.bytes left
 same_outside_write m at bytes left synced may = record {

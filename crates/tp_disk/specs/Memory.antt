@@ -15,7 +15,7 @@ memory_state memory = record {
   past = memory.history.told.past;
 }
 
--- the same of one that counts its failures
+-- what its calls have led to, where it counts its failures
 abbrev pub disk_state : Counted RawMemory → State
 disk_state disk = memory_state disk.raw
 

@@ -122,7 +122,7 @@ impl<F: FileExt + OpenFile + Drop> Counted<RawFile<NotedFile<F>>> {
         Ok(Counted::new(RawFile::new(NotedFile::new(file))?))
     }
 
-    /// The same, to be read alone: who may not write the file may open it so, and no call of it changes the file.
+    /// Opens that device to be read alone: who may not write the file may do so, and no call of the device changes the file.
     pub fn open_to_read<R: Files<File = F>>(
         rt: &R,
         path: &str,

@@ -22,7 +22,7 @@ unsafe impl Send for History {}
 impl History {
     ghost use Rattle.tp_disk.specs.History.{DeviceTold};
 
-    /// The history that contracts name of a value. It does nothing.
+    /// Gives the ghost value `told`, which a contract says by what is lent as `_value`. It does nothing.
     pub(crate) fn of<T>(_value: &T) -> History
         ghost told: { DeviceTold }
         ensures { result.told ≡ told }

@@ -169,7 +169,7 @@ impl<F: FileExt + OpenFile + Drop> Counted<NewFile<NotedFile<F>>> {
         }))
     }
 
-    /// The same over a file that is there, which stays as it is until the first call of the device.
+    /// A device of `size` bytes over a file that is there, which stays as it is until the first call of the device.
     pub fn create_over<R: Files<File = F>>(rt: &R, path: &str, size: u64) -> io::Result<NewDisk<F>>
         ensures size { IfOk result (λ disk. ⟦<NewDisk<F> as Disk>⟧.size_of disk ≡ size) }
         ensures failures { IfOk result (λ disk. ⟦<NewDisk<F> as Disk>⟧.failures_of disk ≡ 0) }
@@ -178,7 +178,7 @@ impl<F: FileExt + OpenFile + Drop> Counted<NewFile<NotedFile<F>>> {
         Ok(Counted::new(NewFile::over(NotedFile::new(file), size)))
     }
 
-    /// The one or the other, as a file of that path is there or not.
+    /// A device of `size` bytes in a new file, or over the file of that path where one is there.
     pub fn create<R: Files<File = F>>(rt: &R, path: &str, size: u64) -> io::Result<NewDisk<F>>
         ensures size { IfOk result (λ disk. ⟦<NewDisk<F> as Disk>⟧.size_of disk ≡ size) }
         ensures failures { IfOk result (λ disk. ⟦<NewDisk<F> as Disk>⟧.failures_of disk ≡ 0) }

@@ -33,10 +33,9 @@ use Rattle.tp_area.proofs.Behind.{CanBeAppended, length-body}
 use Rattle.tp_area.proofs.Frames.{gate_same}
 use Rattle.tp_shared.specs.declared.told.Told.{Told}
 use Rattle.tp_shared.specs.Told.{IsFirst, ToldSince}
-use Rattle.tp_law_network.proofs.Partial.{bind_some}
 use Rattle.tp_law_device.proofs.Contents.{length-content_of}
 use Rattle.tp_law_network.proofs.Moments.{written_same_outside}
-use Rattle.tp_law_device.proofs.Frozen.{frozen_as_stays}
+use Rattle.tp_shared.proofs.Gone.{frozen_since}
 use Rattle.tp_flush.specs.declared.progress.Progress.{Progress}
 use Rattle.tp_flush.specs.Progress.{is_out, not_begun, with_out}
 use Rattle.tp_flush.specs.Copying.{IsPartOut}
@@ -166,13 +165,6 @@ piece_images t net place s new node piece bytes p whole roomy there low long fre
     (other_kept t net (content_beside place s) node piece bytes long (omega (arith, inside, size)) i other i_there there low (images i i_there out))
 
 -- ## Looks at the book
-
-pub frozen_since : (acts : List Act) (w v : MarkedNetwork NodeState) → AllByRecursion (λ act. is_trim act ≡ false) acts → acted t414 w acts ≡ Some v → (i : ℕ) (node : NodeState) → IsFrozenAs w i node → IsFrozenAs v i node
-unfolding acted
-frozen_since [] w v none e i node F = let same : w ≡ v = cc in subst (λ n. IsFrozenAs n i node) same F
-frozen_since (act ∷ acts) w v none e i node F =
-    let B = bind_some (happens t414 w act) (λ u. acted t414 u acts) v e in
-    frozen_since acts B.0 v none.1 B.2 i node (frozen_as_stays t414 w B.0 act i node none.0 B.1 F)
 
 pub frozen_told : (w : World NodeState) (old now : Told) → IsFirst old w → ToldSince old now → (i : ℕ) (node : NodeState) → IsFrozenAs w.net i node → IsFrozenAs now.net i node
 frozen_told w old now first since i node F = frozen_since since.acts old.net now.net since.none since.net i node (subst (λ n. IsFrozenAs n i node) (sym first.net) F)

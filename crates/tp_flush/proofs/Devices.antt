@@ -40,7 +40,7 @@ use Rattle.tp_flush.proofs.Closed.{closed_when, group_outside}
 use Rattle.tp_flush.proofs.Looks.{copied, learned, raised}
 use Rattle.tp_flush.proofs.Puts.{Answered as PutAnswered, after_put}
 
--- over a world of the same kept cut, in the same areas
+-- what is known of a device holds over a world with its kept cut, in its areas
 pub same_device : (keeps : Type 0) (most : Option ℕ) (w v : World NodeState) (s new : State) (place to : Place) (broken broke : Bool) (t : Topology) → v.base ≡ w.base → v.net.start ≡ w.net.start → to.areas ≡ place.areas
     → (keeps → broke ≡ false → HeadSays t place.areas new.now.bytes) → IsOfDevice keeps most w s place broken t → IsOfDevice keeps most v new to broke t
 same_device keeps most w v s new place to broken broke t base start areas head D = record {

@@ -140,7 +140,7 @@ pub walked_either : (start : Network NodeState) (journal : List Entry) (old new 
     → LeavesOnly old new (λ left. MayBe old.now left ⊎ Follows start journal 0 old.now.bytes left)
 walked_either start journal old new W = weaker old new (Follows start journal 0 old.now.bytes) _ (λ left f. inr f) W
 
--- it was read, so that its bytes are the same, and then more
+-- a device was read, which left its bytes as they are, and was then written
 pub read_first : (start : Network NodeState) (journal : List Entry) (old read new : State) → LeavesNothingNew old read → read.now.bytes ≡ old.now.bytes
     → LeavesOnly read new (λ left. MayBe read.now left ⊎ Follows start journal 0 read.now.bytes left) → LeavesOnly old new (λ left. MayBe old.now left ⊎ Follows start journal 0 old.now.bytes left)
 read_first start journal old read new L same R =

@@ -24,7 +24,7 @@ module _ (keeps : Type 0) (start : Network NodeState) (before : World NodeState)
   pub goes_still : (a : Flushing) → (keeps → a.world.disk ≡ a.state.now) → FlushedOn keeps start before a a
   goes_still a was = record { walks = λ k began. walked_nowhere a (was k); process = record { opened = refl; size = refl; topology = refl } }
 
-  -- the same world, as to the device
+  -- the world of the device stayed as it was
   pub goes_marked : (a b : Flushing) → (keeps → a.world.disk ≡ a.state.now) → b.world ≡ a.world → b.state ≡ a.state → IsSameProcess a b → FlushedOn keeps start before a b
   goes_marked a b was world state P = record {
     walks = λ k began.
@@ -68,7 +68,7 @@ tried_then {A} B q fault is a b c first then = subst (λ (x : Result A FlushFaul
     by Memory then = absurd then
     by AreaFull then = absurd then
 
--- the same answer, of another type
+-- an answer's value may be of another type
 pub tried_on : {A : Type 0} (q : Result A FlushFault) (a b c : Flushing) → NothingStored a b → Tried q b c → Tried q a c
 tried_on (Ok given) a b c first then = went_then a b c first then
 tried_on (Err DeviceFailed) a b c first then = (failed_then a b c first.waits then.0, then.1 ∙ first.stored)

@@ -42,8 +42,8 @@ looked_walks a b was L =
 
 -- a look at the book; the flusher then knows more of it
 pub learned_looked : (w : World NodeState) (old now : Told) (first : IsFirst old w) (since : ToldSince old now) (s : State) (size failures : ℕ) (opened : List ℕ) (place : Place) (t : Topology) (progress : Progress)
-    → OnlyLooked (record { world = w; state = s; size = size; failures = failures; opened = opened; place = place; topology = t; progress = progress })
-    (record { world = learned w now; state = s; size = size; failures = failures; opened = opened; place = place; topology = t; progress = progress })
+    → OnlyLooked (record { world = w; state = s; size = size; failures = failures; opened = opened; place = place; topology = t; progress = progress; frozen = old.frozen })
+    (record { world = learned w now; state = s; size = size; failures = failures; opened = opened; place = place; topology = t; progress = progress; frozen = now.frozen })
 learned_looked w old now first since s size failures opened place t progress = record {
   led = learns w old now first since;
   at = refl;

@@ -10,6 +10,7 @@ mod Goings
 mod Imaging
 mod Puts
 mod Closed
+mod Gone
 mod Devices
 mod Standing
 mod Beside

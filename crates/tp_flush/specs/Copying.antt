@@ -1,5 +1,5 @@
 -- What stands of a snapshot's frozen images in the other area.
-use Rattle.std.specs.Prelude.{◌≡◌, ◌<◌, ℕ, suc, ◌*◌, List, length, take, drop}
+use Rattle.std.specs.Prelude.{◌≡◌, ◌<◌, ℕ, suc, ◌*◌, Bool, false, List, length, take, drop}
 use Rattle.tp_model.specs.declared.limits.TheConstants.{IMAGE_HEAD_BYTES, PAGE_BYTES}
 use Rattle.tp_model.specs.NodeState.{NodeState}
 use Rattle.tp_model.specs.Image.{image_head}
@@ -8,6 +8,7 @@ use Rattle.tp_model.specs.FrozenAs.{IsFrozenAs}
 use Rattle.tp_model.specs.PiecesStand.{IsThere}
 use Rattle.tp_model.specs.Topology.{Topology}
 use Rattle.tp_area.specs.Pieces.{piece_place}
+use Rattle.tp_shared.specs.Frozen.{keeps_pages}
 
 -- Of the frozen image of node i, the head and as many pages stand at their places in a content.
 pub record IsPartOut (t : Topology) (net : MarkedNetwork NodeState) (content : List ℕ) (i count : ℕ) : Type 0 where
@@ -16,3 +17,12 @@ pub record IsPartOut (t : Topology) (net : MarkedNetwork NodeState) (content : L
   pub long : length (image_head node) ≡ IMAGE_HEAD_BYTES
   pub head : IsThere content (piece_place t i 0) (image_head node)
   pub pages : (page : ℕ) → page < count → IsThere content (piece_place t i (suc page)) (take PAGE_BYTES (drop (PAGE_BYTES * page) node.memory))
+
+-- Node i has recorded in the snapshot that runs.
+abbrev pub HasRecorded : MarkedNetwork NodeState → ℕ → Type 0
+HasRecorded net i = (node : NodeState) × IsFrozenAs net i node
+
+-- It has, and no page of it is kept.
+pub record IsGone (net : MarkedNetwork NodeState) (frozen : List Bool) (i : ℕ) : Type 0 where
+  pub recorded : HasRecorded net i
+  pub none : keeps_pages frozen i ≡ false

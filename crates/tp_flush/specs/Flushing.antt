@@ -24,14 +24,14 @@ use Rattle.tp_area.specs.Other.{OtherIsClosed}
 use Rattle.tp_area.specs.Tails.{content_beside}
 use Rattle.tp_model.specs.Snapshot.{MarkedNetwork}
 use Rattle.tp_law_device.specs.CutSpelt.{CutSpelt}
-use Rattle.tp_flush.specs.Copying.{IsPartOut}
+use Rattle.tp_flush.specs.Copying.{IsGone, IsPartOut}
 use Rattle.tp_flush.specs.Progress.{is_out}
 use Rattle.tp_flush.specs.declared.progress.Progress.{Progress}
 use Rattle.tp_flush.specs.Known.{Known, Began, Reached}
 
 -- The world as the flusher knows it; what has become of its device, how many bytes that has, and how many of its calls have
--- failed; the bytes that this process opened; the place of the next group, in the open area; the device's topology; and how far
--- the copy of the snapshot that runs has come.
+-- failed; the bytes that this process opened; the place of the next group, in the open area; the device's topology; how far the
+-- copy of the snapshot that runs has come; and of which nodes pages were kept as it was told of the book last.
 pub record Flushing : Type 0 where
   pub world : World NodeState
   pub state : State
@@ -41,6 +41,7 @@ pub record Flushing : Type 0 where
   pub place : Place
   pub topology : Topology
   pub progress : Progress
+  pub frozen : List Bool
 
 -- between two of its calls the flusher rests, or a call of the device has failed
 abbrev pub position : Bool → Position NodeState
@@ -63,6 +64,10 @@ pub record KeepsCopy (keeps : Type 0) (net : MarkedNetwork NodeState) (state : S
   pub roomy : is_roomy t place.areas.length ≡ true
   pub closed : keeps → broken ≡ false → progress.cleared ≡ true → OtherIsClosed place state
   pub images : keeps → broken ≡ false → (i : ℕ) → i < length t.pages → is_out progress i ≡ true → IsPartOut t net (content_beside place state) i (get_or t.pages i 0)
+
+-- A node whose image is out has no page that is kept: so it was told under the book's lock, and so it is until the trim.
+abbrev pub AreGone : MarkedNetwork NodeState → List Bool → Progress → Type 0
+AreGone net frozen progress = (i : ℕ) → is_out progress i ≡ true → IsGone net frozen i
 
 -- The device's head, of whatever version, says the topology, and where the areas are.
 pub record HeadSays (t : Topology) (areas : TwoAreas) (bytes : List ℕ) : Type 0 where
@@ -98,7 +103,7 @@ pub record OnlyLooked (old new : Flushing) : Type 0 where
   pub topology : new.topology ≡ old.topology
   pub progress : new.progress ≡ old.progress
 
--- The process and its device are the same.
+-- The process and its device stayed what they were.
 pub record IsSameProcess (old new : Flushing) : Type 0 where
   pub opened : new.opened ≡ old.opened
   pub size : new.size ≡ old.size
@@ -114,7 +119,7 @@ pub record IsBacklog (w : World NodeState) (entries : List (Entry × ℕ)) (upto
   pub numbers : w.stored + length entries < NUMBER_LIMIT
 
 -- Where this process opened what a run had led to: each moment of the device since is that of a world on the way of one run. The
--- process and its device are the same.
+-- process and its device stay what they are.
 pub record FlushedOn (keeps : Type 0) (start : Network NodeState) (before : World NodeState) (old new : Flushing) : Type 0 where
   pub walks : keeps → Began start before old.opened → Walked old new
   pub process : IsSameProcess old new

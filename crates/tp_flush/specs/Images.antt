@@ -13,7 +13,7 @@ use Rattle.tp_flush.specs.Flushing.{Flushing}
 
 -- ## One image
 
--- what was done with the image of a node, of which a look says whether it has recorded
+-- what was done with the image of a node, which has recorded where a look says so
 abbrev pub NodeImaged : Image → Bool → ℕ → Progress → Progress → Type 0
 NodeImaged WasOut recorded node old new = is_out new node ≡ true
 NodeImaged Unrecorded recorded node old new = recorded ≡ false

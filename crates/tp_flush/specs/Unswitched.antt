@@ -1,10 +1,11 @@
 -- Why the store didn't switch to its other area.
-use Rattle.std.specs.Prelude.{◌≡◌, ◌<◌, ◌≤◌, ◌+◌, ℕ, Bool, true, false, length, Option, Some, None, is_some, Result, Ok, Err}
+use Rattle.std.specs.Prelude.{◌≡◌, ◌<◌, ◌≤◌, ◌+◌, ℕ, Bool, true, false, List, length, Option, Some, None, is_some, Result, Ok, Err}
 use Rattle.tp_model.specs.declared.limits.TheConstants.{NUMBER_LIMIT}
 use Rattle.tp_model.specs.NodeState.{NodeState}
 use Rattle.tp_model.specs.Snapshot.{MarkedNetwork}
 use Rattle.tp_model.specs.Topology.{Topology}
 use Rattle.tp_model.specs.WholeCut.{whole}
+use Rattle.tp_shared.specs.Frozen.{none_kept}
 use Rattle.tp_flush.specs.declared.fault.FlushFault.{FlushFault}
 use Rattle.tp_flush.specs.declared.imaged.Images.{Images}
 use Rattle.tp_flush.specs.declared.imaged.Images.TheVariants.{NoSnapshot}
@@ -16,17 +17,17 @@ use Rattle.tp_flush.specs.Progress.{is_out}
 use Rattle.tp_flush.specs.Flushing.{Flushing}
 
 -- It is a reason, on a device of this topology, with these images out, with an open area of this generation, and where the flusher was
--- told this of the book last.
-abbrev pub IsReason : Unswitched → Topology → Progress → ℕ → MarkedNetwork NodeState → Type 0
-IsReason ImageMissing t p generation net = (i : ℕ) × (i < length t.pages) × (is_out p i ≡ false)
-IsReason LastGeneration t p generation net = NUMBER_LIMIT ≤ generation + 1
-IsReason CutOpen t p generation net = is_some (whole net) ≡ false
-IsReason PagesKept t p generation net = is_some (whole net) ≡ true
+-- told this of the book last, and of which nodes pages are kept.
+abbrev pub IsReason : Unswitched → Topology → Progress → ℕ → MarkedNetwork NodeState → List Bool → Type 0
+IsReason ImageMissing t p generation net frozen = (i : ℕ) × (i < length t.pages) × (is_out p i ≡ false)
+IsReason LastGeneration t p generation net frozen = NUMBER_LIMIT ≤ generation + 1
+IsReason CutOpen t p generation net frozen = is_some (whole net) ≡ false
+IsReason PagesKept t p generation net frozen = (is_some (whole net) ≡ true) × (none_kept frozen ≡ false)
 
 -- Where a turn didn't switch, no snapshot ran, or there is a reason.
 abbrev pub WhyUnswitched : Option Unswitched → Images → Flushing → Type 0
 WhyUnswitched None images v = images ≡ NoSnapshot
-WhyUnswitched (Some why) images v = IsReason why v.topology v.progress v.place.generation v.world.net
+WhyUnswitched (Some why) images v = IsReason why v.topology v.progress v.place.generation v.world.net v.frozen
 
 -- whether the store switched, beside why not
 abbrev pub done_of : Result Switch FlushFault → Result Bool FlushFault

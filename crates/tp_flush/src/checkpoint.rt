@@ -1,7 +1,8 @@
 //! What the flusher does while a snapshot runs.
 
-ghost use Rattle.std.specs.Prelude.{◌≡◌, false, length, IfOk};
+ghost use Rattle.std.specs.Prelude.{◌≡◌, ℕ, true, false, length, IfOk};
 ghost use Rattle.tp_model.specs.WriteOrder.{Resting};
+ghost use Rattle.tp_shared.specs.Frozen.{keeps_pages};
 ghost use Rattle.tp_flush.specs.Flushing.{FlushedOn};
 ghost use Rattle.tp_flush.specs.Ends.{Checkpointed, switched_of};
 ghost use Rattle.tp_flush.specs.Images.{ImagedIn, LookedIn};
@@ -38,7 +39,7 @@ fn look_under<J: Naming>(held: &mut Locked<J>, looked: &mut Sights<J>) -> Option
     Some(held.look())
 }
 
-/// The same under the book's lock.
+/// Takes the book's lock, and looks at the snapshot under it.
 fn look<J: Naming, R: Wait>(rt: &R, shared: &Shared<J>, looked: &mut Sights<J>) -> Option<Look>
     ensures { LookedIn (length J.start.nodes) result looked.old looked.new }
 {
@@ -61,6 +62,7 @@ impl<J: Naming, D: Disk> Flusher<J, D> {
         requires rests { self.old.world.at ≡ Resting }
         ensures checkpointed { Checkpointed (switched_of result) self.old self.new }
         ensures imaged { IfOk result (λ done. done.switched ≡ false → ImagedIn (length J.start.nodes) done.images looked.old looked.new self.old self.new) }
+        ensures gone { IfOk result (λ done. done.switched ≡ true → (i : ℕ) → keeps_pages self.new.frozen i ≡ false) }
         ensures unswitched { IfOk result (λ done. done.switched ≡ false → WhyUnswitched done.unswitched done.images self.new) }
         ensures goes { FlushedOn D.keeps J.formatted J.before self.old self.new }
     {

@@ -3,7 +3,7 @@
 ghost use Rattle.std.specs.Prelude.{◌≡◌, ◌<◌, true, length, get_or};
 ghost use Rattle.tp_model.specs.WriteOrder.{Resting};
 ghost use Rattle.tp_area.specs.Tails.{content_beside};
-ghost use Rattle.tp_flush.specs.Copying.{IsPartOut};
+ghost use Rattle.tp_flush.specs.Copying.{HasRecorded, IsPartOut};
 ghost use Rattle.tp_flush.specs.Progress.{is_out, with_out};
 ghost use Rattle.tp_flush.specs.Flushing.{FlushedOn};
 ghost use Rattle.tp_flush.specs.Ends.{NothingStored};
@@ -14,18 +14,20 @@ use tp_disk::Disk;
 use tp_shared::{Naming, Shared};
 
 impl<J: Naming, D: Disk> Flusher<J, D> {
-    /// Lets the frozen pages of `node` go, the head and all pages of whose frozen image stand in the other area: its image is out.
+    /// Lets the frozen pages of `node` go, which has recorded, and whose frozen image stands in the other area, the head and all pages: its
+    /// image is out, and of no node whose image is out a page is kept.
     pub(crate) fn let_go<R: Wait>(&mut self, rt: &R, shared: &Shared<J>, node: u8)
         requires rests { self.old.world.at ≡ Resting }
         requires node { node < length self.old.topology.pages }
         requires there { node < length J.start.nodes }
         requires stands { D.keeps → IsPartOut self.old.topology self.old.world.net (content_beside self.old.place self.old.state) node (get_or self.old.topology.pages node 0) }
+        requires recorded { HasRecorded self.old.world.net node }
         ensures went { NothingStored self.old self.new }
         ensures out { self.new.progress ≡ with_out self.old.progress node }
         ensures is { is_out self.new.progress node ≡ true }
         ensures goes { FlushedOn D.keeps J.formatted J.before self.old self.new }
     {
-        shared.drop_frozen(rt, node);
+        self.drop_pages(rt, shared, node);
         self.put_out(node as usize);
     }
 }

@@ -11,7 +11,7 @@ ghost use Rattle.tp_model.specs.Runs.{reopened};
 ghost use Rattle.tp_model.specs.Spelling.{IsCut};
 ghost use Rattle.tp_shared.specs.Told.{IsFirst};
 ghost use Rattle.tp_flush.specs.Known.{Began, Reached};
-ghost use Rattle.tp_flush.specs.Flushing.{position};
+ghost use Rattle.tp_flush.specs.Flushing.{AreGone, position};
 
 use crate::progress::Progress;
 use crate::stored_mark::StoredMark;
@@ -51,14 +51,14 @@ pub struct Flusher<J: Naming, D: Disk> {
 impl<J: Naming, D: Disk> Model for Flusher<J, D> {
     ghost use Rattle.std.specs.Prelude.{◌≡◌, ◌≤◌};
     ghost use Rattle.tp_shared.specs.Told.{IsFirst};
-    ghost use Rattle.tp_flush.specs.Flushing.{KeepsCopy, Flushing, HoldsAllOf, IsOfDevice, KeepsWorld};
+    ghost use Rattle.tp_flush.specs.Flushing.{AreGone, KeepsCopy, Flushing, HoldsAllOf, IsOfDevice, KeepsWorld};
     ghost use Rattle.tp_flush.specs.WasTold.{ToldWhere};
 
     ghost Value = { Flushing };
 
-    ghost view = { λ f. record { world = f.parts.whole.known.world; state = D.state f.parts.store.disk; size = D.size_of f.parts.store.disk; failures = D.failures_of f.parts.store.disk; opened = f.parts.whole.known.opened; place = f.parts.store.place; topology = f.parts.topology; progress = f.parts.progress } };
+    ghost view = { λ f. record { world = f.parts.whole.known.world; state = D.state f.parts.store.disk; size = D.size_of f.parts.store.disk; failures = D.failures_of f.parts.store.disk; opened = f.parts.whole.known.opened; place = f.parts.store.place; topology = f.parts.topology; progress = f.parts.progress; frozen = f.parts.key.value.frozen } };
 
-    ghost invariant = { λ f. (f.parts.key.name ≡ J.flusher) × (f.parts.raiser.mark ≡ J.mark) × IsFirst f.parts.key.value f.parts.whole.known.world × KeepsWorld D.keeps J.formatted J.before f.parts.whole.known (D.state f.parts.store.disk) f.parts.store.place f.parts.store.broken f.parts.raiser.at × KeepsCopy D.keeps f.parts.whole.known.world.net (D.state f.parts.store.disk) f.parts.store.place f.parts.store.broken f.parts.topology f.parts.progress × IsOfDevice D.keeps J.room f.parts.whole.known.world (D.state f.parts.store.disk) f.parts.store.place f.parts.store.broken f.parts.topology × (J.first ≤ f.parts.whole.known.world.stored) × (f.parts.key.value.numbered_from ≤ f.parts.whole.known.world.stored) × HoldsAllOf f.parts.store.place.form f.parts.key.value.form × ToldWhere f.parts.store.broken f.told };
+    ghost invariant = { λ f. (f.parts.key.name ≡ J.flusher) × (f.parts.raiser.mark ≡ J.mark) × IsFirst f.parts.key.value f.parts.whole.known.world × KeepsWorld D.keeps J.formatted J.before f.parts.whole.known (D.state f.parts.store.disk) f.parts.store.place f.parts.store.broken f.parts.raiser.at × KeepsCopy D.keeps f.parts.whole.known.world.net (D.state f.parts.store.disk) f.parts.store.place f.parts.store.broken f.parts.topology f.parts.progress × IsOfDevice D.keeps J.room f.parts.whole.known.world (D.state f.parts.store.disk) f.parts.store.place f.parts.store.broken f.parts.topology × (J.first ≤ f.parts.whole.known.world.stored) × (f.parts.key.value.numbered_from ≤ f.parts.whole.known.world.stored) × HoldsAllOf f.parts.store.place.form f.parts.key.value.form × ToldWhere f.parts.store.broken f.told × AreGone f.parts.whole.known.world.net f.parts.key.value.frozen f.parts.progress };
 }
 
 impl<J: Naming, D: Disk> Flusher<J, D> {
@@ -94,7 +94,7 @@ impl<J: Naming, D: Disk> Flusher<J, D> {
         Flusher::over(Snapshot::of(opened), topology, store, key, raiser)
     }
 
-    /// The same, where what was opened is known by contracts alone, since its network is in the book already.
+    /// The flusher over a store, where what was opened is known by contracts alone, since its network is in the book already.
     pub fn over(
         opened: Snapshot<Opened>,
         topology: Topology,
@@ -141,11 +141,12 @@ impl<J: Naming, D: Disk> Flusher<J, D> {
         }
     }
 
-    /// What every flusher keeps: a run leads to its world, from the device that was formatted, and its device is that world's. It
-    /// does nothing.
+    /// What every flusher keeps: a run leads to its world, from the device that was formatted, and its device is that world's; and
+    /// of each node whose image is out no page is kept. It does nothing.
     pub fn known(&self)
         ensures reached { D.keeps → Began J.formatted J.before self.now.opened → Reached J.formatted self.now.world }
         ensures disk { D.keeps → self.now.world.disk ≡ self.now.state.now }
+        ensures gone { AreGone self.now.world.net self.now.frozen self.now.progress }
     {
         let _ = &self.parts;
     }

@@ -5,7 +5,7 @@ ghost use Rattle.tp_model.specs.declared.limits.TheConstants.{MAX_NODES, MAX_PAG
 ghost use Rattle.tp_model.specs.WriteOrder.{Resting};
 ghost use Rattle.tp_area.specs.Tails.{content_beside};
 ghost use Rattle.tp_area.specs.Pieces.{piece_place};
-ghost use Rattle.tp_flush.specs.Copying.{IsPartOut};
+ghost use Rattle.tp_flush.specs.Copying.{HasRecorded, IsPartOut};
 ghost use Rattle.tp_flush.specs.Progress.{is_out};
 ghost use Rattle.tp_flush.specs.Flushing.{FlushedOn};
 ghost use Rattle.tp_flush.specs.Images.{Imaged, NodeImaged, StayOut};
@@ -66,6 +66,7 @@ impl<J: Naming, D: Disk> Flusher<J, D> {
         ensures tried { Tried result self.old self.new }
         ensures same { self.new.progress ≡ self.old.progress }
         ensures stands { D.keeps → IfOk result (λ found. found ≡ true → IsPartOut self.new.topology self.new.world.net (content_beside self.new.place self.new.state) node 0) }
+        ensures recorded { IfOk result (λ found. found ≡ true → HasRecorded self.new.world.net node) }
         ensures goes { FlushedOn D.keeps J.formatted J.before self.old self.new }
     {
         let mut head = [0; IMAGE_HEAD_BYTES];
@@ -127,6 +128,7 @@ impl<J: Naming, D: Disk> Flusher<J, D> {
         ensures tried { Tried result self.old self.new }
         ensures same { self.new.progress ≡ self.old.progress }
         ensures stands { D.keeps → IfOk result (λ found. found ≡ true → IsPartOut self.new.topology self.new.world.net (content_beside self.new.place self.new.state) node (get_or self.new.topology.pages node 0)) }
+        ensures recorded { IfOk result (λ found. found ≡ true → HasRecorded self.new.world.net node) }
         ensures goes { FlushedOn D.keeps J.formatted J.before self.old self.new }
     {
         if !self.copy_head(rt, shared, node, image)? {

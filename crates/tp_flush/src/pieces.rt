@@ -5,7 +5,8 @@ ghost use Rattle.tp_area.specs.Pieces.{piece_length, piece_place};
 ghost use Rattle.tp_area.specs.Tails.{content_beside};
 ghost use Rattle.tp_model.specs.Disk.{written};
 ghost use Rattle.tp_shared.specs.Pieces.{IsFrozenHead, IsFrozenPage};
-ghost use Rattle.tp_flush.specs.Copying.{IsPartOut};
+ghost use Rattle.tp_shared.specs.Frozen.{keeps_pages};
+ghost use Rattle.tp_flush.specs.Copying.{IsGone, IsPartOut};
 ghost use Rattle.tp_flush.specs.Progress.{is_out, with_out};
 ghost use Rattle.tp_model.specs.declared.limits.TheConstants.{MAX_PAGES};
 ghost use Rattle.tp_model.specs.WriteOrder.{Resting};
@@ -44,8 +45,8 @@ impl<J: Naming, D: Disk> Flusher<J, D> {
         answer_of(done)
     }
 
-    /// Puts a piece of the frozen image of `node` into the other area, where that image begins at `image`. Where a call of the device fails,
-    /// the book is told.
+    /// Puts a piece of the frozen image of `node` into the other area, where that image begins at `image`. Where a call of the device
+    /// fails, the book is told.
     pub(crate) fn put<R: Wait>(
         &mut self,
         rt: &R,
@@ -123,11 +124,27 @@ impl<J: Naming, D: Disk> Flusher<J, D> {
         found
     }
 
-    /// All pieces of the frozen image of `node` are in the other area.
+    /// Lets the frozen pages of `node` go. From then on the flusher knows the book as it is.
+    pub(crate) fn drop_pages<R: Wait>(&mut self, rt: &R, shared: &Shared<J>, node: u8)
+        requires rests { self.old.world.at ≡ Resting }
+        requires there { node < length J.start.nodes }
+        ensures went { NothingStored self.old self.new }
+        ensures same { (self.new.state ≡ self.old.state) × (self.new.progress ≡ self.old.progress) }
+        ensures gone { keeps_pages self.new.frozen node ≡ false }
+        ensures goes { FlushedOn D.keeps J.formatted J.before self.old self.new }
+    {
+        self.known();
+        let Flusher { parts, .. } = self;
+        shared.drop_frozen(rt, &mut parts.key, node);
+        parts.whole = Whole::of(&*parts);
+    }
+
+    /// All pieces of the frozen image of `node` are in the other area, and its pages are gone.
     pub(crate) fn put_out(&mut self, node: usize)
         requires rests { self.old.world.at ≡ Resting }
         requires node { node < length self.old.topology.pages }
         requires stands { D.keeps → IsPartOut self.old.topology self.old.world.net (content_beside self.old.place self.old.state) node (get_or self.old.topology.pages node 0) }
+        requires gone { IsGone self.old.world.net self.old.frozen node }
         ensures went { NothingStored self.old self.new }
         ensures out { self.new.progress ≡ with_out self.old.progress node }
         ensures is { is_out self.new.progress node ≡ true }

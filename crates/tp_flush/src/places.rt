@@ -24,7 +24,7 @@ pub(crate) fn place_in_image(piece: usize) -> u64
 }
 
 impl<J: Naming, D: Disk> Flusher<J, D> {
-    /// Where the image behind that of `node` begins, which begins at `image`.
+    /// Where the image behind that of `node` begins, where that one begins at `image`.
     pub(crate) fn image_behind(&self, node: usize, image: u64) -> u64
         requires node { node < length self.now.topology.pages }
         requires image { image ≡ piece_place self.now.topology node 0 }

@@ -40,7 +40,7 @@ impl<J: Naming, D: Disk> Flusher<J, D> {
         held.compare(&mut parts.key);
     }
 
-    /// Changes nothing. The same of a receipt's slips, whose numbers are below the receipt's.
+    /// Changes nothing. A receipt's slips have numbers below its own, and each one's entry stands in the flusher's journal at its number.
     pub fn settle_receipt(&mut self, held: &mut Locked<J>, receipt: &mut Receipt<J>)
         ensures same { (self.new ≡ self.old) × (held.new ≡ held.old) × (receipt.new ≡ receipt.old) }
         ensures below { AreBelow receipt.old.number receipt.old.seat }
@@ -52,7 +52,7 @@ impl<J: Naming, D: Disk> Flusher<J, D> {
         held.compare(&mut parts.key);
     }
 
-    // The same, under the book's lock.
+    // Takes the book's lock, and settles a receipt under it.
     fn settle_under<R: Wait>(&mut self, rt: &R, shared: &Shared<J>, receipt: &mut Receipt<J>)
         ensures same { (self.new ≡ self.old) × (receipt.new ≡ receipt.old) }
         ensures below { AreBelow receipt.old.number receipt.old.seat }

@@ -10,7 +10,7 @@ use tp_model::limits::MAX_NODES;
 use tp_net::{MAX_LINES, Topology};
 use tp_recover::Opened;
 
-/// The same numbers again.
+/// Copies page counts.
 fn copied_pages(pages: &[u16]) -> ArrayVec<u16, MAX_NODES>
     requires { length pages.now ≤ MAX_NODES }
     ensures { result.items ≡ pages.now }
@@ -22,7 +22,7 @@ fn copied_pages(pages: &[u16]) -> ArrayVec<u16, MAX_NODES>
     copy
 }
 
-/// The same ends again.
+/// Copies the ends of wires.
 fn copied_wires(wires: &[Option<WireEnd>]) -> ArrayVec<Option<WireEnd>, MAX_LINES>
     requires { length wires.now ≤ MAX_LINES }
     ensures { result.items ≡ wires.now }

@@ -23,7 +23,7 @@ impl Whole {
     ghost use Rattle.std.specs.Prelude.{◌≡◌};
     ghost use Rattle.tp_flush.specs.Known.{Known};
 
-    // What the contract names. A caller names it by what it lends as `_value`.
+    // Gives the ghost value `known`, which a contract says by what is lent as `_value`. It does nothing.
     pub(crate) fn of<T>(_value: &T) -> Whole
         ghost known: { Known }
         ensures { result.known ≡ known }

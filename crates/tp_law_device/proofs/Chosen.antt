@@ -55,7 +55,7 @@ pub chosen_higher : (areas : TwoAreas) (bytes : List ℕ) (second : Bool) → op
 chosen_higher areas bytes false own other lower = chosen_later areas bytes true other own lower
 chosen_higher areas bytes true own other lower = chosen_later areas bytes false other own lower
 
--- the same gates and generations
+-- by equal gates and generations one area is chosen
 pub chosen_same : (areas : TwoAreas) (bytes left : List ℕ) (second : Bool)
     → open_in areas left second ≡ open_in areas bytes second → open_in areas left (not second) ≡ open_in areas bytes (not second)
     → age_in areas left second ≡ age_in areas bytes second → age_in areas left (not second) ≡ age_in areas bytes (not second)

@@ -22,7 +22,7 @@ pub get_or-content_of : (areas : TwoAreas) (second : Bool) (bytes : List ℕ) (p
 get_or-content_of areas second bytes place low =
     get_or-take (areas.length - 1) (drop (area_start areas second + 1) bytes) place 0 low ∙ get_or-drop (area_start areas second + 1) bytes place 0
 
--- contents of devices that are the same there
+-- contents of devices that agree there
 pub content_front : (areas : TwoAreas) (second : Bool) (bytes left : List ℕ) (n : ℕ) → n ≤ areas.length - 1 → length left ≡ length bytes
     → ((q : ℕ) → area_start areas second + 1 ≤ q → q < area_start areas second + 1 + n → get_or left q 0 ≡ get_or bytes q 0)
     → SameFront n (content_of areas second bytes) (content_of areas second left)

@@ -1,11 +1,11 @@
--- Lists that begin with the same elements, and what is read there.
+-- Lists that begin with equal elements, and what is read there.
 use Rattle.std.proofs.Common.{◌≡◌, ℕ, zero, suc, ◌+◌, ◌-◌, ◌<◌, ◌≤◌, List, length, take, drop, get_or, sym, ap, ◌∙◌, arith, length-take, length-drop}
 use Rattle.std.specs.Int.{Width, w16, w32, w64, byte_len, byte_worth, sum_through, from_le_bytes}
 use Rattle.std.proofs.lemmas.List.{take-take, drop-take, get_or-take, get_or-drop}
 use Rattle.std.proofs.lemmas.Grind.{same_number_lists}
 use Rattle.tp_model.specs.Bytes.{u16_at, u32_at, u64_at}
 
--- the first n elements are the same
+-- the first n elements are equal
 pub record SameFront (n : ℕ) (xs ys : List ℕ) : Type 0 where
   pub same : take n xs ≡ take n ys
 
@@ -26,7 +26,7 @@ front_get n xs ys h i lt = sym (get_or-take n xs i 0 lt) ∙ ap (λ zs. get_or z
 pub whole_front : (n : ℕ) (xs : List ℕ) → SameFront n xs (take n xs)
 whole_front n xs = record { same = sym (take-take n n xs (omega arith)) }
 
--- lists with the same length whose first elements are the same, one by one
+-- lists of one length whose first elements are equal, one by one
 pub front_from : (n : ℕ) (xs ys : List ℕ) → length xs ≡ length ys → ((i : ℕ) → i < n → get_or xs i 0 ≡ get_or ys i 0) → SameFront n xs ys
 front_from n xs ys len each = record {
   same = same_number_lists (take n xs) (take n ys) (omega (arith, length-take n xs, length-take n ys))

@@ -43,7 +43,7 @@ pub head_long : (version : HeadVersion) → NARROW_HEAD_BYTES ≤ head_length ve
 head_long Narrow = omega arith
 head_long Wide = omega arith
 
--- the fields of so many nodes lie inside the head
+-- the fields of a head's nodes lie inside the head
 pub pages_fit : (version : HeadVersion) (count : ℕ) → count ≤ head_nodes version → 24 + 2 * count ≤ head_length version
 pages_fit Narrow count few = omega arith
 pages_fit Wide count few = omega arith
@@ -133,7 +133,7 @@ head_parts bytes head is =
       room = e.1;
     }
 
--- the head that bytes of the same front say, where it has no more nodes than its version has fields for
+-- the head that bytes with an equal front say, where it has no more nodes than its version has fields for
 pub head_at_same : (version : HeadVersion) (xs ys : List ℕ) → SameFront (head_length version) xs ys → u8_at xs 8 ≤ head_nodes version → head_at version ys ≡ head_at version xs
 unfolding head_at
 head_at_same version xs ys h few =
@@ -184,7 +184,7 @@ first_of version bytes head is = ap (λ (h : Head). h.areas.first) (sym is)
 pub head_first : (bytes : List ℕ) (head : Head) → head_of bytes ≡ Ok head → head.areas.first ≡ head_length head.version
 head_first bytes head is = first_of head.version bytes head (head_parts bytes head is).read
 
--- A device with the same first bytes, as long as the other, has the same head.
+-- A device with equal first bytes, as long as the other, has its head.
 pub head_same : (xs ys : List ℕ) (head : Head) → length ys ≡ length xs → SameFront head.areas.first xs ys → head_of xs ≡ Ok head → head_of ys ≡ Ok head
 head_same xs ys head size h is =
     let H = head_parts xs head is in

@@ -1,4 +1,4 @@
--- What opening answers of bytes that are the same as others where it reads them.
+-- What opening answers of bytes that are equal to others where it reads them.
 use Rattle.std.proofs.Common.{◌≡◌, ℕ, zero, suc, ◌+◌, ◌-◌, ◌<◌, ◌≤◌, inl, inr, Bool, true, false, not, List, ◌∷◌, ◌++◌, length, drop, get_or, sym, ap, subst, ◌∙◌, arith, le_refl, Option, Some, Result, Ok}
 use Rattle.std.specs.Prelude.{◌==◌, map}
 use Rattle.std.specs.Option.{option_map}
@@ -129,15 +129,15 @@ module _ (M : Machine NodeState) (E : EndsSeen NodeState) (bytes : List ℕ) (o 
       ∙ gate.shut
 
   module _ (left : List ℕ) (size : length left ≡ length bytes) where
-    -- the head is the same
+    -- the head is what it was
     abbrev pub HeadStays : Type 0
     HeadStays = (q : ℕ) → q < areas.first → get_or left q 0 ≡ get_or bytes q 0
 
-    -- the area is the same up to that gate
+    -- the area is what it was up to that gate
     abbrev pub OwnStays : Type 0
     OwnStays = (q : ℕ) → own ≤ q → q < o.end → get_or left q 0 ≡ get_or bytes q 0
 
-    -- the other area is closed, or it was open and has the same generation
+    -- the other area is closed, or it was open and has the generation that it had
     abbrev pub OtherStays : Type 0
     OtherStays = open_in areas left (not o.second) ≡ true → (open_in areas bytes (not o.second) ≡ true) × (age_in areas left (not o.second) ≡ age_in areas bytes (not o.second))
 
@@ -164,7 +164,7 @@ module _ (M : Machine NodeState) (E : EndsSeen NodeState) (bytes : List ℕ) (o 
     new_front : OwnStays → SameFront count content (content_of areas o.second left)
     new_front same = content_front areas o.second bytes left count (omega (arith, count_within)) size (λ q low high. same q (omega arith) (omega (arith, end_place)))
 
-    -- The same is read.
+    -- What was read is read again.
     pub keeps : HeadStays → OwnStays → OtherStays → is_open (get_or left o.end 0) ≡ false → opening M E left ≡ Ok o
     keeps head same rest closed =
         let gate : get_or (content_of areas o.second left) count 0 ≡ get_or left o.end 0 = get_or-content_of areas o.second left count count_within ∙ ap (λ place. get_or left place 0) (sym end_place) in

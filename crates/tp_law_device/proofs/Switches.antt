@@ -54,7 +54,7 @@ module _ (M : Machine NodeState) (E : EndsSeen NodeState) (bytes : List ℕ) (o 
     gate_end : is_open (get_or left o.end 0) ≡ false
     gate_end = ap (λ byte. is_open byte) (same o.end (apart o.end (omega (arith, end_low M E bytes o R)) (end_within M E bytes o R))) ∙ end_shut M E bytes o R
 
-    -- where it was open, or is closed, the same is read
+    -- where it was open, or is closed, what was read is read again
     pub gate_keeps : (open_in areas left (not o.second) ≡ true → open_in areas bytes (not o.second) ≡ true) → opening M E left ≡ Ok o
     gate_keeps was = keeps M E bytes o R left size gate_head gate_own
         (λ opened. (was opened, age_same areas (not o.second) bytes left (omega (arith, end_low M E bytes o R, end_within M E bytes o R)) size (λ q low high. same q (inr (omega arith)))))

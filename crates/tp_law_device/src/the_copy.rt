@@ -62,7 +62,8 @@ pub fn cuts_are_spelt()
         → (o : Opened) → w.at ≡ Resting → AllByRecursion (λ byte. byte < 256) w.disk.bytes → verdict w.disk.bytes ≡ Ok o → CutSpelt o.head.topology w.base w.net.start }
 {}
 
-/// In a run over a device that was formatted, whenever the flusher rests: the copy that it makes of a whole cut, with the entries outside that and their numbers, has a spelling. It is of the device's topology.
+/// In a run over a device that was formatted, the copy that the flusher makes of a whole cut whenever it rests, with the entries outside it
+/// and their numbers, has a spelling. It is of the device's topology.
 pub fn copies_are_spelt()
     ensures { (most : ℕ) (start : Network NodeState) (events : List (Event NodeState)) (first w : World NodeState) → BeginsFormatted t414 device_areas start first
         → AllByRecursion (λ byte. byte < 256) first.disk.bytes → KeptRun most first events w

@@ -116,7 +116,7 @@ in_either end false x y h k = k
 
 ruleset ins = (in_same, in_inputs, in_filled, in_enables, in_disables, in_fails, in_found, in_either)
 
--- an alternative of another process, or of the same one
+-- an alternative of another process, or of this one
 enabled_kept : (same : Bool) (other : ℕ) (cpu : Cpu) (memory : List ℕ) → InKept (Enabled other) (enabled (if same then Some (Enabled other, false) else None) cpu memory)
 enabled_kept true other cpu memory = search ins
 enabled_kept false other cpu memory = search ins

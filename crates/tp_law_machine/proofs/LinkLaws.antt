@@ -139,7 +139,7 @@ node_step_keeps node after e = ended_keeps (step_of node.cpu node.memory) node a
 
 -- ## A token that comes in
 
--- the same ends
+-- the ends stay as they are
 pub record SameEnds (before after : NodeState) : Type 0 where
   pub outputs : after.outputs ≡ before.outputs
   pub inputs : after.inputs ≡ before.inputs

@@ -77,7 +77,7 @@ fewer xs ys hx less =
     let least = numeral_least (length ys) ys in
     omega arith
 
--- Lists of bytes with the same number are the same.
+-- Lists of bytes with one number are equal.
 pub same_number : (xs ys : List ℕ) → AreBytes xs → AreBytes ys → number xs ≡ number ys → xs ≡ ys
 same_number xs ys hx hy e = elim (cases_order (length xs) (length ys)) [
   | inl same ↦ numeral_same (length xs) xs ys same hx hy (e ∙ ap (λ l. numeral l ys) (sym same))

@@ -45,7 +45,7 @@ pub all_append : {A : Type 0} (P : A → Type 0) (xs ys : List A) → AllByRecur
 all_append P [] ys h k = k
 all_append P (x ∷ xs) ys h k = (h.0, all_append P xs ys h.1 k)
 
--- the same of a test
+-- where all elements of a list pass a test, each one does
 pub list_all_at : {A : Type 0} (test : A → Bool) (xs : List A) (i : ℕ) (x : A) → list_all test xs ≡ true → slice_get xs i ≡ Some x → test x ≡ true
 list_all_at test [] i x all e = cc
 list_all_at test (y ∷ ys) zero x all e = let same : y ≡ x = cc in rw (← same) (and_parts (test y) (list_all test ys) all).0

@@ -32,7 +32,7 @@ abbrev pub at_loop_end : ℕ → ℕ → NodeState
 at_loop_end index count = node (record (running 0x8000_010E 0x8000_0200) { regs = loop_regs })
     (start_word 0x8000_0240 index (start_word 0x8000_0244 count (with_bytes 0x8000_010E (0x22 ∷ 0xF1 ∷ []) blank)))
 
--- the same after it, at some instruction
+-- that node after its `lend`, at some instruction
 abbrev pub after_loop_end : ℕ → ℕ → ℕ → NodeState
 after_loop_end iptr index count = record (at_loop_end index count) {
   cpu = record (running iptr 0x8000_0200) { regs = loop_regs; slice = 1 };

@@ -1,4 +1,4 @@
--- An entry that is possible stays so, and does the same, whatever others do.
+-- An entry that is possible stays so, and does what it did, whatever others do.
 use Rattle.std.proofs.Common.{◌≡◌, ◌≢◌, ℕ, zero, suc, ◌≤◌, arith, cond, inl, inr, List, [], ◌∷◌, ◌++◌, length, set, refl, sym, ap, subst, ◌∙◌, Some}
 use Rattle.std.specs.List.{AllByRecursion}
 use Rattle.std.proofs.lemmas.Bool.{cases_eq, cases_lt}
@@ -134,7 +134,7 @@ module _ {Node : Type 0} (M : Machine Node) (four : HasFourLinks M) (never : Nev
       one (Close line) h = tt
       one Trim h = tt
 
-  -- An entry that is possible stays so, and does the same, whatever others do.
+  -- An entry that is possible stays so, and does what it did, whatever others do.
   pub stays_possible_after : (w v : MarkedNetwork Node) (acts : List Act) → acted M w acts ≡ Some v → AllByRecursion (IsOfOthers w.live e) acts → MayBeMade M w.live e was now sends → MayBeMade M v.live e was now sends
   unfolding acted
   stays_possible_after w v [] h all may = let is : w ≡ v = cc in subst (λ u. MayBeMade M u.live e was now sends) is may

@@ -70,7 +70,7 @@ unmarked_markers (u ∷ us) h = elim (cases_Bool (is_marker u)) [
       ∙ ap (λ ts. markers ts + 1) (sym (ap (λ b. cond b us (u ∷ unmarked us)) n))
 ]
 
--- and the line without Markers is the same
+-- and the line without Markers is as it was
 unmarked_plain : (us : List Token) → plain (unmarked us) ≡ plain us
 unmarked_plain [] = refl
 unmarked_plain (u ∷ us) = elim (cases_Bool (is_marker u)) [

@@ -11,7 +11,7 @@ use Rattle.tp_model.specs.Halves.{without}
 
 -- ## Tokens
 
--- tokens that pass as the same are the same
+-- tokens that pass for equal are equal
 pub same_token_is : (t u : Token) → same_token t u ≡ true → t ≡ u
 same_token_is (Data a) (Data b) e = ap Data (eqb-true a b e)
 same_token_is Ack Ack e = refl
@@ -45,7 +45,7 @@ line_there lines l t e = elim (cases_lt l (length lines)) [
   | inr h ↦ absurd (false≢true (sym (ap (λ ts. is_first ts t) (get_or_past lines l [] h)) ∙ e))
 ]
 
--- lists of lines are equal where each line has the same on it
+-- lists of lines are equal where each line has equal tokens
 pub same_lines : (ks ls : List (List Token)) → length ks ≡ length ls → ((l : ℕ) → l < length ks → on_line ks l ≡ on_line ls l) → ks ≡ ls
 same_lines ks ls = ext_get_or [] ks ls
 

@@ -155,7 +155,7 @@ module _ {Node : Type 0} (M : Machine Node) (never : NeverMarks M) (s : Network 
       ∙ markers-sent (has_wire s.wires) S.out S.sends (step_sends_unmarked S) l
       ∙ markers-taken s.lines (takes s.wires (length s.nodes) e) S.out (step_takes_unmarked S) S.takes_out l
 
-  -- An entry that is possible over lines with Markers is possible over the lines without them, and does the same.
+  -- An entry that is possible over lines with Markers is possible over them without Markers, with the effect that it had.
   pub plain_step : next M s e ≡ Some t → next M (plain_network s) e ≡ Some (plain_network t)
   plain_step h = next_from M (plain_network s) e (plain_network t) (record {
     out = map plain S.out;

@@ -11,7 +11,7 @@ use Rattle.tp_model.specs.Areas.{Held}
 use Rattle.tp_law_network.proofs.Partial.{bind_some, cond_some}
 use Rattle.tp_law_network.specs.Small.{small_byte, is_small_open, begins, current_of, current, entries_at, held_at, if_possible, small_verdict}
 
--- the same byte, the same gate
+-- an equal byte is an equal gate
 pub same_gate : (bytes left : List ℕ) (place : ℕ) → small_byte left place ≡ small_byte bytes place → is_small_open left place ≡ is_small_open bytes place
 same_gate bytes left place same = ap (λ x. x == GATE_OPEN) same
 
@@ -38,7 +38,7 @@ unfolding entries_at
 entries_closed bytes zero place is = refl
 entries_closed bytes (suc more) place is = ap (λ b. cond b (HostIn 0 (small_byte bytes (place + 1)) ∷ entries_at bytes more (place + 2)) []) (is (omega arith))
 
--- what is read of bytes that are the same as far as groups were read goes on from there
+-- bytes that agree as far as groups were read are read alike so far, and reading goes on there
 entries_split : (bytes left : List ℕ) (more place : ℕ)
     → ((q : ℕ) → place ≤ q → q < place + 2 * length (entries_at bytes more place) → small_byte left q ≡ small_byte bytes q)
     → entries_at left more place
@@ -68,7 +68,7 @@ entries_split bytes left (suc more) place same = go (is_small_open bytes place) 
         let here_still : place ≡ place + 0 = omega arith in
         λ i. entries_at left (all i) (here_still i)
 
--- where the next gate is closed, the same is read
+-- where the next gate is closed, what was read is read again
 pub entries_same : (bytes left : List ℕ) (more place : ℕ)
     → ((q : ℕ) → place ≤ q → q < place + 2 * length (entries_at bytes more place) → small_byte left q ≡ small_byte bytes q)
     → (length (entries_at bytes more place) < more → is_small_open left (place + 2 * length (entries_at bytes more place)) ≡ false)
@@ -145,7 +145,7 @@ pub current_later : (bytes : List ℕ) (second : Bool) → is_small_open bytes (
 current_later bytes false own other later = λ i. current_of (own i) (other i) (lt-ltb (small_byte bytes 1) (small_byte bytes 10) later i)
 current_later bytes true own other later = λ i. current_of (other i) (own i) (le-ltb (small_byte bytes 1) (small_byte bytes 10) (omega arith) i)
 
--- the same gates and generations
+-- by equal gates and generations one area is chosen
 pub current_same : (bytes left : List ℕ) (second : Bool)
     → is_small_open left (begins second) ≡ is_small_open bytes (begins second) → is_small_open left (begins (not second)) ≡ is_small_open bytes (begins (not second))
     → small_byte left (begins second + 1) ≡ small_byte bytes (begins second + 1) → small_byte left (begins (not second) + 1) ≡ small_byte bytes (begins (not second) + 1)

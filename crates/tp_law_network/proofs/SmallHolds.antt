@@ -46,11 +46,11 @@ module _ {Node : Type 0} (M : Machine Node) (image : ℕ → Network Node) (byte
   most = entries_most bytes 2 (begins V.second + 4)
 
   module _ (left : List ℕ) (size : length left ≡ length bytes) where
-    -- the current area is the same up to that gate
+    -- the current area is as it was up to that gate
     abbrev HeadStays : Type 0
     HeadStays = (q : ℕ) → begins V.second ≤ q → q < gate → small_byte left q ≡ small_byte bytes q
 
-    -- the other area's gate is closed, or it was open and the generation is the same
+    -- the other area's gate is closed, or it was open and the generation is as it was
     abbrev OtherStays : Type 0
     OtherStays = is_small_open left (begins (not V.second)) ≡ true
         → (is_small_open bytes (begins (not V.second)) ≡ true) × (small_byte left (begins (not V.second) + 1) ≡ small_byte bytes (begins (not V.second) + 1))
@@ -67,7 +67,7 @@ module _ {Node : Type 0} (M : Machine Node) (image : ℕ → Network Node) (byte
           ∙ V.is
     ]
 
-    -- the same is read
+    -- what was read is read again
     keeps : HeadStays → OtherStays → (count < 2 → is_small_open left gate ≡ false) → small_verdict M image left ≡ Some h
     keeps head other closed =
         let entries = entries_same bytes left 2 (begins V.second + 4) (λ q low high. head q (omega arith) high) closed in

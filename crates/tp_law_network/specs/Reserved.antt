@@ -19,7 +19,7 @@ pub record MayBeMade {Node : Type 0} (M : Machine Node) (s : Network Node) (e : 
   pub there : own s (process s.wires (length s.nodes) e) ≡ Some was
   pub change : does M s.wires (length s.nodes) e was ≡ Some (now, sends)
 
--- the act is no entry of the same process
+-- the act is no entry of that process
 abbrev pub IsOfOthers : {Node : Type 0} → Network Node → Entry → Act → Type 0
 IsOfOthers s e Begin = Unit {0}
 IsOfOthers s e (Record node) = Unit {0}

@@ -231,7 +231,7 @@ first_differs : (i : ℕ) → ¬ (0 ≡ suc i)
 first_differs i same = absurd (omega (arith, same))
 
 module _ (ranges : List (ℕ × ℕ)) where
-  -- no page from one on but the one so many behind it has bytes of the ranges
+  -- among the pages from `page` on, at most the one `i` behind it has bytes of the ranges
   abbrev pub Alone : ℕ → ℕ → Type 0
   Alone page i = (j : ℕ) → ¬ (j ≡ i) → list_any (touches (page + j)) ranges ≡ false
 

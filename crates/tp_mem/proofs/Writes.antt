@@ -21,7 +21,7 @@ stored_outside memory (write ∷ writes) n same whole out =
     stored_outside (set_word memory (word_offset write.0) write.1) writes n (length-set_word memory (word_offset write.0) write.1 fits ∙ same) whole (rw inside_n at out))
     (λ _. refl)
 
--- the same behind a first change that keeps the length
+-- writes outside memory give none, also behind a first change that keeps its length
 pub then_outside : (first : Option (List ℕ)) (writes : List (ℕ × ℕ)) (n : ℕ) → ((memory : List ℕ) → first ≡ Some memory → length memory ≡ n) → n % 4 ≡ 0 → are_inside n writes ≡ false → option_and_then (λ memory. stored memory writes) first ≡ None
 then_outside None writes n keeps whole out = refl
 then_outside (Some memory) writes n keeps whole out = stored_outside memory writes n (keeps memory refl) whole out

@@ -151,7 +151,7 @@ pub(crate) fn one_page(first: Range, block: Range, words: &[(u32, u32)]) -> Opti
     }
 }
 
-/// One where a page is shared and has such bytes.
+/// Counts a page: 1 where it is shared and has such bytes, else 0.
 fn wants(is_shared: bool, page: usize, first: Range, block: Range, words: &[(u32, u32)]) -> usize
     requires page { page ≤ MAX_PAGES }
     requires first { first.0 + first.1 < 2 ^ 33 }

@@ -84,7 +84,7 @@ fn leads_back(
     }
 }
 
-/// Whether the wire of each line does.
+/// Whether the wire of each line leads back so.
 fn all_lead_back(nodes: usize, ports: u8, wires: &[Option<WireEnd>]) -> bool
     requires { nodes < 2 ^ 32 }
     ensures { result ≡ all_lead_back nodes ports wires.now 0 wires.now }

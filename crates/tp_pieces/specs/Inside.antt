@@ -10,7 +10,7 @@ use Rattle.tp_pieces.specs.Held.{HeldPart}
 use Rattle.tp_pieces.specs.Lanes.{LanesValue}
 use Rattle.tp_pieces.specs.declared.nodes.NodesPart.TheInside.{Inside as NodesInside}
 
--- a run of nodes, of which that many are before and behind it
+-- a run of nodes, with the numbers of nodes in front of it and behind it
 abbrev pub network_around : ℕ → List NodeContents → ℕ → ℕ → LanesValue → Network NodeState
 network_around before nodes behind ports lanes = record {
   wires = lanes.wires;

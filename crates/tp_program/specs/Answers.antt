@@ -6,11 +6,14 @@ use Rattle.std.specs.declared.string.String.{String}
 use Rattle.tp_run.specs.Ran.{History}
 use Rattle.tp_words.specs.Args.{WasTyped}
 use Rattle.tp_words.specs.BackupArgs.{WasBackupTyped}
+use Rattle.tp_words.specs.StopArgs.{WasStopTyped}
 use Rattle.tp_words.specs.StreamArgs.{WasStreamTyped}
 use Rattle.tp_words.specs.declared.args.Asked.{Asked}
 use Rattle.tp_words.specs.declared.args.Asked.TheVariants.{Help, Format, Run as Runs, Compact}
 use Rattle.tp_words.specs.declared.backup_args.BackupAsked.{BackupAsked}
 use Rattle.tp_words.specs.declared.backup_args.BackupAsked.TheVariants.{Help as BackupHelp, Make}
+use Rattle.tp_words.specs.declared.stop_args.StopAsked.{StopAsked}
+use Rattle.tp_words.specs.declared.stop_args.StopAsked.TheVariants.{Help as StopHelp, Ask}
 use Rattle.tp_words.specs.declared.stream_args.StreamAsked.{StreamAsked}
 use Rattle.tp_words.specs.declared.stream_args.StreamAsked.TheVariants.{Help as StreamHelp, Run as Streams}
 use Rattle.tp_words.specs.declared.stream_args.StreamRun.{StreamRun}
@@ -18,6 +21,7 @@ use Rattle.tp_program.specs.Backups.{PrintsCopied}
 use Rattle.tp_program.specs.CompactFile.{CompactedFile}
 use Rattle.tp_program.specs.Devices.{DeviceCall, Holds, WasRefused}
 use Rattle.tp_program.specs.RunFile.{RanFile}
+use Rattle.tp_program.specs.Stops.{AskedAs}
 use Rattle.tp_program.specs.StreamFile.{StreamedFile}
 
 -- Help was printed, where the status says so. No device was opened.
@@ -71,19 +75,37 @@ pub record IsOfBackup (words : List (String Global)) (old new : List DeviceCall)
   pub unopened : new ≡ old
   pub answered : BackupAnswered words was now status
 
+-- What `stop` did that was asked for. It opens no device.
+abbrev pub StopCarriedOut : StopAsked → (old new : List DeviceCall) → (was now : Option (List ℕ)) → ℕ → Type 0
+StopCarriedOut (StopHelp text) old new was now status = Helped (string_bytes text) old new was now status
+StopCarriedOut (Ask request) old new was now status = AskedAs request old new was now status
+
+-- The words of `stop` were read so, and that was done.
+pub record DidStopAsked (words : List (String Global)) (old new : List DeviceCall) (was now : Option (List ℕ)) (status : ℕ) : Type 0 where
+  pub asked : StopAsked
+  pub typed : WasStopTyped words asked
+  pub did : StopCarriedOut asked old new was now status
+
+-- What was done for words of `stop`: it was refused, or they were read so, and that was done.
+abbrev pub StopAnswered : List (String Global) → (old new : List DeviceCall) → (was now : Option (List ℕ)) → ℕ → Type 0
+StopAnswered words old new was now status = WasRefused old new was now status ⊎ DidStopAsked words old new was now status
+
 -- The words were read so, and that was done.
 pub record DidAsked (keeps : Type 0) (history : History) (words : List (String Global)) (old new : List DeviceCall) (was now : Option (List ℕ)) (status : ℕ) : Type 0 where
   pub asked : Asked
   pub typed : WasTyped words asked
   pub answered : AnsweredAs keeps history asked old new was now status
 
--- What the program did for the words of a command line: it was refused, or they were of `backup`, or they were read so, and that was done.
+-- What the program did for the words of a command line: it was refused, or they were of `backup` or of `stop`, or they were read so, and that
+-- was done.
 abbrev pub Answered : (keeps : Type 0) → History → List (String Global) → (old new : List DeviceCall) → (was now : Option (List ℕ)) → ℕ → Type 0
 Answered keeps history words old new was now status =
-    WasRefused old new was now status ⊎ (IsOfBackup words old new was now status ⊎ DidAsked keeps history words old new was now status)
+    WasRefused old new was now status
+    ⊎ (IsOfBackup words old new was now status
+    ⊎ (StopAnswered words old new was now status ⊎ DidAsked keeps history words old new was now status))
 
--- Another process had the device, and it was refused, before anything was read of standard input (`unread`). Or it was got, before all else;
--- and then it was streamed.
+-- Another process had the device, and it was refused, before anything was read of standard input (`unread`). Or it was got, before all
+-- else; and then it was streamed.
 abbrev pub StreamedHeld : (keeps : Type 0) → History → (unread : Type 0) → StreamRun → (old new : List DeviceCall) → (was now : Option (List ℕ)) → ℕ → Type 0
 StreamedHeld keeps history unread run old new was now status =
     WasRefused (old ++ Holds (string_bytes run.device) run.wait_lock false ∷ []) new was now status × unread

@@ -4,6 +4,7 @@ pub mod Compacting
 pub mod Streaming
 pub mod Backups
 pub mod Devices
+pub mod Stops
 pub mod RunFile
 pub mod CompactFile
 pub mod StreamFile

@@ -19,7 +19,7 @@ abbrev pub RanWith : (keeps : Type 0) → History → Run → (input : List ℕ)
 RanWith keeps history run input old new was now status =
     WasRefused old new was now status ⊎ UsedOne (string_bytes run.device) old new (RanBetween keeps history run input was now status)
 
--- The same with what was read of the file that is asked for as its input, of which no contract can say more; there is none where no file was.
+-- It ran so with what was read of the file that was asked for as its input; no contract says what that is. Without a file it is empty.
 pub record RanFile (keeps : Type 0) (history : History) (run : Run) (old new : List DeviceCall) (was now : Option (List ℕ)) (status : ℕ) : Type 0 where
   pub input : List ℕ
   pub unnamed : run.input ≡ None → input ≡ []

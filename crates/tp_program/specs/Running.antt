@@ -6,7 +6,7 @@ use Rattle.tp_recover.specs.Reading.{LeavesNothingNew}
 use Rattle.tp_run.specs.Faults.{IsSilent, IsUnbegun}
 use Rattle.tp_run.specs.Ran.{History, Ran}
 use Rattle.tp_run.specs.declared.fault.RunFault.{RunFault}
-use Rattle.tp_run.specs.declared.fault.RunFault.TheVariants.{Opening, Spare, Port, OfferRefused, FlushFailed, OutputFailed, ConfirmRefused, LastFlushFailed, Unaccounted, Memory}
+use Rattle.tp_run.specs.declared.fault.RunFault.TheVariants.{Spare, Port}
 use Rattle.tp_run.specs.declared.job.Job.{Job}
 use Rattle.tp_words.specs.declared.args.Run.{Run}
 
@@ -24,16 +24,9 @@ job_of run = record {
 -- the status that a run ends with
 abbrev pub status_of : Result ℕ RunFault → ℕ
 status_of (Ok next) = 0
-status_of (Err (Opening unopened)) = 1
 status_of (Err Spare) = 2
 status_of (Err Port) = 2
-status_of (Err OfferRefused) = 1
-status_of (Err FlushFailed) = 1
-status_of (Err OutputFailed) = 1
-status_of (Err ConfirmRefused) = 1
-status_of (Err LastFlushFailed) = 1
-status_of (Err Unaccounted) = 1
-status_of (Err Memory) = 1
+status_of _ = 1
 
 -- A run of this job and input that ended with this status, and what it left on the device and on standard output.
 pub record RanAs (keeps : Type 0) (history : History) (job : Job) (input : List ℕ) (old new : State) (was now : Option (List ℕ)) (status : ℕ) : Type 0 where

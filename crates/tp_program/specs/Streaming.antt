@@ -1,5 +1,5 @@
 -- What `run --stream` does.
-use Rattle.std.specs.Prelude.{◌≡◌, ℕ, Bool, Result, Ok, Err, ◌||◌, is_some, min, unwrap_or}
+use Rattle.std.specs.Prelude.{◌≡◌, ℕ, Bool, true, Result, Ok, Err, ◌||◌, is_some, min, unwrap_or}
 use Rattle.tp_model.specs.NodeState.{NodeState}
 use Rattle.tp_model.specs.Network.{Network}
 use Rattle.tp_model.specs.DiskHistory.{State}
@@ -8,23 +8,23 @@ use Rattle.tp_recover.specs.declared.unopened.Unopened.{Unopened}
 use Rattle.tp_stream.specs.Streamed.{StaysUnstreamed, Streamed}
 use Rattle.tp_stream_files.specs.declared.ending.Ended.{Ended}
 use Rattle.tp_stream_files.specs.declared.ending.Ending.{Ending}
-use Rattle.tp_stream_files.specs.declared.ending.Ending.TheVariants.{Quiet, Turns, Gone as AllGone, Halted, Stopped}
+use Rattle.tp_stream_files.specs.declared.ending.Ending.TheVariants.{Halted}
 use Rattle.tp_stream.specs.declared.fault.StreamFault.{StreamFault}
-use Rattle.tp_stream.specs.declared.fault.StreamFault.TheVariants.{Opening, Spare, Port, Unnamed, Short, Long, Gone, NotShown, ShortInput, InputFailed, OutputFailed, FlushFailed, JournalFull, Memory}
+use Rattle.tp_stream.specs.declared.fault.StreamFault.TheVariants.{Opening, Spare, Port, Unnamed}
 use Rattle.tp_stream.specs.declared.task.Task.{Task}
 use Rattle.tp_stream_files.specs.declared.ends.EndFault.{EndFault}
-use Rattle.tp_stream_files.specs.declared.ends.EndFault.TheVariants.{ReadFailed, DeviceFailed, SameFile, Twice, Memory as NoMemory}
+use Rattle.tp_stream_files.specs.declared.ends.EndFault.TheVariants.{SameFile, Twice}
 use Rattle.tp_program.specs.declared.streaming.FilesFault.{FilesFault}
 use Rattle.tp_program.specs.declared.streaming.FilesFault.TheVariants.{End, Stop, Stream}
 use Rattle.tp_words.specs.declared.stream_args.StreamRun.{StreamRun}
 
--- what a network is asked: a number of frames that no node has is the greatest of its kind
+-- what a network is asked: it may be asked to stop whatever was typed, and a number of frames that no node has is the greatest of its kind
 abbrev pub task_of : StreamRun → Task
 task_of run = record {
   turns = run.turns;
   until_quiet = run.until_quiet;
   stop_on_halt = run.stop_on_halt;
-  until_asked = is_some run.stop_file;
+  until_asked = true;
   quantum = run.quantum;
   spare = min run.spare 65535;
   every = run.every;
@@ -50,36 +50,21 @@ seconds_of run = unwrap_or run.progress_every 10
 
 -- the status that a stream ends with whose ends aren't opened
 abbrev pub end_status : EndFault → ℕ
-end_status (ReadFailed port) = 1
-end_status (DeviceFailed port) = 1
 end_status (SameFile port) = 2
 end_status (Twice port) = 2
-end_status NoMemory = 1
+end_status _ = 1
 
 -- the status that a stream ends with that is refused
 abbrev pub fault_status : StreamFault → ℕ
-fault_status (Opening unopened) = 1
 fault_status Spare = 2
 fault_status (Port port) = 2
 fault_status (Unnamed port) = 2
-fault_status (Short port has from) = 1
-fault_status (Long port has upto) = 1
-fault_status (Gone port have confirmed) = 1
-fault_status (NotShown port have shown) = 1
-fault_status (ShortInput port has accepted) = 1
-fault_status (InputFailed port) = 1
-fault_status (OutputFailed port) = 1
-fault_status FlushFailed = 1
-fault_status JournalFull = 1
-fault_status Memory = 1
+fault_status _ = 1
 
 -- the status that a stream ends with that was done
 abbrev pub ending_status : Ending → ℕ
-ending_status Quiet = 0
-ending_status Turns = 0
-ending_status AllGone = 0
 ending_status Halted = 3
-ending_status Stopped = 0
+ending_status _ = 0
 
 -- the status that a stream ends with
 abbrev pub stream_status : Result Ended FilesFault → ℕ

@@ -51,8 +51,8 @@ fn copy_or_refuse<D: Disk, K: Disk, E: Write>(
     }
 }
 
-/// Opens and copies a device once. Answers none where another process wrote it so that another try may do: then `show` opens it, or
-/// the area that was copied is another one now. Where both keep the model none is never answered. Else says why there is no copy, and answers
+/// Opens and copies a device once. Answers none where another process wrote it so that another try may do: then `show` opens it, or the
+/// area that was copied is another one now. Where both keep the model none is never answered. Else says why there is no copy, and answers
 /// the status.
 fn copy_once<D: Disk, K: Disk, E: Write>(
     alloc: Global,

@@ -13,8 +13,8 @@ use std::sync::Wait;
 use tp_disk::Disk;
 use tp_views::{Refusal, is_device_file, refuse};
 
-/// `tpnet compact`, on a device's file, which is held. It is opened as it is, and keeps its length. What the system said of a call on it that failed
-/// is put into `system`.
+/// `tpnet compact`, on a device's file, which is held. It is opened as it is, and keeps its length. What the system said of a call on it
+/// that failed is put into `system`.
 pub(crate) fn compact_file<
     R: Files + AllocGlobal + Wait,
     S: Devices<Device = D>,

@@ -18,7 +18,7 @@ impl Model for DeviceCalls {
 }
 
 impl DeviceCalls {
-    /// The list that contracts name of a value. It does nothing.
+    /// Gives the ghost value `told`, which a contract says by what is lent as `_value`. It does nothing.
     pub(crate) fn of<T>(_value: &T) -> DeviceCalls
         ghost told: { List DeviceCall }
         ensures { result.told ≡ told }

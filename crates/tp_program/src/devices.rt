@@ -101,7 +101,7 @@ impl<
     }
 }
 
-/// The same error of the system.
+/// Copies an error of the system.
 fn said_again(error: &io::Error) -> io::Error {
     match error.raw_os_error() {
         Some(code) => io::Error::from_raw_os_error(code),

@@ -83,7 +83,7 @@ fn device_length(version: HeadVersion, area: u64) -> u64
     head_length(version) as u64 + 2 * area
 }
 
-/// A device that has room for the head of its topology and two areas, in a file that is made for it, or in one that is there, which is held.
+/// A device with room for the head of its topology and two areas, in a file that is made for it, or in one that is there, which is held.
 fn new_disk<R: Files<File = F>, F: FileExt + OpenFile + Drop, S: Devices>(
     rt: &R,
     _devices: &S,
@@ -141,8 +141,8 @@ fn format_network<
     }
 }
 
-/// `tpnet format`, on files, where the device is held. A file that is there stays as it is until nothing is left to refuse; the topology's and the images' files
-/// always do.
+/// `tpnet format`, on files, where the device is held. A file that is there stays as it is until nothing is left to refuse; the topology's
+/// and the images' files always do.
 pub(crate) fn format_file<
     R: Files<File = F> + AllocGlobal,
     F: FileExt + OpenFile + Drop,

@@ -1,6 +1,8 @@
 //! What the program does for the words of its command line: the commands that write a device, over any device, and all of them on files.
 #![tactic(auto)]
 
+mod asking;
+mod asking_explain;
 mod backing_up;
 mod backup_explain;
 mod backup_files;
@@ -15,14 +17,17 @@ mod formatting;
 mod in_use;
 mod locks;
 mod program;
+mod request_file;
 mod run_file;
 mod running;
 mod stop_file;
+mod stop_program;
 mod stream_explain;
 mod stream_program;
 mod streaming;
 mod watching;
 
+pub use asking::{Unasked, Unmade};
 pub use backing_up::backup_on;
 pub use compacting::compact_on;
 pub use devices::{Devices, FileDevices};
@@ -39,8 +44,8 @@ pub use tp_views::{
     view_on,
 };
 pub use tp_words::{
-    ArgFault, Asked, Backup, BackupAsked, EndsFault, JournalPart, NewDevice, Run, StreamArgFault,
-    StreamAsked, StreamRun, View, is_backup, is_stream, read_args, read_backup_args,
-    read_stream_args, wants_input,
+    ArgFault, Asked, Backup, BackupAsked, EndsFault, JournalPart, NewDevice, Run, StopAsked,
+    StopRequest, StreamArgFault, StreamAsked, StreamRun, View, is_backup, is_stop, is_stream,
+    read_args, read_backup_args, read_stop_args, read_stream_args, wants_input,
 };
 pub use watching::{OneLook, Watch};

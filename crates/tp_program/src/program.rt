@@ -15,6 +15,7 @@ use crate::format_file::format_file;
 use crate::in_use::refuse_in_use;
 use crate::locks::{InUse, Locks, NoLocks};
 use crate::run_file::run_file;
+use crate::stop_program::answer_stop;
 use crate::watching::{OneLook, Watch};
 use std::fs::{Files, OpenFile};
 use std::io;
@@ -25,7 +26,7 @@ use std::thread::Threads;
 use tp_disk::Disk;
 use tp_stream_files::is_one_file;
 use tp_views::{explain, print_help, tell_halted};
-use tp_words::{Asked, has_word, is_backup, read_args};
+use tp_words::{Asked, has_word, is_backup, is_stop, read_args};
 
 /// Does what was asked for. Answers the program's status: 0 where it was done, 1 where it was refused, 2 where a node or port
 /// isn't there. The device that is to be written is held. What the system said of a call on a device that failed is put into `system`.
@@ -221,7 +222,8 @@ fn answer_asked<
 
 /// Does what the words of a command line ask for, the program's name first. Answers the program's status: that of the
 /// command, or 2 where the words ask for nothing; no file is opened then. Asking for help is no fault.
-/// `devices` holds and opens a device that is written, and `watch` says who holds one that `status` looks at.
+/// `devices` holds and opens a device that is written, and says whether another process has one whose stream is asked to stop; `watch` says
+/// who holds one that `status` looks at.
 pub fn answer_over<
     R: Files<File = F> + AllocGlobal + Threads + Wait + Sync,
     F: FileExt + OpenFile + Drop,
@@ -238,6 +240,9 @@ pub fn answer_over<
     if is_backup(words) {
         return answer_backup(rt, words, out, err);
     }
+    if is_stop(words) {
+        return answer_stop(rt, devices, words, out, err);
+    }
     match read_args(rt.alloc(), words) {
         Ok(asked) => answer_asked(rt, devices, watch, words, &asked, out, err),
         Err(fault) => {
@@ -247,7 +252,7 @@ pub fn answer_over<
     }
 }
 
-/// As above, over devices that tell nothing of what was called.
+/// Does what the words ask for, as `answer_over`, over devices that tell nothing of what was called.
 fn answer_untold<
     R: Files<File = F> + AllocGlobal + Threads + Wait + Sync,
     F: FileExt + OpenFile + Drop,
@@ -262,7 +267,7 @@ fn answer_untold<
     answer_over(rt, devices, watch, words, out, err)
 }
 
-/// As above, with the devices in files of the system, whose locks `locks` takes.
+/// Does what the words ask for, as `answer_over`, with the devices in files of the system, whose locks `locks` takes.
 pub fn answer_locking<
     R: Files<File = F> + AllocGlobal + Threads + Wait + Sync,
     F: FileExt + OpenFile + Drop + Send,
@@ -278,7 +283,7 @@ pub fn answer_locking<
     answer_untold(rt, &mut devices, watch, words, out, err)
 }
 
-/// As above, where nobody else has a device, and `status` takes one look.
+/// Does what the words ask for, as `answer_over`, where nobody else has a device, and `status` takes one look.
 pub fn answer<
     R: Files<File = F> + AllocGlobal + Threads + Wait + Sync,
     F: FileExt + OpenFile + Drop + Send,

@@ -1,7 +1,8 @@
-//! A file that ends a stream.
+//! Files that end a stream: the one that was typed for it, and a request beside its device.
 
 ghost use Rattle.std.specs.Prelude.{◌≡◌, None};
 
+use crate::request_file::RequestFile;
 use std::fs;
 use std::fs::Files;
 use std::io::{ErrorKind, Write};
@@ -13,7 +14,7 @@ use tp_words::StreamRun;
 /// What the system calls the standard streams.
 const STANDARD: &[&str] = &["/dev/stdin", "/dev/stdout", "/dev/stderr"];
 
-/// Why a stream isn't begun that a file is to end. The device is as it was.
+/// Why a stream isn't begun, because of the file that is to end it, or of where it may be asked to stop. The device is as it was.
 #[derive(Clone, Copy, Debug, PartialEq, Eq, Error)]
 pub enum StopFault {
     /// It is the file of the device, of an end of a port, or of a standard stream.
@@ -25,21 +26,34 @@ pub enum StopFault {
     /// It can't be said whether something is at its path.
     #[error("Unseen")]
     Unseen,
+    /// The file DEVICE.stop is that of an end of a port, or of a standard stream.
+    #[error("RequestTaken")]
+    RequestTaken,
+    /// There is a request from before that can't be removed.
+    #[error("RequestLeft")]
+    RequestLeft,
 }
 
-/// Says that a stream is asked to stop where something is at a path. It is looked anew each time; where there is no path, nobody asks.
+/// Says that a stream is asked to stop where there is a request beside its device, or something is at a path, where there is one. It is
+/// looked anew each time.
 #[derive(Drop)]
 pub(crate) struct StopFile<'a, R> {
     rt: &'a R,
+    request: &'a RequestFile,
     path: &'a Option<String>,
     noted: Noted,
 }
 
 impl<'a, R> StopFile<'a, R> {
     /// No look was made.
-    pub(crate) fn new(rt: &'a R, path: &'a Option<String>) -> StopFile<'a, R> {
+    pub(crate) fn new(
+        rt: &'a R,
+        request: &'a RequestFile,
+        path: &'a Option<String>,
+    ) -> StopFile<'a, R> {
         StopFile {
             rt,
+            request,
             path,
             noted: Noted::new(),
         }
@@ -58,7 +72,7 @@ impl<'a, R: Files> Stop for StopFile<'a, R> {
     ghost answers = { λ stop. stop.noted.told };
 
     fn is_asked(&mut self) -> bool {
-        let answer = is_there(self.rt, self.path);
+        let answer = self.request.is_there(self.rt) || is_there(self.rt, self.path);
         self.noted = self.noted.answered(answer);
         answer
     }
@@ -93,7 +107,7 @@ fn is_part<R: Files>(rt: &R, asked: &StreamRun, path: &str) -> bool {
 }
 
 /// Why a stream isn't begun because of the file that is to end it, where it isn't: as things stand now.
-pub(crate) fn stop_fault<R: Files>(rt: &R, asked: &StreamRun) -> Option<StopFault>
+fn stop_fault<R: Files>(rt: &R, asked: &StreamRun) -> Option<StopFault>
     ensures { asked.now.stop_file ≡ None → result ≡ None }
 {
     let path = asked.stop_file.as_ref()?.as_str();
@@ -107,7 +121,46 @@ pub(crate) fn stop_fault<R: Files>(rt: &R, asked: &StreamRun) -> Option<StopFaul
     }
 }
 
-/// Says why a stream isn't begun because of the file that is to end it. Answers the status. A failed write is let go.
+/// Whether the path of requests names the file of an end of a port, or of a standard stream.
+fn is_taken<R: Files>(rt: &R, asked: &StreamRun, request: &RequestFile) -> bool {
+    let path = request.path();
+    is_end(rt, path, &asked.ends.outs) || is_end(rt, path, &asked.ends.ins) || is_standard(rt, path)
+}
+
+/// Why a stream isn't begun because of the file that is to end it, or of where it may be asked to stop: as things stand now.
+pub(crate) fn places_fault<R: Files>(
+    rt: &R,
+    asked: &StreamRun,
+    request: &RequestFile,
+) -> Option<StopFault> {
+    if let Some(fault) = stop_fault(rt, asked) {
+        return Some(fault);
+    }
+    if is_taken(rt, asked, request) {
+        Some(StopFault::RequestTaken)
+    } else {
+        None
+    }
+}
+
+/// The same before anything was opened; and a request from before, which was for another process, is taken away. The device is held.
+pub(crate) fn first_fault<R: Files>(
+    rt: &R,
+    asked: &StreamRun,
+    request: &RequestFile,
+) -> Option<StopFault> {
+    if let Some(fault) = places_fault(rt, asked, request) {
+        return Some(fault);
+    }
+    if request.clear(rt) {
+        None
+    } else {
+        Some(StopFault::RequestLeft)
+    }
+}
+
+/// Says why a stream isn't begun because of the file that is to end it, or of where it may be asked to stop. Answers the status. A failed
+/// write is let go.
 pub(crate) fn report_stop<E: Write>(err: &mut E, fault: StopFault) -> u8
     ensures { result ≡ 2 }
 {
@@ -123,6 +176,14 @@ pub(crate) fn report_stop<E: Write>(err: &mut E, fault: StopFault) -> u8
         StopFault::Unseen => write!(
             err,
             "tpnet: the path of --stop-file can't be looked at: name one in a folder that you may search\n"
+        ),
+        StopFault::RequestTaken => write!(
+            err,
+            "tpnet: DEVICE.stop is the file of an end of a port or of a standard stream: give that another name, as tpnet stop asks there\n"
+        ),
+        StopFault::RequestLeft => write!(
+            err,
+            "tpnet: DEVICE.stop was left by an earlier tpnet stop and can't be removed: remove it, and give the same command again\n"
         ),
     };
     2

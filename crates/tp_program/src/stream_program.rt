@@ -151,9 +151,9 @@ fn hold_and_stream<
     }
 }
 
-/// Does what the words of a command line with `--stream` ask for, the program's name first; `feed` is standard input, `devices` holds and opens
-/// the device, and `onlooker` looks at `err` and has the time. Answers the program's status: that of the stream, 3 where it ended since a node halted, or 2 where the words ask for
-/// nothing; no file is opened then. Asking for help is no fault.
+/// Does what the words of a command line with `--stream` ask for, the program's name first; `feed` is standard input, `devices` holds and
+/// opens the device, and `onlooker` looks at `err` and has the time. Answers the program's status: that of the stream, 3 where it ended
+/// since a node halted, or 2 where the words ask for nothing; no file is opened then. Asking for help is no fault.
 pub fn answer_stream_over<
     R: Files<File = F> + AllocGlobal + Wait,
     F: FileExt + OpenFile + Drop,
@@ -188,7 +188,7 @@ pub fn answer_stream_over<
     }
 }
 
-/// As above, over devices that tell nothing of what was called.
+/// Does what the words ask for, as `answer_stream_over`, over devices that tell nothing of what was called.
 fn answer_stream_untold<
     R: Files<File = F> + AllocGlobal + Wait,
     F: FileExt + OpenFile + Drop,
@@ -212,7 +212,7 @@ fn answer_stream_untold<
     answer_stream_over(rt, devices, words, feed, out, err, onlooker)
 }
 
-/// As above, with the devices in files of the system, whose locks `locks` takes.
+/// Does what the words ask for, as `answer_stream_over`, with the devices in files of the system, whose locks `locks` takes.
 pub fn answer_stream_locking<
     R: Files<File = F> + AllocGlobal + Wait,
     F: FileExt + OpenFile + Drop,
@@ -237,7 +237,7 @@ pub fn answer_stream_locking<
     answer_stream_untold(rt, &mut devices, words, feed, out, err, onlooker)
 }
 
-/// As above, where nobody else has a device.
+/// Does what the words ask for, as `answer_stream_over`, where nobody else has a device.
 pub fn answer_stream<
     R: Files<File = F> + AllocGlobal + Wait,
     F: FileExt + OpenFile + Drop,

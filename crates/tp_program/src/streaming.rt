@@ -12,7 +12,8 @@ ghost use Rattle.tp_stream.specs.Streamed.{StaysUnstreamed, Streamed as StreamLe
 ghost use Rattle.tp_program.specs.Streaming.{IsOfEnds, IsUnopened, FindsNothingNew, StreamedOn, end_status, ending_status, fault_status, seconds_of, shown_on, stream_status, task_of};
 ghost use Rattle.tp_words.specs.StreamArgs.{IsStreamRun};
 
-use crate::stop_file::{StopFault, StopFile, report_stop, stop_fault};
+use crate::request_file::RequestFile;
+use crate::stop_file::{StopFault, StopFile, first_fault, places_fault, report_stop};
 use std::fs::{Files, OpenFile};
 use std::io::Write;
 use std::os::unix::fs::FileExt;
@@ -34,7 +35,7 @@ pub enum FilesFault {
     /// An end isn't opened. The device is as it was.
     #[error(transparent)]
     End(EndFault),
-    /// The file that is to end it isn't taken. The device is as it was.
+    /// The file that is to end it isn't taken, or it can't be asked to stop. The device is as it was.
     #[error(transparent)]
     Stop(StopFault),
     /// The stream ended early.
@@ -49,7 +50,7 @@ pub struct Streamed {
     pub done: Result<Ended, FilesFault>,
 }
 
-/// What the network is asked. A number of frames that no node has is the greatest of its kind.
+/// What the network is asked. It may be asked to stop whatever was typed. A number of frames that no node has is the greatest of its kind.
 #[tactic(auto, unfolding(tp_words::specs::StreamArgs::IsStreamRun))]
 fn task_of(asked: &StreamRun) -> Task
     requires { IsStreamRun asked.now }
@@ -60,7 +61,7 @@ fn task_of(asked: &StreamRun) -> Task
         turns: asked.turns,
         until_quiet: asked.until_quiet,
         stop_on_halt: asked.stop_on_halt,
-        until_asked: asked.stop_file.is_some(),
+        until_asked: true,
         quantum: asked.quantum,
         spare: asked.spare.min(u16::MAX as u64) as u16,
         every: asked.every,
@@ -188,6 +189,7 @@ fn stream_opened<
 >(
     rt: &R,
     asked: &StreamRun,
+    request: &RequestFile,
     disk: D,
     streams: &mut Streams<S, I>,
     err: &mut E,
@@ -214,7 +216,7 @@ fn stream_opened<
         standard_in,
         seconds,
     );
-    let mut stop = StopFile::new(rt, &asked.stop_file);
+    let mut stop = StopFile::new(rt, request, &asked.stop_file);
     let (disk, done) = stream(rt, rt.alloc(), task, disk, streams, &mut teller, &mut stop);
     teller.end();
     if let Ok(ended) = done {
@@ -223,8 +225,8 @@ fn stream_opened<
     (disk, done)
 }
 
-/// Opens the ends of a device's ports. The file that is to end the stream is looked at before, and behind, since it may be one of them that
-/// was made meanwhile.
+/// Opens the ends of a device's ports. The file that is to end the stream, and where it may be asked to stop, is looked at before, and behind,
+/// since it may be one of them that was made meanwhile.
 fn open_ports<
     'a,
     R: Files<File = F> + AllocGlobal,
@@ -234,25 +236,27 @@ fn open_ports<
 >(
     rt: &R,
     asked: &StreamRun,
+    request: &RequestFile,
     feed: &'a mut I,
     out: &'a mut O,
 ) -> Result<Streams<AnySink<'a, OutsideFile<F>, O>, AnySource<'a, OutsideFile<F>, I>>, FilesFault>
     ensures { IfErr result IsOfEnds }
 {
-    if let Some(fault) = stop_fault(rt, asked) {
+    if let Some(fault) = first_fault(rt, asked, request) {
         return Err(FilesFault::Stop(fault));
     }
     let streams = match open_ends(rt, asked.device.as_str(), &asked.ends, feed, out) {
         Ok(streams) => streams,
         Err(fault) => return Err(FilesFault::End(fault)),
     };
-    match stop_fault(rt, asked) {
+    match places_fault(rt, asked, request) {
         Some(fault) => Err(FilesFault::Stop(fault)),
         None => Ok(streams),
     }
 }
 
-/// Opens the ends of a device's ports, and streams its network on them.
+/// Opens the ends of a device's ports, and streams its network on them. A request to stop is taken away behind that, whyever it ended: it was
+/// for this process, which holds the device.
 fn stream_files<
     R: Files<File = F> + AllocGlobal + Wait,
     F: FileExt + OpenFile + Drop,
@@ -279,11 +283,15 @@ fn stream_files<
     ensures unopened { D.keeps → IsErr (verdict (D.state disk).now.bytes) → IsUnopened result.1 }
     ensures why { IfOk result.1 (λ ended. IsAsked (task_of asked.now) ended.why) }
 {
-    let mut streams = match open_ports(rt, asked, feed, out) {
+    let Ok(request) = RequestFile::of(rt.alloc(), asked.device.as_str()) else {
+        return (disk, Err(FilesFault::End(EndFault::Memory)));
+    };
+    let mut streams = match open_ports(rt, asked, &request, feed, out) {
         Ok(streams) => streams,
         Err(fault) => return (disk, Err(fault)),
     };
-    let (disk, done) = stream_opened(rt, asked, disk, &mut streams, err, onlooker);
+    let (disk, done) = stream_opened(rt, asked, &request, disk, &mut streams, err, onlooker);
+    let _gone = request.clear(rt);
     match done {
         Ok(ended) => (disk, Ok(ended)),
         Err(fault) => (disk, Err(FilesFault::Stream(fault))),

@@ -29,7 +29,7 @@ impl Model for Answers {
     ghost view = { λ a. a.all.value };
 }
 
-// Shows the answers that the contract names. A caller names them by what it lends.
+// Gives a seal that shows the ghost value `answers`, which a contract says by what is lent.
 fn shown(_old: &Answers, _queue: &ReadyQueue, _number: Option<u8>) -> Seal<LinkedList<Answer>>
     ghost answers: { List Answer }
     ensures { result.value ≡ answers }

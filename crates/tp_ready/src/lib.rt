@@ -1,5 +1,5 @@
-//! The ready queue: the numbers of processes. Each is in the queue or with one holder. And the durable mark: one word, which one holder raises
-//! and others load without a lock.
+//! The ready queue: the numbers of processes. Each is in the queue or with one holder. And the durable mark: one word, which one holder
+//! raises and others load without a lock.
 #![tactic(auto)]
 
 mod answers;

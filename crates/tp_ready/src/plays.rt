@@ -48,7 +48,7 @@ impl Split<View> for Twin {
     ghost right = { λ v. reader v.at 0 };
 }
 
-/// One is told what the other saw.
+/// A reader is told what another one saw.
 pub struct Tells;
 
 impl Join<View> for Tells {

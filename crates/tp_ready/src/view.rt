@@ -2,9 +2,9 @@
 use crate::call::{Call, Claim};
 use std::collections::LinkedList;
 
-/// Whether the pass knows how many numbers and hands there are, whether it still makes them, how many there are of both, the hands
-/// that it is, for each of which it may hold one number, the numbers that it holds, and all calls that it has seen, the newest first. No
-/// value of it is made.
+/// Whether the pass knows how many numbers and hands there are, whether it still makes them, how many there are of both; the hands that
+/// it is, each of which may hold one number; the numbers that it holds; and all calls that it has seen, the newest first. No value of it
+/// is made.
 pub struct View {
     pub knows: bool,
     pub makes: bool,

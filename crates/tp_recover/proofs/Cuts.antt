@@ -48,7 +48,7 @@ pub all_read : {A B C D : Type 0} (a : Result A OpenFault) (x : A) (b : Result B
     → a ≡ Ok x → b ≡ Ok y → c ≡ Ok z → three a b c f ≡ Ok (f x y z)
 all_read a x b y c z f is then_is last_is = rw (is, then_is, last_is) refl
 
--- ## The same at another moment
+-- ## At another moment
 
 pub lines_then : (at : ℕ) (wires : List (Option WireEnd)) (old now : Moment) → now ≡ old → lines_in at wires (drop at now.bytes) ≡ lines_in at wires (drop at old.bytes)
 lines_then at wires old now is = ap (λ m. lines_in at wires (drop at m.bytes)) is

@@ -24,7 +24,7 @@ more_copied at done n source old inside room =
     ∙ written_twice old at first second room
     ∙ ap (λ xs. written old at xs) whole
 
--- the same of devices whose bytes are those
+-- a range grows by a piece, where the devices have these bytes
 pub piece_copied : (at done n count : ℕ) (source then_source old mid new : List ℕ) → n ≡ count → then_source ≡ source → mid ≡ with_range at done source old
     → new ≡ with_range (at + done) n then_source mid → at + (done + count) ≤ length source → at ≤ length old
     → new ≡ with_range at (done + count) source old

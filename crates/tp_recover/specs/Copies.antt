@@ -11,7 +11,7 @@ use Rattle.tp_model.specs.declared.limits.TheConstants.{GATE_CLOSED, GATE_OPEN}
 abbrev pub area_kept : Opened → Kept
 area_kept o = record { areas = o.head.areas; second = o.second; generation = o.generation; form = o.form; end = o.end; next = next_of o }
 
--- bytes with a range of others over them, at the same place
+-- bytes with a range of others over them, at the place that it has there
 abbrev pub with_range : ℕ → ℕ → List ℕ → List ℕ → List ℕ
 with_range at count source old = written old at (take count (drop at source))
 
@@ -26,8 +26,8 @@ kept_start kept = area_start kept.areas kept.second
 abbrev pub other_kept_start : Kept → ℕ
 other_kept_start kept = area_start kept.areas (not kept.second)
 
--- Bytes of a copy before its area's gate is opened, made over others: both areas' gates are closed, the open area stands there from behind its
--- gate on up to the closed gate behind its groups, and so does the head.
+-- Bytes of a copy before its area's gate is opened, made over others: both areas' gates are closed, the open area stands there from behind
+-- its gate on up to the closed gate behind its groups, and so does the head.
 abbrev pub closed_copy : Kept → List ℕ → List ℕ → List ℕ
 closed_copy kept source old =
     with_range 0 kept.areas.first source
@@ -61,8 +61,8 @@ pub record IsFinished (kept : Kept) (old new : Moment) : Type 0 where
 abbrev pub HasStayed : Kept → List ℕ → Type 0
 HasStayed kept source = area_front (kept_start kept) source ≡ record { is_open = true; generation = kept.generation }
 
--- A copy: the area that was copied stayed as it was opened, the copy has the device's bytes where they count, opens to what the device opened to,
--- and all of it is synced.
+-- A copy: the area that was copied stayed as it was opened, the copy has the device's bytes where they count, opens to what the device
+-- opened to, and all of it is synced.
 pub record IsCopy (kept : Kept) (source old : List ℕ) (new : Moment) (next : ℕ) : Type 0 where
   pub number : next ≡ kept.next
   pub stays : HasStayed kept source

@@ -8,17 +8,13 @@ use Rattle.tp_recover.specs.declared.unopened.Unopened.TheVariants.{Fault, ReadF
 
 -- no call of the device failed
 abbrev pub has_read : {A : Type 0} → Result A Unopened → Bool
-has_read (Ok x) = true
-has_read (Err (Fault fault)) = true
 has_read (Err ReadFailed) = false
-has_read (Err Memory) = true
+has_read _ = true
 
 -- where no call failed, what a read gives and what is unsynced are as before
 abbrev pub LeavesAlone : {A : Type 0} → Result A Unopened → Moment → Moment → Type 0
-LeavesAlone (Ok x) old new = new ≡ old
-LeavesAlone (Err (Fault fault)) old new = new ≡ old
 LeavesAlone (Err ReadFailed) old new = Unit {0}
-LeavesAlone (Err Memory) old new = new ≡ old
+LeavesAlone _ old new = new ≡ old
 
 -- A crash at any moment from the first state to the second one leaves what a crash just before might have left.
 abbrev pub LeavesNothingNew : State → State → Type 0

@@ -62,7 +62,7 @@ opened_with head second read found = record {
   end = found.1;
 }
 
--- the same, with the groups read
+-- what a device opened to, once its groups are read
 abbrev pub opened_after : Head → Bool → List ℕ → Read → Result Opened OpenFault
 opened_after head second content read =
     after_groups (replay_from read.front.form read.cut read.front.base) (groups_of head second content) >>= (λ found. Ok (opened_with head second read found))

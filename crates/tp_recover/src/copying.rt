@@ -2,18 +2,18 @@
 //!
 //! Such a process writes only the area that doesn't count, and groups behind the last one of the area that does (`docs/DISK.md` says in
 //! which order). Opening has said which area counts, its generation, and where the closed gate behind its groups stands. What lies between
-//! the two gates stays as it is until a checkpoint writes into this area, which closes its gate first, and opens it with a generation that is
-//! higher by 2. **It is copied, and then the area's gate and generation are read once more**: where they are what opening found, nothing
+//! the two gates stays as it is until a checkpoint writes into this area, which closes its gate first, and opens it with a generation that
+//! is higher by 2. **It is copied, and then the area's gate and generation are read once more**: where they are what opening found, nothing
 //! was written there meanwhile, and the bytes are those of the moment at which the device was opened. Else there is no copy.
 //!
-//! **Of the copy the area's gate is opened last**, behind the head and a closed gate behind the groups; the other area's gate is closed. Then
-//! the copy is opened, and has to say what opening the device said.
+//! **Of the copy the area's gate is opened last**, behind the head and a closed gate behind the groups; the other area's gate is closed.
+//! Then the copy is opened, and has to say what opening the device said.
 //!
-//! **Nothing is missing that was durable before the device was opened.** Let X be the area that counted then; all durable entries are in it.
-//! Opening reads the gates and generations of both areas after that, and takes the higher one that is open. If it took X, X's groups
-//! were read later, with all that they had. If it took the other one with a higher generation than X had, that one was opened since, with all
-//! of X's entries. It can't have taken the other one with a lower generation: then X's gate was found closed, so a checkpoint was written into
-//! the other one since, whose gate and generation aren't found in the end as opening read them.
+//! **Nothing is missing that was durable before the device was opened.** Let X be the area that counted then; all durable entries are in
+//! it. Opening reads the gates and generations of both areas after that, and takes the higher one that is open. If it took X, X's groups
+//! were read later, with all that they had. If it took the other one with a higher generation than X had, that one was opened since, with
+//! all of X's entries. It can't have taken the other one with a lower generation: then X's gate was found closed, so a checkpoint was
+//! written into the other one since, whose gate and generation aren't found in the end as opening read them.
 
 ghost use Rattle.std.specs.Prelude.{◌≡◌, ◌+◌, ◌^◌, ◌≤◌, ◌<◌, ◌↔◌, IfOk, IsTrue, OnOk};
 ghost use Rattle.tp_recover.specs.Copies.{CopyAnswer, HasStayed, IsFinished, OpensAs, closed_copy, area_kept};
@@ -131,10 +131,10 @@ fn copy_kept<D: Disk, K: Disk>(
 }
 
 /// Copies a device that was `opened`, and that another process may be running, over what is in `copy`, which has to have as many bytes at
-/// least. Answers the number of the next entry: all of the copy is synced then, and it opens to the area, the generation, the form, the end of
-/// the groups and the number to which the device was opened. Answers none where the area that is copied has another gate or generation behind the
-/// copying: then the copy's gates are closed, and it has to be made anew, of the device as it then opens. Nothing is written to the device, and
-/// a crash finds nothing there that the call made.
+/// least. Answers the number of the next entry: all of the copy is synced then, and it opens to the area, the generation, the form, the end
+/// of the groups and the number to which the device was opened. Answers none where the area that is copied has another gate or generation
+/// behind the copying: then the copy's gates are closed, and it has to be made anew, of the device as it then opens. Nothing is written to
+/// the device, and a crash finds nothing there that the call made.
 pub fn copy_opened<D: Disk, K: Disk>(
     alloc: Global,
     source: &mut D,

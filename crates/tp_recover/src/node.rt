@@ -15,8 +15,8 @@ use tp_disk::Disk;
 use tp_model::OpenFault;
 use tp_node::{ImageFault, Node};
 
-/// Decodes the node of `pages` pages from its image `bytes`, which stands at `at`. It has no spare frame, since nothing is replayed while it
-/// is frozen.
+/// Decodes the node of `pages` pages from its image `bytes`, which stands at `at`. It has no spare frame, since nothing is replayed while
+/// it is frozen.
 fn node_in(alloc: Global, at: u64, pages: u16, bytes: &[u8]) -> Result<Node, Unopened>
     requires { length bytes.now ≡ image_length pages }
     ensures read { has_read result ≡ true }

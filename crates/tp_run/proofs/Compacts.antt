@@ -33,7 +33,7 @@ walked_compacted start before opened old new result began reads first W stored =
 pub unwritten_compacted : (start : Network NodeState) (fault : CompactFault) (old new : State) → LeavesNothingNew old new → Compacted start (Err fault) old new
 unwritten_compacted start fault old new L = record { journal = []; leaves = read_alone start [] old new L; stored = tt }
 
--- a device that was read, so that its bytes are the same, and then more
+-- a device was read, which left its bytes as they are, and was then written
 pub opened_compacted : (start : Network NodeState) (result : Result Compaction CompactFault) (old read new : State) → LeavesNothingNew old read → read.now.bytes ≡ old.now.bytes → Compacted start result read new
     → Compacted start result old new
 opened_compacted start result old read new L same R = record {

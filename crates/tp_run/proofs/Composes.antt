@@ -16,7 +16,7 @@ use Rattle.tp_law_network.proofs.Reorder.{after_front}
 use Rattle.tp_flush.proofs.Follows.{held_is, now_is, number_is}
 use Rattle.tp_run.specs.Composed.{AreChained, Composed, HasAcknowledged, Link}
 
--- ## One list, and then another from the same place on
+-- ## One list, and from a place on another
 
 abbrev joined : {A : Type 0} → ℕ → List A → List A → List A
 joined n xs ys = take n xs ++ drop n ys
@@ -65,7 +65,7 @@ after_joined start now n m xs ys up there then one other =
 
 -- ## Over a list of processes
 
--- what stands in one journal stands in another that has the same from a number on, where each process opened no less
+-- what stands in one journal stands in another that agrees with it from a number on, where each process opened no less
 has_on : (start : Network NodeState) (one other : List Entry) (n : ℕ) → ((k : ℕ) → n ≤ k → slice_get one k ≡ slice_get other k) → (was : List ℕ) (links : List Link) (linked : AreChained start was links)
     → ((o : Opened) → verdict was ≡ Ok o → n ≤ next_of o) → HasAcknowledged start other was links linked → HasAcknowledged start one was links linked
 has_on start one other n same was [] linked up has = tt

@@ -92,7 +92,7 @@ pub unwritten_ran : (start : Network NodeState) (job : Job) (input : List ℕ) (
 unwritten_ran start job input was fault old new L =
     record { journal = []; leaves = read_alone start [] old new L; stored = tt; carried = tt; printed = inl refl }
 
--- a device that was read, so that its bytes are the same, and then more
+-- a device was read, which left its bytes as they are, and was then written
 pub opened_ran : (start : Network NodeState) (job : Job) (input : List ℕ) (was now : Option (List ℕ)) (result : Result ℕ RunFault) (old read new : State) → LeavesNothingNew old read
     → read.now.bytes ≡ old.now.bytes → Ran start job input was now result read new → Ran start job input was now result old new
 opened_ran start job input was now result old read new L same R = record {

@@ -128,7 +128,7 @@ may_show start w b port mark confirmed was now A at (inr (S, F)) =
     let there = shows_book start w b port mark confirmed (next_in_book b) A S at refl in
     inr (record { number = next_in_book b; few = there.0; outputs = (port_in b port).outputs; shows = there.1; count = F.0; appended = F.1 })
 
--- the same of a receipt
+-- the outputs that a receipt is for are shown
 pub output_shown : (keeps began : Type 0) (start : Network NodeState) (w : World NodeState) (b : BookValue) (port mark confirmed : ℕ) (was now : Option (List ℕ)) (r : Result Receipted RunFault)
     → (keeps → began → IsAheadOf start w b) → mark ≡ w.mark → IfOk r (λ receipt. ShowsAll b port mark confirmed) → IfOk r (IsForOutput port confirmed (AreOutputs b port) was now)
     → IfOk r (IsForOutput port confirmed (λ number bytes. keeps → began → AreShownIn start w port confirmed number bytes) was now)

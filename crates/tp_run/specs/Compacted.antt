@@ -20,12 +20,8 @@ room_behind t area = capacity (journal_of t area)
 
 -- the device isn't written
 abbrev pub StaysUnopened : {A : Type 0} → Result A CompactFault → Type 0
-StaysUnopened (Ok x) = ⊥
 StaysUnopened (Err (Opening unopened)) = Unit {0}
-StaysUnopened (Err NoGeneration) = ⊥
-StaysUnopened (Err DeviceFailed) = ⊥
-StaysUnopened (Err NotWhole) = ⊥
-StaysUnopened (Err Memory) = ⊥
+StaysUnopened _ = ⊥
 
 -- a fault that comes once the device was opened
 abbrev pub ComesOpened : CompactFault → Type 0

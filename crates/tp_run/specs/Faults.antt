@@ -1,35 +1,23 @@
 -- Which faults come where.
-use Rattle.std.specs.Prelude.{◌≡◌, ◌⊎◌, Result, Ok, Err}
+use Rattle.std.specs.Prelude.{◌≡◌, ◌⊎◌, Result, Err}
 use Rattle.tp_run.specs.declared.fault.RunFault.{RunFault}
 use Rattle.tp_run.specs.declared.fault.RunFault.TheVariants.{Opening, Spare, Port, OfferRefused, FlushFailed, OutputFailed, ConfirmRefused, LastFlushFailed, Unaccounted, Memory}
 
 -- the device isn't written
 abbrev pub IsUnbegun : {A : Type 0} → Result A RunFault → Type 0
-IsUnbegun (Ok x) = ⊥
 IsUnbegun (Err (Opening unopened)) = Unit {0}
 IsUnbegun (Err Spare) = Unit {0}
 IsUnbegun (Err Port) = Unit {0}
-IsUnbegun (Err OfferRefused) = ⊥
-IsUnbegun (Err FlushFailed) = ⊥
-IsUnbegun (Err OutputFailed) = ⊥
-IsUnbegun (Err ConfirmRefused) = ⊥
-IsUnbegun (Err LastFlushFailed) = ⊥
-IsUnbegun (Err Unaccounted) = ⊥
-IsUnbegun (Err Memory) = ⊥
+IsUnbegun _ = ⊥
 
 -- nothing is printed
 abbrev pub IsSilent : {A : Type 0} → Result A RunFault → Type 0
-IsSilent (Ok x) = ⊥
 IsSilent (Err (Opening unopened)) = Unit {0}
 IsSilent (Err Spare) = Unit {0}
 IsSilent (Err Port) = Unit {0}
 IsSilent (Err OfferRefused) = Unit {0}
 IsSilent (Err FlushFailed) = Unit {0}
-IsSilent (Err OutputFailed) = ⊥
-IsSilent (Err ConfirmRefused) = ⊥
-IsSilent (Err LastFlushFailed) = ⊥
-IsSilent (Err Unaccounted) = ⊥
-IsSilent (Err Memory) = ⊥
+IsSilent _ = ⊥
 
 -- a fault of a flush, which answers `given` where the device fails
 abbrev pub IsFlushFault : RunFault → RunFault → Type 0

@@ -24,8 +24,8 @@ abbrev pub confirms : ℕ → ℕ → List ℕ → List Entry
 confirms port from [] = []
 confirms port from (x ∷ xs) = Confirm port (from + length (x ∷ xs)) ∷ []
 
--- Bytes were appended, and the receipt is for the entry that confirms just the appended ones as a port's outputs from `from` on. `Are` holds of
--- the number of that entry, which is the next one where there is none, and of the bytes.
+-- Bytes were appended, and the receipt is for the entry that confirms just the appended ones as a port's outputs from `from` on. `Are`
+-- holds of the number of that entry, which is the next one where there is none, and of the bytes.
 pub record IsForOutput (port from : ℕ) (Are : ℕ → List ℕ → Type 0) (was now : Option (List ℕ)) (receipt : Receipted) : Type 0 where
   pub printed : List ℕ
   pub appended : Appends was now printed

@@ -156,7 +156,7 @@ fn switch_all<J: Naming, D: Disk, R: Wait>(
     })
 }
 
-/// The same over the store of a device that was opened, with the parts that were made of it.
+/// Makes one cut of the network of an opened device, by the parts that were made of it, and switches the areas of its store.
 fn compact_parts<J: Naming, D: Disk, R: Wait>(
     rt: &R,
     alloc: Global,
@@ -195,8 +195,8 @@ fn compact_parts<J: Naming, D: Disk, R: Wait>(
 /// output stays. So its journal is empty, also where it was full. Answers the device, and what is so of it then.
 ///
 /// Whatever a crash leaves at any moment of the call is what one just before might have left, or opens to where a prefix of the journal
-/// leads, with all that the device had: the store's contract says so (`Flusher::turn`, `Store::open_other`), which writes into the area that
-/// isn't open alone until its cut is whole and synced. After a call that was done, the prefix has each entry below the number that is
+/// leads, with all that the device had: the store's contract says so (`Flusher::turn`, `Store::open_other`), which writes into the area
+/// that isn't open alone until its cut is whole and synced. After a call that was done, the prefix has each entry below the number that is
 /// answered, and the generation is one more than before.
 pub fn compact<D: Disk, R: Wait>(
     rt: &R,

@@ -54,8 +54,8 @@ pub(crate) fn offer_rest<J: Naming>(
     }
 }
 
-/// The same, where the port stands in the book as `outset` says. Else none is handed in; but while no other thread was there since the
-/// device was opened, it does.
+/// Hands in the rest of the input where the port stands in the book as `outset` says, and none where it doesn't. It does while no
+/// other thread has been there since the device was opened.
 pub(crate) fn offer_at<J: Naming>(
     held: &mut Locked<J>,
     outset: Outset,

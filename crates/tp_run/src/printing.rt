@@ -97,8 +97,8 @@ fn is_all_shown(book: &Book, port: u8, mark: u64) -> Result<(), RunFault>
     Err(RunFault::OutputFailed)
 }
 
-/// The same, where as many outputs are confirmed in the book as `outset` says, and `mark` shows all of them and is above all entries.
-/// Else none is printed; but while only workers were there since the device was opened, and a flush came behind them, it is so.
+/// Prints and confirms where the book has confirmed as many outputs as `outset` says, and `mark` shows all of them and is above all
+/// entries. Else prints none; but it is so behind a flush, while only workers have been there since the opening.
 pub(crate) fn print_from<J: Naming, O: Write>(
     held: &mut Locked<J>,
     outset: Outset,

@@ -72,7 +72,7 @@ fn print_settled<J: Naming, D: Disk, O: Write>(
     print_from(held, outset, mark, out)
 }
 
-/// The same, once the lock is had.
+/// Takes the book's lock, and prints and confirms under it.
 fn print<J: Naming, D: Disk, O: Write, R: Wait>(
     rt: &R,
     shared: &Shared<J>,

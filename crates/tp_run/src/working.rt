@@ -34,7 +34,7 @@ fn begin<J: Naming, R: Wait>(rt: &R, alloc: Global, shared: &Shared<J>, watch: &
     watch.set_due(made, missing_in(&held, watch.every()));
 }
 
-/// Makes turns until none is left. A refused turn counts. It never waits for the flusher. The slips in `seat` are of just the turns made there.
+/// Makes turns until none is left. A refused turn counts. It never waits for the flusher. `seat` has the slips of just these turns.
 fn work<J: Naming, R: Wait>(
     rt: &R,
     alloc: Global,

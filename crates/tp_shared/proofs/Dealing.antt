@@ -134,7 +134,7 @@ module _ (cell : ℕ) (ss : List NodeSeal) (t : NodeSeal) (places : List Place) 
     | inr other ↦ subst (λ test. AreOfCell cell (name_of (ss ++ t ∷ [])) (suc (length ss)) (cond test (places ++ p ∷ []) places)) (sym (ne_eqb (length ss % 4) cell other)) (away other)
   ]
 
--- another name for each place, which is the same
+-- places keep what is known of them under names that are equal to theirs
 pub celled_named : (cell : ℕ) (names others : ℕ → ℕ) (count : ℕ) (places : List Place) → ((i : ℕ) → others i ≡ names i) → AreOfCell cell names count places → AreOfCell cell others count places
 celled_named cell names others count places same C = record {
   each = λ k p e. more_in (names (4 * k + cell)) (others (4 * k + cell)) (4 * k + cell) count count p (sym (same (4 * k + cell))) (omega arith) (C.each k p e);

@@ -7,8 +7,9 @@ use Rattle.tp_model.specs.declared.entry.Entry.{Entry}
 use Rattle.tp_model.specs.NodeState.{NodeState}
 use Rattle.tp_model.specs.Network.{Network}
 use Rattle.tp_model.specs.Runs.{World}
-use Rattle.tp_book.specs.Book.{BookValue, next_in_book}
+use Rattle.tp_book.specs.Book.{BookValue, next_in_book, world_of}
 use Rattle.tp_shared.specs.BookActs.{Grown, HostActed}
+use Rattle.tp_shared.specs.Frozen.{frozen_in, StayGone}
 use Rattle.tp_shared.specs.Positions.{IsNumberedFrom}
 use Rattle.tp_shared.specs.Seals.{Stage, Sealed}
 use Rattle.tp_shared.specs.Thawed.{ThawedAsTold}
@@ -19,7 +20,7 @@ use Rattle.tp_shared.specs.declared.told.Told.{Told}
 use Rattle.tp_shared.proofs.Copying.{since_flag}
 use Rattle.tp_shared.proofs.Positioned.{numbered_grown, numbered_still}
 use Rattle.tp_shared.proofs.Sealing.{all_after, floor_after, sealed_still, tied_after, tied_still}
-use Rattle.tp_shared.proofs.Telling.{since_more, since_still, told_fewer}
+use Rattle.tp_shared.proofs.Telling.{since_gone, since_more, since_still, told_fewer}
 use Rattle.tp_shared.proofs.Writing.{as_many, paired}
 
 module _ {roll_name first : ℕ} {start : Network NodeState} {node : ℕ → ℕ} {flusher : ℕ} {room : Option ℕ} {before : World NodeState} {b : BookValue} {seals : List NodeSeal} {roll : Roll Entry} {told : Seal Told}
@@ -28,7 +29,7 @@ module _ {roll_name first : ℕ} {start : Network NodeState} {node : ℕ → ℕ
   pub seal_at : (i : ℕ) (s : NodeSeal) → i < length start.nodes → s ≡ get_or seals i s → slice_get seals i ≡ Some s
   seal_at i s there is = slice_get_read seals (length seals) i s refl (let count = T.seal_count in omega (arith, count, there)) is
 
-  told_so : {now : Seal Told} → now.name ≡ told.name → ToldSince now.value (told_of before first (record { book = b; all = roll.items; numbered_from = now.value.numbered_from })) → ThawedAsTold now.value seals
+  told_so : {now : Seal Told} → now.name ≡ told.name → ToldSince now.value (told_of before first (record { book = b; all = roll.items; numbered_from = now.value.numbered_from; frozen = frozen_in seals })) → ThawedAsTold now.value seals
       → IsNumberedFrom now.value.numbered_from b → now.value.numbered_from ≤ now.value.base + length now.value.net.entries → AreTogether roll_name first start node flusher room before b seals roll now
   told_so name since thawed numbered reaches = record {
     idle = T.idle;
@@ -53,21 +54,22 @@ module _ {roll_name first : ℕ} {start : Network NodeState} {node : ℕ → ℕ
   -- the flusher is told nothing else
   pub told_still : {now : Seal Told} → now.name ≡ told.name → now.value ≡ told.value → AreTogether roll_name first start node flusher room before b seals roll now
   told_still name is =
-      told_so name (subst (λ (t : Told). ToldSince t (told_of before first (record { book = b; all = roll.items; numbered_from = t.numbered_from }))) (sym is) T.since) (subst (λ t. ThawedAsTold t seals) (sym is) T.thawed)
+      told_so name (subst (λ (t : Told). ToldSince t (told_of before first (record { book = b; all = roll.items; numbered_from = t.numbered_from; frozen = frozen_in seals }))) (sym is) T.since) (subst (λ t. ThawedAsTold t seals) (sym is) T.thawed)
       (subst (λ (t : Told). IsNumberedFrom t.numbered_from b) (sym is) T.numbered) (subst (λ (t : Told). t.numbered_from ≤ t.base + length t.net.entries) (sym is) T.reaches)
 
   -- it is told of the book as it is
-  pub told_anew : {now : Seal Told} (flag : Bool) → now.name ≡ told.name → now.value ≡ record (told_of before first (record { book = b; all = roll.items; numbered_from = told.value.numbered_from })) { thawed = flag }
+  pub told_anew : {now : Seal Told} (flag : Bool) → now.name ≡ told.name → now.value ≡ record (told_of before first (record { book = b; all = roll.items; numbered_from = told.value.numbered_from; frozen = frozen_in seals })) { thawed = flag }
       → ThawedAsTold now.value seals → AreTogether roll_name first start node flusher room before b seals roll now
   told_anew flag name is thawed =
-      let stage : Stage = record { book = b; all = roll.items; numbered_from = told.value.numbered_from } in
+      let stage : Stage = record { book = b; all = roll.items; numbered_from = told.value.numbered_from; frozen = frozen_in seals } in
       let low : told.value.numbered_from ≤ next_in_book b = let more = told_fewer before first told.value stage T.since in let reaches = T.reaches in omega (arith, more, reaches) in
-      told_so name (subst (λ (t : Told). ToldSince t (told_of before first (record { book = b; all = roll.items; numbered_from = t.numbered_from }))) (sym is) (since_flag (told_of before first stage) flag)) thawed
+      told_so name (subst (λ (t : Told). ToldSince t (told_of before first (record { book = b; all = roll.items; numbered_from = t.numbered_from; frozen = frozen_in seals }))) (sym is) (since_flag (told_of before first stage) flag)) thawed
       (subst (λ (t : Told). IsNumberedFrom t.numbered_from b) (sym is) T.numbered) (subst (λ (t : Told). t.numbered_from ≤ t.base + length t.net.entries) (sym is) low)
 
   -- the book is as it was, beside other seals
-  pub sealed_anew : {others : List NodeSeal} → length others ≡ length seals → Sealed node others b → ThawedAsTold told.value others → AreTogether roll_name first start node flusher room before b others roll told
-  sealed_anew many sealed thawed = record {
+  pub sealed_anew : {others : List NodeSeal} → length others ≡ length seals → Sealed node others b → ThawedAsTold told.value others → StayGone (world_of b) (frozen_in seals) (frozen_in others)
+      → AreTogether roll_name first start node flusher room before b others roll told
+  sealed_anew {others} many sealed thawed gone = record {
     idle = T.idle;
     seal_count = many ∙ T.seal_count;
     run_count = T.run_count;
@@ -78,7 +80,7 @@ module _ {roll_name first : ℕ} {start : Network NodeState} {node : ℕ → ℕ
     wires_are = T.wires_are;
     count_is = T.count_is;
     flusher_is = T.flusher_is;
-    since = T.since;
+    since = since_gone before first told.value b roll.items told.value.numbered_from (frozen_in seals) (frozen_in others) gone T.since;
     wire_count = T.wire_count;
     room_is = T.room_is;
     floor = T.floor;
@@ -89,8 +91,8 @@ module _ {roll_name first : ℕ} {start : Network NodeState} {node : ℕ → ℕ
 
   -- nothing was journalled
   pub acted_still : {new : BookValue} {others : List NodeSeal} → Grown (λ entries. entries ≡ []) b new → length new.runs ≡ length b.runs → length others ≡ length seals → Sealed node others new → ThawedAsTold told.value others
-      → AreTogether roll_name first start node flusher room before new others roll told
-  acted_still {new} G runs many sealed thawed = record {
+      → StayGone (world_of b) (frozen_in seals) (frozen_in others) → AreTogether roll_name first start node flusher room before new others roll told
+  acted_still {new} {others} G runs many sealed thawed gone = record {
     idle = G.ready ∙ T.idle;
     seal_count = many ∙ T.seal_count;
     run_count = runs ∙ T.run_count;
@@ -101,7 +103,7 @@ module _ {roll_name first : ℕ} {start : Network NodeState} {node : ℕ → ℕ
     wires_are = ap (λ s. s.wires) G.start ∙ T.wires_are;
     count_is = ap (λ s. length s.nodes) G.start ∙ T.count_is;
     flusher_is = T.flusher_is;
-    since = since_still before first told.value b new roll.items told.value.numbered_from G T.since;
+    since = since_still before first told.value b new roll.items told.value.numbered_from (frozen_in seals) (frozen_in others) G gone T.since;
     wire_count = T.wire_count;
     room_is = G.room ∙ T.room_is;
     floor = floor_after (λ (entries : List Entry). entries ≡ []) b new G first T.floor;
@@ -112,10 +114,10 @@ module _ {roll_name first : ℕ} {start : Network NodeState} {node : ℕ → ℕ
 
   -- what was journalled was written onto the roll
   pub acted_written : {Are : List Entry → Type 0} {new : BookValue} {others : List NodeSeal} {now : Roll Entry} (es : List (Entry × ℕ)) → map (λ (e : Entry × ℕ). e.0) es ≡ b.state.entries → map (λ (e : Entry × ℕ). e.1) es ≡ b.numbers
-      → Grown Are b new → length new.runs ≡ length b.runs → length others ≡ length seals → Sealed node others new → ThawedAsTold told.value others
+      → Grown Are b new → length new.runs ≡ length b.runs → length others ≡ length seals → Sealed node others new → ThawedAsTold told.value others → StayGone (world_of b) (frozen_in seals) (frozen_in others)
       → now.name ≡ roll.name → now.first ≡ roll.first → now.items ≡ roll.items ++ drop (length es) new.state.entries
       → AreTogether roll_name first start node flusher room before new others now told
-  acted_written {Are} {new} {others} {now} es entries_are numbers_are G runs many sealed thawed name same is =
+  acted_written {Are} {new} {others} {now} es entries_are numbers_are G runs many sealed thawed gone name same is =
       let counted = as_many es b.state.entries entries_are in
       record {
         idle = G.ready ∙ T.idle;
@@ -128,7 +130,7 @@ module _ {roll_name first : ℕ} {start : Network NodeState} {node : ℕ → ℕ
         wires_are = ap (λ s. s.wires) G.start ∙ T.wires_are;
         count_is = ap (λ s. length s.nodes) G.start ∙ T.count_is;
         flusher_is = T.flusher_is;
-        since = since_more Are before first told.value b new roll.items now.items told.value.numbered_from G (all_after Are b new G (length es) counted roll.items now.items is) T.since;
+        since = since_more Are before first told.value b new roll.items now.items told.value.numbered_from (frozen_in seals) (frozen_in others) G (all_after Are b new G (length es) counted roll.items now.items is) gone T.since;
         wire_count = T.wire_count;
         room_is = G.room ∙ T.room_is;
         floor = floor_after Are b new G first T.floor;
@@ -137,13 +139,13 @@ module _ {roll_name first : ℕ} {start : Network NodeState} {node : ℕ → ℕ
         reaches = T.reaches;
       }
 
-  -- acts of the host, of which nothing was journalled
+  -- acts of the host that journalled nothing
   pub hosted_still : {new : BookValue} → HostActed (λ entries. entries ≡ []) b new → AreTogether roll_name first start node flusher room before new seals roll told
-  hosted_still {new} H = acted_still H.grown (ap length H.runs) refl (sealed_still (λ (entries : List Entry). entries ≡ []) node seals b new T.sealed H) T.thawed
+  hosted_still {new} H = acted_still H.grown (ap length H.runs) refl (sealed_still (λ (entries : List Entry). entries ≡ []) node seals b new T.sealed H) T.thawed (λ i n F none. none)
 
   -- acts of the host, and what was journalled was written onto the roll
   pub hosted_written : {Are : List Entry → Type 0} {new : BookValue} {now : Roll Entry} (es : List (Entry × ℕ)) → map (λ (e : Entry × ℕ). e.0) es ≡ b.state.entries → map (λ (e : Entry × ℕ). e.1) es ≡ b.numbers
       → HostActed Are b new → now.name ≡ roll.name → now.first ≡ roll.first → now.items ≡ roll.items ++ drop (length es) new.state.entries
       → AreTogether roll_name first start node flusher room before new seals now told
   hosted_written {Are} {new} es entries_are numbers_are H name same is =
-      acted_written es entries_are numbers_are H.grown (ap length H.runs) refl (sealed_still Are node seals b new T.sealed H) T.thawed name same is
+      acted_written es entries_are numbers_are H.grown (ap length H.runs) refl (sealed_still Are node seals b new T.sealed H) T.thawed (λ i n F none. none) name same is

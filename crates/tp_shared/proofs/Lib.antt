@@ -1,5 +1,6 @@
 pub mod Untrimmed
 pub mod Waiting
+pub mod Gone
 pub mod Telling
 pub mod Holding
 pub mod Writing

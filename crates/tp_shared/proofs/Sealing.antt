@@ -57,7 +57,7 @@ get_found [] i x d e = cc
 get_found (y ∷ ys) zero x d e = cc
 get_found (y ∷ ys) (suc i) x d e = get_found ys i x d e
 
--- the seal of a node no turn of which is open
+-- the seal of a node that no turn is open for
 pub rest_seal : (name : ℕ) (s : NodeSeal) (b : BookValue) (i : ℕ) (n : NodeContents) → IsNodeOf b i n → slice_get b.runs i ≡ Some false → s.seal.name ≡ name → s.seal.value.state ≡ at_rest n → s.frozen ≡ is_some n.frozen
     → IsSealOf name s.seal.value.state s.frozen s.seal.name b i
 rest_seal name s b i n N free named shows flag =

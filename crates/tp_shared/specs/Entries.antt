@@ -1,4 +1,4 @@
--- What entries are of which process.
+-- The processes of entries.
 use Rattle.std.specs.Prelude.{◌≡◌, ◌⊎◌, ℕ, List, [], length, Result, Ok, Err}
 use Rattle.std.specs.List.{AllByRecursion}
 use Rattle.tp_model.specs.declared.entry.Entry.{Entry}

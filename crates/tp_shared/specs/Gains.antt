@@ -4,7 +4,7 @@ use Rattle.std.specs.List.{AllByRecursion, enumerate_from}
 use Rattle.tp_model.specs.declared.entry.Entry.{Entry}
 use Rattle.tp_shared.specs.Seals.{Stage}
 
--- What a hold of the book's lock did: entries of which `Are` holds were journalled, and the seat has just their slips. All
+-- What a hold of the book's lock did: entries as `Are` says were journalled, and the seat has just their slips. All
 -- slips that it had have numbers below theirs.
 pub record HoldNoted (Are : List Entry → Type 0) (first : ℕ) (old new : Stage) (seat_old seat_new : List (ℕ × Entry)) : Type 0 where
   pub entries : List Entry

@@ -17,11 +17,13 @@ use Rattle.tp_shared.specs.Agreement.{Agreement, at_rest}
 use Rattle.tp_shared.specs.declared.place.Place.{Place}
 use Rattle.tp_shared.specs.declared.seal.NodeSeal.{NodeSeal}
 
--- The book, all entries since it was opened, and a position from which on its entries have their positions as numbers.
+-- The book, all entries since it was opened, a position from which on its entries have their positions as numbers, and of each node
+-- whether pages of it are kept as they were when it recorded.
 pub record Stage : Type 0 where
   pub book : BookValue
   pub all : List Entry
   pub numbered_from : ℕ
+  pub frozen : List Bool
 
 -- Node i received these for an open turn that is one entry, and the book doesn't have them yet.
 pub record AreWaiting (b : BookValue) (i : ℕ) (takes : List Received) : Type 0 where

@@ -8,6 +8,7 @@ use Rattle.tp_model.specs.NodeState.{NodeState}
 use Rattle.tp_model.specs.Network.{Network}
 use Rattle.tp_model.specs.Runs.{World}
 use Rattle.tp_book.specs.Book.{BookValue}
+use Rattle.tp_shared.specs.Frozen.{frozen_in}
 use Rattle.tp_shared.specs.Positions.{IsNumberedFrom}
 use Rattle.tp_shared.specs.Seals.{Sealed, IsTied}
 use Rattle.tp_shared.specs.Thawed.{ThawedAsTold}
@@ -39,8 +40,8 @@ pub record AreTogether (roll_name first : ℕ) (start : Network NodeState) (node
   pub count_is : length book.state.start.nodes ≡ length start.nodes
   -- the flusher has the key of this seal
   pub flusher_is : told.name ≡ flusher
-  -- from what the flusher was told, acts that are no trim lead to the book as it is
-  pub since : ToldSince told.value (told_of before first (record { book = book; all = roll.items; numbered_from = told.value.numbered_from }))
+  -- from what the flusher was told, acts that are no trim lead to the book as it is, and pages that had gone are gone
+  pub since : ToldSince told.value (told_of before first (record { book = book; all = roll.items; numbered_from = told.value.numbered_from; frozen = frozen_in seals }))
   -- the network has a place for a wire at each of four links a node, and at each port
   pub wire_count : length start.wires ≡ 4 * length start.nodes + length start.ports
   -- the book counts with the bytes that groups may fill on the device

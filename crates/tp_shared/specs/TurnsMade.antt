@@ -36,7 +36,7 @@ pub record TurnCommitted (start : Network NodeState) (number : ℕ) (opened : Op
   pub added : Added number node.live (opened_acts number opened count) (without_run found number) left
 
 -- The turn of a node: it was opened in one hold of the book's lock, ran as far as it may, and was journalled in another by how it was
--- opened. What it answers that it took is what its opening took: the takes that the book got then, or those of the entry that it got at last.
+-- opened. It answers that it took what its opening took: the takes that the book got then, or those of the entry that it got at last.
 pub record TurnMade (start : Network NodeState) (number quantum : ℕ) (turn : NodeTurn) (old new : InHand) : Type 0 where
   pub found : NodeContents
   pub settled : NodeContents

@@ -93,7 +93,7 @@ fn commit<J: Naming, R: Wait>(
     held.commit_seen(place, seat, seen, number, opened, stretch)
 }
 
-// A turn of a node whose lock is held: one hold of the book's lock to open it, one to commit it, and that lock is let go while the node runs.
+// A turn of a node whose lock is held: it is opened in one hold of the book's lock and committed in another. The node runs between them.
 fn turn_of<J: Naming, G: Gate, R: Wait>(
     rt: &R,
     gate: &G,

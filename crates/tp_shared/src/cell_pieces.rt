@@ -1,6 +1,7 @@
 //! Frozen nodes under their locks.
 
-ghost use Rattle.std.specs.Prelude.{◌≡◌, ◌<◌, ◌%◌, true, length};
+ghost use Rattle.std.specs.Prelude.{◌≡◌, ◌<◌, ◌%◌, ◌&&◌, true, false, length};
+ghost use Rattle.tp_shared.specs.Frozen.{has_page, keeps_pages};
 ghost use Rattle.tp_shared.specs.Pieces.{IsFrozenHead, IsFrozenPage};
 ghost use Rattle.tp_shared.specs.Told.{ToldSince};
 
@@ -28,6 +29,7 @@ impl<const I: usize, J: Naming> Cell<I, J> {
         requires here { number % 4 ≡ I }
         ensures name { key.new.name ≡ key.old.name }
         ensures since { ToldSince key.old.value key.new.value }
+        ensures kept { result ≡ keeps_pages key.new.value.frozen number }
         ensures head { result ≡ true → IsFrozenHead key.new.value.net number out.new }
     {
         let place = &mut self.places[number as usize / 4];
@@ -49,6 +51,7 @@ impl<const I: usize, J: Naming> Cell<I, J> {
         requires here { number % 4 ≡ I }
         ensures name { key.new.name ≡ key.old.name }
         ensures since { ToldSince key.old.value key.new.value }
+        ensures kept { result ≡ (keeps_pages key.new.value.frozen number && has_page key.new.value.net number page) }
         ensures page { result ≡ true → IsFrozenPage key.new.value.net number page out.new }
     {
         let place = &mut self.places[number as usize / 4];
@@ -56,11 +59,21 @@ impl<const I: usize, J: Naming> Cell<I, J> {
     }
 
     /// Lets its frozen pages go.
-    pub(crate) fn drop_frozen<R: Wait>(&mut self, rt: &R, book: &Mutex<Locked<J>>, number: u8)
+    pub(crate) fn drop_frozen<R: Wait>(
+        &mut self,
+        rt: &R,
+        book: &Mutex<Locked<J>>,
+        key: &mut Key<Told>,
+        number: u8,
+    )
+        requires name { key.old.name ≡ J.flusher }
         requires there { number < length J.start.nodes }
         requires here { number % 4 ≡ I }
+        ensures name { key.new.name ≡ key.old.name }
+        ensures since { ToldSince key.old.value key.new.value }
+        ensures gone { keeps_pages key.new.value.frozen number ≡ false }
     {
         let place = &mut self.places[number as usize / 4];
-        drop_of(rt, book, place, number);
+        drop_of(rt, book, place, key, number);
     }
 }

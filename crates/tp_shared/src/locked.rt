@@ -1,8 +1,10 @@
 //! What lies under the book's lock.
 
-ghost use Rattle.std.specs.Prelude.{◌≡◌, ◌<◌, ◌≤◌, ◌+◌, ◌-◌, ◌*◌, None, [], length, IfErr, MatchResult};
+ghost use Rattle.std.specs.Prelude.{◌≡◌, ◌<◌, ◌≤◌, ◌+◌, ◌-◌, ◌*◌, ℕ, None, [], true, length, IfErr, MatchResult};
 ghost use Rattle.tp_model.specs.declared.limits.TheConstants.{MAX_STEPS};
+ghost use Rattle.tp_book.specs.Needs.{has_recorded_in};
 ghost use Rattle.tp_shared.specs.Entries.{IsTurnRefusal, OpenedEntries};
+ghost use Rattle.tp_shared.specs.Frozen.{frozen_in, keeps_pages};
 ghost use Rattle.tp_shared.specs.Gains.{HoldNoted};
 ghost use Rattle.tp_shared.specs.Positions.{IsNumberedFrom};
 ghost use Rattle.tp_shared.specs.Seals.{Sealed, IsTied, KeyShows, ShowsOpen, ShowsRun};
@@ -29,7 +31,8 @@ use tp_token::{Roll, Seal, agree, turn};
 use tp_turn::{Opened, Stretch};
 
 /// The book, the seal of each node, the roll of all entries since the opening, the seal of what the flusher was told, and the roll of what
-/// was seen of the book. Contracts see the book, the roll of entries, and from which position on entries have their positions as numbers.
+/// was seen of the book. Contracts see the book, the roll of entries, from which position on entries have their positions as numbers, and
+/// of which nodes pages are kept as they recorded.
 #[derive(Drop)]
 pub struct Locked<J: Naming> {
     pub(crate) book: Book,
@@ -41,12 +44,13 @@ pub struct Locked<J: Naming> {
 }
 
 impl<J: Naming> Model for Locked<J> {
+    ghost use Rattle.tp_shared.specs.Frozen.{frozen_in};
     ghost use Rattle.tp_shared.specs.Seals.{Stage};
     ghost use Rattle.tp_shared.specs.Together.{AreTogether};
 
     ghost Value = { Stage };
 
-    ghost view = { λ l. record { book = l.book; all = l.roll.items; numbered_from = l.told.value.numbered_from } };
+    ghost view = { λ l. record { book = l.book; all = l.roll.items; numbered_from = l.told.value.numbered_from; frozen = frozen_in l.seals.items } };
 
     ghost invariant = { λ l. AreTogether J.roll J.first J.start J.node J.flusher J.room J.before l.book l.seals.items l.roll l.told };
 }
@@ -67,8 +71,8 @@ impl<J: Naming> Locked<J> {
         requires roll { (roll.name ≡ J.roll) × (roll.first ≡ J.first) × (roll.items ≡ []) }
         requires tied { IsTied J.first roll.items book }
         requires room { (book.room ≡ J.room) × (book.floor ≤ J.first - book.base) }
-        requires told { (told.name ≡ J.flusher) × (told.value ≡ told_of J.before J.first (record { book = book; all = []; numbered_from = J.first })) }
-        ensures { result ≡ record { book = book; all = []; numbered_from = J.first } }
+        requires told { (told.name ≡ J.flusher) × (told.value ≡ told_of J.before J.first (record { book = book; all = []; numbered_from = J.first; frozen = frozen_in seals.items })) }
+        ensures { result ≡ record { book = book; all = []; numbered_from = J.first; frozen = frozen_in seals.items } }
     {
         let _count = book.entries().len();
         Locked {
@@ -89,10 +93,11 @@ impl<J: Naming> Locked<J> {
     }
 
     /// All entries since the opening are the book's, under the numbers from the first on, and from a position on the entries have their
-    /// positions as numbers. It does nothing.
+    /// positions as numbers. Pages are kept only of nodes that have recorded in the snapshot that runs. It does nothing.
     pub fn known(&self)
         ensures tied { IsTied J.first self.now.all self.now.book }
         ensures numbered { IsNumberedFrom self.now.numbered_from self.now.book }
+        ensures frozen { (i : ℕ) → keeps_pages self.now.frozen i ≡ true → has_recorded_in self.now.book.state.snapshot i ≡ true }
         ensures nodes { length self.now.book.state.start.nodes ≡ length J.start.nodes }
         ensures ports { length self.now.book.state.ports ≡ length J.start.ports }
     {
@@ -100,8 +105,8 @@ impl<J: Naming> Locked<J> {
     }
 
     /// Opens a node's turn in the form of the book: the node records where it is asked to, takes or receives what it may on links 0 to 3 in
-    /// order, and a turn of it is reserved. Answers how it was opened. What it received for a turn that is one entry stays on its lines, and
-    /// its seal and key say so.
+    /// order, and a turn of it is reserved. Answers how it was opened. What it received for a turn that is one entry stays on its lines,
+    /// and its seal and key say so.
     pub(crate) fn begin(
         &mut self,
         place: &mut Place,

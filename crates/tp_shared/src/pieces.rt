@@ -1,11 +1,12 @@
 //! Pieces of the image of a node that recorded, while a snapshot runs.
 
-ghost use Rattle.std.specs.Prelude.{◌≡◌, ◌<◌, ◌*◌, ◌&&◌, Some, None, true, false, is_some, length, nat_lt};
+ghost use Rattle.std.specs.Prelude.{◌≡◌, ◌<◌, ◌*◌, ◌&&◌, Some, None, true, false, is_some, length, nat_lt, set, slice_get};
 ghost use Rattle.tp_model.specs.declared.limits.TheConstants.{PAGE_BYTES};
 ghost use Rattle.tp_model.specs.FrozenAs.{IsFrozenAs};
 ghost use Rattle.tp_model.specs.NodeState.{NodeState};
 ghost use Rattle.tp_book.specs.Book.{world_of};
 ghost use Rattle.tp_shared.specs.Agreement.{at_rest};
+ghost use Rattle.tp_shared.specs.Frozen.{keeps_pages};
 ghost use Rattle.tp_shared.specs.Pieces.{IsFrozenHead, IsFrozenPage};
 ghost use Rattle.tp_shared.specs.Seals.{KeyShows};
 ghost use Rattle.tp_shared.specs.Told.{ToldSince, told_of};
@@ -21,7 +22,8 @@ use tp_node::Node;
 use tp_token::{Key, agree, turn};
 
 impl<J: Naming> Locked<J> {
-    /// Changes nothing. Where the node is frozen, it is as the book has it recorded in the snapshot that runs.
+    /// Changes nothing. The node is the one that the book has, and frozen where pages of it are kept; then it is as the book has it
+    /// recorded in the snapshot that runs.
     pub(crate) fn audit_frozen(&mut self, place: &mut Place, number: u8)
         requires there { number < length J.start.nodes }
         requires named { place.old.key.name ≡ J.node number }
@@ -30,6 +32,8 @@ impl<J: Naming> Locked<J> {
         ensures node { place.new.node ≡ place.old.node }
         ensures named { place.new.key.name ≡ place.old.key.name }
         ensures shows { KeyShows place.new }
+        ensures kept { keeps_pages self.old.frozen number ≡ is_some place.old.node.frozen }
+        ensures there { slice_get (world_of self.old.book).live.nodes number ≡ Some place.old.node.live }
         ensures frozen { (node : NodeState) → place.old.node.frozen ≡ Some node → IsFrozenAs (world_of self.old.book) number node }
     {
         self.book.known();
@@ -49,6 +53,8 @@ impl<J: Naming> Locked<J> {
         ensures shows { KeyShows place.new }
         ensures key { (key.new.name ≡ key.old.name) × (key.new.value ≡ told_of J.before J.first self.old) }
         ensures since { ToldSince key.old.value key.new.value }
+        ensures kept { keeps_pages key.new.value.frozen number ≡ is_some place.old.node.frozen }
+        ensures there { slice_get key.new.value.net.live.nodes number ≡ Some place.old.node.live }
         ensures frozen { (node : NodeState) → place.old.node.frozen ≡ Some node → IsFrozenAs key.new.value.net number node }
     {
         self.audit_frozen(place, number);
@@ -61,7 +67,7 @@ impl<J: Naming> Locked<J> {
         requires named { key.old.name ≡ J.node number }
         requires shown { key.old.value.state ≡ record (at_rest node.now) { frozen = key.old.value.state.frozen } }
         requires thawed { node.now.frozen ≡ None }
-        ensures same { self.new ≡ self.old }
+        ensures gone { self.new ≡ record self.old { frozen = set self.old.frozen number false } }
         ensures named { key.new.name ≡ key.old.name }
         ensures shown { key.new.value.state ≡ at_rest node.now }
     {
@@ -70,6 +76,29 @@ impl<J: Naming> Locked<J> {
         let now = Shown::free(node);
         turn(&mut here.seal, key, &now);
         here.frozen = false;
+    }
+
+    /// The same. The flusher is told of the book, in which no page of the node is kept.
+    pub(crate) fn thaw_told(
+        &mut self,
+        key: &mut Key<Shown>,
+        told: &mut Key<Told>,
+        node: &Node,
+        number: u8,
+    )
+        requires there { number < length J.start.nodes }
+        requires named { key.old.name ≡ J.node number }
+        requires shown { key.old.value.state ≡ record (at_rest node.now) { frozen = key.old.value.state.frozen } }
+        requires thawed { node.now.frozen ≡ None }
+        requires name { told.old.name ≡ J.flusher }
+        ensures named { key.new.name ≡ key.old.name }
+        ensures shown { key.new.value.state ≡ at_rest node.now }
+        ensures name { told.new.name ≡ told.old.name }
+        ensures since { ToldSince told.old.value told.new.value }
+        ensures gone { keeps_pages told.new.value.frozen number ≡ false }
+    {
+        self.thaw(key, node, number);
+        self.tell(told);
     }
 }
 
@@ -90,6 +119,8 @@ fn audit<J: Naming, R: Wait>(
     ensures shows { KeyShows place.new }
     ensures name { key.new.name ≡ key.old.name }
     ensures since { ToldSince key.old.value key.new.value }
+    ensures kept { keeps_pages key.new.value.frozen number ≡ is_some place.old.node.frozen }
+    ensures there { slice_get key.new.value.net.live.nodes number ≡ Some place.old.node.live }
     ensures frozen { (node : NodeState) → place.old.node.frozen ≡ Some node → IsFrozenAs key.new.value.net number node }
 {
     let mut held = book.lock(rt);
@@ -114,6 +145,7 @@ pub(crate) fn head_of<J: Naming, R: Wait>(
     ensures name { key.new.name ≡ key.old.name }
     ensures since { ToldSince key.old.value key.new.value }
     ensures answer { result ≡ is_some place.old.node.frozen }
+    ensures kept { keeps_pages key.new.value.frozen number ≡ is_some place.old.node.frozen }
     ensures head { result ≡ true → IsFrozenHead key.new.value.net number out.new }
     ensures none { result ≡ false → out.new ≡ out.old }
 {
@@ -144,6 +176,8 @@ pub(crate) fn page_of<J: Naming, R: Wait>(
     ensures name { key.new.name ≡ key.old.name }
     ensures since { ToldSince key.old.value key.new.value }
     ensures answer { result ≡ is_some place.old.node.frozen && nat_lt (PAGE_BYTES * page) (length place.old.node.live.memory) }
+    ensures kept { keeps_pages key.new.value.frozen number ≡ is_some place.old.node.frozen }
+    ensures there { slice_get key.new.value.net.live.nodes number ≡ Some place.old.node.live }
     ensures page { result ≡ true → IsFrozenPage key.new.value.net number page out.new }
     ensures none { result ≡ false → out.new ≡ out.old }
 {
@@ -155,23 +189,28 @@ pub(crate) fn page_of<J: Naming, R: Wait>(
     true
 }
 
-/// Lets the frozen pages of a node go whose lock is held, and then says so under the book's.
+/// Lets the frozen pages of a node go whose lock is held, and then says so under the book's; the flusher is told of the book as it is then.
 pub(crate) fn drop_of<J: Naming, R: Wait>(
     rt: &R,
     book: &Mutex<Locked<J>>,
     place: &mut Place,
+    told: &mut Key<Told>,
     number: u8,
 )
     requires there { number < length J.start.nodes }
     requires named { place.old.key.name ≡ J.node number }
     requires shows { KeyShows place.old }
+    requires name { told.old.name ≡ J.flusher }
     ensures live { place.new.node.live ≡ place.old.node.live }
     ensures frozen { place.new.node.frozen ≡ None }
     ensures named { place.new.key.name ≡ place.old.key.name }
     ensures shows { KeyShows place.new }
+    ensures name { told.new.name ≡ told.old.name }
+    ensures since { ToldSince told.old.value told.new.value }
+    ensures gone { keeps_pages told.new.value.frozen number ≡ false }
 {
     let Place { node, key } = place;
     node.drop_frozen();
     let mut held = book.lock(rt);
-    held.thaw(key, node, number);
+    held.thaw_told(key, told, node, number);
 }

@@ -43,7 +43,7 @@ impl<J: Naming> Locked<J> {
         asked
     }
 
-    /// The same. The book was seen as it was found and as it was left.
+    /// Records, and has the book seen as it was found and as it was left.
     pub(crate) fn record_seen(&mut self, place: &mut Place, number: u8) -> Recorded<J>
         requires there { number < length J.start.nodes }
         requires named { place.old.key.name ≡ J.node number }

@@ -3,6 +3,7 @@
 ghost use Rattle.std.specs.Prelude.{◌≡◌, ◌<◌, ◌≤◌, [], length, IfErr, MatchResult};
 ghost use Rattle.tp_model.specs.declared.limits.TheConstants.{MAX_STEPS};
 ghost use Rattle.tp_shared.specs.Entries.{IsTurnRefusal, CountedTakes, AreTakes, TakesOf, TookAlone};
+ghost use Rattle.tp_shared.specs.Frozen.{frozen_in};
 ghost use Rattle.tp_shared.specs.Gains.{Gained};
 ghost use Rattle.tp_shared.specs.Holds.{in_hand};
 ghost use Rattle.tp_shared.specs.Named.{Names};
@@ -65,7 +66,7 @@ impl<J: Naming> Shared<J> {
         requires { Names J.roll J.first J.start J.node J.mark J.flusher J.sights J.room parts }
         ensures first { J.first ≡ parts.first }
         ensures room { J.room ≡ parts.book.room }
-        ensures key { (result.1.name ≡ J.flusher) × (result.1.value ≡ told_of J.before J.first (record { book = parts.book; all = []; numbered_from = J.first })) }
+        ensures key { (result.1.name ≡ J.flusher) × (result.1.value ≡ told_of J.before J.first (record { book = parts.book; all = []; numbered_from = J.first; frozen = frozen_in parts.seals })) }
     {
         let now = Told::first::<J>(&parts);
         parts.book.known();
@@ -121,12 +122,12 @@ impl<J: Naming> Shared<J> {
         self.ports
     }
 
-    /// A turn of the node `number`, in the form that the book has as it is opened. The node records where a snapshot asks it to. In a book of
-    /// form Plain it takes what came in on its links 0 to 3, in order, at most three tokens of each, a Marker among them, each with an entry.
-    /// In one of form Turns it closes at Markers, and receives what stands in front of its lines, which stays there until the turn's one
-    /// entry. A turn is reserved, and the node runs for at most `quantum` steps while the book's lock is let go. `seat` gets the slips of
-    /// the entries. Where no turn can be reserved, or memory or the store is wanting, nothing ran, and the slips of what was taken are in
-    /// `seat`. `seen` gets the book as it was found and as it was left, for each hold of its lock.
+    /// A turn of the node `number`, in the form that the book has as it is opened. The node records where a snapshot asks it to. In a book
+    /// of form Plain it takes what came in on its links 0 to 3, in order, at most three tokens of each, a Marker among them, each with an
+    /// entry. In one of form Turns it closes at Markers, and receives what stands in front of its lines, which stays there until the turn's
+    /// one entry. A turn is reserved, and the node runs for at most `quantum` steps while the book's lock is let go. `seat` gets the slips
+    /// of the entries. Where no turn can be reserved, or memory or the store is wanting, nothing ran, and the slips of what was taken are
+    /// in `seat`. `seen` gets the book as it was found and as it was left, for each hold of its lock.
     pub fn turn<G: Gate, R: Wait>(
         &self,
         rt: &R,
@@ -162,8 +163,8 @@ impl<J: Naming> Shared<J> {
         }
     }
 
-    /// The node `number` records where a snapshot asks it to. It takes nothing, and nothing runs. Answers whether it recorded, with the book
-    /// as it was found and as it was left.
+    /// The node `number` records where a snapshot asks it to. It takes nothing, and nothing runs. Answers whether it recorded, with the
+    /// book as it was found and as it was left.
     pub fn record<R: Wait>(&self, rt: &R, number: u8) -> Recorded<J>
         requires { number < length J.start.nodes }
         ensures recorded { RecordedIn J.start number result.seen result.done }

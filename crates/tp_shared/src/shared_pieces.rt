@@ -1,6 +1,7 @@
 //! What the flusher does with a node that recorded, while a snapshot runs.
 
-ghost use Rattle.std.specs.Prelude.{◌≡◌, ◌<◌, true, length};
+ghost use Rattle.std.specs.Prelude.{◌≡◌, ◌<◌, ◌&&◌, true, false, length};
+ghost use Rattle.tp_shared.specs.Frozen.{has_page, keeps_pages};
 ghost use Rattle.tp_shared.specs.Pieces.{IsFrozenHead, IsFrozenPage};
 ghost use Rattle.tp_shared.specs.Told.{ToldSince};
 
@@ -13,8 +14,8 @@ use tp_model::limits::{IMAGE_HEAD_BYTES, PAGE_BYTES};
 use tp_token::Key;
 
 impl<J: Naming> Shared<J> {
-    /// The bytes in front of the memory in the image of node `number`, as it recorded in the snapshot that runs. False where no
-    /// pages of it are kept. `key` shows then what is told of the book.
+    /// The bytes in front of the memory in the image of node `number`, as it recorded in the snapshot that runs. False exactly
+    /// where no pages of it are kept. `key` shows then what is told of the book, also of which nodes pages are kept.
     pub fn frozen_head<R: Wait>(
         &self,
         rt: &R,
@@ -26,6 +27,7 @@ impl<J: Naming> Shared<J> {
         requires there { number < length J.start.nodes }
         ensures name { key.new.name ≡ key.old.name }
         ensures since { ToldSince key.old.value key.new.value }
+        ensures kept { result ≡ keeps_pages key.new.value.frozen number }
         ensures head { result ≡ true → IsFrozenHead key.new.value.net number out.new }
     {
         let book = self.book();
@@ -37,8 +39,8 @@ impl<J: Naming> Shared<J> {
         }
     }
 
-    /// The page `page` of its memory, as it recorded. False where no pages of it are kept, or it has no such page. Turns of the
-    /// node may fall between two pages.
+    /// The page `page` of its memory, as it recorded. False exactly where no pages of it are kept, or it has no such page. Turns of
+    /// the node may fall between two pages.
     pub fn frozen_page<R: Wait>(
         &self,
         rt: &R,
@@ -51,6 +53,7 @@ impl<J: Naming> Shared<J> {
         requires there { number < length J.start.nodes }
         ensures name { key.new.name ≡ key.old.name }
         ensures since { ToldSince key.old.value key.new.value }
+        ensures kept { result ≡ (keeps_pages key.new.value.frozen number && has_page key.new.value.net number page) }
         ensures page { result ≡ true → IsFrozenPage key.new.value.net number page out.new }
     {
         let book = self.book();
@@ -62,16 +65,21 @@ impl<J: Naming> Shared<J> {
         }
     }
 
-    /// Lets the frozen pages of node `number` go, once all are out.
-    pub fn drop_frozen<R: Wait>(&self, rt: &R, number: u8)
+    /// Lets the frozen pages of node `number` go, once all are out. `key` shows then what is told of the book: no page of the node is
+    /// kept, and where it has recorded in the snapshot that runs, none is from now on, until the next one.
+    pub fn drop_frozen<R: Wait>(&self, rt: &R, key: &mut Key<Told>, number: u8)
+        requires name { key.old.name ≡ J.flusher }
         requires there { number < length J.start.nodes }
+        ensures name { key.new.name ≡ key.old.name }
+        ensures since { ToldSince key.old.value key.new.value }
+        ensures gone { keeps_pages key.new.value.frozen number ≡ false }
     {
         let book = self.book();
         match number % 4 {
-            0 => lock_soon(rt, &self.c0).drop_frozen(rt, book, number),
-            1 => lock_soon(rt, &self.c1).drop_frozen(rt, book, number),
-            2 => lock_soon(rt, &self.c2).drop_frozen(rt, book, number),
-            _ => lock_soon(rt, &self.c3).drop_frozen(rt, book, number),
+            0 => lock_soon(rt, &self.c0).drop_frozen(rt, book, key, number),
+            1 => lock_soon(rt, &self.c1).drop_frozen(rt, book, key, number),
+            2 => lock_soon(rt, &self.c2).drop_frozen(rt, book, key, number),
+            _ => lock_soon(rt, &self.c3).drop_frozen(rt, book, key, number),
         }
     }
 }

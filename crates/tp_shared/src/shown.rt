@@ -20,7 +20,7 @@ impl Model for Shown {
 }
 
 impl Shown {
-    // What the contract names. A caller names it by what it lends as `_value`.
+    // Gives the ghost value `state`, which a contract says by what is lent as `_value`. It does nothing.
     fn of<T>(_value: &T) -> Shown
         ghost state: { Agreement }
         ensures { result.state ≡ state }

@@ -14,8 +14,8 @@ use std::marker::Model;
 use tp_token::Key;
 
 /// A network with its book, how many entries the kept cut holds, and the journal; whether its cut is whole and no node's pages are
-/// kept any more; from which position on the entries have their positions as numbers; and the book's form. It has no bytes: contracts
-/// alone see it.
+/// kept any more; from which position on the entries have their positions as numbers; the book's form; and of each node whether pages
+/// are kept as they were when it recorded. It has no bytes: contracts alone see it.
 #[derive(Drop)]
 pub struct Told {
     pub ghost net: { MarkedNetwork NodeState },
@@ -24,6 +24,7 @@ pub struct Told {
     pub ghost thawed: { Bool },
     pub ghost numbered_from: { ℕ },
     pub ghost form: { Form },
+    pub ghost frozen: { List Bool },
 }
 
 impl Model for Told {
@@ -32,11 +33,12 @@ impl Model for Told {
 
 impl Told {
     ghost use Rattle.std.specs.Prelude.{◌≡◌, ◌+◌, [], true, length};
+    ghost use Rattle.tp_shared.specs.Frozen.{frozen_in};
     ghost use Rattle.tp_shared.specs.TrimmedTo.{trim_of};
     ghost use Rattle.tp_shared.specs.Told.{told_of};
     ghost use Rattle.tp_shared.specs.declared.told.Told.{Told};
 
-    // What the contract names. A caller names it by what it lends as `_value`.
+    // Gives the ghost value `told`, which a contract says by what is lent as `_value`. It does nothing.
     fn of<T>(_value: &T) -> Told
         ghost told: { Told }
         ensures { result ≡ told }
@@ -54,7 +56,7 @@ impl Told {
     /// What is told of the book once it is trimmed to its whole cut, where `key` shows what was told of that before. The entries
     /// behind those have their positions as numbers.
     pub(crate) fn trimmed<J: Naming>(locked: &Locked<J>, key: &Key<Told>) -> Told
-        ensures { result ≡ told_of J.before J.first (record { book = trim_of locked.now.book; all = locked.now.all; numbered_from = key.now.value.base + length key.now.value.net.entries }) }
+        ensures { result ≡ told_of J.before J.first (record { book = trim_of locked.now.book; all = locked.now.all; numbered_from = key.now.value.base + length key.now.value.net.entries; frozen = locked.now.frozen }) }
     {
         let both = (locked, key);
         Told::of(&both)
@@ -80,7 +82,7 @@ impl Told {
 
     /// What is first told of the book of parts.
     pub(crate) fn first<J: Naming>(parts: &Parts) -> Told
-        ensures { result ≡ told_of J.before J.first (record { book = parts.now.book; all = []; numbered_from = J.first }) }
+        ensures { result ≡ told_of J.before J.first (record { book = parts.now.book; all = []; numbered_from = J.first; frozen = frozen_in parts.now.seals }) }
     {
         Told::of(parts)
     }

@@ -78,7 +78,7 @@ got_set start journal stands old read new up x y z I G =
       holds = subst (λ n. HasPut n (bytes_put G.pieces) x.held z.held) I.next (subst (λ h. HasPut y.next (bytes_put G.pieces) h z.held) held G.holds);
     }
 
--- a device that was read, so that its bytes are the same, and then more, behind outputs that were set out where their ports stand
+-- a device was read, which left its bytes as they are, and was then written, with outputs set out where their ports stand
 pub into : (start : Network NodeState) (result : Result Ended StreamFault) (o : Opened) (was set now : List OutputValue) (old read new : State) → LeavesNothingNew old read
     → read.now.bytes ≡ old.now.bytes → verdict old.now.bytes ≡ Ok o → EachWith (IsSetOut (stands_opened o)) was set → ServedInto start result set now read new
     → StreamedInto start result was now old new

@@ -21,8 +21,8 @@ use Rattle.tp_stream.specs.Streamed.{Streamed}
 abbrev pub port_or_fresh : Network NodeState → ℕ → Port
 port_or_fresh s port = get_or s.ports port fresh_value.port
 
--- Bytes are outputs of a port from the position `from` on: a front of those that it has there, none of which is confirmed, in the
--- network to which the first `number` entries of a journal lead.
+-- Bytes are outputs of a port from the position `from` on: a front of the unconfirmed ones that it has there, in the network to
+-- which the first `number` entries of a journal lead.
 pub record LeadsToBytes (start : Network NodeState) (journal : List Entry) (number port from : ℕ) (bytes : List ℕ) : Type 0 where
   pub state : Network NodeState
   pub leads : after t414 start (take number journal) ≡ Some state
@@ -77,12 +77,12 @@ pub record AreShown (start : Network NodeState) (journal : List Entry) (was now 
   pub reads : verdict old.now.bytes ≡ Ok opened
   pub each : EachWith (λ a b. Got start journal (from_of (stands_opened opened a.port) (given_of a)) old new a b) was now
 
--- What a stream leaves, and what its sinks got beside the same journal; or no sink has changed.
+-- What a stream leaves, and what its sinks got in that journal; or no sink has changed.
 pub record StreamedInto (start : Network NodeState) (result : Result Ended StreamFault) (was now : List OutputValue) (old new : State) : Type 0 where
   pub streamed : Streamed start result old new
   pub outputs : (map given_of now ≡ map given_of was) ⊎ AreShown start streamed.journal was now old new
 
--- The same of outputs that are set out.
+-- What a stream leaves whose outputs are set out, and what they got in that journal; or none has changed.
 pub record ServedInto (start : Network NodeState) (result : Result Ended StreamFault) (was now : List OutputValue) (old new : State) : Type 0 where
   pub streamed : Streamed start result old new
   pub outputs : EachWith (λ a b. Got start streamed.journal a.next old new a b) was now

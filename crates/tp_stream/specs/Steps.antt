@@ -41,13 +41,13 @@ abbrev pub PutsShown : BookValue → ℕ → OutputValue → OutputValue → Typ
 PutsShown b mark old new =
     Extends [] old new ⊎ (((port_in b old.port).out_base ≤ old.next) × Extends (shown_from b old.port mark old.next) old new)
 
--- The same of what is left of a book.
+-- Outputs were put so, of what confirms have left of a book.
 pub record PutsLeft (b : BookValue) (mark : ℕ) (old new : OutputValue) : Type 0 where
   pub now : BookValue
   pub left : AreLeft b now
   pub puts : PutsShown now mark old new
 
--- The first entries of a world's journal, all of them below its mark, lead to a network of which the ports of a book are left.
+-- The first entries of a world's journal, all of them below its mark, lead to a network that a book's ports are what is left of.
 pub record PortsStand (start : Network NodeState) (w : World NodeState) (b : BookValue) : Type 0 where
   pub number : ℕ
   pub few : number ≤ w.mark
@@ -69,7 +69,7 @@ put_by [] = []
 put_by (s ∷ ss) = s.bytes ++ put_by ss
 
 -- A step put outputs of a port at a position, between two moments of the flusher: they are shown where the first entries of the journal
--- that it had lead, all of which it had stored.
+-- that it had by then lead, all of them stored.
 pub record IsPutStep (start : Network NodeState) (old new : Flushing) (port from : ℕ) (s : PutStep) : Type 0 where
   pub before : Walked old s.at
   pub behind : Walked s.at new

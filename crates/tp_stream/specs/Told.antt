@@ -16,7 +16,7 @@ use Rattle.tp_stream.specs.Standing.{from_of}
 abbrev pub used_of : JournalRoom → BookValue → ℕ
 used_of journal b = (next_in_book b - b.base) * 100 / max (capacity journal) 1
 
--- The numbers are those of a book in such a journal, of its flusher, and of so many turns.
+-- The numbers are those of a book in such a journal, and of its flusher, after `made` turns.
 pub record IsProgress (journal : JournalRoom) (b : BookValue) (f : Flushing) (made : ℕ) (progress : Progress) : Type 0 where
   pub next : progress.next ≡ next_in_book b
   pub mark : progress.mark ≡ f.world.mark

@@ -51,7 +51,7 @@ fn last_under<J: Naming, D: Disk>(
     Ok(next)
 }
 
-/// The same, once the lock is had.
+/// Takes the book's lock, and asks for that number under it.
 fn last_of<J: Naming, D: Disk, R: Wait>(
     rt: &R,
     shared: &Shared<J>,

@@ -14,8 +14,6 @@ use crate::fault::StreamFault;
 use crate::output::StepFault;
 use crate::pace::Pace;
 use std::sync::Wait;
-use std::sync::atomic::AtomicU64;
-use std::time::Duration;
 use tp_disk::Disk;
 use tp_flush::Flusher;
 use tp_model::limits::MAX_HELD;
@@ -112,8 +110,8 @@ fn step_all<J: Naming, D: Disk, S: Sink>(
     Ok(pumped)
 }
 
-/// The same, where the flusher has stored all that the book has: what is put are outputs where its journal leads. Else nothing is put
-/// before its next turn. Right behind one it is so, since nobody else makes entries.
+/// Steps each output where the flusher has stored all that the book has: what is put are outputs where its journal leads. Else
+/// nothing is put before its next turn. Right behind a turn it has, since nobody else makes entries.
 #[tactic(auto, using(crate::proofs::Stepping::all_still))]
 fn step_settled<J: Naming, D: Disk, S: Sink>(
     held: &mut Locked<J>,
@@ -135,7 +133,7 @@ fn step_settled<J: Naming, D: Disk, S: Sink>(
     step_all(held, flusher, outputs)
 }
 
-/// The same, once the lock is had.
+/// Takes the book's lock, and steps each output under it.
 fn step_outputs<J: Naming, D: Disk, S: Sink, R: Wait>(
     rt: &R,
     shared: &Shared<J>,
@@ -167,7 +165,7 @@ fn step_held<J: Naming, I: Source>(
     ensures begun { IfErr result CameBegun }
 {
     let at = held.book().accepted(input.port());
-    if !may_wait && input.would_wait(at) {
+    if !may_wait && input.would_wait(at, 0) {
         return Ok(false);
     }
     let free = pace.rooms.free(held.book());
@@ -194,30 +192,48 @@ fn step_input<J: Naming, I: Source, R: Wait>(
     step_held(&mut held, pace, piece, may_wait, input)
 }
 
-/// Whether the bytes of an input haven't come yet for which the journal has room.
-pub(crate) fn are_awaited<J: Naming, I: Source, R: Wait>(
+/// The first input whose bytes haven't come yet for which the journal has room: its port, and how many that has accepted.
+fn find_awaited<J: Naming, I: Source, R: Wait>(
+    rt: &R,
+    shared: &Shared<J>,
+    pace: Pace,
+    inputs: &mut [Input<I>],
+) -> Option<(u8, u64)> {
+    let held = shared.book().lock(rt);
+    held.known();
+    if pace.rooms.free(held.book()) <= u64::from(pace.need) {
+        return None;
+    }
+    for next in inputs.iter_mut() {
+        let port = next.port();
+        if port >= shared.ports() {
+            continue;
+        }
+        let at = held.book().accepted(port);
+        if next.would_wait(at, 0) {
+            return Some((port, at));
+        }
+    }
+    None
+}
+
+/// Waits for bytes of an input that haven't come yet, for [`REST`] milliseconds or less, where the journal has room for them: they end the
+/// wait as they come. Whether there is such an input. The book's lock is let go meanwhile.
+pub(crate) fn rest<J: Naming, I: Source, R: Wait>(
     rt: &R,
     shared: &Shared<J>,
     pace: Pace,
     inputs: &mut [Input<I>],
 ) -> bool {
-    let held = shared.book().lock(rt);
-    held.known();
-    if pace.rooms.free(held.book()) <= u64::from(pace.need) {
+    let Some((port, at)) = find_awaited(rt, shared, pace, inputs) else {
         return false;
-    }
+    };
     for next in inputs.iter_mut() {
-        let port = next.port();
-        if port < shared.ports() && next.would_wait(held.book().accepted(port)) {
-            return true;
+        if next.port() == port {
+            next.would_wait(at, REST);
         }
     }
-    false
-}
-
-/// Waits for [`REST`] milliseconds, or less.
-pub(crate) fn rest<R: Wait>(rt: &R) {
-    AtomicU64::new(0).park_timeout(rt, 0, Duration::from_millis(REST));
+    true
 }
 
 /// A step of each input.
@@ -240,8 +256,8 @@ fn step_inputs<J: Naming, I: Source, R: Wait>(
     Ok(Pumped::of(has_moved))
 }
 
-/// A step of each stream. Outputs are put and confirmed up to the flusher's mark: what is put are outputs where its journal leads. Where none
-/// has moved, and it may wait, it waits for input that hasn't come yet. Where whoever takes an output has gone, no port takes more.
+/// A step of each stream. Outputs are put and confirmed up to the flusher's mark: what is put are outputs where its journal leads. Where
+/// none has moved, and it may wait, it waits for input that hasn't come yet. Where whoever takes an output has gone, no port takes more.
 pub(crate) fn pump<J: Naming, D: Disk, S: Sink, I: Source, R: Wait>(
     rt: &R,
     shared: &Shared<J>,

@@ -18,7 +18,7 @@ pub(crate) struct Rooms {
 }
 
 impl Rooms {
-    /// Those of the areas of a device.
+    /// The journal of a device's areas, each of `area` bytes.
     pub(crate) fn of(topology: &Topology, area: u64) -> Rooms
         ensures { result.journal ≡ journal_of topology.now area }
     {

@@ -16,7 +16,7 @@ use crate::endings::{are_over, ending, is_asked, may_wait};
 use crate::fault::StreamFault;
 use crate::flushing::{finish, flush};
 use crate::pace::Pace;
-use crate::pumping::{Pumped, are_awaited, can_confirm, pump, rest};
+use crate::pumping::{Pumped, can_confirm, pump, rest};
 use crate::rounds::round;
 use crate::settling::settle;
 use crate::stopping::{find_halted, tell_stopped};
@@ -36,8 +36,8 @@ struct Going<J: Naming> {
     seat: Seat<J>,
 }
 
-/// Turns; or, where the journal has no room for one, or nothing is left to do but an input for which it has no room, a snapshot is
-/// brought to its end. Where something else is to be done meanwhile, and nothing is left to do but an input whose bytes haven't come yet, it
+/// Turns; or, where the journal has no room for one, or nothing is left to do but an input for which it has no room, a snapshot is brought
+/// to its end. Where something else is to be done meanwhile, and nothing is left to do but an input whose bytes haven't come yet, it
 /// rests.
 fn make_turns<J: Naming, I: Source, R: Wait>(
     rt: &R,
@@ -58,8 +58,7 @@ fn make_turns<J: Naming, I: Source, R: Wait>(
     if pumped == Pumped::Moved {
         turns.moved();
     }
-    if lacks_input && pace.task.rests() && are_awaited(rt, shared, pace, inputs) {
-        rest(rt);
+    if lacks_input && pace.task.rests() && rest(rt, shared, pace, inputs) {
         return Ok(());
     }
     if turns.is_full || lacks_input {

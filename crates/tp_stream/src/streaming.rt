@@ -157,8 +157,8 @@ pub fn stream<D: Disk + Drop, S: Sink, I: Source, L: Listener, P: Stop, R: Wait>
         → SaysFit task opened.head.topology streams.old.outputs.items (map (λ i. i.port) streams.old.inputs.items) result.1 }
     ensures told { D.keeps → (opened : OpenedValue) → verdict (D.state disk).now.bytes ≡ Ok opened
         → OnOk result.1 (ToldFirst (map (output_begins (stands_opened opened)) (map given_of streams.old.outputs.items)
-            ++ map (input_begins (accepted_opened opened)) (map (λ i. given_input i.port (I.input i.source)) streams.old.inputs.items))
-            (L.told listener.old) (L.told listener.new)) }
+        ++ map (input_begins (accepted_opened opened)) (map (λ i. given_input i.port (I.input i.source)) streams.old.inputs.items))
+        (L.told listener.old) (L.told listener.new)) }
     ensures untouched { StaysUnstreamed result.1 → map given_of streams.new.outputs.items ≡ map given_of streams.old.outputs.items }
 {
     let mut disk = disk;

@@ -36,7 +36,7 @@ fn put_of<S: Sink>(outputs: &[Output<S>]) -> [Option<u64>; MAX_PORTS]
     put
 }
 
-/// How far a stream has come whose book and flusher these are, once so many turns were made: each number is theirs.
+/// Says how far the stream of this book and flusher has come after `turns` turns: each number is theirs.
 fn progress_of<J: Naming, D: Disk, S: Sink>(
     book: &Book,
     rooms: Rooms,

@@ -7,8 +7,8 @@ use Rattle.tp_stream_files.specs.declared.lines.Line.{Line}
 use Rattle.tp_stream_files.specs.declared.lines.Meter.{Meter}
 use Rattle.tp_stream_files.specs.declared.lines.Since.{Since}
 
--- The line that is due where the last one was said at a moment: none where less than so many milliseconds have gone by since; else what was
--- said then, what is now, and how many have.
+-- The line that is due where the last one was said at a moment: none where less than `every` milliseconds have gone by since; else what was
+-- said then, what is now, and the milliseconds between them.
 abbrev pub line_behind : ℕ → Heard → ℕ → Progress → Option Line
 line_behind every last at progress =
     if nat_lt (at - last.at) every then None else Some (record { told = progress; before = last.progress; millis = at - last.at })

@@ -14,8 +14,8 @@ AppendsFront was is bytes = (n : ℕ) × Appends was is (take n bytes)
 abbrev pub are_over : Bool → Bool → Option ℕ → Bool
 are_over terminal output_terminal out = terminal && (is_none out || not output_terminal)
 
--- A line: written over the one before it, its rest is cleared, and it isn't ended. What is wider than the terminal isn't wrapped onto a second
--- row, over which no later line would be written: wrapping is turned off in front of it, and on behind it.
+-- A line: written over the one before it, its rest is cleared, and it isn't ended. What is wider than the terminal isn't wrapped onto a
+-- second row, over which no later line would be written: wrapping is turned off in front of it, and on behind it.
 abbrev pub written : Bool → Line → List ℕ
 written is_over line = if is_over then 13 ∷ 27 ∷ 91 ∷ 63 ∷ 55 ∷ 108 ∷ (line_text line ++ 27 ∷ 91 ∷ 75 ∷ 27 ∷ 91 ∷ 63 ∷ 55 ∷ 104 ∷ []) else line_text line ++ 10 ∷ []
 

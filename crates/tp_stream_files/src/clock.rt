@@ -39,7 +39,7 @@ impl Model for Times {
 }
 
 impl Times {
-    /// The list that contracts name of a value. It does nothing.
+    /// Gives the ghost value `told`, which a contract says by what is lent as `_value`. It does nothing.
     pub(crate) fn of<T>(_value: &T) -> Times
         ghost told: { List ℕ }
         ensures { result.told ≡ told }

@@ -15,8 +15,8 @@ pub trait Feed {
     /// What it has given so far, the oldest first.
     ghost given: { Self → List EndTold };
 
-    /// Whether `next` would wait for bytes that haven't come yet.
-    fn would_wait(&mut self) -> bool
+    /// Whether `next` would wait for bytes that haven't come yet. It waits for them itself, `millis` milliseconds or less.
+    fn would_wait(&mut self, millis: u64) -> bool
         ensures { given self.new ≡ given self.old };
 
     /// Puts the next bytes into `out`, as many as have come, and answers how many: none only at the end. It waits until there are some.
@@ -66,7 +66,7 @@ impl<I: Drop> Plain<I> {
 impl<I: Read + Drop> Feed for Plain<I> {
     ghost given = { λ feed. feed.trace.told };
 
-    fn would_wait(&mut self) -> bool
+    fn would_wait(&mut self, _millis: u64) -> bool
         ensures same { self.new ≡ self.old }
     {
         false

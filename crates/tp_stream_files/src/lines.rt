@@ -17,7 +17,7 @@ pub struct Heard {
     progress: Progress,
 }
 
-/// A line of how far a stream has come, and how far it had come at the line before it, or where lines begin, so many milliseconds before.
+/// A line: how far a stream has come, and how far it had come `millis` milliseconds before, at the last line or where lines begin.
 #[derive(Clone, Copy)]
 pub struct Line {
     told: Progress,
@@ -25,14 +25,14 @@ pub struct Line {
     millis: u64,
 }
 
-/// A number that was so many milliseconds before.
+/// A number as it was `millis` milliseconds before.
 #[derive(Clone, Copy)]
 struct Since {
     count: u64,
     millis: u64,
 }
 
-/// When lines are due: each so many milliseconds behind the last one, or behind where lines begin.
+/// Says when lines are due: `every` milliseconds behind the last one, or behind where lines begin.
 #[derive(Clone, Copy)]
 pub struct Meter {
     every: u64,
@@ -40,7 +40,7 @@ pub struct Meter {
 }
 
 impl Meter {
-    /// A line is due each time that so many seconds have gone by. Lines begin with what is heard first.
+    /// A line is due each time that `seconds` seconds have gone by. Lines begin with what is heard first.
     pub fn new(seconds: u32) -> Meter
         ensures { result ≡ record { every = seconds * 1000; last = None } }
     {
@@ -130,7 +130,7 @@ fn put_before(put: &[Option<u64>], port: usize) -> Option<u64>
     }
 }
 
-/// Up to where it was put so many milliseconds before.
+/// Up to where it was put `millis` milliseconds before.
 fn since_put(millis: u64, before: Option<u64>) -> Option<Since>
     ensures { result ≡ since_put millis before }
 {

@@ -31,7 +31,7 @@ impl MemSink {
         MemSink::new(Vec::new(alloc))
     }
 
-    /// The same, where one call fails once `calls` were made.
+    /// A sink with these bytes that fails one call, once `calls` were made.
     pub fn failing(self, calls: u32) -> MemSink {
         MemSink {
             calls: Some(calls),

@@ -16,8 +16,8 @@ pub trait Source {
     fn length(&self) -> Option<u64>
         ensures { IsLength result (input self.now) };
 
-    /// Whether a read from this position would wait for bytes that haven't come yet.
-    fn would_wait(&mut self, at: u64) -> bool
+    /// Whether a read from this position would wait for bytes that haven't come yet. It waits for them itself, `millis` milliseconds or less.
+    fn would_wait(&mut self, at: u64, millis: u64) -> bool
         ensures { input self.new ≡ input self.old };
 
     /// Reads bytes from a position on into `out`, and answers how many: fewer than `out` has where fewer have come, and none only at

@@ -27,13 +27,13 @@ impl<'a, F: EndFile + Drop, I: Feed> Source for AnySource<'a, F, I> {
         }
     }
 
-    fn would_wait(&mut self, at: u64) -> bool
+    fn would_wait(&mut self, at: u64, millis: u64) -> bool
         ensures same { let none : Option (List ℕ) = None in none ≡ none }
         ensures asked { WasAsked I.given result self.old self.new }
     {
         match self {
             AnySource::File(_) => false,
-            AnySource::In(pipe) => pipe.would_wait_at(at),
+            AnySource::In(pipe) => pipe.would_wait_at(at, millis),
         }
     }
 

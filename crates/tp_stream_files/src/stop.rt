@@ -26,7 +26,7 @@ impl Model for Noted {
 }
 
 impl Noted {
-    /// The list that contracts name of a value. It does nothing.
+    /// Gives the ghost value `told`, which a contract says by what is lent as `_value`. It does nothing.
     pub(crate) fn of<T>(_value: &T) -> Noted
         ghost told: { List Bool }
         ensures { result.told ≡ told }

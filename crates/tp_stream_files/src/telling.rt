@@ -28,8 +28,8 @@ pub struct Teller<'a, E, W> {
 }
 
 impl<'a, E: Write, W: Onlooker> Teller<'a, E, W> {
-    /// Says it on a writer, and each so many seconds how far the stream has come: on a terminal each line over the one before it, but where
-    /// a port puts its output on one.
+    /// Says it on a writer, and every `seconds` seconds how far the stream has come: on a terminal each line over the one before it, but
+    /// where a port puts its output on one.
     pub fn new(
         alloc: Global,
         err: &'a mut E,

@@ -7,12 +7,13 @@ ghost use Rattle.tp_stream_files.specs.Trace.{count_answered};
 use crate::SourceFailed;
 use crate::feeds::{Feed, read_some};
 use crate::trace::Trace;
-use crossbeam_channel::{Receiver, Sender, TryRecvError, bounded};
+use crossbeam_channel::{Receiver, Sender, bounded};
 use std::alloc::Global;
 use std::io::Read;
 use std::sync::Wait;
 use std::thread;
 use std::thread::Threads;
+use std::time::{Clock, Duration};
 use tp_model::limits::MAX_HELD;
 
 /// How many pieces are read before the first one is taken.
@@ -58,6 +59,16 @@ fn give(piece: Option<Piece>, out: &mut [u8; MAX_HELD]) -> Result<usize, SourceF
     };
     out.copy_from_slice(&piece.bytes);
     piece.came
+}
+
+/// The next piece, where it comes within `millis` milliseconds; else whether one may come later.
+fn receive<R: Wait + Clock>(rt: &R, pieces: &Receiver<Piece>, millis: u64) -> Result<Piece, bool> {
+    if millis == 0 {
+        return pieces.try_recv(rt).map_err(|error| error.is_empty());
+    }
+    pieces
+        .recv_timeout(rt, Duration::from_millis(millis))
+        .map_err(|error| error.is_timeout())
 }
 
 /// Bytes that a thread of its own reads. It isn't joined, since a read that waits can't be ended.
@@ -127,23 +138,22 @@ impl<R: Wait + Drop> Threaded<R> {
     }
 }
 
-impl<R: Wait + Drop> Feed for Threaded<R> {
+impl<R: Wait + Clock + Drop> Feed for Threaded<R> {
     ghost given = { λ feed. feed.trace.told };
 
-    fn would_wait(&mut self) -> bool {
+    fn would_wait(&mut self, millis: u64) -> bool {
         if self.is_over || self.ready.is_some() {
             return false;
         }
         let Some(pieces) = &self.pieces else {
             return false;
         };
-        match pieces.try_recv(&self.rt) {
+        match receive(&self.rt, pieces, millis) {
             Ok(piece) => {
                 self.ready = Some(piece);
                 false
             }
-            Err(TryRecvError::Empty) => true,
-            Err(TryRecvError::Disconnected) => false,
+            Err(may_come) => may_come,
         }
     }
 

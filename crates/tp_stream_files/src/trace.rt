@@ -18,7 +18,7 @@ impl Model for Trace {
 }
 
 impl Trace {
-    /// The list that contracts name of a value. It does nothing.
+    /// Gives the ghost value `told`, which a contract says by what is lent as `_value`. It does nothing.
     pub(crate) fn of<T>(_value: &T) -> Trace
         ghost told: { List EndTold }
         ensures { result.told ≡ told }

@@ -130,7 +130,7 @@ pub fn begin<J: Naming, D: Disk + Drop, G: Gate + Drop, R: Wait>(
     begin_with(rt, alloc, opening, QUANTUM, workers, gate)
 }
 
-/// The same, where a node's turn has `quantum` steps.
+/// Puts it under locks, where a node's turn has `quantum` steps.
 pub fn begin_with<J: Naming, D: Disk + Drop, G: Gate + Drop, R: Wait>(
     rt: &R,
     alloc: Global,

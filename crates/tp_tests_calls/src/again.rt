@@ -128,7 +128,7 @@ fn is_cut(book: &Book, counts: [u64; 2], token: Option<Token>) -> bool {
         && cut.lines().get(4, 1).is_none()
 }
 
-/// Whether it is, and as many entries as wanted stand outside it.
+/// Whether the cut is whole so, and `count` entries stand outside it.
 pub(crate) fn is_whole<J: Naming, R: Wait>(
     rt: &R,
     alloc: Global,

@@ -145,7 +145,7 @@ fn state(alloc: Global, disk: &mut MemDisk) -> Option<NetState>
     Some(state)
 }
 
-/// The same, though memory may be refused once.
+/// What a device leaves, though memory may be refused once.
 fn state_again(alloc: Global, disk: &mut MemDisk) -> Option<NetState>
     ensures { IfSome result IsWellOpen }
 {

@@ -42,7 +42,7 @@ fn parts(alloc: Global, image: &[u8]) -> Result<NetParts, AllocError>
     })
 }
 
-/// The same, where the image can be tried.
+/// The network of the node of an image that can be tried; none of another image, or where memory is refused.
 pub(crate) fn lone_net(alloc: Global, image: &[u8]) -> Option<NetParts>
     ensures { IfSome result (λ net. IsLone (network_made net)) }
 {

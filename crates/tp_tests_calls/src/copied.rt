@@ -59,7 +59,7 @@ pub(crate) fn turned(alloc: Global) -> Result<Vec<u8>, Fail> {
     Ok(bytes)
 }
 
-/// The same in its second area, with generation 2. The first one's gate is open, with generation 1.
+/// A device that has the first turns in its second area, with generation 2. The first one's gate is open, with generation 1.
 pub(crate) fn turned_second(alloc: Global) -> Result<Vec<u8>, Fail> {
     let mut bytes = turned(alloc)?;
     let area = Vec::from_slice(alloc, bytes.get(FIRST..SECOND).unwrap_or(&[]))?;

@@ -182,15 +182,15 @@ fn meanwhile_of(
     Ok((answer, calls))
 }
 
-/// The same of a device of the first turns.
+/// What copying answers of a device of the first turns, to which bytes are written meanwhile; and how many calls of it were made.
 fn meanwhile(alloc: Global, at: u64, writes: &[(usize, u8)]) -> Result<(Answer, u64), Fail> {
     let bytes = turned(alloc)?;
     let told = meanwhile_of(alloc, &bytes, at, writes);
     told
 }
 
-/// What is written meanwhile, and whether what was copied is a moment's then: the other area is opened; it is, and this area's gate is closed; this
-/// area is written anew, with a generation that is higher by 2.
+/// What is written meanwhile, and whether what was copied is a moment's then: the other area is opened; it is, and this area's gate is
+/// closed; this area is written anew, with a generation that is higher by 2.
 const CHANGES: &[(&[(usize, u8)], bool)] = &[
     (&[(SECOND + 1, 2), (SECOND, 0xA5)], true),
     (&[(SECOND + 1, 2), (SECOND, 0xA5), (FIRST, 0)], false),

@@ -34,7 +34,7 @@ const OFFERS: &[(u64, &[u8], Result<u64, OfferFault>)] = &[
     (2, &[7; 4095], Err(OfferFault::PortFull(4094))),
 ];
 
-/// The same once the store is broken.
+/// Offers once the store is broken.
 const BROKEN_OFFERS: &[(u64, &[u8], Result<u64, OfferFault>)] = &[
     (0, b"ab", Err(OfferFault::Already(2))),
     (3, b"c", Err(OfferFault::Gap(2))),

@@ -66,7 +66,7 @@ fn parts(alloc: Global, network: &mut FlatNetwork) -> Result<NetParts, AllocErro
     }
 }
 
-/// The same of the network of the device.
+/// The parts of the network of the device, though memory may be refused once.
 fn parts_of_device(alloc: Global) -> Result<NetParts, Fail> {
     let mut network = network(alloc)?;
     Ok(parts(alloc, &mut network)?)

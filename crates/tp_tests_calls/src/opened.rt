@@ -26,7 +26,7 @@ const KEPT: [Numbered; 2] = [
     },
 ];
 
-/// Whether it opens as what it holds.
+/// Whether a device opened as what it holds.
 fn is_grown(opened: &Opened) -> bool {
     let (network, kept) = (opened.network(), KEPT);
     let is_pending = match network.ports() {
@@ -48,13 +48,13 @@ fn opens(alloc: Global, disk: &mut MemDisk) -> Result<bool, Unopened> {
     Ok(is_grown(&open(alloc, disk)?))
 }
 
-/// The same with a store, over a device that is lent.
+/// Whether the device opens so with a store, over a device that is lent.
 fn opens_store(alloc: Global, disk: &mut MemDisk) -> Result<bool, Unopened> {
     let (opened, store) = open_store(alloc, disk)?;
     Ok(is_grown(&opened) && store.place == opened.place())
 }
 
-/// Either of them.
+/// Whether the device opens so, with a store where that is asked for.
 fn opens_by(alloc: Global, disk: &mut MemDisk, with_store: bool) -> Result<bool, Unopened> {
     if with_store {
         opens_store(alloc, disk)
@@ -63,12 +63,13 @@ fn opens_by(alloc: Global, disk: &mut MemDisk, with_store: bool) -> Result<bool,
     }
 }
 
-/// Whether it has `bytes`, and no call of it failed.
+/// Whether a device has `bytes`, and no call of it failed.
 fn has(disk: &MemDisk, bytes: &[u8]) -> bool {
     disk.failures() == 0 && disk.bytes() == bytes
 }
 
-/// Whether a device of `bytes` opens, with a store where that is asked for, as what it holds, and nothing is written; where memory was refused, it opens so then.
+/// Whether a device of `bytes` opens as what it holds, with a store where that is asked for, and nothing is written; where memory was
+/// refused, it opens so then.
 fn opens_again(alloc: Global, disk: &mut MemDisk, bytes: &[u8], with_store: bool) -> bool {
     let mut told = opens_by(alloc, disk, with_store);
     if told == Err(Unopened::Memory) && has(disk, bytes) {

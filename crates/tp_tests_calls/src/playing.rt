@@ -57,7 +57,7 @@ fn goes<J: Naming, R: Wait>(
     }
 }
 
-/// Whether all steps do.
+/// Whether all steps of a story go as they should.
 fn are_gone<J: Naming, R: Wait>(rt: &R, alloc: Global, desk: &mut Desk<J>, story: &Story) -> bool {
     let offered = story.offered.len() as u64;
     let accepted = offer(rt, desk, 0, story.offered);
@@ -124,7 +124,7 @@ fn play<J: Naming, R: Wait + Abort>(
     Some(is_left(&opened, story, next_of(rt, &net)))
 }
 
-/// The same with new names.
+/// Plays a story under new names.
 fn play_in<R: Wait + Abort>(
     rt: &R,
     alloc: Global,
@@ -136,7 +136,7 @@ fn play_in<R: Wait + Abort>(
     play::<Brand, R>(rt, alloc, opening, story)
 }
 
-/// The same of a device that is freshly formatted.
+/// Plays a story on a device that is freshly formatted.
 fn play_once<R: Wait + Abort>(rt: &R, alloc: Global, story: &Story) -> Option<bool> {
     let Ok(opening) = opening_with(alloc, formatted(alloc)?, story.spare) else {
         return None;
@@ -144,7 +144,7 @@ fn play_once<R: Wait + Abort>(rt: &R, alloc: Global, story: &Story) -> Option<bo
     play_in(rt, alloc, opening, story)
 }
 
-/// The same, where memory is refused once at most.
+/// Whether a story goes as it should on such a device, where memory is refused once at most.
 pub(crate) fn plays<R: Wait + Abort>(rt: &R, alloc: Global, story: &Story) -> bool {
     let mut done = play_once(rt, alloc, story);
     if done.is_none() {

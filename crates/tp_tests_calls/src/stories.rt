@@ -189,7 +189,7 @@ const CALLS: &[Row] = &[
     (Step::Flush(true), 5),
 ];
 
-/// The same calls behind a number of bytes, so that each of them wants memory for its entry in one of the stories.
+/// Makes these calls behind a number of bytes, so that each of them wants memory for its entry in one of the stories.
 pub(crate) fn calls<R: Wait + Abort>(rt: &R, alloc: Global, offered: &[u8]) -> bool {
     let story = Story {
         spare: 4,

@@ -72,8 +72,8 @@ const GOES_ROUND: Pieces = &[
     (29_449, &[1, 0, 16, 0, 0, 0, 0, 0, 6]),
 ];
 
-/// A device of the network of one node, and what it opens to: whether the second area is open, its generation, how many entries its cut holds, and
-/// the number of the next entry.
+/// A device of the network of one node, and what it opens to: whether the second area is open, its generation, how many entries its cut
+/// holds, and the number of the next entry.
 #[derive(Clone, Copy)]
 pub struct Kept {
     pub(crate) pieces: &'static [Pieces],

@@ -124,8 +124,8 @@ pub fn is_stored_by_the_next_turn<
     (flusher, is_between && gate.was_let_go())
 }
 
-/// Whether the node `number` makes a run, records, and then makes another while the flusher is held, at a gate that holds it behind the first page of the
-/// node's image; that turn of the flusher is done, and stores only what was journalled before the run.
+/// Whether the node `number` makes a run, records, and then makes another while the flusher is held, at a gate that holds it behind the
+/// first page of the node's image; that turn of the flusher is done, and stores only what was journalled before the run.
 pub fn is_run_beside_a_copy<J: Naming + Send + Sync, D: Disk + Drop, R: Threads + Wait + Sync>(
     rt: &R,
     alloc: Global,

@@ -129,7 +129,7 @@ fn is_behind(book: &Book, opened: &Opened, switches: u8) -> bool {
         && is_journal(book, opened)
 }
 
-/// The same of the book under its lock.
+/// Takes the book's lock, and asks `is_behind` of the book.
 fn is_left_behind<J: Naming, R: Wait>(
     rt: &R,
     shared: &Shared<J>,
@@ -180,7 +180,7 @@ fn play<J: Naming, R: Wait>(
     Ok(if goes_over { images } else { None })
 }
 
-/// The same with new names.
+/// Plays all rounds under new names.
 fn play_in<R: Wait>(
     rt: &R,
     alloc: Global,
@@ -192,7 +192,7 @@ fn play_in<R: Wait>(
     play::<Brand, R>(rt, alloc, opening, snapshots)
 }
 
-/// Whether it goes as it should with `snapshots` begun.
+/// Whether all rounds go as they should with `snapshots` begun.
 fn goes<R: Wait>(rt: &R, alloc: Global, disk: MemDisk, snapshots: u8) -> Result<bool, Fail> {
     let opening = opening_of(alloc, disk)?;
     Ok(play_in(rt, alloc, opening, snapshots)?.is_some())

@@ -21,7 +21,7 @@ pub(crate) const NODES: u8 = 16;
 const TEXT: &[u8] =
     b"node a 4\nnode b 4\nnode c 4\nnode d 4\nnode e 4\nnode f 4\nnode g 4\nnode i 4\nnode j 4\nnode k 4\nnode l 4\nnode m 4\nnode n 4\nnode o 4\nnode p 4\nnode q 4\nport h\nwire a.0 h\n";
 
-/// The same with a seventeenth one: the device has a wide head.
+/// Those nodes and a seventeenth one: the device has a wide head.
 const WIDE: &[u8] =
     b"node a 4\nnode b 4\nnode c 4\nnode d 4\nnode e 4\nnode f 4\nnode g 4\nnode i 4\nnode j 4\nnode k 4\nnode l 4\nnode m 4\nnode n 4\nnode o 4\nnode p 4\nnode q 4\nnode r 4\nport h\nwire a.0 h\n";
 
@@ -100,12 +100,12 @@ pub(crate) fn formatted(alloc: Global) -> Result<MemDisk, Fail> {
     formatted_as(alloc, TEXT, NODES)
 }
 
-/// The one with a wide head.
+/// The device with a wide head, freshly formatted.
 pub(crate) fn formatted_wide(alloc: Global) -> Result<MemDisk, Fail> {
     formatted_as(alloc, WIDE, NODES + 1)
 }
 
-/// The same device as it was made before areas had forms: its first area has no turns.
+/// A device as it was made before areas had forms: its first area has no turns.
 pub(crate) fn without_turns(disk: MemDisk) -> MemDisk {
     let mut bytes = disk.crash();
     place(&mut bytes, FORM, &[0, 0]);

@@ -98,7 +98,7 @@ fn starts<J: Naming, R: Wait>(rt: &R, alloc: Global, parts: Parts, quantum: u16,
     are_made(rt, &net, given, seats, quantum)
 }
 
-/// The same with new names.
+/// Whether such a network begins under new names.
 fn starts_in<R: Wait>(rt: &R, alloc: Global, parts: Parts, quantum: u16, seats: u8) -> bool
     requires quantum { (0 < quantum) × (quantum ≤ MAX_STEPS) }
     requires seats { (0 < seats) × (seats ≤ MAX_SEATS) }
@@ -106,7 +106,7 @@ fn starts_in<R: Wait>(rt: &R, alloc: Global, parts: Parts, quantum: u16, seats: 
     starts::<Brand, R>(rt, alloc, parts, quantum, seats)
 }
 
-/// The same of a device that is freshly formatted.
+/// Whether the network of a device that is freshly formatted begins so.
 fn begins<R: Wait>(rt: &R, alloc: Global, quantum: u16, seats: u8) -> Result<bool, Fail>
     requires quantum { (0 < quantum) × (quantum ≤ MAX_STEPS) }
     requires seats { (0 < seats) × (seats ≤ MAX_SEATS) }

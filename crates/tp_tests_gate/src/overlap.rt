@@ -110,7 +110,7 @@ fn overlap<J: Naming + Send + Sync, R: Threads + Wait + Sync>(
     held && others && hold.was_let_go() && is_last(rt, &shared, count + 1)
 }
 
-/// The same with new names.
+/// Makes those turns under new names.
 fn overlap_in<R: Threads + Wait + Sync>(rt: &R, parts: Parts, numbers: Vec<u8>) -> bool {
     overlap::<Brand, R>(rt, parts, numbers)
 }

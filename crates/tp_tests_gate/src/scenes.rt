@@ -101,7 +101,7 @@ fn work_all<J: Naming + Send + Sync, R: Threads + Wait + Sync>(
     worked.is_ok_and(|work| !work.is_refused())
 }
 
-/// The same, once someone is held.
+/// Waits until someone is held, and has a team make its turns then. Answers whether someone was, and no turn was refused.
 fn work_once_held<J: Naming + Send + Sync, R: Threads + Wait + Sync>(
     rt: &R,
     net: &Net<J, Paced<'_>>,
@@ -114,7 +114,7 @@ fn work_once_held<J: Naming + Send + Sync, R: Threads + Wait + Sync>(
     work_all(rt, net, seats) && came
 }
 
-/// The same, while a team makes turns too.
+/// Whether it goes on as it should beside the one that is held, while a team makes turns, too.
 fn go_on_beside<J: Naming + Send + Sync, D: Disk + Drop, R: Threads + Wait + Sync>(
     rt: &R,
     alloc: Global,
@@ -162,7 +162,7 @@ fn are_stored_beside<J: Naming + Send + Sync, D: Disk + Drop, R: Threads + Wait 
     (flusher, worked && is_so)
 }
 
-/// Whether it goes as it should. The first entry has the number `first`.
+/// Whether a scene goes as it should. The first entry has the number `first`.
 fn act<J: Naming + Send + Sync, D: Disk + Drop, R: Threads + Wait + Sync>(
     rt: &R,
     alloc: Global,
@@ -247,8 +247,8 @@ fn is_switched<J: Naming, R: Wait>(
     Ok(is_replay? && is_turned && is_switched && looked.is_ok())
 }
 
-/// Whether it goes as it should, and what the flusher leaves then is the book's journal. Where an image was copied meanwhile, the area with
-/// it is gone over to.
+/// Whether a scene goes as it should, and what the flusher leaves then is the book's journal. Where an image was copied meanwhile, the area
+/// with it is gone over to.
 fn play<J: Naming + Send + Sync, R: Threads + Wait + Sync>(
     rt: &R,
     alloc: Global,
@@ -274,7 +274,7 @@ fn play<J: Naming + Send + Sync, R: Threads + Wait + Sync>(
     Ok(is_left? && is_so)
 }
 
-/// The same with new names.
+/// Plays a scene under new names.
 fn play_in<R: Threads + Wait + Sync>(
     rt: &R,
     alloc: Global,

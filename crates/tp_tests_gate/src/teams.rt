@@ -55,7 +55,7 @@ fn work_and_end<J: Naming + Send + Sync, G: Gate + Send + Sync, R: Threads + Wai
     Ok(offered.and(worked?))
 }
 
-/// The same, while the flusher makes its turns. Nothing is answered of the team where one of them wasn't done.
+/// What a team and a host journal while the flusher makes its turns. Nothing is answered of the team where one of them wasn't done.
 fn work_beside<
     J: Naming + Send + Sync,
     D: Disk + Drop,

@@ -150,7 +150,7 @@ fn play<J: Naming + Send + Sync, R: Threads + Wait + Sync>(
     Ok(is_whole && is_switched && is_last && is_left)
 }
 
-/// The same with new names.
+/// Plays such a turn under new names.
 fn play_in<R: Threads + Wait + Sync>(
     rt: &R,
     alloc: Global,

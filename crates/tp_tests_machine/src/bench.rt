@@ -47,7 +47,7 @@ impl Bench {
         })
     }
 
-    /// Whether it makes `steps` steps and sends `sent`.
+    /// Whether the node makes `steps` steps and sends `sent`.
     pub fn runs(&mut self, steps: u16, sent: &[(u8, Token)]) -> bool {
         let mut out = ArrayVec::new();
         let ran = self.node.run(steps, &mut out);
@@ -57,14 +57,14 @@ impl Bench {
             && out.as_slice() == sent
     }
 
-    /// Whether it has no step.
+    /// Whether the node has no step, for the reason `why`.
     pub fn rests(&mut self, why: Why) -> bool {
         let mut out = ArrayVec::new();
         let ran = self.node.run(1, &mut out);
         ran.count() == 0 && ran.why() == why && out.is_empty()
     }
 
-    /// Whether it can take a token on a link, and answers with that one.
+    /// Whether the node can take a token on a link, and answers with that one.
     pub fn takes(&mut self, link: u8, token: Token, answer: Option<Token>) -> Result<bool, Fail> {
         let bytes = image_of(&mut self.node, self.alloc)?;
         match hearer(self.alloc, &bytes, link, token) {

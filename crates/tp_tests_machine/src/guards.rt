@@ -120,7 +120,7 @@ const ENABLING: &[Row<'static>] = &[
     ),
 ];
 
-/// The same of disc.
+/// Of disc: a false guard, a held byte, an idle end, and one that the own process enabled.
 const DISABLING: &[Row<'static>] = &[
     (
         &[0x22, 0xFF],

@@ -170,7 +170,7 @@ fn is_whole(alloc: Global, known: &Known, case: Case) -> Result<bool, Fail> {
     told
 }
 
-/// Whether they are however a call ends.
+/// Whether the groups are there so, however a call ends.
 fn is_whole_at(alloc: Global, known: &Known, call: usize) -> Result<bool, Fail> {
     for (ending, torn) in ENDINGS {
         if !is_whole(alloc, known, Case { call, ending, torn })? {
@@ -256,7 +256,7 @@ fn goes_on(
     Ok(store.disk.failures() == 1 && known.holds(alloc, store.disk.bytes(), 2)?)
 }
 
-/// The same on what a broken store leaves.
+/// Opens what a broken store leaves, and appends both groups there.
 fn goes_on_behind(alloc: Global, known: &Known, store: Store<MemDisk>) -> Result<bool, Fail> {
     let (next, mut store) = reopened(alloc, store)?;
     let told = goes_on(alloc, known, next, &mut store);
@@ -275,7 +275,7 @@ fn is_broken(alloc: Global, known: &Known, case: Case) -> Result<bool, Fail> {
     told
 }
 
-/// Whether it does however a call ends.
+/// Whether a store stays broken so, however a call ends.
 fn is_broken_at(alloc: Global, known: &Known, call: usize) -> Result<bool, Fail> {
     for (ending, torn) in ENDINGS {
         if !is_broken(alloc, known, Case { call, ending, torn })? {

@@ -79,7 +79,7 @@ fn is_line(wire: Option<WireEnd>, lines: &Lines, line: usize) -> bool
     }
 }
 
-/// Whether the records of all lines can.
+/// Whether the records of all lines can hold what is on them.
 fn are_lines(wires: &[Option<WireEnd>], lines: &Lines) -> bool
     ensures { result ≡ true → are_lines wires.now lines.now ≡ true }
 {

@@ -14,8 +14,8 @@ const INPUTS: [Entry; 64] = [Entry::HostIn {
     byte: 0x78,
 }; 64];
 
-/// The bytes of an area; groups that fill it, each with how many entries it has and the place where it ends; the next number and the end then;
-/// and how many entries a group has that doesn't fit behind them.
+/// The bytes of an area; groups that fill it, each with how many entries it has and the place where it ends; the next number and the end
+/// then; and how many entries a group has that doesn't fit behind them.
 struct Filling<'a> {
     area: u64,
     groups: &'a [(usize, u64)],
@@ -123,7 +123,7 @@ fn is_replay(
     told
 }
 
-/// The same of the entries of groups.
+/// Whether a device holds what a plain replay of the entries of groups gives.
 fn is_replayed(
     alloc: Global,
     first: &[u8],
@@ -177,7 +177,7 @@ fn fills_over(alloc: Global, first: &[u8], filling: &Filling<'_>) -> Result<bool
     told
 }
 
-/// The same from the formatting on.
+/// Whether the groups fill a device that is formatted for it, and it stays so.
 fn fills(alloc: Global, filling: &Filling<'_>) -> Result<bool, Fail> {
     let first = fresh(alloc, filling.area)?;
     let told = fills_over(alloc, &first, filling);

@@ -12,8 +12,8 @@ use tp_model::OpenFault;
 use tp_recover::{Unopened, open, open_store};
 use tp_tests_fixtures::{AREA, ONE_NODE, SIZE, place};
 
-/// What is formatted: its network, the bytes of its head, of its device and of an area; how many calls that makes; what the device says once
-/// all but the head is written and so few bytes of the head, which was zeros; and up to where it isn't zeros.
+/// What is formatted: its network, the bytes of its head, of its device and of an area; how many calls that makes; what the device says
+/// once all but the head is written and a few bytes of the head, which was zeros; and up to where it isn't zeros.
 struct Made {
     text: &'static [u8],
     nodes: usize,
@@ -25,8 +25,8 @@ struct Made {
     whole: usize,
 }
 
-/// The first five bytes are a name, which two zeros and the version follow. From the low byte of the page count on it is a head, at first of a
-/// network whose wire isn't written.
+/// The first five bytes are a name, which two zeros and the version follow. From the low byte of the page count on it is a head, at first
+/// of a network whose wire isn't written.
 const ONE: Made = Made {
     text: ONE_NODE,
     nodes: 1,
@@ -122,7 +122,7 @@ fn is_none_however(alloc: Global, made: &Made, call: u64, byte: u8) -> Result<bo
     Ok(within && fails && before)
 }
 
-/// The same for what each byte may be.
+/// Whether the device isn't formatted however a call ends, whichever byte is torn there.
 fn is_none_with_each(alloc: Global, made: &Made, call: u64) -> Result<bool, Fail> {
     for byte in [0x00, 0xA5, 0xFF] {
         if !is_none_however(alloc, made, call, byte)? {
@@ -230,7 +230,7 @@ fn is_torn(alloc: Global, whole: &[u8], fault: PlannedFault) -> Result<bool, Fai
     told
 }
 
-/// Whether it is so where the last sync isn't reached, where it fails, and where the run stops within it.
+/// Whether that is so where the last sync isn't reached, where it fails, and where the run stops within it.
 fn are_torn(alloc: Global, whole: &[u8]) -> Result<bool, Fail> {
     let before = is_torn(alloc, whole, PlannedFault::StopsBefore)?;
     let torn = Vec::new(alloc);
@@ -288,7 +288,7 @@ fn is_like(alloc: Global, before: Vec<u8>, fresh: &Held, grown: &Held) -> Result
     told
 }
 
-/// Whether it is so over `used`, which has a group, over opened gates, and over ones.
+/// Whether formats over `used`, which has a group, over opened gates and over ones hold that.
 fn are_like(alloc: Global, used: Vec<u8>, fresh: &Held, grown: &Held) -> Result<bool, Fail> {
     let is_used = is_like(alloc, used, fresh, grown)?;
     let gates = is_like(alloc, Vec::from_elem(alloc, 0xA5, SIZE)?, fresh, grown)?;
@@ -296,14 +296,14 @@ fn are_like(alloc: Global, used: Vec<u8>, fresh: &Held, grown: &Held) -> Result<
     Ok(is_used && gates && ones)
 }
 
-/// The same for a device with a group, and what one without holds.
+/// Whether formats over other bytes, a device with a group among them, hold `fresh`, and with a group what that device holds.
 fn are_like_over(alloc: Global, disk: MemDisk, fresh: &Held) -> Result<bool, Fail> {
     let grown = what_is_held(alloc, disk.bytes())?;
     let told = are_like(alloc, disk.crash(), fresh, &grown);
     told
 }
 
-/// The same from the bytes of a device that was just formatted on.
+/// Whether formats over other bytes hold what a device does that was just formatted and has the bytes `whole`.
 fn is_like_others(alloc: Global, whole: Vec<u8>) -> Result<bool, Fail> {
     let fresh = what_is_held(alloc, &whole)?;
     let disk = grow(alloc, MemDisk::of_bytes(whole))?;

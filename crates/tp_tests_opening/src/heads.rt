@@ -73,7 +73,7 @@ fn is_full(alloc: Global, letter: &Letter, size: usize, area: u64) -> Result<boo
     Ok(letter.format(alloc, &mut disk, area) == Err(FormatFault::AreaFull))
 }
 
-/// Whether it is, where the areas are smaller than the least by one byte, and where the device is.
+/// Whether devices are refused so: one whose areas are smaller than the least by a byte, and one that is too small by a byte.
 fn are_full(alloc: Global, letter: &Letter, head: usize, least: u64) -> Result<bool, AllocError> {
     let size = head.saturating_add(2 * least.min(2_000_000) as usize);
     Ok(

@@ -60,7 +60,7 @@ fn opens<R: Threads + Sync>(rt: &R, alloc: Global, kept: &Kept) -> Result<bool, 
     )
 }
 
-/// Whether it does so with a group more, which is appended in that area.
+/// Whether a kept device takes a further group in that area, and then opens to a plain replay.
 fn goes_on(alloc: Global, kept: &Kept) -> Result<bool, Fail> {
     let more = [Entry::HostIn {
         port: 0,
@@ -86,7 +86,7 @@ fn kept_devices_open(rt: HostRuntime) -> Result<(), Fail> {
     Ok(())
 }
 
-/// What the node does in the turns, said apart: it takes the acknowledge and makes steps. Behind the checkpoint it takes what the port was handed.
+/// The node's turns, said apart: it takes the acknowledge and makes steps. Behind the checkpoint it takes what the port was handed.
 const APART: [Entry; 4] = [
     Entry::Confirm { port: 0, upto: 1 },
     Entry::HostIn {

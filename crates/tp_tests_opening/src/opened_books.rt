@@ -53,7 +53,7 @@ pub(crate) fn book_of(alloc: Global, bytes: Vec<u8>) -> Result<Book, Fail>
     book_with(alloc, bytes, ROOM)
 }
 
-/// The same where groups may fill `room` bytes.
+/// The book of a device of `bytes`, where groups may fill `room` bytes.
 pub(crate) fn book_with(alloc: Global, bytes: Vec<u8>, room: u64) -> Result<Book, Fail>
     ensures { IfOk result (λ book. IsUsable book) }
 {

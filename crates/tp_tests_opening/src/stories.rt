@@ -159,7 +159,7 @@ pub(crate) fn behind_kept(alloc: Global) -> Result<Known, Fail> {
     known
 }
 
-/// The same of one that was kept while its first checkpoint wasn't done: that is made anew over what stands in the second area.
+/// A device that was kept in the middle of its first checkpoint, and a group more: that is made anew over the second area's bytes.
 pub(crate) fn behind_a_stop(alloc: Global) -> Result<Known, Fail> {
     let round = [ROUND];
     let story = Story {

@@ -79,7 +79,7 @@ fn is_told(known: &Known, store: &mut Store<MemDisk>, case: Case) -> bool {
     }
 }
 
-/// The same, and what a crash leaves behind it.
+/// Whether a checkpoint with a fault is told as failed, and what a crash leaves behind it.
 fn told(alloc: Global, known: &Known, case: Case) -> Result<(bool, Vec<u8>), Fail> {
     let mut store = known.store(alloc, case)?;
     let is_told = is_told(known, &mut store, case);
@@ -111,7 +111,7 @@ fn is_whole(alloc: Global, known: &Known, case: Case) -> Result<bool, Fail> {
     is_whole
 }
 
-/// Whether it does so however a call ends. Behind the last call none is reached.
+/// Whether that is so however the call ends. Behind the last call no fault is met.
 fn is_whole_at(alloc: Global, known: &Known, call: usize) -> Result<bool, Fail> {
     for (ending, torn) in ENDINGS {
         if !is_whole(alloc, known, Case { call, ending, torn })? {
@@ -121,7 +121,7 @@ fn is_whole_at(alloc: Global, known: &Known, call: usize) -> Result<bool, Fail> 
     Ok(true)
 }
 
-/// Whether it does so in each call.
+/// Plays checkpoints with a fault in each of their calls.
 fn play<R: AllocGlobal + Abort>(rt: &R, known: &Known) -> Result<(), Fail> {
     for call in 0..known.calls.count().saturating_add(1) {
         let told = is_whole_at(rt.alloc(), known, call)?;

@@ -184,7 +184,7 @@ const A_TURN: &[(usize, &[u8])] = &[
     (82_137, &[5, 16, 16, 0, 0, 0, 0, 0, 2, 0, 0, 0, 0, 0, 2]),
 ];
 
-/// The same, said apart.
+/// That group's entries, where the turn is said as a take and a run.
 const APART: [Entry; 4] = [
     Entry::Run { node: 16, count: 3 },
     Entry::Take {

@@ -34,7 +34,7 @@ struct Asked {
 impl Feed for Asked {
     ghost given = { λ feed. feed.trace.told };
 
-    fn would_wait(&mut self) -> bool {
+    fn would_wait(&mut self, _millis: u64) -> bool {
         self.was_asked = true;
         false
     }

@@ -2,7 +2,8 @@
 
 use std::test::Fail;
 use tp_program::{
-    ArgFault, Asked, BackupAsked, NewDevice, Run, is_backup, read_args, read_backup_args,
+    ArgFault, Asked, BackupAsked, NewDevice, Run, StopAsked, is_backup, is_stop, read_args,
+    read_backup_args, read_stop_args,
 };
 use tp_tests_files::scratch::Scratch;
 
@@ -133,6 +134,40 @@ fn the_words_of_a_backup(rt: HostRuntime) -> Result<(), Fail> {
     words[0] = "backup";
     let line = scratch.line(rt.alloc(), words.as_slice())?;
     let is_many = match read_backup_args(rt.alloc(), line.as_slice()) {
+        Err(ArgFault::Many) => true,
+        _ => false,
+    };
+    assert!(rt; line.len() == 257 && is_many);
+    scratch.remove(&rt)
+}
+
+/// Words of a stop of the device `d`, and how many seconds it waits.
+const STOPS: &[(&[&str], Option<u32>)] = &[
+    (&["stop", "d"], None),
+    (&["stop", "--explain", "d"], None),
+    (&["stop", "d", "--wait", "1"], Some(1)),
+    (&["stop", "--wait=4294967", "--", "d"], Some(4_294_967)),
+];
+
+/// It waits as long as was typed, and else not at all. Words that are none of `stop` are such nowhere, and more than 256 are too many.
+#[test]
+fn the_words_of_a_stop(rt: HostRuntime) -> Result<(), Fail> {
+    let scratch = Scratch::new(&rt, "stop_words")?;
+    for (words, wait) in STOPS {
+        let line = scratch.line(rt.alloc(), words)?;
+        let is_wanted = match read_stop_args(rt.alloc(), line.as_slice()) {
+            Ok(StopAsked::Ask(asked)) => asked.device.as_str() == "d" && asked.wait == *wait,
+            Ok(_other) => false,
+            Err(_fault) => false,
+        };
+        assert!(rt; is_wanted && is_stop(line.as_slice()));
+    }
+    let line = scratch.line(rt.alloc(), &["show", "stop"])?;
+    assert!(rt; !is_stop(line.as_slice()));
+    let mut words = Vec::from_elem(rt.alloc(), "d", 256)?;
+    words[0] = "stop";
+    let line = scratch.line(rt.alloc(), words.as_slice())?;
+    let is_many = match read_stop_args(rt.alloc(), line.as_slice()) {
         Err(ArgFault::Many) => true,
         _ => false,
     };

@@ -223,7 +223,7 @@ fn run_by_one<D: Disk + Drop + Send, R: AllocGlobal + Threads + Wait + Sync>(
     (disk, status, out.taken, err)
 }
 
-/// The same with a device in memory, and what a crash leaves of it.
+/// Runs a device in memory by one worker, and answers what a crash leaves of it, too.
 fn run_in_memory<R: AllocGlobal + Threads + Wait + Sync>(
     rt: &R,
     disk: MemDisk,

@@ -135,7 +135,7 @@ fn is_alike(one: &Output, other: &Output) -> bool {
         && one.err.as_slice() == other.err.as_slice()
 }
 
-/// Whether that was said of a moment between two that aren't damaged.
+/// Whether `output` is what was said at a moment from `from` up to `upto`, and tells no damage.
 fn is_of_a_moment(said: &[Output], from: usize, upto: usize, output: &Output) -> bool {
     said.iter()
         .take(upto.saturating_add(1))

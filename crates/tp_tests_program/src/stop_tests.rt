@@ -58,8 +58,8 @@ impl<'a, R: Files> Write for Making<'a, R> {
     }
 }
 
-/// Whether a stream that this reader reads says that it ended so, with status 0, and all that the reader was given, from the first stream on, is
-/// confirmed.
+/// Whether a stream that this reader reads says that it ended so, with status 0, and all that the reader was given, from the first stream
+/// on, is confirmed.
 fn ends_so<'a, R: Files<File = F> + AllocGlobal + Wait, F: FileExt + OpenFile + Drop>(
     rt: &'a R,
     scratch: &Scratch,

@@ -92,7 +92,7 @@ pub(crate) fn stream_to<
     )
 }
 
-/// As above, where it is looked at so.
+/// The status that a stream ends with, and what it wrote on standard error, where `screen` looks on.
 fn stream_before<R: Files<File = F> + AllocGlobal + Wait, F: FileExt + OpenFile + Drop, O: Write>(
     rt: &R,
     scratch: &Scratch,
@@ -115,8 +115,8 @@ fn stream_before<R: Files<File = F> + AllocGlobal + Wait, F: FileExt + OpenFile 
     Ok((status, err))
 }
 
-/// Whether standard error and standard output are terminals, the words of a stream of 8 turns, and whether it says how far it has come: over
-/// the line before, and in lines.
+/// Whether standard error and standard output are terminals, the words of a stream of 8 turns, and whether it says how far it has come:
+/// over the line before, and in lines.
 struct Shown {
     terminals: (bool, bool),
     words: &'static [&'static str],

@@ -26,7 +26,7 @@ pub struct Ended {
     pub again: bool,
 }
 
-/// The same, and both nodes' images as they recorded.
+/// What came of a snapshot, and both nodes' images as they recorded.
 #[derive(Drop)]
 pub struct Checkpointed {
     pub first: Vec<u8>,
@@ -116,7 +116,7 @@ fn add_image<J: Naming, R: Wait>(
     add_page(rt, shared, key, number, 4, bytes)
 }
 
-// That image.
+// The image of a node that recorded.
 fn image_of<J: Naming, R: Wait>(
     rt: &R,
     alloc: Global,
@@ -176,8 +176,8 @@ fn end<J: Naming, R: Wait>(
 {
     let running = is_running(rt, shared);
     let early = copy(rt, alloc, shared, key)?.is_some();
-    shared.drop_frozen(rt, 0);
-    shared.drop_frozen(rt, 1);
+    shared.drop_frozen(rt, key, 0);
+    shared.drop_frozen(rt, key, 1);
     let kept = !image_of(rt, alloc, shared, key, 1)?.is_empty();
     let Some(copy) = copy(rt, alloc, shared, key)? else {
         return Ok(None);

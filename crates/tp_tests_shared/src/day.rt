@@ -125,7 +125,7 @@ pub fn sum_of<J: Naming + Send + Sync, R: Threads + Wait + Sync>(
     Some((day.journal.into_entries(), day.left.count))
 }
 
-/// The same with new tokens. The first entry has the number `opened`.
+/// The journal and the count at the end of a day with new tokens. The first entry has the number `opened`.
 pub fn sum<R: Threads + Wait + Sync>(
     rt: &R,
     alloc: Global,

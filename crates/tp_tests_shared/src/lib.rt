@@ -1,5 +1,5 @@
-//! Tests with two real threads: tokens, a journal under a lock, the mark and the ready queue; turns of two nodes over what they share, and a
-//! snapshot of it to its end.
+//! Tests with two real threads: tokens, a journal under a lock, the mark and the ready queue; turns of two nodes over what they share, and
+//! a snapshot of it to its end.
 #![tactic(auto)]
 
 mod counts;

@@ -68,7 +68,7 @@ fn parts_of(alloc: Global, image: &[u8], first: Node, second: Node) -> Result<Pa
     Parts::new(alloc, book, nodes, mark)
 }
 
-/// The same where `image` is one of a node whose links are idle, and there is memory. Each node has `spare` frames.
+/// The parts of two nodes of `image` with `spare` frames each; none where it isn't one whose links are idle, or memory is refused.
 pub fn parts_of_pair(alloc: Global, image: &[u8], spare: usize) -> Option<Parts>
     ensures { IfSome result (λ parts. length parts.book.state.start.nodes ≡ 2) }
 {

@@ -55,7 +55,7 @@ pub fn make_turns<J: Naming, R: Wait>(
     work
 }
 
-/// What is done with `other` is done too.
+/// Adds the work of `other` to `work`.
 fn add_work<J: Naming>(work: &mut Work<J>, other: Work<J>) {
     let Work {
         seat,
@@ -113,7 +113,7 @@ fn work_of_parts<J: Naming + Send + Sync, R: Threads + Wait + Sync>(
     (done.taken, done.steps, done.is_refused)
 }
 
-/// The same with new names.
+/// Has both nodes make their turns under new names.
 pub fn work_of_pair<R: Threads + Wait + Sync>(
     rt: &R,
     parts: Parts,

@@ -1,11 +1,11 @@
 //! What processes, a host and the flusher do over a device, one after another, each time as it was told.
 
-ghost use Rattle.std.specs.Prelude.{◌≡◌, ◌<◌, ◌≤◌, [], All, IfSome, Some};
+ghost use Rattle.std.specs.Prelude.{◌≡◌, ◌<◌, ◌≤◌, [], All, Some};
 ghost use Rattle.tp_model.specs.declared.limits.TheConstants.{MAX_STEPS};
 ghost use Rattle.tp_shared.specs.Named.{Names};
 ghost use Rattle.tp_tests_begun.specs.Spelt.{IsSpelt};
 
-use crate::script::{Done, make_turns};
+use crate::script::{Done, make_turns, only_seat};
 use std::alloc::Global;
 use std::marker::Brand;
 use std::sync::Wait;
@@ -65,7 +65,7 @@ pub(crate) fn turn(node: u8, first: Received, count: u16) -> Entry {
     }
 }
 
-/// Whether it is that turn.
+/// Whether a turn is one of the process `number`, took `takes` tokens and ran so.
 fn is_as_told(turn: &Turn, number: u8, takes: u64, ran: Option<(u16, Why)>) -> bool {
     let made = turn.ran.as_ref().map(|ran| (ran.count(), ran.why()));
     turn.process == number && turn.takes == takes && made == ran
@@ -137,7 +137,7 @@ fn are_groups<J: Naming, R: Wait>(
     true
 }
 
-/// Whether it comes as it was told.
+/// Whether an act comes as it was told.
 fn does<J: Naming, R: Wait>(
     rt: &R,
     alloc: Global,
@@ -166,7 +166,7 @@ fn does<J: Naming, R: Wait>(
     }
 }
 
-/// Whether all of it does.
+/// Whether each act comes as it was told.
 fn do_all<J: Naming, R: Wait>(
     rt: &R,
     alloc: Global,
@@ -189,17 +189,7 @@ fn do_all<J: Naming, R: Wait>(
     true
 }
 
-/// The only seat.
-fn only_seat<J: Naming>(net: &Net<J, NoGate>, seats: Vec<Seat<J>>) -> Option<Seat<J>>
-    requires { All (λ seat. (seat.hand.of ≡ Some net.now.queue) × (seat.slips ≡ [])) seats.items }
-    ensures { IfSome result (λ seat. seat.hand.of ≡ Some net.now.queue) }
-{
-    let _net = net;
-    let mut seats = seats;
-    seats.pop()
-}
-
-/// Whether all of it does, at the only seat and over the first port.
+/// Whether each act comes as it was told, at the only seat and over the first port.
 fn are_done<J: Naming, R: Wait>(
     rt: &R,
     alloc: Global,
@@ -241,7 +231,7 @@ fn play<J: Naming, R: Wait>(
     Ok(if are_done { Some(bytes) } else { None })
 }
 
-/// What is left of it, with new names. Without snapshots where `is_plain`.
+/// Plays the acts under new names, and answers what is left. Without snapshots where `is_plain`.
 pub(crate) fn play_in<R: Wait>(
     rt: &R,
     alloc: Global,

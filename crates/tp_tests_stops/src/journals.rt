@@ -1,8 +1,9 @@
 //! What the script journals, over a device whose areas have turns, and over one whose first area has none.
 
 use crate::acts::turn;
+use crate::left::{fresh, kept, recovered, run, untold};
 use crate::script::Done;
-use crate::stops::{SCRIPT, fresh, is_last, kept, recovered, run, untold};
+use crate::stops::{SCRIPT, is_last};
 use std::alloc::Global;
 use std::sync::Wait;
 use std::test::Fail;
@@ -38,7 +39,7 @@ fn is_journal(entries: &[Entry]) -> bool {
     entries == journal.as_slice()
 }
 
-/// Whether they are what is journalled over one whose first area has none.
+/// Whether `entries` are what is journalled over a device whose first area has no turns.
 fn is_plain_journal(entries: &[Entry]) -> bool {
     let journal = [
         input(b'a'),

@@ -80,7 +80,7 @@ pub(crate) struct RawUnkind {
     stopped: bool,
 }
 
-/// The same with a count of its failures.
+/// An unkind device that counts its failures.
 pub(crate) type Unkind = Counted<RawUnkind>;
 
 /// Tears a range.

@@ -59,7 +59,7 @@ fn is_reached<R: Threads + Wait + Abort + Sync>(
     Ok(is_reached && is_switched && out.as_slice() == printed)
 }
 
-/// The same over a device that is handed in.
+/// Whether that number is reached over a device that is handed in.
 fn reaches<R: Threads + Wait + Abort + Sync>(
     rt: &R,
     alloc: Global,
@@ -168,8 +168,8 @@ fn half_of_the_journal_begins_a_snapshot(rt: HostRuntime) -> Result<(), Fail> {
 /// turns are made.
 const RUNS: u32 = 500;
 
-/// Runs of a job one behind the other until the areas were switched more often than `times`. Answers what the last run left, where they were
-/// switched, each run ended well and each led further than `next` and the ones before.
+/// Runs of a job one behind the other until the areas were switched more often than `times`. Answers what the last run left, where they
+/// were switched, each run ended well and each led further than `next` and the ones before.
 fn switched<R: Threads + Wait + Abort + Sync>(
     rt: &R,
     alloc: Global,
@@ -208,7 +208,7 @@ fn is_switched_twice<R: Threads + Wait + Abort + Sync>(
     Ok(second.is_some())
 }
 
-/// The same in a ring that is freshly formatted.
+/// Whether runs in a ring that is freshly formatted switch the areas twice.
 fn goes_on<R: Threads + Wait + Abort + Sync>(
     rt: &R,
     alloc: Global,
@@ -221,7 +221,7 @@ fn goes_on<R: Threads + Wait + Abort + Sync>(
     told
 }
 
-/// In which ring how many workers make how many turns. With more workers than nodes and ports, turns are used up by those that find no process.
+/// The ring, how many workers there are, and how many turns. Workers beyond the nodes and ports use turns up that find no process.
 const TEAMS: &[(&[u8], u8, u32)] = &[
     (RING, 1, 2000),
     (RING, 2, 2000),

@@ -11,7 +11,7 @@ use tp_tests_fixtures::place;
 /// One node, whose link 0 goes to a port.
 pub(crate) const ONE: &[u8] = b"node a 4\nport h\nwire a.0 h\n";
 
-/// The same beside a node without a wire.
+/// That node beside one without a wire.
 pub(crate) const BESIDE: &[u8] = b"node a 4\nnode busy 4\nport h\nwire a.0 h\n";
 
 /// A node of 16 pages.
@@ -125,7 +125,7 @@ fn formatted_with(
     Ok(bytes)
 }
 
-/// The same, where all nodes have this code, and the first begins `begin` bytes behind the others.
+/// The bytes of a device whose nodes all have this code, where the first begins `begin` bytes behind the others.
 fn formatted_by(
     alloc: Global,
     topology: &Topology,
@@ -152,7 +152,7 @@ pub(crate) fn formatted_from(
     device
 }
 
-/// The same, where the first begins as the others do.
+/// The bytes of such a device whose first node begins as the others do.
 pub(crate) fn formatted(
     alloc: Global,
     text: &[u8],

@@ -141,7 +141,7 @@ where
     Ok(true)
 }
 
-/// The same on a device of a node with this code.
+/// Whether streams do so one after another, on a device of a node with this code.
 fn are_ended_by<R: Wait + Abort>(rt: &R, code: &[u8], rows: &[Row]) -> Result<bool, Fail>
 where
     R: AllocGlobal,

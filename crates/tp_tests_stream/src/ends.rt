@@ -218,8 +218,8 @@ where
     Ok(done.is_ok() && is_more)
 }
 
-/// Whether a stream one of whose sinks takes `pieces` pieces ends once its taker has gone, with all of them confirmed and none more, and
-/// the other sink's outputs put and confirmed. What wasn't put comes in the next stream.
+/// Whether a stream ends once the taker of one of its sinks has gone with `pieces` pieces: all of them are confirmed and none more, and
+/// the other sink's outputs are put and confirmed. What wasn't put comes in the next stream.
 fn is_gone<R: Wait + Abort>(rt: &R, device: &mut Vec<u8>, pieces: u32) -> Result<bool, Fail>
 where
     R: AllocGlobal,
@@ -230,7 +230,7 @@ where
     Ok(stays > 0 && goes_on(rt, device, gone, stays)?)
 }
 
-/// The same on a device that is freshly formatted.
+/// Whether such a stream ends so on a device that is freshly formatted.
 fn is_gone_behind<R: Wait + Abort>(rt: &R, pieces: u32) -> Result<bool, Fail>
 where
     R: AllocGlobal,

@@ -136,9 +136,9 @@ impl Write for Taker {
     }
 }
 
-/// What looks at the lines: whether there is a terminal, whether standard output is one, too, and whether a port's output goes there; how the
-/// first writes fail, and how many bytes each other one takes. And from which line on they are said, and whether each is written over the
-/// one before it.
+/// What looks at the lines: whether there is a terminal, whether standard output is one, too, and whether a port's output goes there; how
+/// the first writes fail, and how many bytes each other one takes. And from which line on they are said, and whether each is written over
+/// the one before it.
 struct Case {
     is_terminal: bool,
     is_output_terminal: bool,

@@ -20,7 +20,7 @@ fn handed(calls: u32) -> Asked {
     }
 }
 
-/// A stream one of whose sink's calls fails. None where it ends otherwise than it may, or nothing is journalled.
+/// Plays a stream with a sink whose call fails. None where it ends otherwise than it may, or nothing is journalled.
 fn play_fault<R: Wait + Abort>(rt: &R, desk: &mut Desk, calls: u32) -> Result<Option<Played>, Fail>
 where
     R: AllocGlobal,
@@ -64,7 +64,7 @@ where
     })
 }
 
-/// The same on a device that is freshly formatted.
+/// What becomes of a call that fails on a device that is freshly formatted.
 fn is_failed_at<R: Wait + Abort>(rt: &R, calls: u32) -> Result<Option<bool>, Fail>
 where
     R: AllocGlobal,

@@ -142,7 +142,7 @@ fn pieces_are_put_together(rt: HostRuntime) -> Result<(), Fail> {
     Ok(())
 }
 
-/// So are those that a thread of its own reads.
+/// The bytes that a thread of its own reads don't depend on the pieces in which they come, either.
 #[test]
 fn pieces_of_a_thread_are_put_together(rt: HostRuntime) -> Result<(), Fail> {
     for (piece, fails, wanted) in CASES {
@@ -168,7 +168,7 @@ fn bytes_that_are_gone_are_not_given(rt: HostRuntime) -> Result<(), Fail> {
     let mut feed = Plain::new(Numbered::new(7, false));
     let mut source = piped(&mut feed);
     let mut out = [0u8; 3];
-    assert!(rt; !source.would_wait(7_994));
+    assert!(rt; !source.would_wait(7_994, 0));
     assert!(rt; matches!(source.read(7_994, &mut out), Ok(3)) && are_from(7_994, &out));
     assert!(rt; source.read(7_000, &mut out).is_err());
     assert!(rt; matches!(source.read(7_995, &mut out), Ok(3)) && are_from(7_995, &out));

@@ -32,7 +32,7 @@ where
     Ok(is_quiet && desk.sink.bytes() == b"A".as_slice())
 }
 
-/// The same on a device that is freshly formatted.
+/// Whether the byte comes so on a device that is freshly formatted.
 fn is_sent_with<R: Wait + Abort>(rt: &R, spare: u16) -> Result<bool, Fail>
 where
     R: AllocGlobal,
@@ -101,7 +101,7 @@ where
     Ok(answers.get() == 40 && is_ended)
 }
 
-/// The same on a device that is freshly formatted.
+/// Whether the host gets its answers on a device that is freshly formatted.
 fn is_answered_with<R: Wait + Abort>(rt: &R, spare: u16, turns: Option<u32>) -> Result<bool, Fail>
 where
     R: AllocGlobal,

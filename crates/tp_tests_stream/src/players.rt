@@ -55,7 +55,7 @@ impl Source for Pieces {
         self.length
     }
 
-    fn would_wait(&mut self, _at: u64) -> bool {
+    fn would_wait(&mut self, _at: u64, _millis: u64) -> bool {
         self.late > 0
     }
 

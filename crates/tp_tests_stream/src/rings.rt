@@ -33,7 +33,7 @@ fn goes_on<R: Threads + Wait + Abort + Sync>(
     Ok(is_left && second.is_done() && second.left.next > first.left.next)
 }
 
-/// The same in a ring that is freshly formatted.
+/// Whether runs go on so in a ring that is freshly formatted.
 fn goes_round<R: Threads + Wait + Abort + Sync>(
     rt: &R,
     alloc: Global,

@@ -31,7 +31,7 @@ where
     Ok(is_told && is_left && bytes.len() == LONG && are_numbered(bytes))
 }
 
-/// The same on a device with areas of `area` bytes.
+/// Whether a long input comes back on a device with areas of `area` bytes.
 fn comes_back_in<R: Wait + Abort>(rt: &R, most: usize, area: u32) -> Result<bool, Fail>
 where
     R: AllocGlobal,

@@ -82,7 +82,7 @@ fn play_fault<R: Threads + Wait + Abort + Sync>(
     Ok(if goes_on { Some(done.is_err()) } else { None })
 }
 
-/// The same for a call and a way in which it fails.
+/// Runs over a device whose call `call` fails in the way `kind`, and over what that leaves.
 fn play_call<R: Threads + Wait + Abort + Sync>(
     rt: &R,
     alloc: Global,

@@ -19,7 +19,7 @@ const NONE: Job = Job { turns: 0, ..FOUR };
 /// The node sends a letter, which is printed, confirmed, and not printed again.
 const PRINTS: &[Row] = &[(FOUR, b"", b"A", Ok(4)), (NONE, b"", b"", Ok(4))];
 
-/// The same input is given again and again, and grows.
+/// One input is given again and again, and grows.
 const OFFERS: &[Row] = &[
     (NONE, b"ab", b"", Ok(2)),
     (NONE, b"ab", b"", Ok(2)),

@@ -26,7 +26,7 @@ impl Source for Late {
         None
     }
 
-    fn would_wait(&mut self, _at: u64) -> bool {
+    fn would_wait(&mut self, _at: u64, _millis: u64) -> bool {
         let waits = self.questions > 0;
         self.questions = self.questions.saturating_sub(1);
         waits
@@ -82,8 +82,8 @@ where
     Ok((done, told))
 }
 
-/// Whether a stream that is told waits in no read, is told each time that it looks for input, and at last what the device then opens to; and
-/// one that isn't told is told nothing, and waits in a read.
+/// Whether a stream that is told waits in no read, is told each time that it looks for input, and at last what the device then opens to;
+/// and one that isn't told is told nothing, and waits in a read.
 fn is_told<R: Wait + Abort>(rt: &R, device: &mut Vec<u8>) -> Result<bool, Fail>
 where
     R: AllocGlobal,

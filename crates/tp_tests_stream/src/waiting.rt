@@ -64,7 +64,7 @@ impl<'a> Source for Asking<'a> {
         None
     }
 
-    fn would_wait(&mut self, at: u64) -> bool {
+    fn would_wait(&mut self, at: u64, _millis: u64) -> bool {
         self.answers.get() < at
     }
 

@@ -108,7 +108,7 @@ either P (Err e) a b new ok err then old = subst P (sym err) old
 
 -- ## Snapshots
 
--- the same nodes, where none is frozen
+-- a book that agrees with another on its nodes has them, where none is frozen
 fresh : (nodes : List NodeContents) (a b : BookValue) → b.ready ≡ a.ready → b.runs ≡ a.runs → agreed b.state ≡ agreed a.state → ((i : ℕ) (node : NodeContents) → slice_get nodes i ≡ Some node → node.frozen ≡ None)
     → HasNodes a nodes → HasNodes b nodes
 fresh nodes a b ready runs agree thawed H = record {

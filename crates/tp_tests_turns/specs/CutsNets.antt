@@ -40,7 +40,7 @@ pub record Stepped (number : ℕ) (node : NodeState) (old new : BookValue) : Typ
   pub runs : new.runs ≡ old.runs
   pub nodes : agreed new.state ≡ set (agreed old.state) number node
 
--- The same, of an act after which each node is as before.
+-- What is agreed on is as before, of each node. No run is reserved and nothing made ready beside what was.
 pub record Stays (old new : BookValue) : Type 0 where
   pub ready : new.ready ≡ old.ready
   pub runs : new.runs ≡ old.runs

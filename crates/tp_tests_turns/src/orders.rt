@@ -1,7 +1,7 @@
 //! Each order of the acts of two nodes and the host, from some moment on up to the whole cut.
 
-use crate::cuts_machines::{Task, image};
 use crate::cuts_replayed::comes_first;
+use crate::machines::{Task, image};
 use crate::playing::Act::{Begin, Close, Record, Run, Take};
 use crate::playing::{Act, Play, do_all, does, start};
 use std::alloc::{AllocError, Global};
@@ -217,7 +217,7 @@ fn play_each(
     Ok(None)
 }
 
-/// The same from the images of the case's nodes on.
+/// Plays each order of a case, from the images of its nodes on.
 fn play_all(alloc: Global, case: &Case) -> Result<Option<u32>, Fail> {
     let first = image(alloc, case.first)?;
     let second = image(alloc, case.second)?;

@@ -1,8 +1,8 @@
 //! Snapshots of two nodes, worked out by hand, act by act; each is ended by `take_in` alone.
 
-use crate::cuts_machines::{Task, image};
 use crate::cuts_network::LINES;
 use crate::cuts_replayed::comes_first;
+use crate::machines::{Task, image};
 use crate::playing::Act::{Begin, Close, HandIn, Record, Run, Take};
 use crate::playing::{Act, Play, do_all, does, start};
 use std::alloc::{AllocError, Global};
@@ -108,7 +108,7 @@ fn tell(
     Ok([acts, cut, plain, replayed, trimmed, more])
 }
 
-/// The same from two images on.
+/// Plays a story from two images on.
 fn play_images(
     alloc: Global,
     story: &Story,
@@ -120,7 +120,7 @@ fn play_images(
     told
 }
 
-/// The same from the images of the story's nodes on.
+/// Plays a story from the images of its nodes on.
 fn play(alloc: Global, story: &Story) -> Result<[bool; 6], Fail> {
     let first = image(alloc, story.first)?;
     let second = image(alloc, story.second)?;

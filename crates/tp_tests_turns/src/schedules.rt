@@ -79,7 +79,7 @@ impl Told {
         Told { cuts: 0, tokens: 0 }
     }
 
-    /// Both together.
+    /// Counts both together.
     fn and(self, other: Told) -> Told {
         Told {
             cuts: self.cuts.saturating_add(other.cuts),

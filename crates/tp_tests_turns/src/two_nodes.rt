@@ -144,7 +144,7 @@ fn play(
     Ok((other, is_taken_in))
 }
 
-/// The same of the network of a device.
+/// Plays on the network of a device.
 fn play_of(alloc: Global, disk: &mut MemDisk) -> Result<(Option<Step>, bool), Fail> {
     let mut net = Net::of_device(alloc, disk, 4)?;
     let mut flat = flat_of(alloc, disk)?;

@@ -1,7 +1,7 @@
--- One number of a roll. Its whole entry is held by whoever may still write it; once it is written, a quarter is the roll's and three quarters are its slip's.
+-- One number of a roll. Its whole entry is with whoever may still write it; then a quarter is the roll's, and three quarters its slip's.
 --     ◌⊢◌, ◌∗◌, ⟦◌⟧        entailment, what is held apart, what a formula says
 --     cut        the whole entry is both parts        sets        the whole entry is set to a value, and gives both parts
---     agree        both parts show the same        twice        there are no two slips of one number        unwritten        nor one of a number that isn't written
+--     agree        both parts show one value        twice        no two slips have one number        unwritten        none an unwritten one
 --     differ        two slips are of two numbers
 -- Assumes `Logic`.
 use Rattle.std.proofs.Common.{◌≡◌, ℕ, [], ◌∷◌, sym, refl, subst}

@@ -1,4 +1,4 @@
--- A seal and a key of one name show the same, and turn together. Assumes `Logic`.
+-- A seal and a key of one name show one value, and turn together. Assumes `Logic`.
 use Rattle.std.proofs.Common.{◌≡◌, ℕ, [], ◌∷◌, sym, subst}
 use seplogic.Ra.Ura.{Ura}
 use base.Logic.{SProp, ent, sep, guard}
@@ -15,13 +15,13 @@ module _ {M : Type 1} {𝓤 : Ura M} (𝓛 : Logic 𝓤) {V : Type 0} (coded : C
   at_one_name : (name : ℕ) (x y : V) → ent 𝓤 (Twin name name x y) (𝓛.H.⇛ (guard 𝓤 (x ≡ y) (Twin name name x y)))
   at_one_name name x y = qed 𝓛 (‵ (seal_owns coded.code name x) ∷ ‵ (key_owns coded.code name y) ∷ []) ∵ updating ! $ move ! (1 ∷ 0 ∷ []) $ name_agree ! coded (λ same. now ! $ check ! (sym same) $ move ! (1 ∷ 0 ∷ []) $ done !)
 
-  -- both show the same
+  -- both show one value
   pub agrees : (name name' : ℕ) (x y : V) → name ≡ name' → ent 𝓤 (Twin name name' x y) (𝓛.H.⇛ (guard 𝓤 (x ≡ y) (Twin name name' x y)))
   agrees name name' x y one = subst (λ n. ent 𝓤 (Twin name n x y) (𝓛.H.⇛ (guard 𝓤 (x ≡ y) (Twin name n x y)))) one (at_one_name name x y)
 
   turned : (name : ℕ) (x y z : V) → ent 𝓤 (Twin name name x y) (𝓛.H.⇛ (guard 𝓤 (x ≡ y) (Twin name name z z)))
   turned name x y z = qed 𝓛 (‵ (seal_owns coded.code name x) ∷ ‵ (key_owns coded.code name y) ∷ []) ∵ updating ! $ move ! (1 ∷ 0 ∷ []) $ name_agree ! coded (λ same. name_set ! tt (coded.code z) $ now ! $ check ! (sym same) $ move ! (1 ∷ 0 ∷ []) $ done !)
 
-  -- both showed the same, and show another value
+  -- both showed one value, and show another
   pub turns : (name name' : ℕ) (x y z : V) → name ≡ name' → ent 𝓤 (Twin name name' x y) (𝓛.H.⇛ (guard 𝓤 (x ≡ y) (Twin name name' z z)))
   turns name name' x y z one = subst (λ n. ent 𝓤 (Twin name n x y) (𝓛.H.⇛ (guard 𝓤 (x ≡ y) (Twin name n z z)))) one (turned name x y z)

@@ -61,7 +61,7 @@ of_front link one token rest a b c first second third A L =
 
 -- ## What the node took
 
--- in one go it is the same
+-- taken in one go, they lead there, too
 pub each_took : (link : ℕ) (tokens : List Token) (s : NodeContents) (answers : List (ℕ × Token)) (t : NodeContents) → TakesEach link tokens s answers t
     → took_all t414 (map (λ token. (link, token)) tokens) s.live ≡ Some (t.live, answers)
 unfolding TakesEach took_all

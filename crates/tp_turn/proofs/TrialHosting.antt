@@ -117,7 +117,7 @@ at_port port why a b acts L left D =
       room = A.room;
     }
 
--- ports in order, for none of which the journal was full
+-- ports in order, where the journal was full for none
 record Ports (n : ℕ) (full : Bool) (a b : BookValue) : Type 0 where
   leads : Leads (InOrder (λ p. TookIn (4 * 1 + p)) n) (TAKES * n) a b
   room : full ≡ false

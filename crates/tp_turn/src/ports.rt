@@ -65,7 +65,7 @@ fn act_on_port(book: &mut Book, port: u8) -> Result<Left, Refusal>
     }
 }
 
-/// Whether the journal was full for a port, as one more is left.
+/// Whether the journal was full for a port so far, or is for the one that was left now.
 fn is_full_by(before: bool, left: Left) -> bool
     ensures { result ≡ (before || is_for_room left) }
 {

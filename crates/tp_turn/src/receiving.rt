@@ -121,9 +121,9 @@ fn offered_on(book: &Book, number: u8, link: u8, all: bool) -> Received
     }
 }
 
-/// A node receives on links 0 to 3 in order: it takes what stands in front of the line's first Marker, one token after the other, and leaves
-/// a link at a token for which memory has no frame. Where not `all` is received, only on lines from which a running snapshot needs what is
-/// taken. The book stays as it is, so the node is ahead of it.
+/// A node receives on links 0 to 3 in order: it takes what stands in front of the line's first Marker, one token after the other, and
+/// leaves a link at a token for which memory has no frame. Where not `all` is received, only on lines from which a running snapshot needs
+/// what is taken. The book stays as it is, so the node is ahead of it.
 pub(crate) fn receive(book: &Book, node: &mut Node, number: u8, all: bool) -> Taken
     requires is { IsNodeOf book.now number node.old }
     ensures did { Receives book.now all number result.takes node.old result.sent.items node.new }

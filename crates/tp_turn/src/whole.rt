@@ -40,8 +40,8 @@ fn commit(
     let _note = book.commit_turn(number, takes, count, tokens);
 }
 
-/// The journal is full for a turn. Where the node has recorded, it receives what the running snapshot needs, for which room is kept, and that
-/// is one entry of no steps; none where there is nothing. Answers why the turn ends.
+/// The journal is full for a turn. Where the node has recorded, it receives what the running snapshot needs, for which room is kept, and
+/// that is one entry of no steps; none where there is nothing. Answers why the turn ends.
 fn take_needed(book: &mut Book, node: &mut Node, number: u8) -> Refusal
     requires free { slice_get book.old.runs number ≡ Some false }
     requires idle { book.old.ready ≡ None }
@@ -67,9 +67,9 @@ fn take_needed(book: &mut Book, node: &mut Node, number: u8) -> Refusal
 /// Opens a node's whole turn: it records where it is asked to, the lines with a Marker in front are closed where it has recorded, a turn of
 /// it is reserved, and it receives what stands in front of its lines. The tokens stay there until the commit. Answers what it received.
 ///
-/// Errors: `StoreBroken` and `Memory` where no turn could be reserved, and nothing was received; `JournalFull` where the journal has no room
-/// for a turn: then a node that has recorded received what the running snapshot needs, and that was journalled. What was recorded and closed
-/// before stays, and nothing is reserved. No other comes.
+/// Errors: `StoreBroken` and `Memory` where no turn could be reserved, and nothing was received; `JournalFull` where the journal has no
+/// room for a turn: then a node that has recorded received what the running snapshot needs, and that was journalled. What was recorded and
+/// closed before stays, and nothing is reserved. No other comes.
 pub fn open_whole(book: &mut Book, node: &mut Node, number: u8) -> Result<Taken, Refusal>
     requires free { slice_get book.old.runs number ≡ Some false }
     requires idle { book.old.ready ≡ None }

@@ -34,7 +34,7 @@ pub record IsSeen (at : ℕ) (o : Opened) (seen : Seen) : Type 0 where
   pub next : seen.next ≡ next_of o
   pub ports : seen.ports.items ≡ map port_seen o.now.ports
 
--- a count at a look so many milliseconds before
+-- a count, and how many milliseconds before it was seen
 abbrev pub next_before : ℕ → Option Seen → Option Since
 next_before at before = option_map (λ seen. record { count = seen.next; millis = at - seen.at }) before
 

@@ -39,7 +39,7 @@ abbrev pub front_seen : Bool → Fronts → AreaFront
 front_seen second fronts = if second then fronts.second else fronts.first
 
 -- The area that counted at one look has at another one the gate and the generation that it had; or none counted, and the other look
--- finds the same.
+-- finds those fronts.
 abbrev pub StayedOpen : Option Bool → Fronts → Fronts → Type 0
 StayedOpen (Some second) before after = front_seen second after ≡ front_seen second before
 StayedOpen None before after = after ≡ before

@@ -63,7 +63,7 @@ fn push_pieces(text: &mut String, device: &str, port: u64) -> Result<(), AllocEr
     )
 }
 
-/// Says the ways out of a full journal with room for `most` entries, of which `wanted` come at once, where that is known.
+/// Says the ways out of a full journal with room for `most` entries; where it is known, `wanted` entries come at once.
 fn push_ways(
     text: &mut String,
     run: &Run,

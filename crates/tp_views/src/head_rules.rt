@@ -18,7 +18,7 @@ pub(crate) fn most_nodes(version: HeadVersion) -> usize {
     }
 }
 
-/// The most pages that it says of a node.
+/// The most pages of a node that a head of a version says.
 fn most_pages(version: HeadVersion) -> usize {
     match version {
         HeadVersion::Narrow => NARROW_HEAD_PAGES,
@@ -26,7 +26,7 @@ fn most_pages(version: HeadVersion) -> usize {
     }
 }
 
-/// What stands for port 0 where a link leads to it.
+/// The number that stands for port 0 in a head of a version.
 fn first_port(version: HeadVersion) -> usize {
     match version {
         HeadVersion::Narrow => NARROW_PORT,

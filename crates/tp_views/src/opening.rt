@@ -113,8 +113,8 @@ pub fn recover_on<D: Disk, O: Write, E: Write, R: Threads + Sync>(
     }
 }
 
-/// `tpnet show`, on a device, as lines or as JSON. Answers the program's status: 0 where the device opens and exactly that was printed, else 1.
-/// Nothing is written to the device, and a crash finds nothing that the call made. Of one that doesn't open nothing is printed.
+/// `tpnet show`, on a device, as lines or as JSON. Answers the program's status: 0 where the device opens and exactly that was printed,
+/// else 1. Nothing is written to the device, and a crash finds nothing that the call made. Of one that doesn't open nothing is printed.
 pub fn show_on<D: Disk, O: Write, E: Write>(
     alloc: Global,
     disk: &mut D,

@@ -99,7 +99,7 @@ impl Layout {
         self.behind_images(at, next)
     }
 
-    /// The same behind the images, where the records of lines begin.
+    /// What stands at `at` behind the images, where the records of lines begin at `lines`.
     fn behind_images(&self, at: u64, lines: u64) -> Place {
         let line = at.saturating_sub(lines) / LINE_BYTES as u64;
         let count = self.nodes.saturating_mul(4).saturating_add(self.ports);

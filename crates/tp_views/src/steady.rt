@@ -14,7 +14,7 @@
 //!
 //! **No area counts at the look before.** Of a device that is run one area's gate is open at each moment, and the generations of the
 //! two are never equal. A look that reads one front behind the other may miss that, where a switch comes between its reads. So a look
-//! reads the first area's front again, and what opening said stands where the look behind finds the same three fronts. A running device
+//! reads the first area's front again, and what opening said stands where the look behind finds these three fronts. A running device
 //! has no such history. Where the first front is closed each time, it is so at three moments at least, with the second one closed at
 //! moments between them; but a gate is closed before one generation in two spans of time at most, while that is being written and before
 //! it is written anew. Where the first front read again is open, it was opened behind its first reading, so it can't be closed before
@@ -23,7 +23,7 @@
 //! **No look finds a head**: a device that isn't formatted, or whose head breaks a rule. No run writes a head, and `format` writes it
 //! last, so what opening said stands where the look behind finds none either.
 //!
-//! A read of an area's front is taken to be one of a moment: nine bytes, of which the gate is closed and synced before the others are
+//! A read of an area's front is taken to be one of a moment: of its nine bytes the gate is closed and synced before the others are
 //! written. Who formats a file anew that is read meanwhile isn't found out where the new device's front is what the old one's was.
 
 ghost use Rattle.std.specs.Prelude.{◌≡◌, ◌+◌, ◌≤◌, ◌<◌, ◌^◌, ◌↔◌, IsTrue, IfErr, IfOk};

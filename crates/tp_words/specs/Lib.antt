@@ -5,3 +5,4 @@ pub mod Args
 pub mod Ends
 pub mod StreamArgs
 pub mod BackupArgs
+pub mod StopArgs

@@ -21,7 +21,7 @@ bytes_each Kilo = 1024
 bytes_each Mega = 1024 * 1024
 bytes_each Giga = 1024 * 1024 * 1024
 
--- the text is a decimal with the letter of a measure behind it, and the size is so many bytes
+-- the text is a decimal with the letter of a measure behind it, and the size is that number of the measure's bytes
 pub record IsSize (text : List ℕ) (size : ℕ) : Type 0 where
   pub measure : Measure
   pub number : ℕ

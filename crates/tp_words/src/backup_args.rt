@@ -3,7 +3,8 @@
 ghost use Rattle.std.specs.Prelude.{IfOk};
 ghost use Rattle.tp_words.specs.BackupArgs.{WasBackupTyped};
 
-use crate::args::{ArgFault, MAX_WORDS};
+use crate::arg_fault::ArgFault;
+use crate::args::MAX_WORDS;
 use crate::found::text_of;
 use crate::words::command;
 use clap::ArgMatches;

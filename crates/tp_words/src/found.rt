@@ -7,7 +7,8 @@ ghost use Rattle.tp_words.specs.Given.{given, has_flag, IsGivenOr};
 ghost use Rattle.tp_words.specs.Size.{IsArea, IsSize};
 ghost use Rattle.tp_words.specs.Typed.{has_word, was_typed};
 
-use crate::args::{ArgFault, MAX_AREA, MAX_TURNS};
+use crate::arg_fault::ArgFault;
+use crate::args::{MAX_AREA, MAX_TURNS};
 use crate::numbers::{given, has_flag, has_word, number_of, was_typed};
 use crate::sizes::size_of;
 use clap::ArgMatches;

@@ -137,3 +137,19 @@ Refusals (status 1):
   DeviceFailed  DEVICE can't be written or synced, or standard output can't: look at rights and room
   Memory        there is no memory left
 A --spare above a node's pages and a --port that isn't there end with status 2, once DEVICE is open.";
+
+/// How `tpnet stop` asks, and what it refuses.
+pub const STOP_REFUSALS: &str =
+    "It makes the empty file DEVICE.stop, which a stream looks for behind each flush. The stream then makes no further turn, confirms what is
+shown, takes the file away and ends with status 0; its last line is next M stopped. Where the file is there already the stream was asked before.
+Only tpnet run --stream can be asked. While run without --stream, compact or format has DEVICE, nobody takes the file: --wait says whether it ended.
+Refusals (status 1); nothing is written to DEVICE:
+  ReadFailed    DEVICE can't be opened to read and write, or is no regular file: look at its path and its rights
+  NotRunning    no other tpnet has DEVICE, so there is nobody to ask; a DEVICE.stop that was left is removed
+  NotFormatted  nobody has DEVICE, and it is none: make one with tpnet format
+  BadVersion    nobody has DEVICE, and it is of another version of tpnet
+  Damaged AT    nobody has DEVICE, and what stands at offset AT of its head breaks its rule: restore a copy
+  StopExists    what stands at DEVICE.stop is no empty file, so it is somebody's, and it stays: move it
+  StillRunning  it was asked, and SECONDS later another tpnet has DEVICE still: wait for it again, or end it otherwise
+  DeviceFailed  DEVICE.stop can't be made: look at its folder and your rights there; or standard output can't be written
+  Memory        there is no memory left";

@@ -3,7 +3,7 @@
 ghost use Rattle.std.specs.Prelude.{◌≡◌, ◌≤◌, ◌<◌, IfOk, IfSome};
 ghost use Rattle.tp_words.specs.Args.{HasTyped, IsTypedPart, IsView};
 
-use crate::args::ArgFault;
+use crate::arg_fault::ArgFault;
 use crate::found::{json_of, option_number, option_or};
 use crate::views::{JournalPart, View};
 use clap::ArgMatches;

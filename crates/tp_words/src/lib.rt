@@ -1,22 +1,29 @@
 //! The words of the command line, and what they ask for.
 #![tactic(auto)]
 
+mod arg_fault;
 mod args;
 mod backup_args;
+mod device_args;
+mod forms;
 mod found;
 mod help;
 mod journal_args;
 mod numbers;
 mod sizes;
+mod stop_args;
 mod stream_args;
 mod stream_ends;
 mod stream_words;
+mod view_args;
 mod views;
 mod words;
 
-pub use args::{ArgFault, Asked, MAX_AREA, MAX_WORKERS, NewDevice, Run, read_args};
+pub use arg_fault::ArgFault;
+pub use args::{Asked, MAX_AREA, MAX_WORKERS, NewDevice, Run, read_args};
 pub use backup_args::{Backup, BackupAsked, is_backup, read_backup_args};
 pub use numbers::has_word;
+pub use stop_args::{StopAsked, StopRequest, is_stop, read_stop_args};
 pub use stream_args::{
     StreamArgFault, StreamAsked, StreamRun, is_stream, read_stream_args, wants_input,
 };

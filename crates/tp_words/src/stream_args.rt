@@ -6,7 +6,9 @@ ghost use Rattle.std.specs.Option.{option_map};
 ghost use Rattle.tp_words.specs.Given.{given};
 ghost use Rattle.tp_words.specs.StreamArgs.{IsBound, IsProgressEvery, IsStreamInRange, WasStreamTyped};
 
-use crate::args::{ArgFault, MAX_TURNS, MAX_WORDS, QUANTUM, every_of, wait_of};
+use crate::arg_fault::ArgFault;
+use crate::args::{MAX_TURNS, MAX_WORDS, QUANTUM};
+use crate::device_args::{every_of, wait_of};
 use crate::found::{option_number, option_or, option_string, text_of};
 use crate::numbers::has_word;
 use crate::stream_ends::{EndsFault, ends_of};

@@ -1,6 +1,7 @@
 //! The words that `clap` takes with `run --stream`.
 
-use crate::words::{EXPLAIN, Form, WAIT_LOCK, WRITTEN, Word, command_of, program};
+use crate::forms::{EXPLAIN, WAIT_LOCK, WRITTEN};
+use crate::words::{Form, Word, command_of, program};
 use clap::Command;
 use std::alloc::{AllocError, Global};
 

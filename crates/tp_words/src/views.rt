@@ -14,8 +14,8 @@ pub enum View {
     OutputsJson(u64),
 }
 
-/// The part of the kept entries that is shown: those whose number is `from` or more and `to` or less, that node `node` made, and of these the
-/// last `last`. An option that isn't given leaves none out. `json`: as JSON.
+/// The part of the kept entries that is shown: those whose number is `from` or more and `to` or less, that node `node` made, and of these
+/// the last `last`. An option that isn't given leaves none out. `json`: as JSON.
 #[derive(Clone, Copy, Debug, PartialEq, Eq)]
 pub struct JournalPart {
     pub from: u64,

@@ -1,8 +1,12 @@
 //! The words that `clap` takes.
 
+use crate::forms::{
+    BACKUP, CHECK, COMPACT, FORMAT, IMAGE, JOURNAL, NODES, PORT, RECOVER, RUN, SHOW, STATUS, STOP,
+    TRACE, TRY,
+};
 use crate::help::{
     BACKUP_REFUSALS, CHECK_REFUSALS, COMPACT_REFUSALS, FORMAT_REFUSALS, OPENING_REFUSALS,
-    RUN_REFUSALS, STATUS_REFUSALS, TRACE_REFUSALS, TRY_REFUSALS,
+    RUN_REFUSALS, STATUS_REFUSALS, STOP_REFUSALS, TRACE_REFUSALS, TRY_REFUSALS,
 };
 use clap::{Arg, ArgAction, Command};
 use std::alloc::{AllocError, Global};
@@ -38,243 +42,6 @@ pub struct Form {
     pub words: &'static [Word],
 }
 
-/// Says more of a refusal.
-pub const EXPLAIN: Word = Word::Flag(
-    "explain",
-    "after a refusal, say which file, why, and what to do",
-);
-
-/// Prints for scripts.
-const JSON: Word = Word::Flag("json", "print it as one line of JSON, for scripts");
-
-/// How long another process is waited for that holds the device.
-pub const WAIT_LOCK: Word = Word::Value(
-    "wait-lock",
-    "SECONDS",
-    "seconds to wait for another tpnet that holds DEVICE, 0 to 4294967 (0: refused at once)",
-);
-
-/// The device of a command that only reads it.
-const DEVICE: Word = Word::Place("DEVICE", "the device's file");
-
-/// The device of a command that writes it.
-pub const WRITTEN: Word = Word::Place("DEVICE", "the device's file, which is written");
-
-const TOPOLOGY: Word = Word::Place("TOPOLOGY", "the text that names nodes, ports and wires");
-
-const DIR: Word = Word::Place(
-    "DIR",
-    "the folder with an image NAME.img for each node NAME",
-);
-
-const NODE: Word = Word::Place("I", "the node's number, as in tpnet show");
-
-const TRY: Form = Form {
-    name: "try",
-    about: "Runs one node without a device, its link 0 wired to port 0, and prints what port 0 puts out",
-    words: &[
-        EXPLAIN,
-        Word::Place("IMAGE", "the node's image: 172 bytes and its memory"),
-        Word::Needed("turns", "N", "how many turns: node, host, node, host .."),
-    ],
-};
-
-const TRACE: Form = Form {
-    name: "trace",
-    about: "Runs one node without a device, with nobody at its links, and prints what each step does in a line, with the registers behind it",
-    words: &[
-        EXPLAIN,
-        Word::Place("IMAGE", "the node's image: 172 bytes and its memory"),
-        Word::Value(
-            "steps",
-            "N",
-            "how many steps at most, 1 to 4294967295 (100 where it isn't given)",
-        ),
-    ],
-};
-
-const CHECK: Form = Form {
-    name: "check",
-    about: "Reads a topology and its images as format does, writes nothing, and says how large an area has to be",
-    words: &[EXPLAIN, JSON, TOPOLOGY, DIR],
-};
-
-const FORMAT: Form = Form {
-    name: "format",
-    about: "Makes a device from a topology and the nodes' images, over a file that is there unless --new is given",
-    words: &[
-        EXPLAIN,
-        Word::Flag("new", "refuse a file that is there already"),
-        WAIT_LOCK,
-        Word::Value(
-            "area",
-            "SIZE",
-            "the bytes of each area in place of AREA: a decimal, or one with K, M or G behind it (64K is 65536)",
-        ),
-        Word::Place(
-            "DEVICE",
-            "the file that is made, with 512 + 2 AREA bytes, or 1024 + 2 AREA for more than 16 nodes, or more than 256 pages in one",
-        ),
-        TOPOLOGY,
-        DIR,
-        Word::Instead(
-            "AREA",
-            "area",
-            "how many bytes each of the two areas has, up to 2^40",
-        ),
-    ],
-};
-
-const RUN: Form = Form {
-    name: "run",
-    about: "Opens a device, runs its network, keeps the journal on it, prints what the port puts out, and says next M on standard error",
-    words: &[
-        EXPLAIN,
-        WRITTEN,
-        Word::Needed(
-            "turns",
-            "N",
-            "turns that all workers make together, 0 to 4294967295",
-        ),
-        Word::Value(
-            "workers",
-            "W",
-            "threads that make turns, 1 to 16 (2 where it isn't given)",
-        ),
-        Word::Value(
-            "quantum",
-            "Q",
-            "steps that a turn may run, 1 to 4096 (1024)",
-        ),
-        Word::Value(
-            "spare",
-            "S",
-            "spare frames of each node, for writes while pages are frozen, 0 to the pages of the smallest node (4)",
-        ),
-        Word::Value(
-            "every",
-            "E",
-            "entries since the kept cut after which a snapshot begins, 1 to 4294967295 (where the journal is half full)",
-        ),
-        Word::Value(
-            "port",
-            "P",
-            "the port that input goes to and output comes from (0)",
-        ),
-        Word::Value(
-            "in",
-            "FILE",
-            "the port's whole input, from position 0; what was accepted before is passed over (no input)",
-        ),
-        WAIT_LOCK,
-        Word::Flag(
-            "stream",
-            "let ports live on files and standard streams: see tpnet run --stream --help",
-        ),
-    ],
-};
-
-const COMPACT: Form = Form {
-    name: "compact",
-    about: "Writes all of a device's network into its other area, which empties the journal, and prints the generation, the number of the next entry and how many entries the journal takes",
-    words: &[EXPLAIN, WRITTEN, WAIT_LOCK],
-};
-
-const BACKUP: Form = Form {
-    name: "backup",
-    about: "Opens a device, which may be run meanwhile, writes nothing to it, makes a copy of it, and prints the number of the copy's next entry",
-    words: &[
-        EXPLAIN,
-        Word::Place("DEVICE", "the device's file, which is only read"),
-        Word::Place(
-            "COPY",
-            "the file that is made: nothing may be there yet, nor at COPY.part, where it is made",
-        ),
-    ],
-};
-
-const RECOVER: Form = Form {
-    name: "recover",
-    about: "Opens a device, writes nothing, and prints the number of the next entry",
-    words: &[
-        EXPLAIN,
-        DEVICE,
-        Word::Value(
-            "workers",
-            "W",
-            "threads that replay the nodes, 1 to 16 (1 where it isn't given); whatever their number, they say what one says",
-        ),
-    ],
-};
-
-const SHOW: Form = Form {
-    name: "show",
-    about: "Opens a device, writes nothing, and prints what it holds",
-    words: &[EXPLAIN, JSON, DEVICE],
-};
-
-const STATUS: Form = Form {
-    name: "status",
-    about: "Opens a device, writes nothing, and prints in one line whether it is run, and how far it is",
-    words: &[
-        EXPLAIN,
-        Word::Flag("json", "print each look as one line of JSON, for scripts"),
-        DEVICE,
-        Word::Value(
-            "every",
-            "S",
-            "look again each S seconds, 1 to 4294967295, until it is interrupted (without it there is one look)",
-        ),
-    ],
-};
-
-const NODES: Form = Form {
-    name: "node",
-    about: "Prints a node's registers, queues and link ends, addresses in hexadecimal",
-    words: &[EXPLAIN, JSON, DEVICE, NODE],
-};
-
-const IMAGE: Form = Form {
-    name: "image",
-    about: "Prints a node's image, as bytes",
-    words: &[EXPLAIN, DEVICE, NODE],
-};
-
-const JOURNAL: Form = Form {
-    name: "journal",
-    about: "Prints each entry behind the cut in a line, with its number",
-    words: &[
-        EXPLAIN,
-        Word::Flag("json", "print each entry as one line of JSON, for scripts"),
-        DEVICE,
-        Word::Value("from", "N", "the first number that is shown"),
-        Word::Value("to", "N", "the last number that is shown"),
-        Word::Value(
-            "node",
-            "I",
-            "only what node I did: its turns, its runs, and what it took; nothing of the host",
-        ),
-        Word::Value("last", "K", "only the last K of these"),
-    ],
-};
-
-const PORT: Form = Form {
-    name: "port",
-    about: "Prints a port's bytes as they are: the outputs that aren't confirmed, or the inputs that are pending",
-    words: &[
-        EXPLAIN,
-        JSON,
-        DEVICE,
-        Word::Place("P", "the port's number"),
-        Word::Flag("pending", "the inputs that no node has taken"),
-        Word::Unless(
-            "outputs",
-            "pending",
-            "the outputs that aren't confirmed (this is the default)",
-        ),
-    ],
-};
-
 /// A command by its name.
 #[derive(Clone, Copy)]
 enum Name {
@@ -283,6 +50,7 @@ enum Name {
     Check,
     Format,
     Run,
+    Stop,
     Compact,
     Backup,
     Recover,
@@ -301,6 +69,7 @@ const NAMES: &[Name] = &[
     Name::Check,
     Name::Format,
     Name::Run,
+    Name::Stop,
     Name::Compact,
     Name::Backup,
     Name::Recover,
@@ -320,6 +89,7 @@ fn form_of(name: Name) -> Form {
         Name::Check => CHECK,
         Name::Format => FORMAT,
         Name::Run => RUN,
+        Name::Stop => STOP,
         Name::Compact => COMPACT,
         Name::Backup => BACKUP,
         Name::Recover => RECOVER,
@@ -340,6 +110,7 @@ fn refusals_of(name: Name) -> &'static str {
         Name::Check => CHECK_REFUSALS,
         Name::Format => FORMAT_REFUSALS,
         Name::Run => RUN_REFUSALS,
+        Name::Stop => STOP_REFUSALS,
         Name::Compact => COMPACT_REFUSALS,
         Name::Backup => BACKUP_REFUSALS,
         Name::Status => STATUS_REFUSALS,

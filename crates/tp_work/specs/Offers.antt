@@ -45,7 +45,7 @@ IsInputRefusal refusal.NothingToTake = ⊥
 IsInputRefusal refusal.SnapshotRunning = ⊥
 IsInputRefusal refusal.PortFull = Unit {0}
 
--- a reason of the book as a fault, at a port that has so much room
+-- a reason of the book as a fault, at a port that has room for `room` bytes
 abbrev pub input_fault : ℕ → Refusal → OfferFault
 input_fault room refusal.JournalFull = JournalFull
 input_fault room refusal.StoreBroken = StoreBroken

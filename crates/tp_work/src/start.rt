@@ -3,6 +3,7 @@
 ghost use Rattle.std.specs.Prelude.{◌≡◌, ◌<◌, ◌≤◌, [], All, IfOk, Some, map, vec_len};
 ghost use Rattle.tp_model.specs.declared.limits.TheConstants.{MAX_STEPS};
 ghost use Rattle.tp_ready.specs.Past.{IsNew};
+ghost use Rattle.tp_shared.specs.Frozen.{frozen_in};
 ghost use Rattle.tp_shared.specs.Named.{Names};
 ghost use Rattle.tp_shared.specs.Told.{told_of};
 ghost use Rattle.tp_work.specs.declared.start.TheConstants.{MAX_SEATS};
@@ -58,7 +59,7 @@ impl<J: Naming, G: Gate + Drop> Net<J, G> {
         ensures count { IfOk result (λ started. (vec_len started.1 ≡ seats) × (started.0.queue.hands ≡ seats)) }
         ensures seats { IfOk result (λ started. All (λ seat. (seat.hand.of ≡ Some started.0.queue) × (seat.slips ≡ [])) started.1.items) }
         ensures new { IfOk result (λ started. All (λ seat. IsNew seat.hand.past) started.1.items) }
-        ensures key { IfOk result (λ started. (started.2.name ≡ J.flusher) × (started.2.value ≡ told_of J.before J.first (record { book = parts.book; all = []; numbered_from = J.first }))) }
+        ensures key { IfOk result (λ started. (started.2.name ≡ J.flusher) × (started.2.value ≡ told_of J.before J.first (record { book = parts.book; all = []; numbered_from = J.first; frozen = frozen_in parts.seals }))) }
     {
         let (shared, key) = Shared::start(parts);
         let (queue, hands) = ReadyQueue::start(rt, alloc, shared.nodes(), seats)?;

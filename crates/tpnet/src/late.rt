@@ -1,4 +1,4 @@
-//! Standard input, of which nothing is read before the first call.
+//! Standard input that isn't read before the first call.
 
 ghost use Rattle.std.specs.Prelude.{◌≡◌};
 
@@ -7,6 +7,7 @@ use std::io;
 use std::io::{ErrorKind, Input, Read};
 use std::sync::Wait;
 use std::thread::Threads;
+use std::time::Clock;
 use tp_model::limits::MAX_HELD;
 use tp_stream_files::{Feed, SourceFailed, Threaded, Trace};
 
@@ -44,7 +45,7 @@ impl<
     R: Input<Reader = I> + Threads + Wait + AllocGlobal + Copy + Drop + Send + 'static,
     I: Read + Drop + Send + 'static,
 > Late<R> {
-    /// Standard input, of which nothing is read yet.
+    /// Standard input, unread so far.
     pub(crate) fn new(rt: R) -> Late<R> {
         let (to_tell, reader) = match bounded(rt.alloc(), 1) {
             Ok((to_tell, told)) => {
@@ -74,12 +75,12 @@ impl<R: Wait + Drop> Late<R> {
     }
 }
 
-impl<R: Wait + Drop> Feed for Late<R> {
+impl<R: Wait + Clock + Drop> Feed for Late<R> {
     ghost given = { λ late. late.trace.told };
 
-    fn would_wait(&mut self) -> bool {
+    fn would_wait(&mut self, millis: u64) -> bool {
         self.begin();
-        self.feed.would_wait()
+        self.feed.would_wait(millis)
     }
 
     fn next(&mut self, out: &mut [u8; MAX_HELD]) -> Result<usize, SourceFailed> {

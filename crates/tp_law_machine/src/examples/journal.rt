@@ -33,7 +33,7 @@ pub fn entries_are_refused()
     ensures filler { entry_at (1 ∷ 0 ∷ 3 ∷ 0 ∷ 1 ∷ zeros 11) ≡ None }
 {}
 
-/// Turns with their numbers: what each link gave, its data bytes, and a number of 6 bytes in front of the pattern. The same row
+/// Turns with their numbers: what each link gave, its data bytes, and a number of 6 bytes in front of the pattern. One such row
 /// is no entry of an area without turns.
 pub fn turns_are_read()
     ensures ack { entry_at (5 ∷ 0 ∷ 16 ∷ 0 ∷ zeros 4 ++ (2 ∷ zeros 5 ++ (2 ∷ 0 ∷ []))) ≡ Some (Turn 0 (JustAck ∷ Nothing ∷ Nothing ∷ Nothing ∷ []) 16, 2) }

@@ -23,7 +23,7 @@ pub fn a_device_opens()
     ensures { verdict later_device ≡ Ok (opened_as Narrow Turns 13113) }
 {}
 
-/// So does one whose area holds no turns.
+/// A device whose area holds no turns opens, too.
 pub fn a_plain_area_opens()
     ensures { verdict (device_of Narrow Plain four_entries) ≡ Ok (opened_as Narrow Plain 13113) }
 {}

@@ -23,5 +23,5 @@ loop-end-preserved g c = record {
       let low : index < length ins = omega (arith, test, long) in
       map_more (λ (end : PortFile). end.port) ins index end _ _ _ low c.loop-end.invariant.ports
       (c.new.ensures.port ∙ ap (λ (end : PortFile). end.port) (c.end-item.is ∙ ap (λ ends. get_or ends index end) same))
-      (map_last (λ i. i.port) _ _ _ (pushed c.push.result _ _ _ (sym c.is_err-in-loop-end.ensures.value ∙ c.if-is_err.false) c.push.ensures.items));
+      (map_last (λ i. i.port) _ _ _ (pushed c.push.result _ _ _ (sym c.is_err.ensures.value ∙ c.if-is_err.false) c.push.ensures.items));
 }

@@ -1,4 +1,5 @@
 use Rattle.std.proofs.Common.{rules, refl, sym, ap, true, length, Ok, Err}
+use Rattle.std.proofs.lemmas.Bool.{true≢false}
 use Rattle.tp_model.specs.Topology.{Topology}
 use Rattle.tp_flush.specs.declared.progress.Progress.{Progress}
 use Rattle.tp_flush.specs.declared.imaged.Images.{Images}
@@ -64,3 +65,9 @@ returns-in_default-clause-unswitched g c stays = refl
 
 pub returns-clause-unswitched : goal.returns-clause-unswitched
 returns-clause-unswitched g c stays = c.in_ok-switched.ensures.unswitched stays c.in_ok-images.images
+
+pub returns-in_default-clause-gone : goal.returns-in_default-clause-gone
+returns-in_default-clause-gone g c done = absurd (true≢false (sym done))
+
+pub returns-clause-gone : goal.returns-clause-gone
+returns-clause-gone g c done = c.in_ok-switched.ensures.gone done

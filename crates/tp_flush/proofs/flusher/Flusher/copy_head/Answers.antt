@@ -1,6 +1,7 @@
-use Rattle.std.proofs.Common.{rules, arith}
+use Rattle.std.proofs.Common.{rules, arith, subst, sym}
 use Rattle.tp_flush.proofs.Goings.{goes_then, tried_then, went_then}
 use Rattle.tp_area.specs.Tails.{content_beside}
+use Rattle.tp_flush.specs.Copying.{HasRecorded}
 use Rattle.tp_flush.proofs.Standing.{head_out, part_put}
 use Rattle.tp_flush.proofs.flusher.Flusher.copy_head.Goals as goal
 
@@ -32,3 +33,8 @@ returns-clause-stands g c k = λ found.
     let E = c.in_ok-put.ensures in
     part_put b d _ c.args.node 0 (E.content k) c.put.ensures.same.0 c.put.ensures.goes.process.topology
     (head_out b.topology b.world.net (content_beside b.place b.state) c.args.node c.read_head.new.out (c.read_head.ensures.head c.if-not-read_head.false) (search rules) (omega (arith, c.put.ensures.room k)))
+
+pub returns-clause-recorded : goal.returns-clause-recorded
+returns-clause-recorded g c = λ found.
+    let H = c.read_head.ensures.head c.if-not-read_head.false in
+    subst (λ net. HasRecorded net c.args.node) (sym c.put.ensures.same.0) (H.node, H.frozen)

@@ -13,6 +13,7 @@ loop-page-init g c = record {
   goes = c.copy_head.ensures.goes;
   same = c.copy_head.ensures.same;
   stands = λ k. c.in_ok-copy_head.ensures.stands k c.if-not-branch.false;
+  recorded = c.in_ok-copy_head.ensures.recorded c.if-not-branch.false;
 }
 
 pub loop-page-preserved : goal.loop-page-preserved
@@ -23,6 +24,7 @@ loop-page-preserved g c =
       goes = goes_then g.D.Disk.keeps g.J.Naming.formatted g.J.Naming.before c.args.self.now c.loop-page.self c.copy_page.new.self I.goes c.copy_page.ensures.goes;
       same = c.copy_page.ensures.same ∙ I.same;
       stands = λ k. c.in_ok-copy_page.ensures.stands k c.if-not-branch-2.false;
+      recorded = (I.recorded.0, c.in_ok-copy_page.ensures.tried.frozen c.args.node I.recorded.0 I.recorded.1);
     }
 
 pub copy_page-requires-clause-rests : goal.copy_page-requires-clause-rests
@@ -71,3 +73,6 @@ returns-in_err-copy_page-clause-same g c = c.copy_page.ensures.same ∙ c.loop-p
 
 pub returns-then-not-branch-2-clause-same : goal.returns-then-not-branch-2-clause-same
 returns-then-not-branch-2-clause-same g c = c.copy_page.ensures.same ∙ c.loop-page.invariant.same
+
+pub returns-clause-recorded : goal.returns-clause-recorded
+returns-clause-recorded g c = λ found. c.loop-page.invariant.recorded

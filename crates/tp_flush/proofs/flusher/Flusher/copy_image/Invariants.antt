@@ -1,6 +1,6 @@
 use Rattle.std.proofs.Common.{◌≡◌}
 use Rattle.tp_area.specs.Tails.{content_beside}
-use Rattle.tp_flush.specs.Copying.{IsPartOut}
+use Rattle.tp_flush.specs.Copying.{HasRecorded, IsPartOut}
 use Rattle.tp_flush.specs.Flushing.{FlushedOn}
 use Rattle.tp_flush.specs.Ends.{NothingStored}
 use Rattle.tp_flush.proofs.flusher.Flusher.copy_image.Given as goal
@@ -11,4 +11,5 @@ invariant-loop-page g l = record {
   goes : FlushedOn g.D.Disk.keeps g.J.Naming.formatted g.J.Naming.before l.fn.self l.self;
   same : l.self.progress ≡ l.fn.self.progress;
   stands : g.D.Disk.keeps → IsPartOut l.self.topology l.self.world.net (content_beside l.self.place l.self.state) l.node l.page;
+  recorded : HasRecorded l.self.world.net l.node;
 }

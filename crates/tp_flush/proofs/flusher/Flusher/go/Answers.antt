@@ -1,6 +1,7 @@
-use Rattle.std.proofs.Common.{[], length, inl, subst, sym, ◌∙◌, arith, rules}
+use Rattle.std.proofs.Common.{Bool, List, [], ap, length, inl, subst, sym, ◌∙◌, arith, rules}
 use Rattle.tp_flush.proofs.Imaging.{imaged_between}
 use Rattle.tp_flush.proofs.Reasons.{why_still}
+use Rattle.tp_shared.specs.Frozen.{keeps_pages}
 use Rattle.tp_flush.specs.CopiedIn.{CopiedIn}
 use Rattle.tp_flush.specs.Flushing.{FlushedOn}
 use Rattle.tp_flush.specs.Ends.{WaitsBehind}
@@ -119,4 +120,7 @@ returns-clause-imaged g c stays =
 pub returns-clause-unswitched : goal.returns-clause-unswitched
 returns-clause-unswitched g c stays =
     let L = c.raise-mark.ensures.looked in
-    why_still c.in_ok-done.done.unswitched c.in_ok-done.done.images c.checkpoint.new.self c.raise-mark.new.self L.topology L.progress L.place c.raise-mark.ensures.net (c.in_ok-done.ensures.unswitched stays)
+    why_still c.in_ok-done.done.unswitched c.in_ok-done.done.images c.checkpoint.new.self c.raise-mark.new.self L.topology L.progress L.place c.raise-mark.ensures.net.0 c.raise-mark.ensures.net.1 (c.in_ok-done.ensures.unswitched stays)
+
+pub returns-clause-gone : goal.returns-clause-gone
+returns-clause-gone g c done i = ap (λ (frozen : List Bool). keeps_pages frozen i) c.raise-mark.ensures.net.1 ∙ c.in_ok-done.ensures.gone done i

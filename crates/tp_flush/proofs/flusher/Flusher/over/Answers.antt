@@ -12,6 +12,7 @@ use Rattle.std.proofs.lemmas.Bool.{true≢false}
 use Rattle.tp_flush.proofs.Closed.{none_out}
 use Rattle.tp_flush.proofs.Begins.{begun, begun_is, first_keeps}
 use Rattle.tp_flush.proofs.Devices.{first_device}
+use Rattle.tp_flush.proofs.Gone.{gone_none}
 use Rattle.tp_flush.proofs.Forms.{holds_same}
 use Rattle.tp_flush.proofs.flusher.Flusher.over.Goals as goal
 
@@ -41,6 +42,7 @@ invariant_of-result g c =
       subst (λ (k : Known). key.numbered_from ≤ k.world.stored) (sym c.of-whole.ensures) (omega (arith, c.requires.numbered, c.requires.first, c.requires.next)),
       holds_same place.form key.form c.requires.form,
       (λ failed. absurd (true≢false (sym failed ∙ c.requires.unbroken))),
+      gone_none c.of-whole.result.known.world.net key.frozen c.new.result c.new.ensures,
     )
 
 pub returns-clause-world : goal.returns-clause-world

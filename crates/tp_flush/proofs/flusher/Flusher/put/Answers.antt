@@ -17,7 +17,7 @@ use Rattle.tp_area.specs.Tails.{content_beside}
 use Rattle.tp_flush.specs.Copying.{IsPartOut}
 use Rattle.tp_flush.specs.Progress.{is_out}
 use Rattle.tp_flush.specs.Known.{Began, Known}
-use Rattle.tp_flush.specs.Flushing.{KeepsCopy, Flushing, FlushedOn, HeadSays, IsOfDevice, KeepsWorld}
+use Rattle.tp_flush.specs.Flushing.{AreGone, KeepsCopy, Flushing, FlushedOn, HeadSays, IsOfDevice, KeepsWorld}
 use Rattle.tp_flush.specs.Ends.{Tried}
 use Rattle.tp_flush.proofs.Appends.{opens, rests_unbroken}
 use Rattle.tp_flush.proofs.Closed.{piece_images, piece_room, put_copies}
@@ -121,6 +121,8 @@ invariant_of-self g c =
       subst (λ (k : Known). p.key.value.numbered_from ≤ k.world.stored) (sym c.of-parts.ensures) (omega (arith, put_stored a.new.self.broken p.whole.known.world new.now, c.self.invariant.7)),
       holds_at p.store.place a.new.self.place p.key.value.form (ap (λ (q : Place). q.form) a.ensures.place) c.self.invariant.8,
       c.tell_where.ensures,
+      subst (λ (k : Known). AreGone k.world.net p.key.value.frozen p.progress) (sym c.of-parts.ensures)
+          (subst (λ net. AreGone net p.key.value.frozen p.progress) (sym (put_net a.new.self.broken p.whole.known.world new.now)) c.self.invariant.10),
     )
 
 abbrev behind : (g : given.Over) (c : goal.After-answer_of g) → Flushing
@@ -136,6 +138,7 @@ behind g c =
       place = a.new.self.place;
       topology = p.topology;
       progress = p.progress;
+      frozen = p.key.value.frozen;
     }
 
 abbrev before : (g : given.Over) (c : goal.After-answer_of g) → Flushing
@@ -150,6 +153,7 @@ before g c =
       place = p.store.place;
       topology = p.topology;
       progress = p.progress;
+      frozen = p.key.value.frozen;
     }
 
 pub returns-clause-tried : goal.returns-clause-tried

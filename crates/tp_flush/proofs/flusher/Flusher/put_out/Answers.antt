@@ -1,9 +1,10 @@
 use Rattle.std.proofs.Common.{get_or, ap, subst, sym}
-use Rattle.tp_flush.specs.Flushing.{KeepsCopy, Flushing}
+use Rattle.tp_flush.specs.Flushing.{AreGone, KeepsCopy, Flushing}
 use Rattle.tp_area.specs.Tails.{content_beside}
 use Rattle.tp_flush.specs.declared.progress.Progress.{Progress}
-use Rattle.tp_flush.specs.Copying.{IsPartOut}
+use Rattle.tp_flush.specs.Copying.{IsGone, IsPartOut}
 use Rattle.tp_flush.proofs.Closed.{out_more}
+use Rattle.tp_flush.proofs.Gone.{gone_more}
 use Rattle.tp_flush.proofs.Goings.{goes_marked}
 use Rattle.tp_flush.proofs.flusher.Flusher.put_out.Goals as goal
 
@@ -27,4 +28,6 @@ invariant_of-self g c =
       c.self.invariant.7,
       c.self.invariant.8,
       c.self.invariant.9,
+      subst (λ (q : Progress). AreGone p.whole.known.world.net p.key.value.frozen q) (sym c.put_out.ensures.with)
+          (gone_more p.whole.known.world.net p.key.value.frozen p.progress c.args.node c.self.invariant.10 (subst (λ (v : Flushing). IsGone v.world.net v.frozen c.args.node) (sym c.self.view_is) c.requires.gone)),
     )

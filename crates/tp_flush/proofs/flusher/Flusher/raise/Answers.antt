@@ -7,7 +7,7 @@ use Rattle.tp_model.specs.DeviceAreas.{device_areas}
 use Rattle.tp_model.specs.Walks.{RunLeads}
 use Rattle.tp_shared.specs.Told.{IsFirst}
 use Rattle.tp_flush.specs.Known.{Known}
-use Rattle.tp_flush.specs.Flushing.{KeepsCopy, Flushing, IsOfDevice, KeepsWorld, OnlyLooked}
+use Rattle.tp_flush.specs.Flushing.{AreGone, KeepsCopy, Flushing, IsOfDevice, KeepsWorld, OnlyLooked}
 use Rattle.tp_flush.proofs.Devices.{raise_device}
 use Rattle.tp_flush.proofs.Kept.{raise_keeps}
 use Rattle.tp_flush.proofs.Goings.{goes_looked}
@@ -45,6 +45,7 @@ invariant_of-self g c =
       subst (λ (k : Known). p.key.value.numbered_from ≤ k.world.stored) (sym c.of-parts.ensures) c.self.invariant.7,
       c.self.invariant.8,
       c.self.invariant.9,
+      subst (λ (k : Known). AreGone k.world.net p.key.value.frozen p.progress) (sym c.of-parts.ensures) c.self.invariant.10,
     )
 
 pub returns-clause-mark : goal.returns-clause-mark
@@ -66,6 +67,7 @@ flushing g c k =
       place = p.store.place;
       topology = p.topology;
       progress = p.progress;
+      frozen = p.key.value.frozen;
     }
 
 looked : (g : given.Over) (c : goal.After-raised g) → OnlyLooked c.args.self.now (flushing g c c.of-parts.result.known)
@@ -90,7 +92,7 @@ pub returns-clause-looked : goal.returns-clause-looked
 returns-clause-looked g c = looked g c
 
 pub returns-clause-net : goal.returns-clause-net
-returns-clause-net g c = ap (λ (k : Known). k.world.net) c.of-parts.ensures ∙ ap (λ (v : Flushing). v.world.net) c.self.view_is
+returns-clause-net g c = (ap (λ (k : Known). k.world.net) c.of-parts.ensures ∙ ap (λ (v : Flushing). v.world.net) c.self.view_is, ap (λ (v : Flushing). v.frozen) c.self.view_is)
 
 pub returns-clause-goes : goal.returns-clause-goes
 returns-clause-goes g c =

@@ -3,9 +3,11 @@ use Rattle.tp_model.specs.DiskHistory.{State}
 use Rattle.tp_shared.specs.Told.{IsFirst}
 use Rattle.tp_shared.specs.Pieces.{IsFrozenHead}
 use Rattle.tp_flush.specs.Known.{Known}
-use Rattle.tp_flush.specs.Flushing.{KeepsCopy, Flushing, IsOfDevice, KeepsWorld, OnlyLooked}
+use Rattle.tp_shared.specs.declared.told.Told.{Told}
+use Rattle.tp_flush.specs.Flushing.{AreGone, KeepsCopy, Flushing, IsOfDevice, KeepsWorld, OnlyLooked}
 use Rattle.tp_model.specs.FrozenAs.{IsFrozenAs}
 use Rattle.tp_flush.proofs.Closed.{frozen_told, look_copies}
+use Rattle.tp_flush.proofs.Gone.{gone_told}
 use Rattle.tp_flush.proofs.Devices.{look_device}
 use Rattle.tp_flush.proofs.Goings.{goes_looked, went_looked}
 use Rattle.tp_flush.proofs.Kept.{learn_keeps, learned_looked}
@@ -31,10 +33,11 @@ invariant_of-self g c =
       subst (λ (k : Known). now.numbered_from ≤ k.world.stored) (sym c.of-parts.ensures) (omega (arith, c.frozen_head-found.ensures.since.numbered, c.self.invariant.7)),
       holds_since p.store.place.form p.key.value now c.frozen_head-found.ensures.since c.self.invariant.8,
       c.self.invariant.9,
+      subst (λ (k : Known). AreGone k.world.net now.frozen p.progress) (sym c.of-parts.ensures) (gone_told p.whole.known.world p.key.value now p.progress c.self.invariant.2 c.frozen_head-found.ensures.since c.self.invariant.10),
     )
 
-abbrev flushing : (g : given.Over) (c : goal.After-parts-2-1 g) → Known → Flushing
-flushing g c k =
+abbrev flushing : (g : given.Over) (c : goal.After-parts-2-1 g) → Known → Told → Flushing
+flushing g c k told =
     let p = c.self.inside.parts in
     record {
       world = k.world;
@@ -45,25 +48,26 @@ flushing g c k =
       place = p.store.place;
       topology = p.topology;
       progress = p.progress;
+      frozen = told.frozen;
     }
 
-looked : (g : given.Over) (c : goal.After-parts-2-1 g) → OnlyLooked c.args.self.now (flushing g c c.of-parts.result.known)
+looked : (g : given.Over) (c : goal.After-parts-2-1 g) → OnlyLooked c.args.self.now (flushing g c c.of-parts.result.known c.frozen_head-found.new.key.value)
 looked g c =
     let p = c.self.inside.parts in
-    subst (λ (v : Flushing). OnlyLooked v (flushing g c c.of-parts.result.known)) c.self.view_is
-    (subst (λ (k : Known). OnlyLooked (flushing g c p.whole.known) (flushing g c k)) (sym c.of-parts.ensures)
+    subst (λ (v : Flushing). OnlyLooked v (flushing g c c.of-parts.result.known c.frozen_head-found.new.key.value)) c.self.view_is
+    (subst (λ (k : Known). OnlyLooked (flushing g c p.whole.known p.key.value) (flushing g c k c.frozen_head-found.new.key.value)) (sym c.of-parts.ensures)
     (learned_looked p.whole.known.world p.key.value c.frozen_head-found.new.key.value c.self.invariant.2 c.frozen_head-found.ensures.since (g.D.Disk.state p.store.disk) (g.D.Disk.size_of p.store.disk) (g.D.Disk.failures_of p.store.disk) p.whole.known.opened p.store.place p.topology p.progress))
 
 pub returns-clause-went : goal.returns-clause-went
 returns-clause-went g c =
-    went_looked c.args.self.now (flushing g c c.of-parts.result.known) c.requires.rests (looked g c)
+    went_looked c.args.self.now (flushing g c c.of-parts.result.known c.frozen_head-found.new.key.value) c.requires.rests (looked g c)
     (ap (λ (k : Known). k.world.mark) c.of-parts.ensures ∙ ap (λ (v : Flushing). v.world.mark) c.self.view_is)
     (λ i node F. subst (λ (k : Known). IsFrozenAs k.world.net i node) (sym c.of-parts.ensures)
     (frozen_told c.self.inside.parts.whole.known.world c.self.inside.parts.key.value c.frozen_head-found.new.key.value c.self.invariant.2 c.frozen_head-found.ensures.since i node (subst (λ (v : Flushing). IsFrozenAs v.world.net i node) (sym c.self.view_is) F)))
 
 pub returns-clause-goes : goal.returns-clause-goes
 returns-clause-goes g c =
-    goes_looked g.D.Disk.keeps g.J.Naming.formatted g.J.Naming.before c.args.self.now (flushing g c c.of-parts.result.known) c.known.ensures.disk (looked g c)
+    goes_looked g.D.Disk.keeps g.J.Naming.formatted g.J.Naming.before c.args.self.now (flushing g c c.of-parts.result.known c.frozen_head-found.new.key.value) c.known.ensures.disk (looked g c)
 
 pub returns-clause-head : goal.returns-clause-head
 returns-clause-head g c found = subst (λ (k : Known). IsFrozenHead k.world.net c.args.node c.frozen_head-found.new.out) (sym c.of-parts.ensures) (c.frozen_head-found.ensures.head found)

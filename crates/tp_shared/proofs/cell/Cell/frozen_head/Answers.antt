@@ -24,6 +24,9 @@ head_of-requires-clause-shows g c =
     let at = slice_get_read c.self.inside.places.items (length c.self.inside.places.items) (c.args.number / 4) c.index_mut-place.result.now refl (c.self.invariant.all (c.args.number / 4) below) c.index_mut-place.ensures.value in
     (c.self.invariant.each (c.args.number / 4) c.index_mut-place.result.now at).shows
 
+pub returns-clause-kept : goal.returns-clause-kept
+returns-clause-kept g c = c.head_of.ensures.answer ∙ sym c.head_of.ensures.kept
+
 pub invariant_of-self : goal.invariant_of-self
 invariant_of-self g c =
     let same : 4 * (c.args.number / 4) + g.row.I ≡ c.args.number = omega (arith, c.requires.here) in

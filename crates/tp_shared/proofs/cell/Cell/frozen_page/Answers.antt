@@ -1,5 +1,9 @@
-use Rattle.std.proofs.Common.{◌≡◌, ◌+◌, ◌*◌, ◌/◌, ◌<◌, length, refl, sym, ap, subst, ◌∙◌, arith}
+use Rattle.std.proofs.Common.{◌≡◌, ◌+◌, ◌*◌, ◌/◌, ◌<◌, Bool, Option, length, refl, sym, ap, subst, ◌∙◌, arith}
+use Rattle.std.specs.Prelude.{◌&&◌, nat_lt}
 use Rattle.std.proofs.lemmas.Option.{slice_get_read}
+use Rattle.tp_model.specs.declared.limits.TheConstants.{PAGE_BYTES}
+use Rattle.tp_model.specs.NodeState.{NodeState}
+use Rattle.tp_shared.specs.Frozen.{has_page_in, keeps_pages}
 use Rattle.tp_shared.proofs.Placing.{celled_after}
 use Rattle.tp_shared.proofs.cell.Cell.frozen_page.Goals as goal
 
@@ -23,6 +27,14 @@ page_of-requires-clause-shows g c =
     let below : 4 * (c.args.number / 4) + g.row.I < length g.J.Naming.start.nodes = subst (λ n. n < length g.J.Naming.start.nodes) (sym same) c.requires.there in
     let at = slice_get_read c.self.inside.places.items (length c.self.inside.places.items) (c.args.number / 4) c.index_mut-place.result.now refl (c.self.invariant.all (c.args.number / 4) below) c.index_mut-place.ensures.value in
     (c.self.invariant.each (c.args.number / 4) c.index_mut-place.result.now at).shows
+
+pub returns-clause-kept : goal.returns-clause-kept
+returns-clause-kept g c =
+    let E = c.page_of.ensures in
+    let told = c.page_of.new.key.value in
+    let live = c.index_mut-place.result.now.node.live in
+    E.answer ∙ ap (λ (kept : Bool). kept && nat_lt (PAGE_BYTES * c.args.page) (length live.memory)) (sym E.kept)
+    ∙ ap (λ (found : Option NodeState). keeps_pages told.frozen c.args.number && has_page_in found c.args.page) (sym E.there)
 
 pub invariant_of-self : goal.invariant_of-self
 invariant_of-self g c =

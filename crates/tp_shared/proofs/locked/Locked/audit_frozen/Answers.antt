@@ -1,12 +1,15 @@
-use Rattle.std.proofs.Common.{◌∙◌, refl, sym, ap, subst}
+use Rattle.std.proofs.Common.{◌≡◌, ◌∙◌, Bool, List, Some, slice_get, refl, sym, ap, subst}
 use Rattle.std.specs.Prelude.{is_some}
 use Rattle.std.proofs.lemmas.List.{length-set}
 use Rattle.std.proofs.lemmas.Option.{slice_get_within}
 use Rattle.tp_model.specs.FrozenAs.{IsFrozenAs}
 use Rattle.tp_book.specs.Book.{agreed, world_of}
 use Rattle.tp_shared.specs.Agreement.{Agreement}
+use Rattle.tp_shared.specs.Frozen.{keeps_pages}
 use Rattle.tp_shared.specs.Seals.{Stage}
+use Rattle.tp_shared.specs.declared.seal.NodeSeal.{NodeSeal}
 use Rattle.tp_shared.proofs.Frozen.{kept_frozen}
+use Rattle.tp_shared.proofs.Gone.{frozen_again, gone_set, kept_at}
 use Rattle.tp_shared.proofs.Resealing.{sealed_again}
 use Rattle.tp_shared.proofs.Thawing.{thaws_set, thawed_at}
 use Rattle.tp_shared.proofs.Keeping.{seal_at, sealed_anew}
@@ -28,6 +31,35 @@ invariant_of-self g c =
     sealed_anew inv (length-set seals c.args.number _)
     (sealed_again g.J.Naming.node seals c.self.inside.book c.args.number here (record { frozen = here.frozen; seal = c.agree.new.seal }) inv.sealed at c.agree.ensures.names.0 c.agree.ensures.values.0 refl)
     (thaws_set c.self.inside.told.value seals c.args.number (record { frozen = here.frozen; seal = c.agree.new.seal }) inv.thawed (λ thawed. thawed_at c.self.inside.told.value seals c.args.number here thawed at))
+    (gone_set (world_of c.self.inside.book) seals c.args.number here (record { frozen = here.frozen; seal = c.agree.new.seal }) at (λ n F none. none))
+
+pub returns-clause-same : goal.returns-clause-same
+returns-clause-same g c =
+    let seals = c.self.inside.seals.items in
+    let here = c.index_mut-here.result.now in
+    let at = seal_at c.self.invariant c.args.number here c.requires.there c.index_mut-here.ensures.value in
+    let now : NodeSeal = record { frozen = here.frozen; seal = c.agree.new.seal } in
+    let stage : List Bool → Stage = λ fs. record { book = c.self.inside.book; all = c.self.inside.roll.items; numbered_from = c.self.inside.told.value.numbered_from; frozen = fs } in
+    ap stage (frozen_again seals c.args.number here now at refl) ∙ c.self.view_is
+
+pub returns-clause-kept : goal.returns-clause-kept
+returns-clause-kept g c =
+    let seals = c.self.inside.seals.items in
+    let here = c.index_mut-here.result.now in
+    let at = seal_at c.self.invariant c.args.number here c.requires.there c.index_mut-here.ensures.value in
+    let S = c.self.invariant.sealed c.args.number here at in
+    let shown = ap (λ x. x.state) c.agree.ensures.agreed ∙ c.requires.shows.shown in
+    subst (λ (stage : Stage). keeps_pages stage.frozen c.args.number ≡ is_some c.args.place.now.node.frozen) c.self.view_is
+    (kept_at seals c.args.number here at ∙ S.flag ∙ ap (λ (x : Agreement). is_some x.frozen) shown)
+
+pub returns-clause-there : goal.returns-clause-there
+returns-clause-there g c =
+    let here = c.index_mut-here.result.now in
+    let at = seal_at c.self.invariant c.args.number here c.requires.there c.index_mut-here.ensures.value in
+    let S = c.self.invariant.sealed c.args.number here at in
+    let shown = ap (λ x. x.state) c.agree.ensures.agreed ∙ c.requires.shows.shown in
+    subst (λ (stage : Stage). slice_get (world_of stage.book).live.nodes c.args.number ≡ Some c.args.place.now.node.live) c.self.view_is
+    (S.node ∙ ap (λ (x : Agreement). Some x.node) shown)
 
 pub returns-clause-frozen : goal.returns-clause-frozen
 returns-clause-frozen g c node frozen =

@@ -1,14 +1,17 @@
-use Rattle.std.proofs.Common.{◌∙◌, ◌<◌, length, ap, sym, subst, arith, Some}
+use Rattle.std.proofs.Common.{◌∙◌, ◌<◌, length, set, ap, sym, subst, arith, Some}
 use Rattle.std.specs.Prelude.{is_some}
 use Rattle.std.proofs.lemmas.List.{length-set}
+use Rattle.tp_book.specs.Book.{world_of}
 use Rattle.tp_turn.specs.Moments.{IsNodeOf, moment_of}
 use Rattle.tp_turn.specs.Opened.{OpensIn}
 use Rattle.tp_shared.specs.Agreement.{Agreement, answered_with}
 use Rattle.tp_shared.specs.Entries.{OpenedEntries}
+use Rattle.tp_shared.specs.Frozen.{frozen_in}
 use Rattle.tp_shared.specs.Seals.{Stage}
 use Rattle.tp_shared.specs.Gains.{HoldNoted}
 use Rattle.tp_shared.specs.Holds.{IsBookOf}
 use Rattle.tp_shared.specs.declared.seal.NodeSeal.{NodeSeal}
+use Rattle.tp_shared.proofs.Gone.{gone_set, recorded_as}
 use Rattle.tp_shared.proofs.Holding.{acted_like, answered_form, opened_like}
 use Rattle.tp_shared.proofs.Sealing.{answered_seal, answered_shows, node_of_seal, noted_by, reserved_after, sealed_after}
 use Rattle.tp_shared.proofs.Thawing.{thaws_set, thawed_at, thawed_recorded}
@@ -77,10 +80,17 @@ invariant_of-self g c =
     (thaws_set c.self.inside.told.value seals c.args.number now inv.thawed
     (λ thawed.
     c.is_frozen-here.ensures
-    ∙ ap is_some (c.begin-done.ensures.stays (thawed_recorded g.J.Naming.before g.J.Naming.first c.self.inside.told.value seals (record { book = b; all = c.self.inside.roll.items; numbered_from = c.self.inside.told.value.numbered_from }) thawed inv.since c.args.number))
+    ∙ ap is_some (c.begin-done.ensures.stays (thawed_recorded g.J.Naming.before g.J.Naming.first c.self.inside.told.value seals (record { book = b; all = c.self.inside.roll.items; numbered_from = c.self.inside.told.value.numbered_from; frozen = frozen_in c.self.inside.seals.items }) thawed inv.since c.args.number))
     ∙ ap (λ (x : Agreement). is_some x.frozen) (sym (ap (λ x. x.state) c.agree.ensures.agreed ∙ c.requires.shows.shown))
     ∙ sym S.flag
     ∙ thawed_at c.self.inside.told.value seals c.args.number here thawed at))
+    (gone_set (world_of b) seals c.args.number here now at
+    (λ n F none.
+    c.is_frozen-here.ensures
+    ∙ ap is_some (c.begin-done.ensures.stays (recorded_as b c.args.number n F))
+    ∙ ap (λ (x : Agreement). is_some x.frozen) (sym (ap (λ x. x.state) c.agree.ensures.agreed ∙ c.requires.shows.shown))
+    ∙ sym S.flag
+    ∙ none))
     c.write_new.ensures.names.0 c.write_new.ensures.first c.write_new.ensures.roll
 
 pub returns-clause-shows : goal.returns-clause-shows
@@ -97,8 +107,8 @@ returns-clause-noted g c =
     let A = acted_like (OpenedEntries b.state.start c.args.number done) Are c.args.number (answered_with new c.args.number c.begin-done.new.node done) b new
     (λ es. opened_like g.J.Naming.start b.state.start c.args.number done es inv.wires_are inv.count_is) c.begin-done.ensures.acted in
     let many = as_many c.entries-before.result.now b.state.entries c.entries-before.ensures.entries in
-    let old_stage : Stage = record { book = b; all = c.self.inside.roll.items; numbered_from = c.self.inside.told.value.numbered_from } in
-    let new_stage : Stage = record { book = new; all = c.write_new.new.roll.items; numbered_from = c.self.inside.told.value.numbered_from } in
+    let old_stage : Stage = record { book = b; all = c.self.inside.roll.items; numbered_from = c.self.inside.told.value.numbered_from; frozen = frozen_in c.self.inside.seals.items } in
+    let new_stage : Stage = record { book = new; all = c.write_new.new.roll.items; numbered_from = c.self.inside.told.value.numbered_from; frozen = frozen_in (set c.self.inside.seals.items c.args.number (record { frozen = c.is_frozen-here.result; seal = c.turn.new.seal })) } in
     subst (λ stage. HoldNoted Are g.J.Naming.first stage new_stage c.args.seat.now c.write_new.new.slips.items) c.self.view_is
     (subst (λ seat. HoldNoted Are g.J.Naming.first old_stage new_stage seat c.write_new.new.slips.items) c.seat.view_is
     (noted_by Are b new old_stage new_stage g.J.Naming.first c.self.inside.roll.first (length c.entries-before.result.now) c.seat.inside.slips.items c.write_new.new.slips.items

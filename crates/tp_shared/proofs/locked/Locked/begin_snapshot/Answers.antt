@@ -17,4 +17,4 @@ invariant_of-self-2 g c =
     let runs = ap (λ x. x.runs) is in
     acted_still inv G (ap length runs) refl
     (sealed_begun g.J.Naming.node c.self.inside.seals.items b new inv.sealed (idle_begun b c.in_ok-begin.ensures.answer) (begun_agreed b new is) runs (ap (λ x. x.form) is) c.in_ok-begin.ensures.act)
-    inv.thawed
+    inv.thawed (λ i n F none. none)

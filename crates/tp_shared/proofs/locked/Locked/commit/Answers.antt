@@ -1,17 +1,20 @@
-use Rattle.std.proofs.Common.{◌<◌, ◌≡◌, ◌∙◌, List, [], length, ap, refl, sym, subst, arith, Some}
+use Rattle.std.proofs.Common.{◌<◌, ◌≡◌, ◌∙◌, List, [], length, set, ap, refl, sym, subst, arith, Some}
 use Rattle.std.specs.Prelude.{is_some}
 use Rattle.std.proofs.lemmas.List.{length-set}
 use Rattle.tp_model.specs.declared.entry.Entry.{Entry}
 use Rattle.tp_node.specs.NodeContents.{NodeContents}
+use Rattle.tp_book.specs.Book.{world_of}
 use Rattle.tp_book.specs.Calls.{without_run}
 use Rattle.tp_turn.specs.Moments.{Added}
 use Rattle.tp_turn.specs.Opened.{opened_acts, opened_entries}
 use Rattle.tp_turn.proofs.Opening.{turned_by}
 use Rattle.tp_shared.specs.Agreement.{Agreement, at_rest}
+use Rattle.tp_shared.specs.Frozen.{frozen_in}
 use Rattle.tp_shared.specs.Seals.{Stage}
 use Rattle.tp_shared.specs.Gains.{HoldNoted}
 use Rattle.tp_shared.specs.Holds.{IsBookOf}
 use Rattle.tp_shared.specs.declared.seal.NodeSeal.{NodeSeal}
+use Rattle.tp_shared.proofs.Gone.{gone_set}
 use Rattle.tp_shared.proofs.Sealing.{node_of_seal, noted_by, reserved_after, rest_seal, sealed_after}
 use Rattle.tp_shared.proofs.Thawing.{thaws_set, thawed_at}
 use Rattle.tp_shared.proofs.Writing.{as_many}
@@ -79,6 +82,7 @@ invariant_of-self g c =
     (rest_seal (g.J.Naming.node c.args.number) now new c.args.number node c.commit-ran.ensures.is (reserved_after Are g.J.Naming.node seals b new c.args.number (at_rest node) inv.sealed A below)
     (c.turn.ensures.names.0 ∙ c.agree.ensures.names.0 ∙ S.named) (ap (λ x. x.state) c.turn.ensures.seal ∙ c.free-now.ensures) flag))
     (thaws_set c.self.inside.told.value seals c.args.number now inv.thawed (λ thawed. thawed_at c.self.inside.told.value seals c.args.number here thawed at))
+    (gone_set (world_of b) seals c.args.number here now at (λ n F none. none))
     c.write_new.ensures.names.0 c.write_new.ensures.first c.write_new.ensures.roll
 
 pub returns-clause-noted : goal.returns-clause-noted
@@ -88,8 +92,8 @@ returns-clause-noted g c =
     let inv = c.self.invariant in
     let Are = (λ (entries : List Entry). entries ≡ opened_entries c.args.number c.args.opened c.args.stretch.ran.count) in
     let many = as_many c.entries-before.result.now b.state.entries c.entries-before.ensures.entries in
-    let old_stage : Stage = record { book = b; all = c.self.inside.roll.items; numbered_from = c.self.inside.told.value.numbered_from } in
-    let new_stage : Stage = record { book = new; all = c.write_new.new.roll.items; numbered_from = c.self.inside.told.value.numbered_from } in
+    let old_stage : Stage = record { book = b; all = c.self.inside.roll.items; numbered_from = c.self.inside.told.value.numbered_from; frozen = frozen_in c.self.inside.seals.items } in
+    let new_stage : Stage = record { book = new; all = c.write_new.new.roll.items; numbered_from = c.self.inside.told.value.numbered_from; frozen = frozen_in (set c.self.inside.seals.items c.args.number (record { frozen = c.index_mut-here.result.now.frozen; seal = c.turn.new.seal })) } in
     subst (λ stage. HoldNoted Are g.J.Naming.first stage new_stage c.args.seat.now c.write_new.new.slips.items) c.self.view_is
     (subst (λ seat. HoldNoted Are g.J.Naming.first old_stage new_stage seat c.write_new.new.slips.items) c.seat.view_is
     (noted_by Are b new old_stage new_stage g.J.Naming.first c.self.inside.roll.first (length c.entries-before.result.now) c.seat.inside.slips.items c.write_new.new.slips.items

@@ -2,6 +2,7 @@ use Rattle.std.proofs.Common.{length, subst}
 use Rattle.tp_turn.specs.Hosted.{HostDone, HostTurns}
 use Rattle.tp_shared.specs.BookActs.{HostActed}
 use Rattle.tp_shared.specs.Entries.{TakesOf}
+use Rattle.tp_shared.specs.Frozen.{frozen_in}
 use Rattle.tp_shared.specs.Seals.{Stage}
 use Rattle.tp_shared.specs.Gains.{HoldNoted}
 use Rattle.tp_shared.specs.Holds.{IsBookOf}
@@ -30,8 +31,8 @@ returns-clause-noted g c =
     let H = subst (λ n. HostActed (TakesOf b.state.start n c.host_turn-done.result) b new) inv.count_is (hosted_turn c.host_turn-done.result b new c.host_turn-done.ensures) in
     let G = grown_like (TakesOf b.state.start host c.host_turn-done.result) Are b new (λ es. takes_of_like g.J.Naming.start b.state.start host c.host_turn-done.result es inv.wires_are inv.count_is) H.grown in
     let many = as_many c.entries-before.result.now b.state.entries c.entries-before.ensures.entries in
-    let old_stage : Stage = record { book = b; all = c.self.inside.roll.items; numbered_from = c.self.inside.told.value.numbered_from } in
-    let new_stage : Stage = record { book = new; all = c.write_new.new.roll.items; numbered_from = c.self.inside.told.value.numbered_from } in
+    let old_stage : Stage = record { book = b; all = c.self.inside.roll.items; numbered_from = c.self.inside.told.value.numbered_from; frozen = frozen_in c.self.inside.seals.items } in
+    let new_stage : Stage = record { book = new; all = c.write_new.new.roll.items; numbered_from = c.self.inside.told.value.numbered_from; frozen = frozen_in c.self.inside.seals.items } in
     subst (λ stage. HoldNoted Are g.J.Naming.first stage new_stage c.args.seat.now c.write_new.new.slips.items) c.self.view_is
     (subst (λ seat. HoldNoted Are g.J.Naming.first old_stage new_stage seat c.write_new.new.slips.items) c.seat.view_is
     (noted_by Are b new old_stage new_stage g.J.Naming.first c.self.inside.roll.first (length c.entries-before.result.now) c.seat.inside.slips.items c.write_new.new.slips.items

@@ -1,6 +1,7 @@
 use Rattle.std.proofs.Common.{◌≡◌, ◌+◌, ◌≤◌, List, length, sym, ap, subst, ◌∙◌, arith}
 use Rattle.tp_model.specs.declared.entry.Entry.{Entry}
 use Rattle.tp_book.specs.Book.{next_in_book}
+use Rattle.tp_shared.specs.Frozen.{frozen_in}
 use Rattle.tp_shared.specs.Positions.{IsNumberedFrom}
 use Rattle.tp_shared.specs.Told.{ToldSince, told_of}
 use Rattle.tp_shared.specs.declared.told.Told.{Told}
@@ -12,8 +13,8 @@ use Rattle.tp_shared.proofs.locked.Locked.new.Goals as goal
 
 pub invariant_of-result : goal.invariant_of-result
 invariant_of-result g c =
-    let now = told_of g.J.Naming.before g.J.Naming.first (record { book = c.args.book; all = c.args.roll.items; numbered_from = g.J.Naming.first }) in
-    let is : c.args.told.value ≡ now = c.requires.told.1 ∙ ap (λ (es : List Entry). told_of g.J.Naming.before g.J.Naming.first (record { book = c.args.book; all = es; numbered_from = g.J.Naming.first })) (sym c.requires.roll.2) in
+    let now = told_of g.J.Naming.before g.J.Naming.first (record { book = c.args.book; all = c.args.roll.items; numbered_from = g.J.Naming.first; frozen = frozen_in c.args.seals.items }) in
+    let is : c.args.told.value ≡ now = c.requires.told.1 ∙ ap (λ (es : List Entry). told_of g.J.Naming.before g.J.Naming.first (record { book = c.args.book; all = es; numbered_from = g.J.Naming.first; frozen = frozen_in c.args.seals.items })) (sym c.requires.roll.2) in
     let many = paired c.entries-count.result.now c.args.book.state.entries c.args.book.numbers c.entries-count.ensures.entries c.entries-count.ensures.numbers in
     let last : g.J.Naming.first ≡ next_in_book c.args.book = let next = c.requires.tied.next in let none = ap length c.requires.roll.2 in omega (arith, next, none) in
     record {
@@ -27,7 +28,7 @@ invariant_of-result g c =
       wires_are = c.requires.wires.0;
       count_is = c.requires.count.2;
       flusher_is = c.requires.told.0;
-      since = subst (λ (t : Told). ToldSince t (told_of g.J.Naming.before g.J.Naming.first (record { book = c.args.book; all = c.args.roll.items; numbered_from = t.numbered_from }))) (sym is) (since_none now);
+      since = subst (λ (t : Told). ToldSince t (told_of g.J.Naming.before g.J.Naming.first (record { book = c.args.book; all = c.args.roll.items; numbered_from = t.numbered_from; frozen = frozen_in c.args.seals.items }))) (sym is) (since_none now);
       wire_count = c.requires.wires.1;
       room_is = c.requires.room.0;
       floor = c.requires.room.1;

@@ -3,11 +3,14 @@ use Rattle.std.specs.Prelude.{is_some}
 use Rattle.std.proofs.lemmas.List.{length-set}
 use Rattle.tp_model.specs.declared.entry.Entry.{Entry}
 use Rattle.tp_book.specs.Needs.{is_asked}
+use Rattle.tp_book.specs.Book.{world_of}
 use Rattle.tp_turn.specs.Moments.{Done, IsNodeOf, moment_of}
 use Rattle.tp_turn.specs.Settled.{Records}
 use Rattle.tp_shared.specs.Agreement.{Agreement, at_rest}
+use Rattle.tp_shared.specs.Frozen.{frozen_in}
 use Rattle.tp_shared.specs.Holds.{IsBookOf}
 use Rattle.tp_shared.specs.declared.seal.NodeSeal.{NodeSeal}
+use Rattle.tp_shared.proofs.Gone.{gone_set, recorded_as}
 use Rattle.tp_shared.proofs.Sealing.{node_of_seal, reserved_after, rest_seal, sealed_after}
 use Rattle.tp_shared.proofs.Thawing.{thaws_set, thawed_at, thawed_recorded}
 use Rattle.tp_shared.proofs.Keeping.{seal_at, acted_still}
@@ -69,10 +72,17 @@ invariant_of-self g c =
     (thaws_set c.self.inside.told.value c.self.inside.seals.items c.args.number now inv.thawed
     (λ thawed.
     c.is_frozen-here.ensures
-    ∙ ap is_some (c.record.ensures.stays (thawed_recorded g.J.Naming.before g.J.Naming.first c.self.inside.told.value c.self.inside.seals.items (record { book = b; all = c.self.inside.roll.items; numbered_from = c.self.inside.told.value.numbered_from }) thawed inv.since c.args.number))
+    ∙ ap is_some (c.record.ensures.stays (thawed_recorded g.J.Naming.before g.J.Naming.first c.self.inside.told.value c.self.inside.seals.items (record { book = b; all = c.self.inside.roll.items; numbered_from = c.self.inside.told.value.numbered_from; frozen = frozen_in c.self.inside.seals.items }) thawed inv.since c.args.number))
     ∙ ap (λ (x : Agreement). is_some x.frozen) (sym (ap (λ x. x.state) c.agree.ensures.agreed ∙ c.requires.shows.shown))
     ∙ sym S.flag
     ∙ thawed_at c.self.inside.told.value c.self.inside.seals.items c.args.number here thawed at))
+    (gone_set (world_of b) c.self.inside.seals.items c.args.number here now at
+    (λ n F none.
+    c.is_frozen-here.ensures
+    ∙ ap is_some (c.record.ensures.stays (recorded_as b c.args.number n F))
+    ∙ ap (λ (x : Agreement). is_some x.frozen) (sym (ap (λ x. x.state) c.agree.ensures.agreed ∙ c.requires.shows.shown))
+    ∙ sym S.flag
+    ∙ none))
 
 pub returns-clause-did : goal.returns-clause-did
 returns-clause-did g c = subst (λ stage. Done c.args.number (Records c.args.number) (moment_of stage.book c.args.place.now.node) (moment_of c.record.new.book c.record.new.node)) c.self.view_is c.record.ensures.did

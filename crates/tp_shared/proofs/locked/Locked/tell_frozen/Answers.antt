@@ -1,9 +1,20 @@
-use Rattle.std.proofs.Common.{sym, subst}
+use Rattle.std.proofs.Common.{◌∙◌, ap, slice_get, sym, subst}
 use Rattle.tp_model.specs.FrozenAs.{IsFrozenAs}
 use Rattle.tp_book.specs.Book.{world_of}
+use Rattle.tp_shared.specs.Frozen.{keeps_pages}
 use Rattle.tp_shared.specs.Seals.{Stage}
 use Rattle.tp_shared.specs.declared.told.Told.{Told}
 use Rattle.tp_shared.proofs.locked.Locked.tell_frozen.Goals as goal
+
+pub returns-clause-kept : goal.returns-clause-kept
+returns-clause-kept g c =
+    ap (λ (t : Told). keeps_pages t.frozen c.args.number) c.tell.ensures.key.1 ∙ ap (λ (stage : Stage). keeps_pages stage.frozen c.args.number) c.audit_frozen.ensures.same ∙ c.audit_frozen.ensures.kept
+
+pub returns-clause-there : goal.returns-clause-there
+returns-clause-there g c =
+    ap (λ (t : Told). slice_get t.net.live.nodes c.args.number) c.tell.ensures.key.1
+    ∙ ap (λ (stage : Stage). slice_get (world_of stage.book).live.nodes c.args.number) c.audit_frozen.ensures.same
+    ∙ c.audit_frozen.ensures.there
 
 pub returns-clause-frozen : goal.returns-clause-frozen
 returns-clause-frozen g c node frozen =

@@ -1,7 +1,10 @@
-use Rattle.std.proofs.Common.{◌∙◌, false, refl, sym, ap, subst, None}
+use Rattle.std.proofs.Common.{◌∙◌, Bool, false, List, set, refl, sym, ap, subst, None}
 use Rattle.std.proofs.lemmas.List.{length-set}
+use Rattle.tp_book.specs.Book.{world_of}
 use Rattle.tp_shared.specs.Agreement.{Agreement}
-use Rattle.tp_shared.specs.Seals.{IsSealOf}
+use Rattle.tp_shared.specs.Seals.{IsSealOf, Stage}
+use Rattle.tp_shared.specs.declared.seal.NodeSeal.{NodeSeal}
+use Rattle.tp_shared.proofs.Gone.{frozen_set, gone_set}
 use Rattle.tp_shared.proofs.Resealing.{sealed_set, thawed_seal}
 use Rattle.tp_shared.proofs.Thawing.{thaws_set}
 use Rattle.tp_shared.proofs.Keeping.{seal_at, sealed_anew}
@@ -38,3 +41,12 @@ invariant_of-self g c =
     (subst (λ name. IsSealOf (g.J.Naming.node c.args.number) c.turn.new.seal.value.state false name b c.args.number) (sym (c.turn.ensures.names.0 ∙ c.agree.ensures.names.0))
     (subst (λ a. IsSealOf (g.J.Naming.node c.args.number) a false here.seal.name b c.args.number) (is ∙ sym now) S)))
     (thaws_set c.self.inside.told.value seals c.args.number (record { frozen = false; seal = c.turn.new.seal }) inv.thawed (λ thawed. refl))
+    (gone_set (world_of b) seals c.args.number here (record { frozen = false; seal = c.turn.new.seal }) at (λ n F none. refl))
+
+pub returns-clause-gone : goal.returns-clause-gone
+returns-clause-gone g c =
+    let seals = c.self.inside.seals.items in
+    let now : NodeSeal = record { frozen = false; seal = c.turn.new.seal } in
+    let stage : List Bool → Stage = λ fs. record { book = c.self.inside.book; all = c.self.inside.roll.items; numbered_from = c.self.inside.told.value.numbered_from; frozen = fs } in
+    ap stage (frozen_set seals c.args.number now)
+    ∙ ap (λ (s : Stage). record s { frozen = set s.frozen c.args.number false }) c.self.view_is

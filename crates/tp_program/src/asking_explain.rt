@@ -1,0 +1,86 @@
+//! What `--explain` says of a stream that wasn't asked to stop, or hasn't ended: which file, why, and the way out.
+
+use crate::asking::{Unasked, Unmade};
+use std::alloc::AllocError;
+use std::fmt::Write as Push;
+use std::fs::{Files, OpenFile};
+use std::io;
+use std::io::Write;
+use std::os::unix::fs::FileExt;
+use tp_views::{Refusal, push_file, push_opening};
+use tp_words::StopRequest;
+
+/// Says why the device's file isn't opened.
+fn push_device(
+    text: &mut String,
+    device: &str,
+    refusal: Refusal,
+    system: Option<&io::Error>,
+) -> Result<(), AllocError> {
+    match (refusal, system) {
+        (Refusal::Memory, _) => write!(text, "  memory is wanting\n"),
+        (_, Some(error)) => push_file(text, device, error),
+        (_, None) => write!(
+            text,
+            "  {device}: it is no regular file. A device is a regular file.\n"
+        ),
+    }
+}
+
+/// Says why the request isn't made.
+fn push_unmade(
+    text: &mut String,
+    device: &str,
+    unmade: Unmade,
+    system: Option<&io::Error>,
+) -> Result<(), AllocError> {
+    match (unmade, system) {
+        (Unmade::StopExists, _) => write!(
+            text,
+            "  {device}.stop: it is there, and no empty file, so it is no request, and stays\n  Move it, and give the same command again.\n"
+        ),
+        (Unmade::DeviceFailed, Some(error)) => write!(
+            text,
+            "  {device}.stop: {error}\n  A stream is asked by a file beside its device: you need the right to make one in that folder.\n"
+        ),
+        _ => write!(text, "  memory is wanting\n"),
+    }
+}
+
+/// What is said of a stream that wasn't asked, or hasn't ended.
+fn explanation<R: Files<File = F> + AllocGlobal, F: FileExt + OpenFile + Drop>(
+    rt: &R,
+    asked: &StopRequest,
+    fault: Unasked,
+    system: Option<&io::Error>,
+) -> Result<String, AllocError> {
+    let mut text = String::new(rt.alloc());
+    let device = asked.device.as_str();
+    match fault {
+        Unasked::Device(refusal) => push_device(&mut text, device, refusal, system)?,
+        Unasked::NoDevice(_) => {
+            let _opened = push_opening(rt, &mut text, device)?;
+        }
+        Unasked::NotRunning => write!(
+            text,
+            "  No other tpnet has {device}, as far as the system says: there is nobody to ask. Nothing was changed.\n"
+        )?,
+        Unasked::Request(unmade) => push_unmade(&mut text, device, unmade, system)?,
+        Unasked::StillRunning => write!(
+            text,
+            "  It is asked to stop, by {device}.stop, and another tpnet has {device} still. A stream ends behind its next flush, and takes the file away;\n  run without --stream, compact and format never look for it.\n  Give the same command again, or end that process: a kill loses nothing that was shown.\n"
+        )?,
+    }
+    Ok(text)
+}
+
+/// Says more of a stream that wasn't asked to stop, or hasn't ended, on standard error.
+pub(crate) fn explain_unasked<
+    R: Files<File = F> + AllocGlobal,
+    F: FileExt + OpenFile + Drop,
+    E: Write,
+>(rt: &R, asked: &StopRequest, fault: Unasked, system: Option<&io::Error>, err: &mut E) {
+    if let Ok(text) = explanation(rt, asked, fault, system) {
+        let _ = err.write_all(text.as_bytes());
+    }
+}

@@ -1,0 +1,33 @@
+-- Of which nodes pages are kept as they were when the node recorded.
+use Rattle.std.specs.Prelude.{◌≡◌, ℕ, ◌*◌, Bool, false, not, nat_lt, List, [], ◌∷◌, length, get_or, Option, Some, None, slice_get}
+use Rattle.std.specs.List.{list_all}
+use Rattle.tp_model.specs.declared.limits.TheConstants.{PAGE_BYTES}
+use Rattle.tp_model.specs.NodeState.{NodeState}
+use Rattle.tp_model.specs.Snapshot.{MarkedNetwork}
+use Rattle.tp_model.specs.FrozenAs.{IsFrozenAs}
+use Rattle.tp_shared.specs.declared.seal.NodeSeal.{NodeSeal}
+
+-- what stands beside each seal
+abbrev pub frozen_in : List NodeSeal → List Bool
+frozen_in [] = []
+frozen_in (s ∷ seals) = s.frozen ∷ frozen_in seals
+
+-- whether pages of a node are kept
+abbrev pub keeps_pages : List Bool → ℕ → Bool
+keeps_pages frozen i = get_or frozen i false
+
+-- whether none are kept of any node
+abbrev pub none_kept : List Bool → Bool
+none_kept frozen = list_all (λ is. not is) frozen
+
+-- A node that has recorded in the snapshot that runs, and no page of which was kept, has none kept.
+abbrev pub StayGone : MarkedNetwork NodeState → List Bool → List Bool → Type 0
+StayGone net old new = (i : ℕ) (node : NodeState) → IsFrozenAs net i node → keeps_pages old i ≡ false → keeps_pages new i ≡ false
+
+-- whether a node has a page
+abbrev pub has_page_in : Option NodeState → ℕ → Bool
+has_page_in None page = false
+has_page_in (Some node) page = nat_lt (PAGE_BYTES * page) (length node.memory)
+
+abbrev pub has_page : MarkedNetwork NodeState → ℕ → ℕ → Bool
+has_page net i page = has_page_in (slice_get net.live.nodes i) page

@@ -1,0 +1,157 @@
+# What stop says where there is nobody to ask, and what a stream does that is asked.
+
+story nobody
+# Nobody has the device, so nobody is asked, at once also where that is to be waited for, and nothing is left. A request that was left goes, and
+# what is none stays: a text, a folder, a link.
+text net.txt node a 4\nport h\nwire a.0 h\n
+image a.img 11 24 F2 54 41 F7 11 24 F2 41 FB 60 03
+tpnet format device net.txt . 16384
+keep device
+tpnet stop device
+there device.stop
+tpnet stop device --wait=4294967
+there device.stop
+text device.stop
+tpnet stop --wait 1 device
+there device.stop
+text device.stop precious
+tpnet stop device
+has device.stop precious
+remove device.stop
+text nothing
+symlink nothing device.stop
+tpnet stop device
+empty device.stop
+remove device.stop
+folder device.stop
+tpnet stop device
+there device.stop
+stay
+
+story no_device
+# What can't be a device, or isn't there, is refused as elsewhere, and no file is made beside it.
+folder device
+tpnet stop device
+there device.stop
+tpnet stop fresh --wait 60
+there fresh.stop
+tpnet stop /dev/null
+text text precious
+text text.stop
+tpnet stop text --wait 60
+there text.stop
+
+story explained
+# What --explain says of these.
+text net.txt node a 4\nport h\nwire a.0 h\n
+image a.img 11 24 F2 54 41 F7 11 24 F2 41 FB 60 03
+tpnet format device net.txt . 16384
+tpnet stop device --explain
+tpnet stop --explain fresh 2>err
+starts err tpnet: ReadFailed\n  fresh:
+folder folder
+tpnet stop --explain folder
+fill text 600 78
+tpnet stop --explain text 2>err
+has err doesn't begin with TPNET
+
+story words_of_stop
+# Words that ask for nothing, and words that ask how to call it.
+tpnet stop 2>err
+empty err
+tpnet stop device device 2>err
+empty err
+tpnet stop device --wait 2>err
+empty err
+tpnet stop device --wait-lock 1 2>err
+empty err
+tpnet stop device --wait 0
+tpnet stop device --wait 01
+tpnet stop device --wait=4294968
+tpnet stop --help >out
+has out StillRunning
+has out --wait <SECONDS>
+tpnet help stop >then
+equal out then
+tpnet --help >out
+has out \n  stop 
+
+story asked
+# A stream is asked by the file that its reader makes once the first bytes have come: it ends at status 0 long before all have come, says so, has
+# confirmed what was written, and takes the file away. The next one goes on there: each byte has come once at the end.
+text net.txt node a 4\nport h\nwire a.0 h\n
+image a.img 11 24 F2 54 41 F7 11 24 F2 41 FB 60 03
+tpnet format device net.txt . 16384
+fill given 10000 61
+reader-makes device.stop
+tpnet run device --stream --quantum=64 --out 0=- --in 0=given >front 2>err
+ends err  stopped\n
+begins given front
+equal given front
+empty front
+there device.stop
+reader-makes
+tpnet run device --stream --quantum=64 --out 0=- --in 0=given >rest 2>err
+ends err  written 10000 confirmed 10000 gone\n
+begins given rest
+equal given rest
+
+story asked_before
+# A request from before the stream had the device was for another process: it is taken away, and the stream runs as without. So it is where the
+# stream is refused later.
+text net.txt node a 4\nport h\nwire a.0 h\n
+image a.img 11 24 F2 54 41 F7 11 24 F2 41 FB 60 03
+tpnet format device net.txt . 16384
+text given ab
+text device.stop
+tpnet run device --stream --quantum=64 --until-quiet --out 0=out --in 0=given 2>err
+ends err quiet\n
+equal out given
+there device.stop
+text device.stop
+tpnet run device --stream --discard 3
+there device.stop
+
+story somebodys
+# What stands at DEVICE.stop and is no empty file is somebody's: it ends no stream, and stays.
+text net.txt node a 4\nport h\nwire a.0 h\n
+image a.img 11 24 F2 54 41 F7 11 24 F2 41 FB 60 03
+tpnet format device net.txt . 16384
+text given ab
+text device.stop precious
+keep device.stop
+tpnet run device --stream --quantum=64 --until-quiet --out 0=out --in 0=given 2>err
+ends err quiet\n
+stay
+remove device.stop
+text nothing
+symlink nothing device.stop
+tpnet run device --stream --quantum=64 --until-quiet --out 0=out --in 0=given 2>err
+ends err quiet\n
+empty device.stop
+remove device.stop
+folder device.stop
+tpnet run device --stream --quantum=64 --until-quiet --out 0=out --in 0=given 2>err
+ends err quiet\n
+there device.stop
+equal out given
+
+story of_a_port
+# DEVICE.stop takes no output, gives no input and is no standard stream, though it is empty: an end there would be taken for a request, and
+# removed. It stays, and so does the device.
+text net.txt node a 4\nport h\nwire a.0 h\n
+image a.img 11 24 F2 54 41 F7 11 24 F2 41 FB 60 03
+tpnet format device net.txt . 16384
+text device.stop
+keep device device.stop
+tpnet run device --stream --discard 0 --in 0=device.stop
+tpnet run device --stream --out 0=device.stop
+stand stdout=device.stop
+tpnet run device --stream --out 0=-
+stand
+stay
+remove device.stop
+keep device
+tpnet run device --stream --out 0=./device.stop
+empty device.stop
+stay

@@ -1,0 +1,25 @@
+-- The words of a command line of `stop`.
+use Rattle.std.specs.Prelude.{◌≡◌, ◌≤◌, ◌<◌, ℕ, true, List, Option, Some, None, codes, string_bytes}
+use Rattle.std.specs.Fmt.{decimal}
+use Rattle.std.specs.Option.{option_map}
+use Rattle.std.specs.declared.alloc.Global.{Global}
+use Rattle.std.specs.declared.string.String.{String}
+use Rattle.tp_words.specs.declared.args.TheConstants.{MAX_WAIT}
+use Rattle.tp_words.specs.declared.stop_args.StopAsked.{StopAsked}
+use Rattle.tp_words.specs.declared.stop_args.StopAsked.TheVariants.{Help, Ask}
+use Rattle.tp_words.specs.Given.{given}
+use Rattle.tp_words.specs.Typed.{has_word}
+
+-- the seconds for which it is waited are in their range, where some were typed
+abbrev pub IsWait : Option ℕ → Type 0
+IsWait None = Unit {0}
+IsWait (Some seconds) = (0 < seconds) × (seconds ≤ MAX_WAIT)
+
+abbrev pub IsStopInRange : StopAsked → Type 0
+IsStopInRange (Help text) = Unit {0}
+IsStopInRange (Ask request) = IsWait request.wait
+
+-- the device's file is a word that was typed, and it is waited for just where seconds were typed, for as many
+abbrev pub WasStopTyped : List (String Global) → StopAsked → Type 0
+WasStopTyped words (Help text) = Unit {0}
+WasStopTyped words (Ask request) = (has_word (string_bytes request.device) words ≡ true) × (given (codes "wait") words ≡ option_map decimal request.wait)

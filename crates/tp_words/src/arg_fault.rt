@@ -1,0 +1,108 @@
+//! Why words ask for nothing, and what is said then.
+
+use crate::args::MAX_WORDS;
+use std::alloc::{AllocError, AllocFailed};
+use std::fmt;
+
+/// Why the words ask for nothing. Each ends the program with status 2.
+#[derive(Drop)]
+pub enum ArgFault {
+    /// `clap`'s own text, which says what is wrong and how to call.
+    Words(clap::Error),
+    /// What was typed for the option `id` is no decimal in its range.
+    Range {
+        id: &'static str,
+        least: u64,
+        most: u64,
+    },
+    /// The number of bytes of an area is no decimal in its range.
+    Area,
+    /// What was typed for `--area` is no size in its range.
+    Size,
+    /// The number of a node, a port or an entry is no decimal.
+    Number,
+    /// The last entry that is asked for is before the first one.
+    Order,
+    /// There are more words than any command has.
+    Many,
+    /// This option goes with `--stream`.
+    Stream(&'static str),
+    /// A word is missing, which `clap` says itself; or the words are those of a command that is read by a function of its own.
+    Missing,
+    Memory,
+}
+
+/// Says which numbers an option takes.
+fn say_bounds<W: fmt::Write>(
+    f: &mut fmt::Formatter<W>,
+    id: &str,
+    least: u64,
+    most: u64,
+) -> fmt::Result {
+    match id {
+        "spare" => f.write_str("from 0 to the pages of the smallest node"),
+        "port" => f.write_str("from 0 to 7, a port of the device"),
+        "from" | "to" => f.write_str("below 2^64"),
+        "node" => f.write_str("below 2^64, a node of the device"),
+        "last" => f.write_str("from 1, below 2^64"),
+        _ => write!(f, "from {least} to {most}"),
+    }
+}
+
+/// Says what an option takes.
+fn say_range<W: fmt::Write>(
+    f: &mut fmt::Formatter<W>,
+    id: &str,
+    least: u64,
+    most: u64,
+) -> fmt::Result {
+    write!(f, "tpnet: --{id} takes a decimal ")?;
+    say_bounds(f, id, least, most)?;
+    f.write_str(", without a sign or leading zeros\n")
+}
+
+impl fmt::Display for ArgFault {
+    fn fmt<W: fmt::Write>(&self, f: &mut fmt::Formatter<W>) -> fmt::Result {
+        match self {
+            ArgFault::Words(error) => write!(f, "{error}"),
+            ArgFault::Range { id, least, most } => say_range(f, id, *least, *most),
+            ArgFault::Area => f.write_str(
+                "tpnet: AREA takes a decimal from 0 to 1099511627776, without a sign or leading zeros\n",
+            ),
+            ArgFault::Size => f.write_str(
+                "tpnet: --area takes a decimal without a sign or leading zeros, or one with K, M or G right behind it, of at most 1099511627776 bytes\n",
+            ),
+            ArgFault::Number => f.write_str(
+                "tpnet: a number of a node or a port is a decimal below 2^64, without a sign or leading zeros\n",
+            ),
+            ArgFault::Order => {
+                f.write_str("tpnet: --to is below --from: there is no entry between them\n")
+            }
+            ArgFault::Many => write!(f, "tpnet: there are more than {MAX_WORDS} words\n"),
+            ArgFault::Stream(id) => write!(
+                f,
+                "tpnet: --{id} goes with --stream; see tpnet run --stream --help\n"
+            ),
+            ArgFault::Missing => f.write_str("tpnet: a word is missing; see tpnet --help\n"),
+            ArgFault::Memory => f.write_str("tpnet: Memory\n"),
+        }
+    }
+}
+
+impl From<clap::Error> for ArgFault {
+    fn from(error: clap::Error) -> ArgFault {
+        ArgFault::Words(error)
+    }
+}
+
+impl From<AllocError> for ArgFault {
+    fn from(_error: AllocError) -> ArgFault {
+        ArgFault::Memory
+    }
+}
+
+impl<T: Drop> From<AllocFailed<T>> for ArgFault {
+    fn from(_error: AllocFailed<T>) -> ArgFault {
+        ArgFault::Memory
+    }
+}
