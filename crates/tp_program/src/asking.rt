@@ -55,11 +55,7 @@ pub enum Unasked {
 
 /// Opens the device's file as who runs it does, and lets it go: nothing of it is read or written. What the system said is put into
 /// `system`.
-fn look_at<R: Files>(
-    rt: &R,
-    device: &str,
-    system: &mut Option<io::Error>,
-) -> Result<(), Refusal> {
+fn look_at<R: Files>(rt: &R, device: &str, system: &mut Option<io::Error>) -> Result<(), Refusal> {
     if !is_device_file(rt, device) {
         return Err(Refusal::ReadFailed);
     }
@@ -246,14 +242,7 @@ pub(crate) fn stop_stream<
     S: Devices,
     O: Write,
     E: Write,
->(
-    rt: &R,
-    devices: &mut S,
-    words: &[String],
-    asked: &StopRequest,
-    out: &mut O,
-    err: &mut E,
-) -> u8
+>(rt: &R, devices: &mut S, words: &[String], asked: &StopRequest, out: &mut O, err: &mut E) -> u8
     ensures few { result ≤ 1 }
     ensures asked { AskedAs asked.now (S.calls devices.old) (S.calls devices.new) (O.contents out.old) (O.contents out.new) result }
 {

@@ -79,13 +79,7 @@ pub(crate) fn explain_unasked<
     R: Files<File = F> + AllocGlobal,
     F: FileExt + OpenFile + Drop,
     E: Write,
->(
-    rt: &R,
-    asked: &StopRequest,
-    fault: Unasked,
-    system: Option<&io::Error>,
-    err: &mut E,
-) {
+>(rt: &R, asked: &StopRequest, fault: Unasked, system: Option<&io::Error>, err: &mut E) {
     if let Ok(text) = explanation(rt, asked, fault, system) {
         let _ = err.write_all(text.as_bytes());
     }

@@ -52,8 +52,6 @@ impl RequestFile {
 
     /// Takes a request away, where there is one: only who holds the device does that. Answers whether there is none then.
     pub(crate) fn clear<R: Files>(&self, rt: &R) -> bool {
-        !self.is_there(rt)
-            || fs::remove_file(rt, self.path.as_str()).is_ok()
-            || !self.is_there(rt)
+        !self.is_there(rt) || fs::remove_file(rt, self.path.as_str()).is_ok() || !self.is_there(rt)
     }
 }

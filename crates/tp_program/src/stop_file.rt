@@ -124,9 +124,7 @@ fn stop_fault<R: Files>(rt: &R, asked: &StreamRun) -> Option<StopFault>
 /// Whether the path of requests names the file of an end of a port, or of a standard stream.
 fn is_taken<R: Files>(rt: &R, asked: &StreamRun, request: &RequestFile) -> bool {
     let path = request.path();
-    is_end(rt, path, &asked.ends.outs)
-        || is_end(rt, path, &asked.ends.ins)
-        || is_standard(rt, path)
+    is_end(rt, path, &asked.ends.outs) || is_end(rt, path, &asked.ends.ins) || is_standard(rt, path)
 }
 
 /// Why a stream isn't begun because of the file that is to end it, or of where it may be asked to stop: as things stand now.

@@ -35,11 +35,7 @@ pub fn is_stop(words: &[String]) -> bool {
 }
 
 /// How many seconds it is waited that the stream ends.
-fn seconds_of(
-    alloc: Global,
-    words: &[String],
-    found: &ArgMatches,
-) -> Result<Option<u32>, ArgFault>
+fn seconds_of(alloc: Global, words: &[String], found: &ArgMatches) -> Result<Option<u32>, ArgFault>
     ensures range { IfOk result IsWait }
     ensures typed { IfOk result (λ seconds. given (codes "wait") words.now ≡ option_map decimal seconds) }
 {
