@@ -1,8 +1,5 @@
-pub mod Confirms
-pub mod Fitted
 pub mod Kept
 pub mod Looks
-pub mod Notices
 pub mod Puts
 pub mod Quiets
 pub mod Runs
