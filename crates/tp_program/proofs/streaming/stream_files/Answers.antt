@@ -19,7 +19,7 @@ same_fault done fault is (unopened, same) = (unopened, ap (fault_in fault) (sym 
 -- the file, standard output and standard input outlive what takes outputs and gives inputs
 pub stream_opened-disk-requires : goal.stream_opened-disk-requires
 stream_opened-disk-requires g c κs within =
-    let κ = κs.1.1.1.1.1.1.1.0 in
+    let κ = κs.1.1.1.1.1.1.1.1.0 in
     let none : κ ⊑ [] = ⊑_static κ in
     let file = within.1.1.1.0 in
     let out = within.1.1.1.1.0 in
@@ -28,7 +28,7 @@ stream_opened-disk-requires g c κs within =
     let held = ⊑_meet κ _ _ noted none in
     let writer = ⊑_meet κ _ _ (⊑_meet κ _ _ (⊑_meet κ _ _ within.0.0 out) none) none in
     let sinks = ⊑_meet κ _ _ (⊑_meet κ _ _ noted (⊑_meet κ _ _ out none)) (⊑_meet κ _ _ (⊑_meet κ _ _ (⊑_meet κ _ _ held held) none) writer) in
-    let μ = κs.1.1.1.1.1.1.1.1.0 in
+    let μ = κs.1.1.1.1.1.1.1.1.1.0 in
     let nothing : μ ⊑ [] = ⊑_static μ in
     let read = within.1.1.1.1.1.0 in
     let feed = within.1.1.1.1.1.1.0 in

@@ -18,5 +18,6 @@ stream-disk-requires g c κs within =
     let own : μ ⊑ μ = λ a member. member in
     let rt = within.1.1.1.1.1.0 in
     let path = ⊑_meet μ _ _ (⊑_meet μ _ _ own nothing) nothing in
-    let stop = ⊑_meet μ _ _ (⊑_meet μ _ _ rt nothing) (⊑_meet μ _ _ (⊑_meet μ _ _ own rt) path) in
+    let request = ⊑_meet μ _ _ (⊑_meet μ _ _ own nothing) path in
+    let stop = ⊑_meet μ _ _ (⊑_meet μ _ _ rt nothing) (⊑_meet μ _ _ (⊑_meet μ _ _ own rt) request) in
     (within.0, (within.1.0, (within.1.1.0, (teller, (stop, (within.1.1.1.1.1.1, c.shown_on-task.ensures.quantum))))))
