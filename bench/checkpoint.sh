@@ -5,8 +5,9 @@
 # What is compared goes first in turns.
 #   turns     one worker, 1,024 or 4,096 steps a turn, and the flusher, which sleeps where nothing is new: the slowest turn of a hundred
 #             (the 99th percentile) while a snapshot of these nodes runs beside the median turn just before it, in many short rounds
-#             (bench/turns.rattle); and the same of a bare loop that takes as long as that median, beside the raw copy of a checkpoint again and
-#             again, which says how much of it is the machine's
+#             (bench/turns.rattle); and, in as many rounds of one form, the same of loops that take as long as that median, beside a raw copy of a
+#             checkpoint (bench/beside.c): of a plain interpreter, as busy as a turn, and of multiplications that wait for each other. What the
+#             first shows is the machine's: it has no lock, no journal and no page that parts
 # usage: bench/checkpoint.sh TPNET [ROUNDS [FOLDER ..]]      5 rounds in /dev/shm (in memory, so only our own cost shows) by default
 #        TURNS_ALONE=1 bench/checkpoint.sh ..                the turns alone, also without a TPNET of the same day
 #        NODES=64 PAGES=1024 TURNS_ALONE=1 bench/checkpoint.sh ..      of other networks: as many nodes of as many pages
@@ -63,43 +64,7 @@ int main(int count, char **words) {
 C
     cc -O2 -o "$work/raw" "$work/raw.c"
 
-    # prints the nanoseconds of each of COUNT loops that call nothing and take about as long as it is told
-    cat > "$work/bare.c" <<'C'
-#include <stdint.h>
-#include <stdio.h>
-#include <stdlib.h>
-#include <time.h>
-
-static uint64_t now(void) {
-    struct timespec at;
-    clock_gettime(CLOCK_MONOTONIC, &at);
-    return at.tv_sec * 1000000000ull + at.tv_nsec;
-}
-
-static volatile uint64_t word = 1;
-
-static uint64_t timed(uint64_t steps) {
-    uint64_t begun = now(), it = word;
-    for (uint64_t step = 0; step < steps; step++) it = it * 6364136223846793005ull + 1442695040888963407ull;
-    word = it;
-    return now() - begun;
-}
-
-int main(int count, char **words) {
-    uint64_t least = UINT64_MAX, wanted = strtoull(words[1], 0, 10), loops = strtoull(words[2], 0, 10);
-    uint64_t *times = count == 3 ? calloc(loops, sizeof *times) : 0;
-    if (!times) return 1;
-    for (int it = 0; it < 1000; it++) {
-        uint64_t took = timed(10000);
-        if (took < least) least = took;
-    }
-    for (uint64_t it = 0; it < loops; it++) times[it] = 1;
-    for (uint64_t it = 0; it < loops; it++) times[it] = timed(wanted * 10000 / least);
-    for (uint64_t it = 0; it < loops; it++) printf("%llu\n", (unsigned long long)times[it]);
-    return 0;
-}
-C
-    cc -O2 -o "$work/bare" "$work/bare.c"
+    cc -O2 -o "$work/beside" "$top/bench/beside.c" -lpthread
 
     tar -C "$top" -c --exclude=incremental crates crates.txt HANDLES | tar -C "$work" -x
     turns=$work/crates/bench_turns
@@ -178,40 +143,37 @@ def rounds_of(turns, quantum):
 def late(times, middle):
     return statistics.quantiles(times, n=100)[98] / middle
 
-def bare(file, usual, count):
-    """The nanoseconds of bare loops of `usual` nanoseconds in 20 rounds of `count`, while a raw copy is made again and again."""
-    ended = threading.Event()
-    def copies():
-        while not ended.is_set():
-            subprocess.run(raw_of(file), check=True)
-    copier = threading.Thread(target=copies)
-    copier.start()
-    words = [os.path.join(work, "bare"), str(round(usual)), str(20 * count)]
-    loops = [int(line) for line in subprocess.run(words, capture_output=True, text=True, check=True).stdout.split()]
-    ended.set()
-    copier.join()
-    return [loops[at:at + count] for at in range(0, len(loops), count)]
+def loops_of(file, kind, usual):
+    """The rounds of loops of `usual` nanoseconds, and raw copies beside them."""
+    words = [os.path.join(work, "beside"), kind, str(round(usual)), "20", "600", file, *sizes.split()]
+    lines = subprocess.run(words, capture_output=True, text=True, check=True).stdout.splitlines()
+    return rounds_of([tuple(map(int, line.split())) for line in lines], 0)
+
+def late_of(found):
+    """The 99th percentile beside, that of those alone, and the slowest beside, each in medians alone of its round."""
+    medians = [statistics.median(alone) for alone, _ in found]
+    return (statistics.median(late(beside, middle) for (_, beside), middle in zip(found, medians)),
+        statistics.median(late(alone, middle) for (alone, _), middle in zip(found, medians)),
+        statistics.median(max(beside) / middle for (_, beside), middle in zip(found, medians)))
 
 def of_turns(file, quantum):
-    """Times turns of `quantum` steps, and in turns with them a bare loop that takes as long as the median turn."""
-    of_rounds, loops = [], []
+    """Times turns of `quantum` steps, and in turns with them loops that take as long as the median turn."""
+    of_rounds, of_kinds = [], {"turn": [], "bare": []}
     for _ in rounds:
         subprocess.run(["cp", "--sparse=always", os.path.join(work, "device"), file], check=True)
         program = os.path.join(work, "crates", "bench_turns", "out", "bench_turns")
         lines = subprocess.run([program, file, "20", "600", str(quantum)], capture_output=True, text=True, check=True).stdout.splitlines()
         found = rounds_of([tuple(map(int, line.split())) for line in lines], quantum)
         usual = statistics.median(statistics.median(alone) for alone, _ in found)
-        loops += bare(file, usual, round(statistics.median(len(beside) for _, beside in found)))
+        for kind, rounds_found in of_kinds.items():
+            subprocess.run(["cp", "--sparse=always", os.path.join(work, "device"), file], check=True)
+            rounds_found += loops_of(file, kind, usual)
         of_rounds += found
-    medians = [statistics.median(alone) for alone, _ in of_rounds]
-    print("    turns    of %d steps, %d rounds, of %d turns alone and %d beside a snapshot: %.1f us alone; the 99th percentile %.2f times that, %.2f alone, %.2f of a bare loop beside a raw copy; the slowest %.1f, of a bare loop %.1f" % (
-        quantum, len(of_rounds), statistics.median(len(alone) for alone, _ in of_rounds),
-        statistics.median(len(beside) for _, beside in of_rounds), statistics.median(medians) / 1e3,
-        statistics.median(late(beside, middle) for (_, beside), middle in zip(of_rounds, medians)),
-        statistics.median(late(alone, middle) for (alone, _), middle in zip(of_rounds, medians)),
-        statistics.median(late(times, statistics.median(times)) for times in loops),
-        statistics.median(max(beside) / middle for (_, beside), middle in zip(of_rounds, medians)),
-        statistics.median(max(times) / statistics.median(times) for times in loops)), flush=True)
+    print("    turns    of %d steps, %d rounds, of %d turns alone and %d beside a snapshot: %.1f us alone; the 99th percentile %.2f times that, %.2f alone; the slowest %.1f" % (
+        quantum, len(of_rounds), statistics.median(len(alone) for alone, _ in of_rounds), statistics.median(len(beside) for _, beside in of_rounds),
+        statistics.median(statistics.median(alone) for alone, _ in of_rounds) / 1e3, *late_of(of_rounds)))
+    for kind, name in (("turn", "a plain interpreter"), ("bare", "multiplications")):
+        print("             loops of %s beside a raw copy: %.2f, %.2f alone; the slowest %.1f" % (name, *late_of(of_kinds[kind])), flush=True)
 
 for folder in sys.argv[5:]:
     kind = subprocess.run(["stat", "-f", "-c", "%T", folder], capture_output=True, text=True, check=True).stdout.strip()

@@ -1,27 +1,31 @@
 #!/bin/bash
 # Opening a large device by one thread and by four, beside a plain read of it and a plain replay, interleaved in one run, outside the gate.
 # usage: bench/open.sh TPNET [ROUNDS]     16 nodes of 256 pages, 100,000 entries: of 64 steps, then of 16
+#        NODES=64 PAGES=256 ENTRIES=1000000 bench/open.sh ..      other devices
 # BUILT=FOLDER names where what is built and made is kept, and taken from if it is there; with 0 ROUNDS nothing else is done
 set -e
 top=$(cd "$(dirname "$0")/.." && pwd)
 tpnet=$(realpath -m "$1")
 rounds=${2:-5}
+nodes=${NODES:-16}
+pages=${PAGES:-256}
+entries=${ENTRIES:-100000}
 work=$([ -n "$BUILT" ] && realpath -m "$BUILT" || mktemp -d /tmp/bench-open-XXXX)
 [ -n "$BUILT" ] || trap 'rm -rf "$work"' EXIT
 if [ ! -e "$work/built" ]; then
     mkdir -p "$work"
     rustc -O --edition 2021 -o "$work/plain" "$top/bench/plain.rs"
-    sed 's/^pages 4/pages 256/' "$top/examples/compute.txt" > "$work/compute.txt"
+    sed "s/^pages 4/pages $pages/" "$top/examples/compute.txt" > "$work/compute.txt"
     "$top/tools/make-image" "$work/compute.txt" "$work/node.img"
     for steps in 64 16; do
-        "$top/bench/make-device" "$work/node.img" 16 100000 $steps "$work/device-$steps"
+        "$top/bench/make-device" "$work/node.img" "$nodes" "$entries" $steps "$work/device-$steps"
     done
     touch "$work/built"
 fi
 [ "$rounds" -gt 0 ] || exit 0
-python3 - "$tpnet" "$work" "$rounds" <<'PY'
+python3 - "$tpnet" "$work" "$rounds" "$entries" <<'PY'
 import statistics, subprocess, sys, time
-tpnet, work, rounds = sys.argv[1:4]
+tpnet, work, rounds, entries = sys.argv[1:5]
 
 
 def commands(device):
@@ -53,7 +57,7 @@ for device in ("device-64", "device-16"):
         for name, command in commands(device).items():
             once, out = seconds(command)
             took.setdefault(name, []).append(once)
-            if name != "plain read" and out != b"next 100000\n":
+            if name != "plain read" and out != b"next %s\n" % entries.encode():
                 sys.exit("%s, %s: the answer is %s" % (device, name, out))
     say(device, took)
 PY

@@ -10,6 +10,7 @@
 #             microseconds, so a few rounds say nothing
 # usage: bench/run.sh TPNET [ROUNDS [FOLDER ..]]      5 rounds in /dev/shm (in memory, so only our own cost shows) by default.
 #                                                     The time of a run is that of a run without turns less
+#        WORKERS_ALONE=1 bench/run.sh ..                            four workers beside one alone, for which nothing is built
 # BUILT=FOLDER names where what is built is kept, and taken from if it is there; with 0 ROUNDS nothing else is done
 set -e
 top=$(cd "$(dirname "$0")/.." && pwd)
@@ -21,7 +22,7 @@ work=$([ -n "$BUILT" ] && realpath -m "$BUILT" || mktemp -d /tmp/bench-run-XXXX)
 [ -n "$BUILT" ] || trap 'rm -rf "$work"' EXIT
 mkdir -p "$work"
 
-if [ ! -e "$work/built" ]; then
+if [ ! -e "$work/built" ] && [ -z "$WORKERS_ALONE" ]; then
     tar -C "$top" -c --exclude=incremental crates crates.txt HANDLES | tar -C "$work" -x
     cow='s/FlatMemory::new(rt.alloc(), 4, /CowMemory::new(rt.alloc(), 4, 4, /; s/FlatMemory/CowMemory/g'
     mkdir -p "$work/crates/bench_flat/src" "$work/crates/bench_cow/src" "$work/steps"
@@ -68,6 +69,7 @@ C
 fi
 [ "$rounds" -gt 0 ] || exit 0
 
+mkdir -p "$work/steps"
 "$top/tools/make-image" "$top/examples/compute.txt" "$work/a.img"
 for name in b c d; do cp "$work/a.img" "$work/$name.img"; done
 cp "$work/a.img" "$work/steps/node.img"
@@ -121,6 +123,8 @@ for folder in sys.argv[4:]:
             four.append(run("four", file, TURNS, 4, 4096) - idle)
         made = TURNS * 4 // 5 * 4096
         said("workers", four, one, "1 worker %.1f, 4 workers %.1f million steps a second" % (made / min(one) / 1e6, made / min(four) / 1e6))
+        if os.environ.get("WORKERS_ALONE"):
+            continue
         ours, alone = [], {"cow": [], "flat": []}
         for _ in rounds:
             idle = run("one", file, 0, 1, 4096)
