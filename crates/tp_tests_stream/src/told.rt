@@ -10,7 +10,7 @@ use std::sync::Wait;
 use std::test::Fail;
 use tp_stream::{Ended, Input, MemSink, Output, Source, SourceFailed, StreamFault, Streams, Task};
 
-/// How many times it is asked whether the input has come, until it has.
+/// How many times it is asked whether the input has come, until it has. A question that waits for it doesn't count.
 const QUESTIONS: u32 = 40;
 
 /// An input of one byte, which comes once it was asked for often enough. A read before, which would wait for ever, fails.
@@ -26,9 +26,11 @@ impl Source for Late {
         None
     }
 
-    fn would_wait(&mut self, _at: u64, _millis: u64) -> bool {
+    fn would_wait(&mut self, _at: u64, millis: u64) -> bool {
         let waits = self.questions > 0;
-        self.questions = self.questions.saturating_sub(1);
+        if millis == 0 {
+            self.questions = self.questions.saturating_sub(1);
+        }
         waits
     }
 
