@@ -7,8 +7,6 @@ mod acts;
 #[cfg(test)]
 mod journals;
 #[cfg(test)]
-mod left;
-#[cfg(test)]
 mod many;
 #[cfg(test)]
 mod script;
@@ -16,8 +14,6 @@ mod script;
 mod small;
 #[cfg(test)]
 mod stops;
-#[cfg(test)]
-mod tears;
 #[cfg(test)]
 mod unkind;
 #[cfg(test)]
