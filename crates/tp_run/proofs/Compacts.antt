@@ -77,10 +77,15 @@ flush_last A flush.Memory last left = tt
 flush_last A flush.AreaFull last left = left
 
 -- the position of a flusher whose turn was refused
-pub flush_ended : (A : Type 0) (fault : FlushFault) (old new : Flushing) → Ended (refused_as A fault) old new → new.world.at ≡ position (is_failure_in (flush_fault fault))
-flush_ended A flush.DeviceFailed old new (inl F) = F.broken
-flush_ended A flush.DeviceFailed old new (inr F) = F.broken
-flush_ended A flush.StoreBroken old new E = ap (λ (v : Flushing). v.world.at) E.1 ∙ E.0
-flush_ended A flush.Memory old new (inl W) = W.0.rested.rests
-flush_ended A flush.Memory old new (inr W) = W.rested.rests
-flush_ended A flush.AreaFull old new E = E.rested.rests
+ended_by : (A : Type 0) (fault : FlushFault) (old new : Flushing) → Ended (refused_as A fault) old new → new.world.at ≡ position (is_failure_in (flush_fault fault))
+ended_by A flush.DeviceFailed old new (inl F) = F.broken
+ended_by A flush.DeviceFailed old new (inr F) = F.broken
+ended_by A flush.StoreBroken old new E = ap (λ (v : Flushing). v.world.at) E.1 ∙ E.0
+ended_by A flush.Memory old new (inl W) = W.0.rested.rests
+ended_by A flush.Memory old new (inr W) = W.rested.rests
+ended_by A flush.AreaFull old new E = E.rested.rests
+
+pub flush_ended : {A : Type 0} (r : Result A FlushFault) (fault : FlushFault) (old new : Flushing) → r ≡ Err fault → Ended r old new → new.world.at ≡ position (is_failure_in (flush_fault fault))
+flush_ended (Ok x) fault old new is E = cc
+flush_ended {A} (Err other) fault old new is E =
+    let same : other ≡ fault = cc in subst (λ f. new.world.at ≡ position (is_failure_in (flush_fault f))) same (ended_by A other old new E)

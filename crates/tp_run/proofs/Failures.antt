@@ -40,13 +40,18 @@ abbrev pub refused_as : (A : Type 0) → FlushFault → Result A FlushFault
 refused_as A fault = Err fault
 
 -- what a run answers then
-pub flush_refused : (A : Type 0) (given : RunFault) (fault : FlushFault) (old new : Flushing) → Ended (refused_as A fault) old new → IsFlushFault given new.world.at (flush_fault_of given fault)
-flush_refused A given DeviceFailed old new (inl F) = inl (refl, F.broken)
-flush_refused A given DeviceFailed old new (inr F) = inl (refl, F.broken)
-flush_refused A given StoreBroken old new E = inl (refl, ap (λ (v : Flushing). v.world.at) E.1 ∙ E.0)
-flush_refused A given Memory old new (inl W) = inr (inl refl, W.0.rested.rests)
-flush_refused A given Memory old new (inr W) = inr (inl refl, W.rested.rests)
-flush_refused A given AreaFull old new E = inr (inr refl, E.rested.rests)
+refused_by : (A : Type 0) (given : RunFault) (fault : FlushFault) (old new : Flushing) → Ended (refused_as A fault) old new → IsFlushFault given new.world.at (flush_fault_of given fault)
+refused_by A given DeviceFailed old new (inl F) = inl (refl, F.broken)
+refused_by A given DeviceFailed old new (inr F) = inl (refl, F.broken)
+refused_by A given StoreBroken old new E = inl (refl, ap (λ (v : Flushing). v.world.at) E.1 ∙ E.0)
+refused_by A given Memory old new (inl W) = inr (inl refl, W.0.rested.rests)
+refused_by A given Memory old new (inr W) = inr (inl refl, W.rested.rests)
+refused_by A given AreaFull old new E = inr (inr refl, E.rested.rests)
+
+pub flush_refused : {A : Type 0} (r : Result A FlushFault) (given : RunFault) (fault : FlushFault) (old new : Flushing) → r ≡ Err fault → Ended r old new → IsFlushFault given new.world.at (flush_fault_of given fault)
+flush_refused (Ok x) given fault old new is E = cc
+flush_refused {A} (Err other) given fault old new is E =
+    let same : other ≡ fault = cc in subst (λ f. IsFlushFault given new.world.at (flush_fault_of given f)) same (refused_by A given other old new E)
 
 -- one behind the other
 pub failures_then : (a b c : Flushing) → CountsFailures a b → CountsFailures b c → CountsFailures a c

@@ -2,6 +2,7 @@ use Rattle.std.proofs.Common.{◌≡◌, ◌<◌, ◌≤◌, ◌+◌, ℕ, arith
 use Rattle.tp_model.specs.Disk.{Moment}
 use Rattle.tp_model.specs.Topology.{Topology}
 use Rattle.tp_flush.specs.Known.{Began}
+use Rattle.tp_model.specs.Opening.{Opened}
 use Rattle.tp_run.specs.declared.compacting.CompactFault.TheVariants.{Opening, Memory}
 use Rattle.tp_run.specs.Compacted.{Compacted, SaysLast, has_failed_in}
 use Rattle.std.specs.Prelude.{Err}
@@ -75,7 +76,7 @@ returns-clause-answer g c k =
     compact_answered _ c.in-Ok.opened c.compact_parts.result.1 (c.in-Ok.ensures.is k) (subst (λ n. SaysLast c.compact_parts.result.1 (is_full_for_snapshot n)) generation c.compact_parts.ensures.last)
 
 pub returns-in-Err-clause-failures : goal.returns-in-Err-clause-failures
-returns-in-Err-clause-failures g c = opening_counted _ c.in-Err.unopened (g.D.Disk.failures_of c.args.disk) (g.D.Disk.failures_of c.open.new.disk) c.in-Err.ensures.counts.failures
+returns-in-Err-clause-failures g c = opening_counted Opened c.in-Err.unopened (g.D.Disk.failures_of c.args.disk) (g.D.Disk.failures_of c.open.new.disk) c.in-Err.ensures.counts.failures
 
 pub returns-in_default-clause-failures : goal.returns-in_default-clause-failures
 returns-in_default-clause-failures g c =

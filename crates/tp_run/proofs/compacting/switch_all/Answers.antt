@@ -21,7 +21,7 @@ returns-in-Err-clause-failures g c =
     let old = c.args.flusher.now in
     let new = c.turn.new.self in
     subst (λ f. new.failures ≡ failures_after (is_failure_in f) old.failures) (sym c.fault_in.ensures)
-    (counted old new _ c.requires.rests (turn_failures c.turn.result old new c.turn.ensures.ended) (flush_ended _ c.in-Err.fault old new c.in-Err.ensures.ended))
+    (counted old new _ c.requires.rests (turn_failures c.turn.result old new c.turn.ensures.ended) (flush_ended c.turn.result c.in-Err.fault old new c.in-Err.is c.turn.ensures.ended))
 
 pub returns-in-Err-clause-last : goal.returns-in-Err-clause-last
 returns-in-Err-clause-last g c =

@@ -15,4 +15,4 @@ returns-in-Err-clause-failures g c = turn_failures c.turn.result c.args.flusher.
 pub returns-in-Err-clause-refused : goal.returns-in-Err-clause-refused
 returns-in-Err-clause-refused g c =
     subst (IsFlushFault c.args.fault c.turn.new.self.world.at) (sym c.fault_in.ensures)
-    (flush_refused _ c.args.fault c.in-Err.refused c.args.flusher.now c.turn.new.self c.in-Err.ensures.ended)
+    (flush_refused c.turn.result c.args.fault c.in-Err.refused c.args.flusher.now c.turn.new.self c.in-Err.is c.turn.ensures.ended)

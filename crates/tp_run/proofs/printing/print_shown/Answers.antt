@@ -1,4 +1,4 @@
-use Rattle.std.proofs.Common.{◌≡◌, length, sym, ap, subst, ◌∙◌}
+use Rattle.std.proofs.Common.{◌≡◌, Err, length, rules, sym, ap, subst, ◌∙◌}
 use Rattle.tp_book.specs.Calls.{marks_of}
 use Rattle.tp_book.specs.Host.{port_in, shown_from}
 use Rattle.tp_run.specs.Prints.{PrintsSo}
@@ -15,7 +15,11 @@ returns-in_err-print-clause-printed g c =
     let shown : c.shown.result.now ≡ shown_from b port c.args.mark (port_in b port).out_base =
     c.shown.ensures.value ∙ ap (λ d. shown_from d port c.args.mark c.out_base-from.result) c.book-2.ensures
     ∙ ap (shown_from b port c.args.mark) (c.out_base-from.ensures ∙ ap (λ d. (port_in d port).out_base) c.book.ensures) in
-    subst (PrintsSo (fault_of Receipted c.in_err-print.field-0.0) (g.O.Outlet.taken c.args.out.now) (g.O.Outlet.taken c.print.new.out)) shown c.in_err-print.ensures.printed
+    let fault = c.in_err-print.field-0.0 in
+    let is : c.from_residual.result ≡ Err fault = search rules in
+    let was = g.O.Outlet.taken c.args.out.now in
+    let now = g.O.Outlet.taken c.print.new.self in
+    subst (λ r. PrintsSo r was now (shown_from b port c.args.mark (port_in b port).out_base)) (sym is) (subst (PrintsSo (fault_of Receipted fault) was now) shown c.in_err-print.ensures.printed)
 
 pub returns-clause-printed : goal.returns-clause-printed
 returns-clause-printed g c =
@@ -25,7 +29,7 @@ returns-clause-printed g c =
     c.shown.ensures.value ∙ ap (λ d. shown_from d port c.args.mark c.out_base-from.result) c.book-2.ensures
     ∙ ap (shown_from b port c.args.mark) (c.out_base-from.ensures ∙ ap (λ d. (port_in d port).out_base) c.book.ensures) in
     let was = g.O.Outlet.taken c.args.out.now in
-    let now = g.O.Outlet.taken c.print.new.out in
+    let now = g.O.Outlet.taken c.print.new.self in
     subst (PrintsSo c.confirm_shown.result was now) shown (prints_on was now c.shown.result.now c.confirm_shown.result c.in_ok-print.ensures.written c.confirm_shown.ensures.told)
 
 pub returns-clause-receipt : goal.returns-clause-receipt
@@ -39,7 +43,7 @@ returns-clause-receipt g c =
     c.shown.ensures.value ∙ ap (λ d. shown_from d port mark c.out_base-from.result) c.book-2.ensures
     ∙ ap (shown_from b port mark) (c.out_base-from.ensures ∙ ap (λ d. (port_in d port).out_base) c.book.ensures) in
     let E = c.confirm_shown.ensures in
-    printed_is b c.confirm_shown.new.held.book port mark (g.O.Outlet.taken c.args.out.now) (g.O.Outlet.taken c.print.new.out) c.shown.result.now c.confirm_shown.result each shown
+    printed_is b c.confirm_shown.new.held.book port mark (g.O.Outlet.taken c.args.out.now) (g.O.Outlet.taken c.print.new.self) c.shown.result.now c.confirm_shown.result each shown
     c.in_ok-print.ensures.written E.book E.number E.receipt
 
 pub print-requires : goal.print-requires

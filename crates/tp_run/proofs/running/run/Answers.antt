@@ -4,6 +4,7 @@ use Rattle.tp_model.specs.Disk.{Moment}
 use Rattle.tp_model.specs.Head.{Head}
 use Rattle.tp_model.specs.Topology.{Topology}
 use Rattle.tp_flush.specs.Known.{Began}
+use Rattle.tp_model.specs.Opening.{Opened}
 use Rattle.tp_run.specs.declared.fault.RunFault.TheVariants.{Opening, Memory, OfferRefused}
 use Rattle.tp_run.specs.declared.outset.Outset.{Outset}
 use Rattle.tp_run.specs.Input.{rest_at}
@@ -98,7 +99,7 @@ returns-clause-answer g c k =
 -- ## How many calls of the device have failed
 
 pub returns-in-Err-clause-failures : goal.returns-in-Err-clause-failures
-returns-in-Err-clause-failures g c = opening_counted _ c.in-Err.unopened (g.D.Disk.failures_of c.args.disk) (g.D.Disk.failures_of c.open.new.disk) c.in-Err.ensures.counts.failures
+returns-in-Err-clause-failures g c = opening_counted Opened c.in-Err.unopened (g.D.Disk.failures_of c.args.disk) (g.D.Disk.failures_of c.open.new.disk) c.in-Err.ensures.counts.failures
 
 pub returns-in-Some-clause-failures : goal.returns-in-Some-clause-failures
 returns-in-Some-clause-failures g c =

@@ -1,12 +1,14 @@
-use Rattle.std.proofs.Common.{◌≡◌, ◌≤◌, ℕ, ◌++◌, inl, Ok, refl, sym, ap, subst, ◌∙◌, arith, IfOk}
-use Rattle.std.specs.Prelude.{flat_map}
+use Rattle.std.proofs.Common.{◌≡◌, ◌≤◌, ℕ, ◌++◌, inl, Ok, Err, rules, refl, sym, ap, subst, ◌∙◌, arith, IfOk}
+use Rattle.std.specs.Prelude.{flat_map, IfErr}
 use Rattle.std.proofs.lemmas.Result.{IfOk-weaker}
 use Rattle.tp_flush.specs.Known.{Began}
 use Rattle.tp_flush.specs.Flushing.{Flushing, Walked, position}
 use Rattle.tp_shared.specs.Receipted.{Receipted}
 use Rattle.tp_flush.proofs.Turns.{walked_then}
 use Rattle.tp_run.specs.declared.fault.RunFault.TheVariants.{FlushFailed, LastFlushFailed}
-use Rattle.tp_run.specs.Failures.{CountsFailures}
+use Rattle.tp_run.specs.Failures.{CountsFailures, has_failed}
+use Rattle.tp_run.specs.Faults.{ComesBehind, IsSilent}
+use Rattle.tp_run.specs.Prints.{MayBeSilent}
 use Rattle.tp_run.specs.Ran.{Settled}
 use Rattle.tp_run.specs.Shown.{MayPrint}
 use Rattle.tp_run.proofs.Shown.{done_as, done_says, fault_of, fault_says, may_print, may_print_last, shows_on, walked_reached}
@@ -39,7 +41,10 @@ returns-clause-walks g c k began =
 -- ## What is printed
 
 pub returns-in_err-mark-clause-shown : goal.returns-in_err-mark-clause-shown
-returns-in_err-mark-clause-shown g c k began = inl (refl, flush_silent c.in_err-mark.field-0.0 c.flush_upto.new.flusher.world.at c.in_err-mark.ensures.refused)
+returns-in_err-mark-clause-shown g c k began =
+    let fault = c.in_err-mark.field-0.0 in
+    let is : c.from_residual.result ≡ Err fault = search rules in
+    inl (refl, subst MayBeSilent (sym is) (flush_silent fault c.flush_upto.new.flusher.world.at c.in_err-mark.ensures.refused))
 
 pub returns-in_err-confirmed-clause-shown : goal.returns-in_err-confirmed-clause-shown
 returns-in_err-confirmed-clause-shown g c k began =
@@ -48,9 +53,11 @@ returns-in_err-confirmed-clause-shown g c k began =
     let was = g.O.Outlet.taken c.args.out.now in
     let now = g.O.Outlet.taken c.print.new.out in
     let fault = c.in_err-confirmed.field-0.0 in
-    subst (λ (f : Flushing). MayPrint start c.args.flusher.now f c.args.outset.port c.args.outset.confirmed was now (fault_of ℕ fault)) (sym c.print.ensures.same)
+    let is : c.from_residual-in_err-confirmed.result ≡ Err fault = search rules in
+    subst (MayPrint start c.args.flusher.now c.print.new.flusher c.args.outset.port c.args.outset.confirmed was now) (sym is)
+    (subst (λ (f : Flushing). MayPrint start c.args.flusher.now f c.args.outset.port c.args.outset.confirmed was now (fault_of ℕ fault)) (sym c.print.ensures.same)
     (may_print_last start c.args.flusher.now c.flush_upto.new.flusher (c.known.ensures.reached k began) (c.flush_upto.ensures.walks k began) c.args.outset.port c.args.outset.confirmed was now
-    (fault_of Receipted fault) (fault_of ℕ fault) (fault_says Receipted ℕ fault) (c.in_err-confirmed.ensures.shown k there))
+    (fault_of Receipted fault) (fault_of ℕ fault) (fault_says Receipted ℕ fault) (c.in_err-confirmed.ensures.shown k there)))
 
 pub returns-in_err-_mark-clause-shown : goal.returns-in_err-_mark-clause-shown
 returns-in_err-_mark-clause-shown g c k began =
@@ -59,9 +66,11 @@ returns-in_err-_mark-clause-shown g c k began =
     let later = subst (λ (f : Flushing). Began start g.J.Naming.before f.opened) (sym c.print.ensures.same) there in
     let walked = subst (λ (f : Flushing). Walked f c.flush_upto-2.new.flusher) c.print.ensures.same (c.flush_upto-2.ensures.walks k later) in
     let fault = c.in_err-_mark.field-0.0 in
-    may_print start c.args.flusher.now c.flush_upto.new.flusher c.flush_upto-2.new.flusher (c.known.ensures.reached k began) (c.flush_upto.ensures.walks k began) walked c.args.outset.port
+    let is : c.from_residual-in_err-_mark.result ≡ Err fault = search rules in
+    subst (MayPrint start c.args.flusher.now c.flush_upto-2.new.flusher c.args.outset.port c.args.outset.confirmed (g.O.Outlet.taken c.args.out.now) (g.O.Outlet.taken c.print.new.out)) (sym is)
+    (may_print start c.args.flusher.now c.flush_upto.new.flusher c.flush_upto-2.new.flusher (c.known.ensures.reached k began) (c.flush_upto.ensures.walks k began) walked c.args.outset.port
     c.args.outset.confirmed (g.O.Outlet.taken c.args.out.now) (g.O.Outlet.taken c.print.new.out) (done_as c.in_ok-confirmed.confirmed) (fault_of ℕ fault)
-    (done_says c.in_ok-confirmed.confirmed (fault_of ℕ fault) (flush_prints fault c.flush_upto-2.new.flusher.world.at c.in_err-_mark.ensures.refused)) (c.in_ok-confirmed.ensures.shown k there)
+    (done_says c.in_ok-confirmed.confirmed (fault_of ℕ fault) (flush_prints fault c.flush_upto-2.new.flusher.world.at c.in_err-_mark.ensures.refused)) (c.in_ok-confirmed.ensures.shown k there))
 
 pub returns-clause-shown : goal.returns-clause-shown
 returns-clause-shown g c k began =
@@ -121,7 +130,10 @@ returns-clause-stored g c =
     (IfOk-weaker c.settle.result (λ answer. answer ≡ next) (λ answer. answer ≤ two.world.mark) (λ answer is. subst (λ n. n ≤ two.world.mark) (sym is) low) c.settle.ensures.next)
 
 pub returns-in_err-_mark-clause-silent : goal.returns-in_err-_mark-clause-silent
-returns-in_err-_mark-clause-silent g c silent = absurd (last_said c.in_err-_mark.field-0.0 c.flush_upto-2.new.flusher.world.at c.in_err-_mark.ensures.refused silent)
+returns-in_err-_mark-clause-silent g c silent =
+    let fault = c.in_err-_mark.field-0.0 in
+    let is : c.from_residual-in_err-_mark.result ≡ Err fault = search rules in
+    absurd (last_said fault c.flush_upto-2.new.flusher.world.at c.in_err-_mark.ensures.refused (subst IsSilent is silent))
 
 pub returns-clause-silent : goal.returns-clause-silent
 returns-clause-silent g c silent = absurd (late_said c.settle.result c.settle.ensures.late silent)
@@ -143,14 +155,23 @@ returns-clause-failures g c =
     c.flush_upto-2.ensures.failures)
 
 pub returns-in_err-mark-clause-ends : goal.returns-in_err-mark-clause-ends
-returns-in_err-mark-clause-ends g c = flush_ends FlushFailed c.in_err-mark.field-0.0 c.flush_upto.new.flusher.world.at refl c.in_err-mark.ensures.refused
+returns-in_err-mark-clause-ends g c =
+    let fault = c.in_err-mark.field-0.0 in
+    let is : c.from_residual.result ≡ Err fault = search rules in
+    subst (λ r. c.flush_upto.new.flusher.world.at ≡ position (has_failed r)) (sym is) (flush_ends FlushFailed fault c.flush_upto.new.flusher.world.at refl c.in_err-mark.ensures.refused)
 
 pub returns-in_err-confirmed-clause-ends : goal.returns-in_err-confirmed-clause-ends
 returns-in_err-confirmed-clause-ends g c =
-    ap (λ (f : Flushing). f.world.at) c.print.ensures.same ∙ c.in_ok-mark.ensures.rests ∙ ap position (sym (late_unfailed c.in_err-confirmed.field-0.0 c.in_err-confirmed.ensures.late))
+    let fault = c.in_err-confirmed.field-0.0 in
+    let is : c.from_residual-in_err-confirmed.result ≡ Err fault = search rules in
+    subst (λ r. c.print.new.flusher.world.at ≡ position (has_failed r)) (sym is)
+    (ap (λ (f : Flushing). f.world.at) c.print.ensures.same ∙ c.in_ok-mark.ensures.rests ∙ ap position (sym (late_unfailed fault c.in_err-confirmed.ensures.late)))
 
 pub returns-in_err-_mark-clause-ends : goal.returns-in_err-_mark-clause-ends
-returns-in_err-_mark-clause-ends g c = flush_ends LastFlushFailed c.in_err-_mark.field-0.0 c.flush_upto-2.new.flusher.world.at refl c.in_err-_mark.ensures.refused
+returns-in_err-_mark-clause-ends g c =
+    let fault = c.in_err-_mark.field-0.0 in
+    let is : c.from_residual-in_err-_mark.result ≡ Err fault = search rules in
+    subst (λ r. c.flush_upto-2.new.flusher.world.at ≡ position (has_failed r)) (sym is) (flush_ends LastFlushFailed fault c.flush_upto-2.new.flusher.world.at refl c.in_err-_mark.ensures.refused)
 
 pub returns-clause-ends : goal.returns-clause-ends
 returns-clause-ends g c =
@@ -159,13 +180,22 @@ returns-clause-ends g c =
 -- ## Which faults come here
 
 pub returns-in_err-mark-clause-behind : goal.returns-in_err-mark-clause-behind
-returns-in_err-mark-clause-behind g c = flush_behind FlushFailed c.in_err-mark.field-0.0 c.flush_upto.new.flusher.world.at tt c.in_err-mark.ensures.refused
+returns-in_err-mark-clause-behind g c =
+    let fault = c.in_err-mark.field-0.0 in
+    let is : c.from_residual.result ≡ Err fault = search rules in
+    subst (λ r. IfErr r ComesBehind) (sym is) (flush_behind FlushFailed fault c.flush_upto.new.flusher.world.at tt c.in_err-mark.ensures.refused)
 
 pub returns-in_err-confirmed-clause-behind : goal.returns-in_err-confirmed-clause-behind
-returns-in_err-confirmed-clause-behind g c = late_behind c.in_err-confirmed.field-0.0 c.in_err-confirmed.ensures.late
+returns-in_err-confirmed-clause-behind g c =
+    let fault = c.in_err-confirmed.field-0.0 in
+    let is : c.from_residual-in_err-confirmed.result ≡ Err fault = search rules in
+    subst (λ r. IfErr r ComesBehind) (sym is) (late_behind fault c.in_err-confirmed.ensures.late)
 
 pub returns-in_err-_mark-clause-behind : goal.returns-in_err-_mark-clause-behind
-returns-in_err-_mark-clause-behind g c = flush_behind LastFlushFailed c.in_err-_mark.field-0.0 c.flush_upto-2.new.flusher.world.at tt c.in_err-_mark.ensures.refused
+returns-in_err-_mark-clause-behind g c =
+    let fault = c.in_err-_mark.field-0.0 in
+    let is : c.from_residual-in_err-_mark.result ≡ Err fault = search rules in
+    subst (λ r. IfErr r ComesBehind) (sym is) (flush_behind LastFlushFailed fault c.flush_upto-2.new.flusher.world.at tt c.in_err-_mark.ensures.refused)
 
 pub returns-clause-behind : goal.returns-clause-behind
 returns-clause-behind g c = late_behind_of c.settle.result c.settle.ensures.late
