@@ -1,5 +1,8 @@
+pub mod Confirms
+pub mod Fitted
 pub mod Kept
 pub mod Looks
+pub mod Notices
 pub mod Puts
 pub mod Quiets
 pub mod Runs

@@ -23,6 +23,7 @@ use Rattle.tp_stream.specs.declared.fault.StreamFault.{StreamFault}
 use Rattle.tp_stream.specs.declared.pumping.Pumped.{Pumped}
 use Rattle.tp_stream.specs.declared.turns.Turns.{Turns as TurnsValue}
 use Rattle.tp_stream.specs.Endings.{IsEnding}
+use Rattle.tp_stream.specs.Over.{LeavesNoInput}
 use Rattle.tp_stream.specs.Quiet.{IsQuietNetwork, HasNoStep, HaveRested, HostRests, IsAsked, IsWhyEnded, NodeRests, HadNothingToDo}
 
 halted_rests : (node : NodeState) → IsSome node.cpu.halt → node_step node ≡ None
@@ -144,3 +145,12 @@ ended_why start task turns nodes asked pumped over Turns many H until is = rw is
 ended_why start task turns nodes asked pumped over Gone many H until is = tt
 ended_why start task turns nodes asked pumped over Halted many H until is = is.0
 ended_why start task turns nodes asked pumped over AskedTo many H until is = until is
+
+-- where it is quiet nothing is left of each input
+pub leaves_no_input : (task : Task) (turns : TurnsValue) (nodes : ℕ) (asked : Bool) (pumped : Pumped) (over all : Bool) (why : Ending) → over ≡ all → IsEnding task turns nodes asked pumped over why
+    → LeavesNoInput all why
+leaves_no_input task turns nodes asked pumped over all Quiet same is = sym same ∙ is.1.over_is
+leaves_no_input task turns nodes asked pumped over all Turns same is = tt
+leaves_no_input task turns nodes asked pumped over all Gone same is = tt
+leaves_no_input task turns nodes asked pumped over all Halted same is = tt
+leaves_no_input task turns nodes asked pumped over all AskedTo same is = tt

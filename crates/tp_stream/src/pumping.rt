@@ -1,10 +1,14 @@
 //! Steps of all streams of a network.
 
-ghost use Rattle.std.specs.Prelude.{◌≡◌, IfErr};
+ghost use Rattle.std.specs.Prelude.{◌≡◌, ◌<◌, ◌-◌, length, true, false, Ok, IfErr, OnErr};
+ghost use Rattle.tp_area.specs.declared.journal.JournalRoom.{JournalRoom};
+ghost use Rattle.tp_book.specs.Refusals.{is_journal_full};
 ghost use Rattle.tp_flush.specs.Known.{Began};
+ghost use Rattle.tp_stream.specs.Offered.{Offered};
 ghost use Rattle.tp_stream.specs.Put.{EachWith};
+ghost use Rattle.tp_stream.specs.Rooms.{IsConfirmed, UnreservedBook, free_of, has_room_for};
 ghost use Rattle.tp_stream.specs.Steps.{AllStepped, AreLeft, PutsLeft, PutsShown};
-ghost use Rattle.tp_stream.specs.Streamed.{CameBegun};
+ghost use Rattle.tp_stream.specs.Streamed.{CameBegun, OtherThanFull};
 
 use crate::fault::StreamFault;
 use crate::output::StepFault;
@@ -50,11 +54,19 @@ impl Pumped {
     }
 }
 
-/// Whether the journal has room for a confirm a port.
+/// Whether the journal has room for a confirm a port, under the book's lock. Where the book lies in that journal, and no run is reserved, none
+/// of them is then refused as JournalFull.
+fn has_confirms<J: Naming>(held: &Locked<J>, pace: Pace) -> bool
+    ensures value { result ≡ has_room_for pace.rooms.journal held.now.book pace.confirms }
+    ensures keeps { UnreservedBook pace.rooms.journal held.now.book → result ≡ true → is_journal_full held.now.book pace.confirms ≡ false }
+{
+    pace.rooms.has_room(held.book(), pace.confirms)
+}
+
+/// The same, once the lock is had.
 pub(crate) fn can_confirm<J: Naming, R: Wait>(rt: &R, shared: &Shared<J>, pace: Pace) -> bool {
     let held = shared.book().lock(rt);
-    held.known();
-    pace.rooms.has_room(held.book(), pace.confirms)
+    has_confirms(&held, pace)
 }
 
 /// A step of a port's output, under the book's lock. What is put is shown by the flusher's mark.
@@ -66,6 +78,8 @@ fn step_output<J: Naming, D: Disk, S: Sink>(
     ensures left { AreLeft held.old.book held.new.book }
     ensures puts { PutsShown held.old.book flusher.now.world.mark output.old output.new }
     ensures begun { IfErr result CameBegun }
+    ensures book { IsConfirmed held.old.book held.new.book }
+    ensures room { is_journal_full held.old.book 1 ≡ false → IfErr result OtherThanFull }
 {
     let before = output.put();
     if usize::from(output.port()) >= held.book().ports() {
@@ -79,7 +93,7 @@ fn step_output<J: Naming, D: Disk, S: Sink>(
 }
 
 /// A step of each output, under one hold of the book's lock, also behind one whose taker has gone. What is put is shown by the flusher's
-/// mark of what confirms have left of the book.
+/// mark of what confirms have left of the book. Where the journal has room for a confirm an output, none is refused for want of it.
 fn step_all<J: Naming, D: Disk, S: Sink>(
     held: &mut Locked<J>,
     flusher: &Flusher<J, D>,
@@ -87,6 +101,7 @@ fn step_all<J: Naming, D: Disk, S: Sink>(
 ) -> Result<Pumped, StreamFault>
     ensures puts { EachWith (PutsLeft held.old.book flusher.now.world.mark) outputs.old outputs.new }
     ensures begun { IfErr result CameBegun }
+    ensures room { (journal : JournalRoom) → UnreservedBook journal held.old.book → has_room_for journal held.old.book (length outputs.old) ≡ true → IfErr result OtherThanFull }
 {
     let mut pumped = Pumped::Nothing;
     for output in outputs.iter_mut() {
@@ -107,6 +122,7 @@ fn step_settled<J: Naming, D: Disk, S: Sink>(
     ensures put { D.keeps → Began J.formatted J.before flusher.old.opened
         → AllStepped J.formatted flusher.old flusher.old outputs.old outputs.new }
     ensures begun { IfErr result CameBegun }
+    ensures room { (journal : JournalRoom) → UnreservedBook journal held.old.book → has_room_for journal held.old.book (length outputs.old) ≡ true → IfErr result OtherThanFull }
 {
     flusher.known();
     flusher.settle_book(held);
@@ -133,8 +149,31 @@ fn step_outputs<J: Naming, D: Disk, S: Sink, R: Wait>(
     step_settled(&mut held, flusher, outputs)
 }
 
-/// A step of a port's input, which takes the book's lock. Whether the port took more. Room for the confirms is kept. Where it may not
-/// wait for bytes that haven't come yet, the port then takes none.
+/// A step of a port's input, under the book's lock. Whether the port took more: no more than leaves the journal the room that a turn and
+/// the confirms behind it need. Where it may not wait for bytes that haven't come yet, the port then takes none.
+fn step_held<J: Naming, I: Source>(
+    held: &mut Locked<J>,
+    pace: Pace,
+    piece: &mut [u8],
+    may_wait: bool,
+    input: &mut Input<I>,
+) -> Result<bool, StreamFault>
+    requires there { input.old.port < length held.old.book.state.ports }
+    ensures taken { result ≡ Ok true → Offered (I.input input.old.source) input.old.port (free_of pace.rooms.journal held.old.book - pace.need) held.old.book held.new.book }
+    ensures refused { result ≡ Ok false → held.new ≡ held.old }
+    ensures err { OnErr result (held.new ≡ held.old) }
+    ensures begun { IfErr result CameBegun }
+{
+    let at = held.book().accepted(input.port());
+    if !may_wait && input.would_wait(at, 0) {
+        return Ok(false);
+    }
+    let free = pace.rooms.free(held.book());
+    let most = free.saturating_sub(u64::from(pace.need));
+    crate::input::step(input, held, piece, most)
+}
+
+/// The same, once the lock is had.
 fn step_input<J: Naming, I: Source, R: Wait>(
     rt: &R,
     shared: &Shared<J>,
@@ -150,17 +189,7 @@ fn step_input<J: Naming, I: Source, R: Wait>(
     if input.port() >= shared.ports() {
         return Err(StreamFault::InputFailed(input.port()));
     }
-    let at = held.book().accepted(input.port());
-    if !may_wait && input.would_wait(at, 0) {
-        return Ok(false);
-    }
-    let free = pace.rooms.free(held.book());
-    crate::input::step(
-        input,
-        &mut held,
-        piece,
-        free.saturating_sub(u64::from(pace.need)),
-    )
+    step_held(&mut held, pace, piece, may_wait, input)
 }
 
 /// The first input whose bytes haven't come yet for which the journal has room: its port, and how many that has accepted.

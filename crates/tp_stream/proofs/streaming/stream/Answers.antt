@@ -1,12 +1,16 @@
-use Rattle.std.proofs.Common.{◌≡◌, inl, inr, length, map, Err, refl, sym, ap, subst, ◌∙◌}
+use Rattle.std.proofs.Common.{◌≡◌, ◌++◌, inl, inr, length, map, Err, refl, sym, ap, subst, ◌∙◌}
 use Rattle.tp_model.specs.Disk.{Moment}
 use Rattle.tp_flush.specs.Known.{Began}
 use Rattle.tp_stream.specs.declared.fault.StreamFault.TheVariants.{Opening}
+use Rattle.tp_stream.specs.Fitting.{SaysFit, SaysUnfit}
 use Rattle.tp_stream.specs.Put.{ServedInto, StreamedInto}
 use Rattle.tp_stream.specs.Streamed.{Streamed}
 use Rattle.tp_stream_files.specs.Inputs.{given_input}
 use Rattle.tp_stream_files.specs.Outputs.{given_of}
 use Rattle.tp_stream.specs.Standing.{AllHaveAccepted, AllMayBegin, IsFirstRefused, IsFirstShort, OfInput, OfOutput, accepted_opened, stands_opened}
+use Rattle.tp_stream.specs.Told.{ToldFirst, input_begins, output_begins}
+use Rattle.tp_stream.proofs.Fitted.{begun_fits, not_begun_fits, unfit}
+use Rattle.tp_stream.proofs.Notices.{first_later}
 use Rattle.tp_stream.proofs.Runs.{begun_written, into, unput, unwritten}
 use Rattle.tp_stream.proofs.Standings.{begun_refused, begun_short, no_input, no_output, on_ok, same_opened, says_first, says_short}
 use Rattle.tp_stream.proofs.streaming.stream.Goals as goal
@@ -124,3 +128,34 @@ returns-in-Err-parts_of-clause-short g c k other is =
 
 pub returns-clause-short : goal.returns-clause-short
 returns-clause-short g c k other is = begun_short c.stream_parts.result.1 _ c.stream_parts.ensures.begun
+
+-- ## Whether it may be run, and what was told
+
+pub returns-in-Err-clause-fits : goal.returns-in-Err-clause-fits
+returns-in-Err-clause-fits g c k other is = tt
+
+pub returns-in-Some-clause-fits : goal.returns-in-Some-clause-fits
+returns-in-Some-clause-fits g c k other is =
+    let inputs = map (λ i. i.port) c.args.streams.now.inputs.items in
+    subst (λ o. SaysUnfit c.args.task o.head.topology c.args.streams.now.outputs.items inputs c.in-Some.fault) (same_opened _ _ _ (c.in-Ok.ensures.is k) is)
+    (subst (λ t. SaysUnfit c.args.task t c.args.streams.now.outputs.items inputs c.in-Some.fault) (topology_is g c) (unfit c.args.task _ _ inputs c.in-Some.fault c.in-Some.ensures.unfit))
+
+pub returns-in-Err-parts_of-clause-fits : goal.returns-in-Err-parts_of-clause-fits
+returns-in-Err-parts_of-clause-fits g c k other is =
+    let inputs = map (λ i. i.port) c.args.streams.now.inputs.items in
+    subst (λ o. SaysUnfit c.args.task o.head.topology c.args.streams.now.outputs.items inputs c.in-Err-parts_of.fault) (same_opened _ _ _ (c.in-Ok.ensures.is k) is)
+    (not_begun_fits c.args.task _ _ inputs _ _ _ _ _ c.in-Err-parts_of.fault c.in-None.ensures.fits c.in-Err-parts_of.ensures.refused)
+
+pub returns-clause-fits : goal.returns-clause-fits
+returns-clause-fits g c k other is =
+    let inputs = map (λ i. i.port) c.args.streams.now.inputs.items in
+    subst (λ o. SaysFit c.args.task o.head.topology c.args.streams.now.outputs.items inputs c.stream_parts.result.1) (same_opened _ _ _ (c.in-Ok.ensures.is k) is)
+    (begun_fits c.args.task _ _ inputs c.stream_parts.result.1 c.in-None.ensures.fits c.stream_parts.ensures.begun)
+
+pub returns-clause-told : goal.returns-clause-told
+returns-clause-told g c k other is =
+    let gs = map given_of c.args.streams.now.outputs.items in
+    let inputs = map (λ i. given_input i.port (g.I.Source.input i.source)) c.args.streams.now.inputs.items in
+    on_ok c.stream_parts.result.1 _
+    (subst (λ o. ToldFirst (map (output_begins (stands_opened o)) gs ++ map (input_begins (accepted_opened o)) inputs) _ _) (same_opened _ _ _ (c.in-Ok.ensures.is k) is)
+    (first_later _ _ _ _ _ c.in-Ok-parts_of.ensures.told c.stream_parts.ensures.told))

@@ -34,10 +34,10 @@ returns-clause-streamed g c k began =
 pub returns-clause-why : goal.returns-clause-why
 returns-clause-why g c =
     all_asked g.J.Naming.start c.args.task c.serve-flusher.result.1
-    (subst (λ task. IfOk c.serve-flusher.result.1 (λ ended. IsWhyEnded g.J.Naming.start task ended.why)) c.pace_of-pace.ensures c.serve-flusher.ensures.why)
+    (subst (λ task. IfOk c.serve-flusher.result.1 (λ ended. IsWhyEnded g.J.Naming.start task ended.why)) c.pace_of-pace.ensures.task c.serve-flusher.ensures.why)
 
 pub returns-clause-looks : goal.returns-clause-looks
 returns-clause-looks g c =
     let old = g.P.Stop.answers c.args.stop.now in
     let new = g.P.Stop.answers c.serve-flusher.new.stop in
-    subst (λ task. IfOk c.serve-flusher.result.1 (λ ended. HaveLooked task old new (Some ended.why))) c.pace_of-pace.ensures c.serve-flusher.ensures.looks
+    subst (λ task. IfOk c.serve-flusher.result.1 (λ ended. HaveLooked task old new (Some ended.why))) c.pace_of-pace.ensures.task c.serve-flusher.ensures.looks

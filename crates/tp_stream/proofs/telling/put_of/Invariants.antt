@@ -1,0 +1,7 @@
+-- up to where the outputs of each port so far were put
+use Rattle.std.proofs.Common.{◌≡◌, ◌<◌, ℕ, get_or, None}
+use Rattle.tp_stream.specs.Told.{put_in}
+use Rattle.tp_stream.proofs.telling.put_of.Given as goal
+
+abbrev pub invariant-loop-port : goal.invariant-loop-port
+invariant-loop-port g l = (p : ℕ) → p < l.port → get_or l.put p None ≡ put_in l.outputs p
