@@ -2,6 +2,8 @@
 use Rattle.std.proofs.Common.{◌≡◌, ◌⊎◌, inl, inr, ℕ, ◌<◌, Bool, true, false, List, [], ◌∷◌, ◌++◌, length, get_or, Option, Some, refl, sym, ap, subst, ◌∙◌, arith, get_or-set_other}
 use Rattle.std.proofs.lemmas.Bool.{true≢false}
 use Rattle.std.proofs.lemmas.Bool.Decides.{eqb_tells}
+use Rattle.tp_model.specs.NodeState.{NodeState}
+use Rattle.tp_model.specs.Snapshot.{MarkedNetwork}
 use Rattle.tp_model.specs.Topology.{Topology}
 use Rattle.tp_book.specs.Book.{BookValue}
 use Rattle.tp_flush.specs.declared.imaged.Image.{Image}
@@ -11,7 +13,7 @@ use Rattle.tp_flush.specs.declared.imaged.Images.TheVariants.{NoSnapshot, Out, E
 use Rattle.tp_flush.specs.declared.progress.Progress.{Progress}
 use Rattle.tp_flush.specs.Progress.{is_out, with_out}
 use Rattle.tp_flush.specs.Flushing.{Flushing}
-use Rattle.tp_flush.specs.Images.{EndsSo, HasNextImage, Imaged, ImagedIn, NodeImaged, OneWentOut, StayOut}
+use Rattle.tp_flush.specs.Images.{EndsSo, HasNextImage, Imaged, ImagedIn, LacksPages, LacksWhere, NodeImaged, OneWentOut, StayOut, UnkeptIn}
 
 -- ## Images that are out stay out
 
@@ -49,6 +51,33 @@ imaged_end Lacking node images recorded nodes all first old new ends stay is the
 imaged_end (Copied pages) node images recorded nodes all first old new ends stay is there =
     subst (λ (x : Images). Imaged true recorded nodes all x first new) (sym ends)
     (record { node = node; waited = isnt (is_out first node) (λ out. sym is.0 ∙ stay node out); is = is.1 })
+
+-- or it lacks pages
+pub unkept_end : (done : Image) (node : ℕ) (images : Images) (recorded : Bool) (old : Progress) (v : Flushing) → EndsSo done node images → LacksWhere done v.topology v.world.net v.frozen node
+    → NodeImaged done recorded node old v.progress → node < length v.topology.pages → UnkeptIn images v
+unkept_end WasOut node images recorded old v ends lacks is there = absurd ends
+unkept_end Unrecorded node images recorded old v ends lacks is there = absurd ends
+unkept_end Lacking node images recorded old v ends lacks is there = subst (λ (x : Images). UnkeptIn x v) (sym ends) (there, is.1, lacks)
+unkept_end (Copied pages) node images recorded old v ends lacks is there = subst (λ (x : Images). UnkeptIn x v) (sym ends) tt
+
+-- so it is of a flusher that does nothing where an image is missing
+pub unkept_still : (images : Images) (a b : Flushing) → UnkeptIn images a → ((i : ℕ) → i < length a.topology.pages → is_out a.progress i ≡ false → b ≡ a) → UnkeptIn images b
+unkept_still NoSnapshot a b U still = tt
+unkept_still Out a b U still = tt
+unkept_still Enough a b U still = tt
+unkept_still (Unkept i) a b U still = subst (λ (v : Flushing). UnkeptIn (Unkept i) v) (sym (still i U.0 U.1)) U
+
+-- and of one of which nothing changed that it speaks of
+pub unkept_on : (images : Images) (a b : Flushing) → b.topology ≡ a.topology → b.progress ≡ a.progress → b.world.net ≡ a.world.net → b.frozen ≡ a.frozen → UnkeptIn images a → UnkeptIn images b
+unkept_on NoSnapshot a b topology progress net frozen U = tt
+unkept_on Out a b topology progress net frozen U = tt
+unkept_on Enough a b topology progress net frozen U = tt
+unkept_on (Unkept i) a b topology progress net frozen U = (
+  subst (λ (t : Topology). i < length t.pages) (sym topology) U.0,
+  ap (λ (p : Progress). is_out p i) progress ∙ U.1,
+  subst (λ (t : Topology). LacksPages t b.world.net b.frozen i) (sym topology)
+      (subst (λ (n : MarkedNetwork NodeState). LacksPages a.topology n b.frozen i) (sym net) (subst (λ (fs : List Bool). LacksPages a.topology a.world.net fs i) (sym frozen) U.2)),
+)
 
 -- ## All of them
 

@@ -1,7 +1,11 @@
 -- What a turn does with the frozen images of the snapshot that runs.
-use Rattle.std.specs.Prelude.{◌≡◌, ◌<◌, ℕ, Bool, true, false, List, [], ◌∷◌, ◌++◌, length, get_or, Option, Some, None}
+use Rattle.std.specs.Prelude.{◌≡◌, ◌<◌, ◌⊎◌, ℕ, Bool, true, false, List, [], ◌∷◌, ◌++◌, length, get_or, Option, Some, None}
+use Rattle.tp_model.specs.NodeState.{NodeState}
+use Rattle.tp_model.specs.Snapshot.{MarkedNetwork}
+use Rattle.tp_model.specs.Topology.{Topology}
 use Rattle.tp_book.specs.Needs.{has_recorded_in}
 use Rattle.tp_book.specs.Book.{BookValue}
+use Rattle.tp_shared.specs.Frozen.{has_page, keeps_pages}
 use Rattle.tp_shared.specs.declared.look.Look.{Look}
 use Rattle.tp_flush.specs.declared.imaged.Image.{Image}
 use Rattle.tp_flush.specs.declared.imaged.Image.TheVariants.{WasOut, Unrecorded, Lacking, Copied}
@@ -19,6 +23,17 @@ NodeImaged WasOut recorded node old new = is_out new node ≡ true
 NodeImaged Unrecorded recorded node old new = recorded ≡ false
 NodeImaged Lacking recorded node old new = (recorded ≡ true) × (is_out new node ≡ false)
 NodeImaged (Copied pages) recorded node old new = (is_out old node ≡ false) × (is_out new node ≡ true)
+
+-- Of a node's pages, of which the device has a place for some, not all are kept.
+abbrev pub LacksPages : Topology → MarkedNetwork NodeState → List Bool → ℕ → Type 0
+LacksPages t net frozen i = (keeps_pages frozen i ≡ false) ⊎ ((page : ℕ) × (page < get_or t.pages i 0) × (has_page net i page ≡ false))
+
+-- that is so where it is said
+abbrev pub LacksWhere : Image → Topology → MarkedNetwork NodeState → List Bool → ℕ → Type 0
+LacksWhere WasOut t net frozen node = Unit {0}
+LacksWhere Unrecorded t net frozen node = Unit {0}
+LacksWhere Lacking t net frozen node = LacksPages t net frozen node
+LacksWhere (Copied pages) t net frozen node = Unit {0}
 
 -- images that are out stay out
 abbrev pub StayOut : Progress → Progress → Type 0
@@ -53,6 +68,13 @@ Imaged ran recorded nodes images NoSnapshot old new = ran ≡ false
 Imaged ran recorded nodes images Out old new = (i : ℕ) → i < nodes → i < images → recorded i ≡ true → is_out new i ≡ true
 Imaged ran recorded nodes images Enough old new = OneWentOut old new
 Imaged ran recorded nodes images (Unkept i) old new = (i < nodes) × (recorded i ≡ true) × (is_out new i ≡ false)
+
+-- A node of the device's of which it is said that not all its pages are kept isn't out, and lacks pages.
+abbrev pub UnkeptIn : Images → Flushing → Type 0
+UnkeptIn NoSnapshot v = Unit {0}
+UnkeptIn Out v = Unit {0}
+UnkeptIn Enough v = Unit {0}
+UnkeptIn (Unkept i) v = (i < length v.topology.pages) × (is_out v.progress i ≡ false) × LacksPages v.topology v.world.net v.frozen i
 
 -- ## In which book
 

@@ -5,7 +5,7 @@ ghost use Rattle.tp_model.specs.WriteOrder.{Resting};
 ghost use Rattle.tp_shared.specs.Frozen.{keeps_pages};
 ghost use Rattle.tp_flush.specs.Flushing.{FlushedOn};
 ghost use Rattle.tp_flush.specs.Ends.{Checkpointed, switched_of};
-ghost use Rattle.tp_flush.specs.Images.{ImagedIn, LookedIn};
+ghost use Rattle.tp_flush.specs.Images.{ImagedIn, LookedIn, UnkeptIn};
 ghost use Rattle.tp_flush.specs.Unswitched.{WhyUnswitched};
 
 use crate::fault::FlushFault;
@@ -62,6 +62,7 @@ impl<J: Naming, D: Disk> Flusher<J, D> {
         requires rests { self.old.world.at ≡ Resting }
         ensures checkpointed { Checkpointed (switched_of result) self.old self.new }
         ensures imaged { IfOk result (λ done. done.switched ≡ false → ImagedIn (length J.start.nodes) done.images looked.old looked.new self.old self.new) }
+        ensures unkept { IfOk result (λ done. UnkeptIn done.images self.new) }
         ensures gone { IfOk result (λ done. done.switched ≡ true → (i : ℕ) → keeps_pages self.new.frozen i ≡ false) }
         ensures unswitched { IfOk result (λ done. done.switched ≡ false → WhyUnswitched done.unswitched done.images self.new) }
         ensures goes { FlushedOn D.keeps J.formatted J.before self.old self.new }

@@ -1,6 +1,6 @@
 //! The flusher copies the frozen images of a snapshot, one page a hold of the locks.
 
-ghost use Rattle.std.specs.Prelude.{◌≡◌, ◌+◌, ◌<◌, ◌≤◌, true, false, length, get_or, IfOk};
+ghost use Rattle.std.specs.Prelude.{◌≡◌, ◌+◌, ◌<◌, ◌≤◌, ◌&&◌, true, false, length, get_or, IfOk};
 ghost use Rattle.tp_model.specs.declared.limits.TheConstants.{MAX_NODES, MAX_PAGES};
 ghost use Rattle.tp_model.specs.WriteOrder.{Resting};
 ghost use Rattle.tp_area.specs.Tails.{content_beside};
@@ -8,7 +8,8 @@ ghost use Rattle.tp_area.specs.Pieces.{piece_place};
 ghost use Rattle.tp_flush.specs.Copying.{HasRecorded, IsPartOut};
 ghost use Rattle.tp_flush.specs.Progress.{is_out};
 ghost use Rattle.tp_flush.specs.Flushing.{FlushedOn};
-ghost use Rattle.tp_flush.specs.Images.{Imaged, NodeImaged, StayOut};
+ghost use Rattle.tp_flush.specs.Images.{Imaged, LacksPages, LacksWhere, NodeImaged, StayOut, UnkeptIn};
+ghost use Rattle.tp_shared.specs.Frozen.{has_page, keeps_pages};
 ghost use Rattle.tp_flush.specs.Ends.{Tried};
 
 use crate::fault::FlushFault;
@@ -67,6 +68,7 @@ impl<J: Naming, D: Disk> Flusher<J, D> {
         ensures same { self.new.progress ≡ self.old.progress }
         ensures stands { D.keeps → IfOk result (λ found. found ≡ true → IsPartOut self.new.topology self.new.world.net (content_beside self.new.place self.new.state) node 0) }
         ensures recorded { IfOk result (λ found. found ≡ true → HasRecorded self.new.world.net node) }
+        ensures lacks { IfOk result (λ found. found ≡ false → keeps_pages self.new.frozen node ≡ false) }
         ensures goes { FlushedOn D.keeps J.formatted J.before self.old self.new }
     {
         let mut head = [0; IMAGE_HEAD_BYTES];
@@ -99,6 +101,7 @@ impl<J: Naming, D: Disk> Flusher<J, D> {
         ensures tried { Tried result self.old self.new }
         ensures same { self.new.progress ≡ self.old.progress }
         ensures stands { D.keeps → IfOk result (λ found. found ≡ true → IsPartOut self.new.topology self.new.world.net (content_beside self.new.place self.new.state) node (page + 1)) }
+        ensures lacks { IfOk result (λ found. found ≡ false → (keeps_pages self.new.frozen node && has_page self.new.world.net node page) ≡ false) }
         ensures goes { FlushedOn D.keeps J.formatted J.before self.old self.new }
     {
         let mut bytes = [0; PAGE_BYTES];
@@ -129,6 +132,7 @@ impl<J: Naming, D: Disk> Flusher<J, D> {
         ensures same { self.new.progress ≡ self.old.progress }
         ensures stands { D.keeps → IfOk result (λ found. found ≡ true → IsPartOut self.new.topology self.new.world.net (content_beside self.new.place self.new.state) node (get_or self.new.topology.pages node 0)) }
         ensures recorded { IfOk result (λ found. found ≡ true → HasRecorded self.new.world.net node) }
+        ensures lacks { IfOk result (λ found. found ≡ false → LacksPages self.new.topology self.new.world.net self.new.frozen node) }
         ensures goes { FlushedOn D.keeps J.formatted J.before self.old self.new }
     {
         if !self.copy_head(rt, shared, node, image)? {
@@ -160,6 +164,7 @@ impl<J: Naming, D: Disk> Flusher<J, D> {
         requires there { node < length J.start.nodes }
         ensures tried { Tried result self.old self.new }
         ensures imaged { IfOk result (λ done. NodeImaged done (get_or look.now.recorded node false) node self.old.progress self.new.progress) }
+        ensures lacks { IfOk result (λ done. LacksWhere done self.new.topology self.new.world.net self.new.frozen node) }
         ensures stay { StayOut self.old.progress self.new.progress }
         ensures goes { FlushedOn D.keeps J.formatted J.before self.old self.new }
     {
@@ -199,6 +204,7 @@ impl<J: Naming, D: Disk> Flusher<J, D> {
         requires cleared { self.old.progress.cleared ≡ true }
         ensures tried { Tried result self.old self.new }
         ensures imaged { IfOk result (λ images. Imaged true (λ i. get_or look.now.recorded i false) (length J.start.nodes) (length self.new.topology.pages) images self.old.progress self.new.progress) }
+        ensures unkept { IfOk result (λ images. UnkeptIn images self.new) }
         ensures goes { FlushedOn D.keeps J.formatted J.before self.old self.new }
     {
         self.known();

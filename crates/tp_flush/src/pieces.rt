@@ -1,11 +1,11 @@
 //! The flusher writes a frozen image into the other area, piece by piece.
 
-ghost use Rattle.std.specs.Prelude.{◌≡◌, ◌+◌, ◌<◌, ◌≤◌, true, false, length, get_or, IfOk};
+ghost use Rattle.std.specs.Prelude.{◌≡◌, ◌+◌, ◌<◌, ◌≤◌, ◌&&◌, true, false, length, get_or, IfOk};
 ghost use Rattle.tp_area.specs.Pieces.{piece_length, piece_place};
 ghost use Rattle.tp_area.specs.Tails.{content_beside};
 ghost use Rattle.tp_model.specs.Disk.{written};
 ghost use Rattle.tp_shared.specs.Pieces.{IsFrozenHead, IsFrozenPage};
-ghost use Rattle.tp_shared.specs.Frozen.{keeps_pages};
+ghost use Rattle.tp_shared.specs.Frozen.{has_page, keeps_pages};
 ghost use Rattle.tp_flush.specs.Copying.{IsGone, IsPartOut};
 ghost use Rattle.tp_flush.specs.Progress.{is_out, with_out};
 ghost use Rattle.tp_model.specs.declared.limits.TheConstants.{MAX_PAGES};
@@ -91,6 +91,7 @@ impl<J: Naming, D: Disk> Flusher<J, D> {
         requires there { node < length J.start.nodes }
         ensures went { NothingStored self.old self.new }
         ensures same { (self.new.state ≡ self.old.state) × (self.new.progress ≡ self.old.progress) }
+        ensures kept { result ≡ keeps_pages self.new.frozen node }
         ensures head { result ≡ true → IsFrozenHead self.new.world.net node out.new }
         ensures goes { FlushedOn D.keeps J.formatted J.before self.old self.new }
     {
@@ -114,6 +115,7 @@ impl<J: Naming, D: Disk> Flusher<J, D> {
         requires there { node < length J.start.nodes }
         ensures went { NothingStored self.old self.new }
         ensures same { (self.new.state ≡ self.old.state) × (self.new.progress ≡ self.old.progress) }
+        ensures kept { result ≡ (keeps_pages self.new.frozen node && has_page self.new.world.net node page) }
         ensures page { result ≡ true → IsFrozenPage self.new.world.net node page out.new }
         ensures goes { FlushedOn D.keeps J.formatted J.before self.old self.new }
     {

@@ -5,7 +5,7 @@ use Rattle.tp_flush.specs.declared.progress.Progress.{Progress}
 use Rattle.tp_flush.specs.declared.imaged.Images.{Images}
 use Rattle.tp_flush.specs.Ends.{switched_of}
 use Rattle.tp_flush.proofs.Goings.{checkpointed_before, checkpointed_behind, checkpointed_on, goes_then, went_still, went_then}
-use Rattle.tp_flush.proofs.Imaging.{imaged_as}
+use Rattle.tp_flush.proofs.Imaging.{imaged_as, unkept_still}
 use Rattle.tp_flush.proofs.flusher.Flusher.checkpoint.Goals as goal
 
 pub returns-in_err-clear-clause-checkpointed : goal.returns-in_err-clear-clause-checkpointed
@@ -71,3 +71,6 @@ returns-in_default-clause-gone g c done = absurd (true≢false (sym done))
 
 pub returns-clause-gone : goal.returns-clause-gone
 returns-clause-gone g c done = c.in_ok-switched.ensures.gone done
+
+pub returns-clause-unkept : goal.returns-clause-unkept
+returns-clause-unkept g c = unkept_still c.in_ok-images.images c.copy_images.new.self c.switch.new.self c.in_ok-images.ensures.unkept c.switch.ensures.still

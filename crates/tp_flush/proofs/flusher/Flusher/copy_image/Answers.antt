@@ -76,3 +76,13 @@ returns-then-not-branch-2-clause-same g c = c.copy_page.ensures.same ∙ c.loop-
 
 pub returns-clause-recorded : goal.returns-clause-recorded
 returns-clause-recorded g c = λ found. c.loop-page.invariant.recorded
+
+pub returns-then-not-branch-clause-lacks : goal.returns-then-not-branch-clause-lacks
+returns-then-not-branch-clause-lacks g c = λ lost. inl (c.in_ok-copy_head.ensures.lacks c.if-not-branch.true)
+
+pub returns-then-not-branch-2-clause-lacks : goal.returns-then-not-branch-2-clause-lacks
+returns-then-not-branch-2-clause-lacks g c = λ lost.
+    let v = c.copy_page.new.self in
+    let P = c.copy_head.ensures.goes.process in
+    let low : c.loop-page.page < get_or v.topology.pages c.args.node 0 = HOLE in
+    lacks_one (keeps_pages v.frozen c.args.node) (has_page v.world.net c.args.node c.loop-page.page) (c.in_ok-copy_page.ensures.lacks c.if-not-branch-2.true) c.loop-page.page low

@@ -1,5 +1,5 @@
 use Rattle.std.proofs.Common.{Bool, List, [], ap, length, inl, subst, sym, ◌∙◌, arith, rules}
-use Rattle.tp_flush.proofs.Imaging.{imaged_between}
+use Rattle.tp_flush.proofs.Imaging.{imaged_between, unkept_on}
 use Rattle.tp_flush.proofs.Reasons.{why_still}
 use Rattle.tp_shared.specs.Frozen.{keeps_pages}
 use Rattle.tp_flush.specs.CopiedIn.{CopiedIn}
@@ -124,3 +124,8 @@ returns-clause-unswitched g c stays =
 
 pub returns-clause-gone : goal.returns-clause-gone
 returns-clause-gone g c done i = ap (λ (frozen : List Bool). keeps_pages frozen i) c.raise-mark.ensures.net.1 ∙ c.in_ok-done.ensures.gone done i
+
+pub returns-clause-unkept : goal.returns-clause-unkept
+returns-clause-unkept g c =
+    let L = c.raise-mark.ensures.looked in
+    unkept_on c.in_ok-done.done.images c.checkpoint.new.self c.raise-mark.new.self L.topology L.progress c.raise-mark.ensures.net.0 c.raise-mark.ensures.net.1 c.in_ok-done.ensures.unkept

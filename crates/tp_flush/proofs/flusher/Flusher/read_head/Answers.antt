@@ -71,3 +71,6 @@ returns-clause-goes g c =
 
 pub returns-clause-head : goal.returns-clause-head
 returns-clause-head g c found = subst (λ (k : Known). IsFrozenHead k.world.net c.args.node c.frozen_head-found.new.out) (sym c.of-parts.ensures) (c.frozen_head-found.ensures.head found)
+
+pub returns-clause-kept : goal.returns-clause-kept
+returns-clause-kept g c = c.frozen_head-found.ensures.kept

@@ -71,3 +71,7 @@ returns-clause-goes g c =
 
 pub returns-clause-page : goal.returns-clause-page
 returns-clause-page g c found = subst (λ (k : Known). IsFrozenPage k.world.net c.args.node c.args.page c.frozen_page-found.new.out) (sym c.of-parts.ensures) (c.frozen_page-found.ensures.page found)
+
+pub returns-clause-kept : goal.returns-clause-kept
+returns-clause-kept g c =
+    subst (λ (k : Known). c.frozen_page-found.result ≡ (keeps_pages c.frozen_page-found.new.key.value.frozen c.args.node && has_page k.world.net c.args.node c.args.page)) (sym c.of-parts.ensures) c.frozen_page-found.ensures.kept
