@@ -1,17 +1,16 @@
 //! Where parts stop, and which of their stops is answered.
 
+use crate::member::Member;
 use crate::whole::replay_pair;
+use std::alloc::{AllocError, Global};
 use std::test::Fail;
+use std::thread::Threads;
 use tp_model::Received::{JustAck, JustData, Nothing};
 use tp_model::{Entry, Token};
+use tp_pieces::Played;
 
 /// Entries, where the parts of the two nodes and of the host stop, and what is answered.
-#[derive(Clone, Copy)]
-struct Row<'a> {
-    entries: &'a [Entry],
-    stops: [usize; 3],
-    first: Option<usize>,
-}
+type Row<'a> = (&'a [Entry], [usize; 3], Option<usize>);
 
 /// The byte that the first node's line has, and the one that the second one's has, each taken by the other node.
 const TO_SECOND: Entry = Entry::Take {
@@ -98,125 +97,67 @@ const RUN_THIRD: Entry = Entry::Run { node: 2, count: 1 };
 
 const INPUT: Entry = Entry::HostIn { port: 0, byte: 1 };
 
+/// Whether the parts stop at `stops`.
+fn are_stops(played: &[Played<Member>], stops: [usize; 3]) -> bool {
+    played.len() == stops.len()
+        && played
+            .iter()
+            .zip(&stops)
+            .all(|(part, stop)| part.stop == *stop)
+}
+
+/// The first of `rows` whose parts stop elsewhere, or of whose stops another is answered.
+fn first_other<R: Threads + Sync>(
+    rt: &R,
+    alloc: Global,
+    rows: &[Row],
+) -> Result<Option<usize>, AllocError> {
+    for (i, (entries, stops, first)) in rows.iter().enumerate() {
+        let (played, stop) = replay_pair(rt, alloc, *entries)?;
+        if stop != *first || !are_stops(&played, *stops) {
+            return Ok(Some(i));
+        }
+    }
+    Ok(None)
+}
+
 /// At first the byte 65 is on the first node's line, and 66 on the second one's.
 #[test]
 fn the_least_stop_is_answered(rt: HostRuntime) -> Result<(), Fail> {
-    let rows = [
-        Row {
-            entries: &[],
-            stops: [0, 0, 0],
-            first: None,
-        },
-        Row {
-            entries: &[TO_SECOND, TO_FIRST],
-            stops: [2, 2, 2],
-            first: None,
-        },
+    let rows: [Row; 12] = [
+        (&[], [0, 0, 0], None),
+        (&[TO_SECOND, TO_FIRST], [2, 2, 2], None),
         // Another byte than the one on the line: its sender sees that, and its receiver goes on.
-        Row {
-            entries: &[ANOTHER_BYTE],
-            stops: [0, 1, 1],
-            first: Some(0),
-        },
-        Row {
-            entries: &[TO_FIRST, ANOTHER_BYTE, RUN_SECOND],
-            stops: [1, 2, 3],
-            first: Some(1),
-        },
+        (&[ANOTHER_BYTE], [0, 1, 1], Some(0)),
+        (&[TO_FIRST, ANOTHER_BYTE, RUN_SECOND], [1, 2, 3], Some(1)),
         // The line is empty, and a byte is held.
-        Row {
-            entries: &[TO_SECOND, TO_SECOND],
-            stops: [1, 1, 2],
-            first: Some(1),
-        },
-        Row {
-            entries: &[TO_FIRST, RUN_SECOND, RUN_FIRST],
-            stops: [2, 1, 3],
-            first: Some(1),
-        },
-        Row {
-            entries: &[TO_FIRST, RUN_FIRST, RUN_SECOND],
-            stops: [1, 2, 3],
-            first: Some(1),
-        },
+        (&[TO_SECOND, TO_SECOND], [1, 1, 2], Some(1)),
+        (&[TO_FIRST, RUN_SECOND, RUN_FIRST], [2, 1, 3], Some(1)),
+        (&[TO_FIRST, RUN_FIRST, RUN_SECOND], [1, 2, 3], Some(1)),
         // No such node, line or port: that is the host's to see.
-        Row {
-            entries: &[TO_SECOND, RUN_THIRD],
-            stops: [2, 2, 1],
-            first: Some(1),
-        },
-        Row {
-            entries: &[NO_LINE],
-            stops: [1, 1, 0],
-            first: Some(0),
-        },
-        Row {
-            entries: &[INPUT, RUN_FIRST],
-            stops: [1, 2, 0],
-            first: Some(0),
-        },
+        (&[TO_SECOND, RUN_THIRD], [2, 2, 1], Some(1)),
+        (&[NO_LINE], [1, 1, 0], Some(0)),
+        (&[INPUT, RUN_FIRST], [1, 2, 0], Some(0)),
         // A line without a wire is its sender's and has nothing; an Ack is not on the line, and nobody waits for it.
-        Row {
-            entries: &[UNWIRED, RUN_FIRST],
-            stops: [1, 0, 0],
-            first: Some(0),
-        },
-        Row {
-            entries: &[AN_ACK],
-            stops: [0, 0, 1],
-            first: Some(0),
-        },
+        (&[UNWIRED, RUN_FIRST], [1, 0, 0], Some(0)),
+        (&[AN_ACK], [0, 0, 1], Some(0)),
     ];
-    for row in &rows {
-        let (played, stop) = replay_pair(&rt, rt.alloc(), row.entries)?;
-        assert_eq!(rt; played.len(), 3);
-        assert_eq!(rt; [played[0].stop, played[1].stop, played[2].stop], row.stops);
-        assert_eq!(rt; stop, row.first);
-    }
+    assert_eq!(rt; first_other(&rt, rt.alloc(), &rows)?, None);
     Ok(())
 }
 
 /// The sender of a token sees that it is another one, and the node that it can't take it or can't make a step.
 #[test]
 fn turns_stop_where_their_tokens_and_steps_do(rt: HostRuntime) -> Result<(), Fail> {
-    let rows = [
-        Row {
-            entries: &[TURN_SECOND, TURN_FIRST],
-            stops: [2, 2, 2],
-            first: None,
-        },
-        Row {
-            entries: &[TO_FIRST, ANOTHER_TURN],
-            stops: [1, 2, 2],
-            first: Some(1),
-        },
-        Row {
-            entries: &[ACK_TURN],
-            stops: [0, 0, 1],
-            first: Some(0),
-        },
-        Row {
-            entries: &[TURN_FIRST, LONG_TURN],
-            stops: [2, 1, 2],
-            first: Some(1),
-        },
-        Row {
-            entries: &[THIRD_TURN],
-            stops: [1, 1, 0],
-            first: Some(0),
-        },
-        Row {
-            entries: &[NO_TURN],
-            stops: [1, 0, 1],
-            first: Some(0),
-        },
+    let rows: [Row; 6] = [
+        (&[TURN_SECOND, TURN_FIRST], [2, 2, 2], None),
+        (&[TO_FIRST, ANOTHER_TURN], [1, 2, 2], Some(1)),
+        (&[ACK_TURN], [0, 0, 1], Some(0)),
+        (&[TURN_FIRST, LONG_TURN], [2, 1, 2], Some(1)),
+        (&[THIRD_TURN], [1, 1, 0], Some(0)),
+        (&[NO_TURN], [1, 0, 1], Some(0)),
     ];
-    for row in &rows {
-        let (played, stop) = replay_pair(&rt, rt.alloc(), row.entries)?;
-        assert_eq!(rt; played.len(), 3);
-        assert_eq!(rt; [played[0].stop, played[1].stop, played[2].stop], row.stops);
-        assert_eq!(rt; stop, row.first);
-    }
+    assert_eq!(rt; first_other(&rt, rt.alloc(), &rows)?, None);
     Ok(())
 }
 
