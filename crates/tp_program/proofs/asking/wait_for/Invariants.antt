@@ -5,7 +5,7 @@ use Rattle.tp_program.proofs.asking.wait_for.Given as goal
 
 -- The device was asked for in vain so far, once each time.
 abbrev pub invariant-loop-times : goal.invariant-loop-times
-invariant-loop-times g l = (l.times ≤ l.seconds) × (g.S.Devices.calls l.devices ≡ g.S.Devices.calls l.fn.devices ++ replicate l.times (Holds l.device.now 1 false))
+invariant-loop-times g l = (l.times ≤ l.seconds) × (g.S.Devices.calls l.devices ≡ g.S.Devices.calls l.fn.devices ++ replicate l.times (Holds l.device 1 false))
 
 abbrev pub decreases-loop-times : goal.decreases-loop-times
 decreases-loop-times g l = l.seconds - l.times
