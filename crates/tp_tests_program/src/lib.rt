@@ -2,8 +2,6 @@
 #![tactic(auto)]
 
 #[cfg(test)]
-mod asking_tests;
-#[cfg(test)]
 mod backup_tests;
 #[cfg(test)]
 mod changing;
