@@ -48,10 +48,10 @@ enum Stands {
     Folder,
 }
 
-/// A stop: its options, how often the device is asked for in vain, behind how many asks what stands at the path of requests is taken away, what
+/// A stop: its words, how often the device is asked for in vain, behind how many asks what stands at the path of requests is taken away, what
 /// stands there before, and then; the status, and what is said on standard output and standard error.
 struct Case {
-    options: &'static [&'static str],
+    words: &'static [&'static str],
     vain: u32,
     takes: u32,
     before: Stands,
@@ -61,12 +61,15 @@ struct Case {
     err: &'static str,
 }
 
+/// A stop that waits for nothing.
+const STOP: &[&str] = &["stop", "@device"];
+
 /// More asks than any of these makes.
 const FOR_GOOD: u32 = 100;
 
 const ASKED: &[Case] = &[
     Case {
-        options: &[],
+        words: STOP,
         vain: FOR_GOOD,
         takes: 0,
         before: Stands::Nothing,
@@ -77,7 +80,7 @@ const ASKED: &[Case] = &[
     },
     // it was asked before
     Case {
-        options: &[],
+        words: STOP,
         vain: FOR_GOOD,
         takes: 0,
         before: Stands::Empty,
@@ -88,7 +91,7 @@ const ASKED: &[Case] = &[
     },
     // it ended right behind the request
     Case {
-        options: &[],
+        words: STOP,
         vain: 1,
         takes: 0,
         before: Stands::Nothing,
@@ -98,7 +101,7 @@ const ASKED: &[Case] = &[
         err: "",
     },
     Case {
-        options: &[],
+        words: STOP,
         vain: FOR_GOOD,
         takes: 0,
         before: Stands::Text,
@@ -108,7 +111,7 @@ const ASKED: &[Case] = &[
         err: "tpnet: StopExists\n",
     },
     Case {
-        options: &["--explain"],
+        words: &["stop", "@device", "--explain"],
         vain: FOR_GOOD,
         takes: 0,
         before: Stands::Text,
@@ -118,7 +121,7 @@ const ASKED: &[Case] = &[
         err: "tpnet: StopExists\n  scratch/asked/device.stop: it is there, and no empty file, so it is no request, and stays\n  Move it, and give the same command again.\n",
     },
     Case {
-        options: &["--wait=3"],
+        words: &["stop", "@device", "--wait=3"],
         vain: FOR_GOOD,
         takes: 0,
         before: Stands::Folder,
@@ -131,7 +134,7 @@ const ASKED: &[Case] = &[
 
 const WAITED: &[Case] = &[
     Case {
-        options: &["--wait", "3"],
+        words: &["stop", "@device", "--wait", "3"],
         vain: 1,
         takes: 0,
         before: Stands::Nothing,
@@ -141,7 +144,7 @@ const WAITED: &[Case] = &[
         err: "",
     },
     Case {
-        options: &["--wait", "3"],
+        words: &["stop", "@device", "--wait", "3"],
         vain: 3,
         takes: 0,
         before: Stands::Empty,
@@ -152,7 +155,7 @@ const WAITED: &[Case] = &[
     },
     // one second more was needed
     Case {
-        options: &["--wait", "3"],
+        words: &["stop", "@device", "--wait", "3"],
         vain: 4,
         takes: 0,
         before: Stands::Nothing,
@@ -163,7 +166,7 @@ const WAITED: &[Case] = &[
     },
     // who has the device now took the first request for one from before, so there is another one
     Case {
-        options: &["--wait", "3"],
+        words: &["stop", "@device", "--wait", "3"],
         vain: FOR_GOOD,
         takes: 2,
         before: Stands::Nothing,
@@ -173,7 +176,7 @@ const WAITED: &[Case] = &[
         err: "tpnet: StillRunning\n",
     },
     Case {
-        options: &["--explain", "--wait=1"],
+        words: &["stop", "@device", "--explain", "--wait=1"],
         vain: FOR_GOOD,
         takes: 0,
         before: Stands::Nothing,
@@ -183,7 +186,7 @@ const WAITED: &[Case] = &[
         err: "tpnet: StillRunning\n  It is asked to stop, by scratch/waited/device.stop, and another tpnet has scratch/waited/device still. A stream ends behind its next flush, and takes the file away;\n  run without --stream, compact and format never look for it.\n  Give the same command again, or end that process: a kill loses nothing that was shown.\n",
     },
     Case {
-        options: &["--wait", "1"],
+        words: &["stop", "@device", "--wait", "1"],
         vain: 0,
         takes: 0,
         before: Stands::Empty,
@@ -222,12 +225,12 @@ fn found<R: Files>(rt: &R, path: &str) -> Stands {
     }
 }
 
-/// What the program does for `stop` of the device with these options, while another process has it.
+/// What the program does for the words of a stop, while another process has the device.
 fn stopped<
     R: Files<File = F> + AllocGlobal + Threads + Wait + Sync,
     F: FileExt + OpenFile + Drop + Send,
     L: Locks<Lock = NoLock> + Drop,
->(rt: &R, scratch: &Scratch, options: &[&str], other: L) -> Result<Output, Fail> {
+>(rt: &R, scratch: &Scratch, words: &["stop", "@device", &str], other: L) -> Result<Output, Fail> {
     let mut words = Vec::from_slice(rt.alloc(), &["stop", "@device"])?;
     words.extend_from_slice(options)?;
     let line = scratch.line(rt.alloc(), words.as_slice())?;
@@ -249,7 +252,7 @@ fn goes_so<
         takes: case.takes,
         path: path.as_str(),
     };
-    let said = stopped(rt, scratch, case.options, other)?;
+    let said = stopped(rt, scratch, case.words, other)?;
     let is_kept = scratch.read(rt, "device")?.as_slice() == device;
     let is_left = found(rt, path.as_str()) == case.then;
     Ok(said.is(case.status, case.out, case.err) && is_kept && is_left)
@@ -297,7 +300,7 @@ fn each_call_of_a_stop_may_fail(rt: HostRuntime) -> Result<(), Fail> {
     for (number, status, out, err) in FAILS {
         let faults = Faults::everywhere(*number, true);
         let files = FaultyFiles::new(&rt, &faults);
-        let said = stopped(&files, &scratch, &[], for_good(&rt, path.as_str()))?;
+        let said = stopped(&files, &scratch, STOP, for_good(&rt, path.as_str()))?;
         assert!(rt; said.is(*status, *out, *err));
         assert!(rt; (*status == 0) == (found(&rt, path.as_str()) == Stands::Empty));
     }
@@ -313,10 +316,10 @@ fn an_output_of_a_stop_that_fails(rt: HostRuntime) -> Result<(), Fail> {
     let mut streams = Vec::new(rt.alloc());
     streams.push(("/dev/stdout", scratch.path(rt.alloc(), "device")?))?;
     let files = Standing::new(&rt, streams.as_slice());
-    let said = stopped(&files, &scratch, &[], for_good(&rt, path.as_str()))?;
+    let said = stopped(&files, &scratch, STOP, for_good(&rt, path.as_str()))?;
     assert!(rt; said.status == 2 && said.out.is_empty() && !said.err.is_empty());
     assert!(rt; found(&rt, path.as_str()) == Stands::Nothing);
-    let line = scratch.line(rt.alloc(), &["stop", "@device"])?;
+    let line = scratch.line(rt.alloc(), STOP)?;
     let mut err = Vec::new(rt.alloc());
     let locks = for_good(&rt, path.as_str());
     let status = answer_locking(
