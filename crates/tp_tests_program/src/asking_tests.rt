@@ -230,7 +230,7 @@ fn stopped<
     R: Files<File = F> + AllocGlobal + Threads + Wait + Sync,
     F: FileExt + OpenFile + Drop + Send,
     L: Locks<Lock = NoLock> + Drop,
->(rt: &R, scratch: &Scratch, words: &["stop", "@device", &str], other: L) -> Result<Output, Fail> {
+>(rt: &R, scratch: &Scratch, words: &[&str], other: L) -> Result<Output, Fail> {
     let mut words = Vec::from_slice(rt.alloc(), &["stop", "@device"])?;
     words.extend_from_slice(options)?;
     let line = scratch.line(rt.alloc(), words.as_slice())?;
