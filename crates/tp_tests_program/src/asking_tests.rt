@@ -231,9 +231,7 @@ fn stopped<
     F: FileExt + OpenFile + Drop + Send,
     L: Locks<Lock = NoLock> + Drop,
 >(rt: &R, scratch: &Scratch, words: &[&str], other: L) -> Result<Output, Fail> {
-    let mut words = Vec::from_slice(rt.alloc(), &["stop", "@device"])?;
-    words.extend_from_slice(options)?;
-    let line = scratch.line(rt.alloc(), words.as_slice())?;
+    let line = scratch.line(rt.alloc(), words)?;
     let (mut out, mut err) = (Vec::new(rt.alloc()), Vec::new(rt.alloc()));
     let status = answer_locking(rt, other, &mut OneLook, line.as_slice(), &mut out, &mut err);
     Ok(Output { status, out, err })
