@@ -20,7 +20,7 @@ pub record LookedAgain (path : List ℕ) (old new : List DeviceCall) : Type 0 wh
   pub got : Bool
   pub calls : new ≡ old ++ Holds path 0 got ∷ []
 
--- It was asked for a second each time, in vain and then got, within so many seconds.
+-- It was asked for again and again, a second each time, in vain and then got, before `seconds` had passed.
 pub record GotWithin (path : List ℕ) (seconds : ℕ) (old new : List DeviceCall) : Type 0 where
   pub times : ℕ
   pub within : times < seconds
@@ -35,7 +35,7 @@ CameThen (Some seconds) path old new = GotWithin path seconds old new
 abbrev pub HasAsked : Option ℕ → (path : List ℕ) → (old new : List DeviceCall) → Type 0
 HasAsked wait path old new = CameThen wait path (old ++ Holds path 0 false ∷ []) new
 
--- It was waited for so many seconds, in each of which another process had the device.
+-- It was waited for as many seconds as were typed, in each of which another process had the device.
 abbrev pub WaitedInVain : Option ℕ → (path : List ℕ) → (old new : List DeviceCall) → Type 0
 WaitedInVain None path old new = ⊥
 WaitedInVain (Some seconds) path old new = new ≡ old ++ replicate seconds (Holds path 1 false)
