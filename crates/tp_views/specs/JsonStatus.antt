@@ -78,9 +78,11 @@ port_items number at before (port ∷ ports) =
     port_item (millis_since at before) (port_before before number) port ∷ port_items (number + 1) at before ports
 
 -- a node that has halted, why, and the instruction at which it did
+abbrev pub halted_item : ℕ → List ℕ → ℕ → List ℕ
+halted_item number why at = codes "{\"node\":" ++ (decimal number ++ (codes ",\"fault\":\"" ++ (why ++ (codes "\",\"address\":" ++ (decimal at ++ codes "}")))))
+
 abbrev pub halted_items : ℕ → Standing → List (List ℕ)
-halted_items number (Halted fault at) =
-    (codes "{\"node\":" ++ (decimal number ++ (codes ",\"fault\":\"" ++ (fault_name fault ++ (codes "\",\"address\":" ++ (decimal at ++ codes "}")))))) ∷ []
+halted_items number (Halted fault at) = halted_item number (fault_name fault) at ∷ []
 halted_items number Waits = []
 halted_items number Free = []
 

@@ -4,6 +4,7 @@ pub mod Names
 pub mod Shown
 pub mod JsonShow
 pub mod Opens
+pub mod Parts
 pub mod Status
 pub mod JsonStatus
 pub mod NodeText

@@ -63,10 +63,14 @@ abbrev pub output_line : ℕ → OutEnd → List ℕ
 output_line link OutIdle = idle_line (codes "out") link
 output_line link (Waits t) = working_line (codes "out") link (codes "waits") t
 
+-- an input end that holds a byte
+abbrev pub held_line : ℕ → ℕ → List ℕ
+held_line link byte = codes "in " ++ (decimal link ++ (codes " idle held " ++ (hex_byte byte ++ 10 ∷ [])))
+
 -- an input end may hold a byte; of an alternative there is its process alone
 abbrev pub input_end_line : ℕ → InEnd → List ℕ
 input_end_line link (InIdle None) = idle_line (codes "in") link
-input_end_line link (InIdle (Some byte)) = codes "in " ++ (decimal link ++ (codes " idle held " ++ (hex_byte byte ++ 10 ∷ [])))
+input_end_line link (InIdle (Some byte)) = held_line link byte
 input_end_line link (Inputs t) = working_line (codes "in") link (codes "inputs") t
 input_end_line link (Enabled process) = working_line (codes "in") link (codes "enabled") (record { process = process; pointer = 0; left = 0 })
 

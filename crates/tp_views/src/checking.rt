@@ -11,9 +11,10 @@ ghost use Rattle.tp_views.specs.JsonChecked.{topology_said};
 use crate::commands::{put, refuse};
 use crate::formats::{form_name, version_number};
 use crate::json_checked::checked_json;
+use crate::parts::Part::{Number, Text};
+use crate::parts::push_parts;
 use crate::refusal::Refusal;
 use std::alloc::{AllocError, Global};
-use std::fmt::Write as Push;
 use std::io::Write;
 use tp_area::{FormatFault, area_for, format, version_for};
 use tp_disk::MemDisk;
@@ -40,10 +41,19 @@ pub(crate) const JOURNALS: [u32; 3] = [4_096, 65_536, 1_048_576];
 fn push_shape(text: &mut String, nodes: usize, ports: usize, version: u8) -> Result<(), AllocError>
     ensures { OnOk result (string_bytes text.new ≡ string_bytes text.old ++ shape_line nodes ports version) }
 {
-    let form = form_name(Form::Turns);
-    write!(
+    push_parts(
         text,
-        "nodes {nodes} ports {ports} version {version} form {form}\n"
+        &[
+            Text("nodes "),
+            Number(nodes as u64),
+            Text(" ports "),
+            Number(ports as u64),
+            Text(" version "),
+            Number(version as u64),
+            Text(" form "),
+            Text(form_name(Form::Turns)),
+            Text("\n"),
+        ],
     )
 }
 
@@ -53,7 +63,7 @@ fn push_least(text: &mut String, topology: &Topology) -> Result<(), AllocError>
     ensures { OnOk result (string_bytes text.new ≡ string_bytes text.old ++ least_line (area_for topology.now 1)) }
 {
     let least = area_for(topology, 1);
-    write!(text, "least area {least}\n")
+    push_parts(text, &[Text("least area "), Number(least), Text("\n")])
 }
 
 /// Appends how large an area has to be whose journal has room for `entries`.
@@ -62,7 +72,16 @@ fn push_area(text: &mut String, topology: &Topology, entries: u32) -> Result<(),
     ensures { OnOk result (string_bytes text.new ≡ string_bytes text.old ++ area_line entries (area_for topology.now entries)) }
 {
     let area = area_for(topology, u64::from(entries));
-    write!(text, "entries {entries} area {area}\n")
+    push_parts(
+        text,
+        &[
+            Text("entries "),
+            Number(entries as u64),
+            Text(" area "),
+            Number(area),
+            Text("\n"),
+        ],
+    )
 }
 
 /// Appends a line for each of several journals.

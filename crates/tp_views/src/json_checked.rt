@@ -9,6 +9,8 @@ ghost use Rattle.tp_views.specs.JsonChecked.{area_item, area_items, checked_json
 use crate::checking::JOURNALS;
 use crate::formats::{form_name, version_number};
 use crate::json::comma;
+use crate::parts::Part::{Number, Text};
+use crate::parts::push_parts;
 use std::alloc::{AllocError, Global};
 use std::fmt::Write;
 use tp_area::{area_for, version_for};
@@ -19,10 +21,19 @@ use tp_net::Topology;
 fn push_shape(text: &mut String, nodes: usize, ports: usize, version: u8) -> Result<(), AllocError>
     ensures { OnOk result (string_bytes text.new ≡ string_bytes text.old ++ shape_json nodes ports version) }
 {
-    let form = form_name(Form::Turns);
-    write!(
+    push_parts(
         text,
-        "{{\"nodes\":{nodes},\"ports\":{ports},\"version\":{version},\"form\":\"{form}\""
+        &[
+            Text("{\"nodes\":"),
+            Number(nodes as u64),
+            Text(",\"ports\":"),
+            Number(ports as u64),
+            Text(",\"version\":"),
+            Number(version as u64),
+            Text(",\"form\":\""),
+            Text(form_name(Form::Turns)),
+            Text("\""),
+        ],
     )
 }
 
@@ -32,15 +43,31 @@ fn push_least(text: &mut String, topology: &Topology) -> Result<(), AllocError>
     ensures { OnOk result (string_bytes text.new ≡ string_bytes text.old ++ least_json (area_for topology.now 1)) }
 {
     let least = area_for(topology, 1);
-    write!(text, ",\"least_area\":{least},\"areas\":[")
+    push_parts(
+        text,
+        &[
+            Text(",\"least_area\":"),
+            Number(least),
+            Text(",\"areas\":["),
+        ],
+    )
 }
 
 /// Appends an item of an area, behind `before` others.
 fn push_item(text: &mut String, before: usize, entries: u32, area: u64) -> Result<(), AllocError>
     ensures { OnOk result (string_bytes text.new ≡ string_bytes text.old ++ (comma before ++ area_item entries area)) }
 {
-    let comma = comma(before);
-    write!(text, "{comma}{{\"entries\":{entries},\"area\":{area}}}")
+    push_parts(
+        text,
+        &[
+            Text(comma(before)),
+            Text("{\"entries\":"),
+            Number(entries as u64),
+            Text(",\"area\":"),
+            Number(area),
+            Text("}"),
+        ],
+    )
 }
 
 /// Appends how large an area has to be whose journal has room for `entries`, behind `before` others.

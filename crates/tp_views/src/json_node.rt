@@ -1,6 +1,7 @@
 //! What is printed of a node for scripts: its registers, queues and link ends, as numbers.
 
-ghost use Rattle.std.specs.Prelude.{◌≡◌, ◌++◌, IfOk, OnOk, string_bytes, map};
+ghost use Rattle.std.specs.Fmt.{decimal};
+ghost use Rattle.std.specs.Prelude.{◌≡◌, ◌++◌, IfOk, OnOk, codes, string_bytes, map};
 ghost use Rattle.tp_model.specs.Image.{node_at};
 ghost use Rattle.tp_views.specs.Json.{comma, json_items, json_list};
 ghost use Rattle.tp_views.specs.JsonNode.{cpu_fields, idle_item, input_item, node_fields, node_json, number_fields, output_item, pointer_fields, queue_field, stack_fields, state_fields, working_item};
@@ -8,11 +9,19 @@ ghost use Rattle.tp_views.specs.JsonNode.{cpu_fields, idle_item, input_item, nod
 use crate::formats::halt_name;
 use crate::image_fields::{inputs_in, outputs_in, pages_in};
 use crate::json::{comma, json_bool, push};
+use crate::parts::Part::{Number, Text};
+use crate::parts::push_parts;
 use std::alloc::{AllocError, Global};
 use std::fmt::Write;
 use tp_model::{Cpu, Fault, InEnd, OutEnd, Queue, Regs, State, Transfer};
 use tp_node::halt_byte;
 use tp_trace::{cpu_in, state_name};
+
+/// What stands before the byte that an idle input end holds.
+const HELD: &str = "{\"state\":\"idle\",\"held\":";
+
+/// What stands before the process that waits at an input end in an alternative.
+const ENABLED: &str = "{\"state\":\"enabled\",\"process\":";
 
 fn push_number(
     text: &mut String,
@@ -23,9 +32,19 @@ fn push_number(
     ensures { OnOk result (string_bytes text.new ≡ string_bytes text.old ++ number_fields number pages halt) }
 {
     let (code, name) = (halt_byte(halt), halt_name(halt));
-    write!(
+    push_parts(
         text,
-        "{{\"node\":{number},\"pages\":{pages},\"halt\":{code},\"halt_name\":\"{name}\""
+        &[
+            Text("{\"node\":"),
+            Number(number),
+            Text(",\"pages\":"),
+            Number(pages as u64),
+            Text(",\"halt\":"),
+            Number(code as u64),
+            Text(",\"halt_name\":\""),
+            Text(name),
+            Text("\""),
+        ],
     )
 }
 
@@ -45,17 +64,34 @@ fn push_stack(text: &mut String, regs: Regs) -> Result<(), AllocError>
 fn push_queue(text: &mut String, name: &str, queue: Queue) -> Result<(), AllocError>
     ensures { OnOk result (string_bytes text.new ≡ string_bytes text.old ++ queue_field name.now queue) }
 {
-    let Queue { front, back } = queue;
-    write!(text, ",\"{name}\":{{\"front\":{front},\"back\":{back}}}")
+    push_parts(
+        text,
+        &[
+            Text(",\""),
+            Text(name),
+            Text("\":{\"front\":"),
+            Number(queue.front as u64),
+            Text(",\"back\":"),
+            Number(queue.back as u64),
+            Text("}"),
+        ],
+    )
 }
 
 fn push_state(text: &mut String, error: bool, state: State, slice: u16) -> Result<(), AllocError>
     ensures { OnOk result (string_bytes text.new ≡ string_bytes text.old ++ state_fields error state slice) }
 {
     let (error, name) = (json_bool(error), state_name(state));
-    write!(
+    push_parts(
         text,
-        ",\"error\":{error},\"state\":\"{name}\",\"slice\":{slice}"
+        &[
+            Text(",\"error\":"),
+            Text(error),
+            Text(",\"state\":\""),
+            Text(name),
+            Text("\",\"slice\":"),
+            Number(slice as u64),
+        ],
     )
 }
 
@@ -70,66 +106,74 @@ fn push_cpu(text: &mut String, cpu: &Cpu) -> Result<(), AllocError>
     push_state(text, cpu.regs.error, cpu.state, cpu.slice)
 }
 
-/// Appends the item of an end at which nothing is under way.
-fn push_idle(text: &mut String) -> Result<(), AllocError>
-    ensures { OnOk result (string_bytes text.new ≡ string_bytes text.old ++ idle_item) }
+/// Appends the item of an end at which nothing is under way, behind `before` ends.
+fn push_idle(text: &mut String, before: usize) -> Result<(), AllocError>
+    ensures { OnOk result (string_bytes text.new ≡ string_bytes text.old ++ (comma before ++ idle_item)) }
 {
-    write!(text, "{{\"state\":\"idle\"}}")
+    push_parts(text, &[Text(comma(before)), Text("{\"state\":\"idle\"}")])
 }
 
-/// Appends the item of an end at which a process waits.
-fn push_working(text: &mut String, what: &str, transfer: Transfer) -> Result<(), AllocError>
-    ensures { OnOk result (string_bytes text.new ≡ string_bytes text.old ++ working_item what.now transfer) }
+/// Appends the item of an end at which a process waits, behind `before` ends.
+fn push_working(
+    text: &mut String,
+    before: usize,
+    what: &str,
+    transfer: Transfer,
+) -> Result<(), AllocError>
+    ensures { OnOk result (string_bytes text.new ≡ string_bytes text.old ++ (comma before ++ working_item what.now transfer)) }
 {
-    let Transfer {
-        process,
-        pointer,
-        left,
-    } = transfer;
-    write!(
+    push_parts(
         text,
-        "{{\"state\":\"{what}\",\"process\":{process},\"pointer\":{pointer},\"left\":{left}}}"
+        &[
+            Text(comma(before)),
+            Text("{\"state\":\""),
+            Text(what),
+            Text("\",\"process\":"),
+            Number(transfer.process as u64),
+            Text(",\"pointer\":"),
+            Number(transfer.pointer as u64),
+            Text(",\"left\":"),
+            Number(transfer.left as u64),
+            Text("}"),
+        ],
     )
 }
 
-/// Appends the item of an output end.
-fn push_output_item(text: &mut String, end: OutEnd) -> Result<(), AllocError>
-    ensures { OnOk result (string_bytes text.new ≡ string_bytes text.old ++ output_item end) }
+/// Appends the item of an input end with one number, behind `before` ends.
+fn push_numbered(
+    text: &mut String,
+    before: usize,
+    front: &str,
+    number: u64,
+) -> Result<(), AllocError>
+    ensures { OnOk result (string_bytes text.new ≡ string_bytes text.old ++ (comma before ++ (front.now ++ (decimal number ++ codes "}")))) }
 {
-    match end {
-        OutEnd::Idle => push_idle(text),
-        OutEnd::Waits(transfer) => push_working(text, "waits", transfer),
-    }
-}
-
-/// Appends the item of an input end.
-fn push_input_item(text: &mut String, end: InEnd) -> Result<(), AllocError>
-    ensures { OnOk result (string_bytes text.new ≡ string_bytes text.old ++ input_item end) }
-{
-    match end {
-        InEnd::Idle(None) => push_idle(text),
-        InEnd::Idle(Some(byte)) => write!(text, "{{\"state\":\"idle\",\"held\":{byte}}}"),
-        InEnd::Inputs(transfer) => push_working(text, "inputs", transfer),
-        InEnd::Enabled(process) => {
-            write!(text, "{{\"state\":\"enabled\",\"process\":{process}}}")
-        }
-    }
+    push_parts(
+        text,
+        &[Text(comma(before)), Text(front), Number(number), Text("}")],
+    )
 }
 
 /// Appends the item of an output end that has `before` ends before it.
 fn push_output(text: &mut String, before: usize, end: OutEnd) -> Result<(), AllocError>
     ensures { OnOk result (string_bytes text.new ≡ string_bytes text.old ++ (comma before ++ output_item end)) }
 {
-    push(text, comma(before))?;
-    push_output_item(text, end)
+    match end {
+        OutEnd::Idle => push_idle(text, before),
+        OutEnd::Waits(transfer) => push_working(text, before, "waits", transfer),
+    }
 }
 
 /// Appends the item of an input end that has `before` ends before it.
 fn push_input(text: &mut String, before: usize, end: InEnd) -> Result<(), AllocError>
     ensures { OnOk result (string_bytes text.new ≡ string_bytes text.old ++ (comma before ++ input_item end)) }
 {
-    push(text, comma(before))?;
-    push_input_item(text, end)
+    match end {
+        InEnd::Idle(None) => push_idle(text, before),
+        InEnd::Idle(Some(byte)) => push_numbered(text, before, HELD, byte as u64),
+        InEnd::Inputs(transfer) => push_working(text, before, "inputs", transfer),
+        InEnd::Enabled(process) => push_numbered(text, before, ENABLED, process as u64),
+    }
 }
 
 fn push_outputs(text: &mut String, ends: &[OutEnd]) -> Result<(), AllocError>

@@ -7,6 +7,8 @@ ghost use Rattle.tp_views.specs.Json.{comma, json_items, json_list};
 ghost use Rattle.tp_views.specs.JsonPort.{outputs_json, pending_json, port_json};
 
 use crate::json::{comma, push};
+use crate::parts::Part::{Number, Text};
+use crate::parts::push_parts;
 use std::alloc::{AllocError, Global};
 use std::fmt::Write;
 use tp_book::HostPort;
@@ -16,8 +18,7 @@ use tp_replay::FlatNetwork;
 fn push_byte(text: &mut String, before: usize, byte: u8) -> Result<(), AllocError>
     ensures { OnOk result (string_bytes text.new ≡ string_bytes text.old ++ (comma before ++ decimal byte)) }
 {
-    let comma = comma(before);
-    write!(text, "{comma}{byte}")
+    push_parts(text, &[Text(comma(before)), Number(byte as u64)])
 }
 
 fn push_bytes(text: &mut String, bytes: &[u8]) -> Result<(), AllocError>

@@ -1,13 +1,14 @@
 //! What is printed of a device for scripts.
 
 ghost use Rattle.std.specs.Prelude.{◌≡◌, ◌++◌, IfOk, OnOk, string_bytes, map};
-ghost use Rattle.tp_views.specs.Json.{comma, json_items, json_list};
-ghost use Rattle.tp_views.specs.JsonShow.{area_fields, entry_fields, front_fields, input_fields, node_item, output_fields, port_item, show_json};
+ghost use Rattle.tp_views.specs.Json.{comma, json_items};
+ghost use Rattle.tp_views.specs.JsonShow.{front_fields, input_fields, node_item, output_fields, port_item, show_json};
 
 use crate::json::{comma, push};
+use crate::parts::Part::{Number, Text};
+use crate::parts::push_parts;
 use crate::shown::{Front, area_number};
 use std::alloc::{AllocError, Global};
-use std::fmt::Write;
 use tp_book::HostPort;
 use tp_node::{Node, halt_byte};
 use tp_replay::FlatNetwork;
@@ -17,19 +18,15 @@ fn push_node(text: &mut String, before: usize, node: &Node) -> Result<(), AllocE
     ensures { OnOk result (string_bytes text.new ≡ string_bytes text.old ++ (comma before ++ node_item node.now.live)) }
 {
     let (comma, halt) = (comma(before), halt_byte(node.halt()));
-    write!(text, "{comma}{{\"halt\":{halt}}}")
-}
-
-fn push_inputs(text: &mut String, taken: u64, pending: usize) -> Result<(), AllocError>
-    ensures { OnOk result (string_bytes text.new ≡ string_bytes text.old ++ input_fields taken pending) }
-{
-    write!(text, "{{\"in\":{taken},\"pending\":{pending}")
-}
-
-fn push_outputs(text: &mut String, confirmed: u64, unconfirmed: usize) -> Result<(), AllocError>
-    ensures { OnOk result (string_bytes text.new ≡ string_bytes text.old ++ output_fields confirmed unconfirmed) }
-{
-    write!(text, ",\"out\":{confirmed},\"unconfirmed\":{unconfirmed}}}")
+    push_parts(
+        text,
+        &[
+            Text(comma),
+            Text("{\"halt\":"),
+            Number(halt as u64),
+            Text("}"),
+        ],
+    )
 }
 
 /// Appends what is counted at a port.
@@ -42,8 +39,20 @@ fn push_counts(
 ) -> Result<(), AllocError>
     ensures { OnOk result (string_bytes text.new ≡ string_bytes text.old ++ (input_fields taken pending ++ output_fields confirmed unconfirmed)) }
 {
-    push_inputs(text, taken, pending)?;
-    push_outputs(text, confirmed, unconfirmed)
+    push_parts(
+        text,
+        &[
+            Text("{\"in\":"),
+            Number(taken),
+            Text(",\"pending\":"),
+            Number(pending as u64),
+            Text(",\"out\":"),
+            Number(confirmed),
+            Text(",\"unconfirmed\":"),
+            Number(unconfirmed as u64),
+            Text("}"),
+        ],
+    )
 }
 
 fn push_port_item(text: &mut String, port: &HostPort) -> Result<(), AllocError>
@@ -79,50 +88,40 @@ fn push_ports(text: &mut String, ports: &[HostPort]) -> Result<(), AllocError>
     Ok(())
 }
 
-fn push_node_list(text: &mut String, nodes: &[Node]) -> Result<(), AllocError>
-    ensures { OnOk result (string_bytes text.new ≡ string_bytes text.old ++ json_list (map node_item (map (λ node. node.live) nodes.now))) }
-{
-    push(text, "[")?;
-    push_nodes(text, nodes)?;
-    push(text, "]")
-}
-
-fn push_port_list(text: &mut String, ports: &[HostPort]) -> Result<(), AllocError>
-    ensures { OnOk result (string_bytes text.new ≡ string_bytes text.old ++ json_list (map port_item (map (λ port. port.port) ports.now))) }
-{
-    push(text, "[")?;
-    push_ports(text, ports)?;
-    push(text, "]")
-}
-
-fn push_area(text: &mut String, area: u64, open_area: u8, generation: u64) -> Result<(), AllocError>
-    ensures { OnOk result (string_bytes text.new ≡ string_bytes text.old ++ area_fields area open_area generation) }
-{
-    write!(
-        text,
-        ",\"area\":{area},\"open\":{open_area},\"generation\":{generation}"
-    )
-}
-
-fn push_entries(text: &mut String, base: u64, entries: usize, next: u64) -> Result<(), AllocError>
-    ensures { OnOk result (string_bytes text.new ≡ string_bytes text.old ++ entry_fields base entries next) }
-{
-    write!(
-        text,
-        ",\"base\":{base},\"entries\":{entries},\"next\":{next}}}\n"
-    )
-}
-
 fn push_front(text: &mut String, front: Front) -> Result<(), AllocError>
     ensures { OnOk result (string_bytes text.new ≡ string_bytes text.old ++ front_fields front) }
 {
-    push_area(
+    let open = area_number(front.second);
+    push_parts(
         text,
-        front.area,
-        area_number(front.second),
-        front.generation,
-    )?;
-    push_entries(text, front.base, front.entries, front.next)
+        &[
+            Text(",\"area\":"),
+            Number(front.area),
+            Text(",\"open\":"),
+            Number(open as u64),
+            Text(",\"generation\":"),
+            Number(front.generation),
+            Text(",\"base\":"),
+            Number(front.base),
+            Text(",\"entries\":"),
+            Number(front.entries as u64),
+            Text(",\"next\":"),
+            Number(front.next),
+            Text("}\n"),
+        ],
+    )
+}
+
+/// Appends all that is shown of a device.
+fn push_show(text: &mut String, front: Front, now: &FlatNetwork) -> Result<(), AllocError>
+    ensures { OnOk result (string_bytes text.new ≡ string_bytes text.old ++ show_json front now.now) }
+{
+    push(text, "{\"nodes\":[")?;
+    push_nodes(text, now.nodes())?;
+    push(text, "],\"ports\":[")?;
+    push_ports(text, now.ports())?;
+    push(text, "]")?;
+    push_front(text, front)
 }
 
 /// All that is shown of a device, as JSON.
@@ -130,10 +129,6 @@ pub fn show_json(alloc: Global, front: Front, now: &FlatNetwork) -> Result<Strin
     ensures { IfOk result (λ text. string_bytes text ≡ show_json front now.now) }
 {
     let mut text = String::new(alloc);
-    push(&mut text, "{\"nodes\":")?;
-    push_node_list(&mut text, now.nodes())?;
-    push(&mut text, ",\"ports\":")?;
-    push_port_list(&mut text, now.ports())?;
-    push_front(&mut text, front)?;
+    push_show(&mut text, front, now)?;
     Ok(text)
 }

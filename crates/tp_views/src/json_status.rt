@@ -3,11 +3,13 @@
 ghost use Rattle.std.specs.Prelude.{◌≡◌, ◌≤◌, ◌<◌, ◌+◌, ◌^◌, ◌++◌, List, ℕ, IfOk, OnOk, map, string_bytes};
 ghost use Rattle.tp_node.specs.Standing.{standing};
 ghost use Rattle.tp_views.specs.Json.{comma, json_items};
-ghost use Rattle.tp_views.specs.JsonStatus.{accepted_front, accepted_json, all_halted_items, front_json, generation_part, halted_items, halts_json, journal_json, look_text, next_part, out_front, out_json, pending_part, percent_part, port_item, port_items, rate, room_part, running_part, status_json, unconfirmed_part};
+ghost use Rattle.tp_views.specs.JsonStatus.{accepted_front, accepted_json, all_halted_items, front_json, generation_part, halted_item, halted_items, halts_json, journal_json, look_text, next_part, out_front, out_json, pending_part, percent_part, port_item, port_items, rate, room_part, running_part, status_json, unconfirmed_part};
 ghost use Rattle.tp_views.specs.Status.{percent};
 
 use crate::formats::form_name;
 use crate::json::{comma, push};
+use crate::parts::Part::{Large, Number, Text};
+use crate::parts::push_parts;
 use crate::status::{
     PortSeen, Seen, Since, accepted, accepted_before, millis_since, next_before, out_before,
     percent, port_before, put_out, room_of, status_text,
@@ -28,9 +30,9 @@ fn push_rate(text: &mut String, now: u128, since: Option<Since>) -> Result<(), A
     match since {
         Some(Since { count, millis }) if millis != 0 => {
             let rate = now.saturating_sub(count) * 1000 / millis as u128;
-            write!(text, "{rate}")
+            push_parts(text, &[Large(rate)])
         }
-        _ => write!(text, "null"),
+        _ => push(text, "null"),
     }
 }
 
@@ -109,7 +111,14 @@ fn push_journal(text: &mut String, entries: usize, room: u64) -> Result<(), Allo
 fn push_accepted_front(text: &mut String, now: u128) -> Result<(), AllocError>
     ensures { OnOk result (string_bytes text.new ≡ string_bytes text.old ++ accepted_front now) }
 {
-    write!(text, "{{\"accepted\":{now},\"accepted_per_second\":")
+    push_parts(
+        text,
+        &[
+            Text("{\"accepted\":"),
+            Large(now),
+            Text(",\"accepted_per_second\":"),
+        ],
+    )
 }
 
 fn push_pending(text: &mut String, pending: usize) -> Result<(), AllocError>
@@ -136,13 +145,23 @@ fn push_accepted(
 fn push_out_front(text: &mut String, now: u128) -> Result<(), AllocError>
     ensures { OnOk result (string_bytes text.new ≡ string_bytes text.old ++ out_front now) }
 {
-    write!(text, ",\"out\":{now},\"out_per_second\":")
+    push_parts(
+        text,
+        &[Text(",\"out\":"), Large(now), Text(",\"out_per_second\":")],
+    )
 }
 
 fn push_unconfirmed(text: &mut String, unconfirmed: usize) -> Result<(), AllocError>
     ensures { OnOk result (string_bytes text.new ≡ string_bytes text.old ++ unconfirmed_part unconfirmed) }
 {
-    write!(text, ",\"unconfirmed\":{unconfirmed}}}")
+    push_parts(
+        text,
+        &[
+            Text(",\"unconfirmed\":"),
+            Number(unconfirmed as u64),
+            Text("}"),
+        ],
+    )
 }
 
 /// Appends what a port has put out, and how much of that isn't confirmed.
@@ -175,12 +194,6 @@ fn push_port(
     push_out(text, unconfirmed, put_out(port), then_out)
 }
 
-fn push_comma(text: &mut String, before: usize) -> Result<(), AllocError>
-    ensures { OnOk result (string_bytes text.new ≡ string_bytes text.old ++ comma before) }
-{
-    push(text, comma(before))
-}
-
 /// Appends a port that has `number` ports before it.
 fn push_port_item(
     text: &mut String,
@@ -191,7 +204,7 @@ fn push_port_item(
 ) -> Result<(), AllocError>
     ensures { OnOk result (string_bytes text.new ≡ string_bytes text.old ++ (comma number ++ port_item millis before port.now.port)) }
 {
-    push_comma(text, number)?;
+    push(text, comma(number))?;
     push_port(text, millis, before, port)
 }
 
@@ -215,6 +228,31 @@ fn push_ports(
     Ok(())
 }
 
+/// Appends the item of a node that has halted, behind a comma where one is due.
+fn push_item<'a>(
+    text: &mut String,
+    comma: &'a str,
+    number: usize,
+    why: &'a str,
+    at: u32,
+) -> Result<(), AllocError>
+    ensures { OnOk result (string_bytes text.new ≡ string_bytes text.old ++ (comma.now ++ halted_item number why.now at)) }
+{
+    push_parts(
+        text,
+        &[
+            Text(comma),
+            Text("{\"node\":"),
+            Number(number as u64),
+            Text(",\"fault\":\""),
+            Text(why),
+            Text("\",\"address\":"),
+            Number(at as u64),
+            Text("}"),
+        ],
+    )
+}
+
 /// Appends why and where a node has halted, if it has, behind `before` others. Answers how many there are then.
 fn push_halted(
     text: &mut String,
@@ -229,10 +267,7 @@ fn push_halted(
     match standing {
         Standing::Halted { fault, at } => {
             let (comma, why) = (comma(before), fault_name(fault));
-            write!(
-                text,
-                "{comma}{{\"node\":{number},\"fault\":\"{why}\",\"address\":{at}}}"
-            )?;
+            push_item(text, comma, number, why, at)?;
             Ok(before + 1)
         }
         Standing::Waits | Standing::Free => Ok(before),
@@ -253,9 +288,9 @@ fn push_all_halted(text: &mut String, nodes: &[Node]) -> Result<(), AllocError>
 fn push_halts(text: &mut String, nodes: &[Node]) -> Result<(), AllocError>
     ensures { OnOk result (string_bytes text.new ≡ string_bytes text.old ++ halts_json (map (λ node. node.live) nodes.now)) }
 {
-    write!(text, "],\"halted\":[")?;
+    push(text, "],\"halted\":[")?;
     push_all_halted(text, nodes)?;
-    write!(text, "]}}\n")
+    push(text, "]}\n")
 }
 
 /// The object of an opened device: `held` says whether a process holds it, and `before` what a look before saw; it is `at` milliseconds.

@@ -24,6 +24,7 @@ mod json_status;
 mod looking;
 mod network_files;
 mod opening;
+mod parts;
 mod places;
 mod refusal;
 mod registers;

@@ -2,12 +2,13 @@
 
 ghost use Rattle.std.specs.Prelude.{◌≡◌, ◌++◌, IfOk, OnOk, string_bytes};
 ghost use Rattle.tp_model.specs.Image.{node_at};
-ghost use Rattle.tp_views.specs.NodeText.{cpu_lines, idle_line, input_end_line, input_lines, node_as_lines, node_text, number_line, output_line, output_lines, pointer_line, queue_line, stack_line, state_line, working_line};
+ghost use Rattle.tp_views.specs.NodeText.{cpu_lines, held_line, idle_line, input_end_line, input_lines, node_as_lines, node_text, number_line, output_line, output_lines, pointer_line, queue_line, stack_line, state_line, working_line};
 
 use crate::formats::halt_name;
 use crate::image_fields::{inputs_in, outputs_in, pages_in};
+use crate::parts::Part::{Byte, Number, Text, Word};
+use crate::parts::push_parts;
 use std::alloc::{AllocError, Global};
-use std::fmt::Write;
 use tp_model::{Cpu, Fault, InEnd, OutEnd, Queue, Regs, State, Transfer};
 use tp_node::halt_byte;
 use tp_trace::{cpu_in, state_name};
@@ -21,34 +22,86 @@ fn push_number(
     ensures { OnOk result (string_bytes text.new ≡ string_bytes text.old ++ number_line number pages halt) }
 {
     let (code, name) = (halt_byte(halt), halt_name(halt));
-    write!(text, "node {number} pages {pages} halt {code} {name}\n")
+    push_parts(
+        text,
+        &[
+            Text("node "),
+            Number(number),
+            Text(" pages "),
+            Number(pages as u64),
+            Text(" halt "),
+            Number(code as u64),
+            Text(" "),
+            Text(name),
+            Text("\n"),
+        ],
+    )
 }
 
 fn push_pointers(text: &mut String, iptr: u32, wptr: u32) -> Result<(), AllocError>
     ensures { OnOk result (string_bytes text.new ≡ string_bytes text.old ++ pointer_line iptr wptr) }
 {
-    write!(text, "Iptr {iptr:08X} Wptr {wptr:08X}\n")
+    push_parts(
+        text,
+        &[
+            Text("Iptr "),
+            Word(iptr),
+            Text(" Wptr "),
+            Word(wptr),
+            Text("\n"),
+        ],
+    )
 }
 
 fn push_stack(text: &mut String, regs: Regs) -> Result<(), AllocError>
     ensures { OnOk result (string_bytes text.new ≡ string_bytes text.old ++ stack_line regs.a regs.b regs.c) }
 {
-    let Regs { a, b, c, .. } = regs;
-    write!(text, "A {a:08X} B {b:08X} C {c:08X}\n")
+    push_parts(
+        text,
+        &[
+            Text("A "),
+            Word(regs.a),
+            Text(" B "),
+            Word(regs.b),
+            Text(" C "),
+            Word(regs.c),
+            Text("\n"),
+        ],
+    )
 }
 
 fn push_queue(text: &mut String, name: &str, queue: Queue) -> Result<(), AllocError>
     ensures { OnOk result (string_bytes text.new ≡ string_bytes text.old ++ queue_line name.now queue) }
 {
-    let Queue { front, back } = queue;
-    write!(text, "{name} front {front:08X} back {back:08X}\n")
+    push_parts(
+        text,
+        &[
+            Text(name),
+            Text(" front "),
+            Word(queue.front),
+            Text(" back "),
+            Word(queue.back),
+            Text("\n"),
+        ],
+    )
 }
 
 fn push_state(text: &mut String, error: bool, state: State, slice: u16) -> Result<(), AllocError>
     ensures { OnOk result (string_bytes text.new ≡ string_bytes text.old ++ state_line error state slice) }
 {
     let (flag, name) = (u8::from(error), state_name(state));
-    write!(text, "error {flag} state {name} slice {slice}\n")
+    push_parts(
+        text,
+        &[
+            Text("error "),
+            Number(flag as u64),
+            Text(" state "),
+            Text(name),
+            Text(" slice "),
+            Number(slice as u64),
+            Text("\n"),
+        ],
+    )
 }
 
 /// Appends the lines of a processor.
@@ -66,27 +119,38 @@ fn push_cpu(text: &mut String, cpu: &Cpu) -> Result<(), AllocError>
 fn push_idle(text: &mut String, side: &str, link: usize) -> Result<(), AllocError>
     ensures { OnOk result (string_bytes text.new ≡ string_bytes text.old ++ idle_line side.now link) }
 {
-    write!(text, "{side} {link} idle\n")
+    push_parts(
+        text,
+        &[Text(side), Text(" "), Number(link as u64), Text(" idle\n")],
+    )
 }
 
 /// Appends the line of an end at which a process waits.
-fn push_working(
+fn push_working<'a>(
     text: &mut String,
-    side: &str,
+    side: &'a str,
     link: usize,
-    what: &str,
+    what: &'a str,
     transfer: Transfer,
 ) -> Result<(), AllocError>
     ensures { OnOk result (string_bytes text.new ≡ string_bytes text.old ++ working_line side.now link what.now transfer) }
 {
-    let Transfer {
-        process,
-        pointer,
-        left,
-    } = transfer;
-    write!(
+    push_parts(
         text,
-        "{side} {link} {what} process {process:08X} pointer {pointer:08X} left {left:08X}\n"
+        &[
+            Text(side),
+            Text(" "),
+            Number(link as u64),
+            Text(" "),
+            Text(what),
+            Text(" process "),
+            Word(transfer.process),
+            Text(" pointer "),
+            Word(transfer.pointer),
+            Text(" left "),
+            Word(transfer.left),
+            Text("\n"),
+        ],
     )
 }
 
@@ -99,12 +163,28 @@ fn push_output(text: &mut String, link: usize, end: OutEnd) -> Result<(), AllocE
     }
 }
 
+/// Appends the line of an input end that holds a byte.
+fn push_held(text: &mut String, link: usize, byte: u8) -> Result<(), AllocError>
+    ensures { OnOk result (string_bytes text.new ≡ string_bytes text.old ++ held_line link byte) }
+{
+    push_parts(
+        text,
+        &[
+            Text("in "),
+            Number(link as u64),
+            Text(" idle held "),
+            Byte(byte),
+            Text("\n"),
+        ],
+    )
+}
+
 fn push_input(text: &mut String, link: usize, end: InEnd) -> Result<(), AllocError>
     ensures { OnOk result (string_bytes text.new ≡ string_bytes text.old ++ input_end_line link end) }
 {
     match end {
         InEnd::Idle(None) => push_idle(text, "in", link),
-        InEnd::Idle(Some(byte)) => write!(text, "in {link} idle held {byte:02X}\n"),
+        InEnd::Idle(Some(byte)) => push_held(text, link, byte),
         InEnd::Inputs(transfer) => push_working(text, "in", link, "inputs", transfer),
         InEnd::Enabled(process) => {
             let alone = Transfer {
@@ -135,6 +215,23 @@ fn push_inputs(text: &mut String, ends: &[InEnd]) -> Result<(), AllocError>
     Ok(())
 }
 
+/// Appends the lines of a node, by its pages, its processor and its ends.
+fn push_node(
+    text: &mut String,
+    number: u64,
+    pages: usize,
+    cpu: &Cpu,
+    outputs: &[OutEnd],
+    inputs: &[InEnd],
+) -> Result<(), AllocError>
+    ensures { OnOk result (string_bytes text.new ≡ string_bytes text.old ++ node_as_lines number pages cpu.now outputs.now inputs.now) }
+{
+    push_number(text, number, pages, cpu.halt)?;
+    push_cpu(text, cpu)?;
+    push_outputs(text, outputs)?;
+    push_inputs(text, inputs)
+}
+
 /// The lines of a node, by its pages, its processor and its ends.
 fn node_lines(
     alloc: Global,
@@ -147,10 +244,7 @@ fn node_lines(
     ensures { IfOk result (λ text. string_bytes text ≡ node_as_lines number pages cpu.now outputs.now inputs.now) }
 {
     let mut text = String::new(alloc);
-    push_number(&mut text, number, pages, cpu.halt)?;
-    push_cpu(&mut text, cpu)?;
-    push_outputs(&mut text, outputs)?;
-    push_inputs(&mut text, inputs)?;
+    push_node(&mut text, number, pages, cpu, outputs, inputs)?;
     Ok(text)
 }
 

@@ -4,8 +4,9 @@ ghost use Rattle.std.specs.Prelude.{◌≡◌, ◌++◌, IfOk, OnOk, string_byte
 ghost use Rattle.tp_model.specs.Image.{halt_byte};
 ghost use Rattle.tp_views.specs.Shown.{area_number, head_line, next_line, node_line, node_lines, open_line, port_line, port_lines, shown_text};
 
+use crate::parts::Part::{Number, Text};
+use crate::parts::push_parts;
 use std::alloc::{AllocError, Global};
-use std::fmt::Write;
 use tp_book::HostPort;
 use tp_node::{Node, halt_byte};
 use tp_replay::FlatNetwork;
@@ -32,23 +33,39 @@ pub(crate) fn area_number(second: bool) -> u8
 fn push_head(text: &mut String, nodes: usize, ports: usize, area: u64) -> Result<(), AllocError>
     ensures { OnOk result (string_bytes text.new ≡ string_bytes text.old ++ head_line nodes ports area) }
 {
-    write!(text, "nodes {nodes} ports {ports} area {area}\n")
+    push_parts(
+        text,
+        &[
+            Text("nodes "),
+            Number(nodes as u64),
+            Text(" ports "),
+            Number(ports as u64),
+            Text(" area "),
+            Number(area),
+            Text("\n"),
+        ],
+    )
 }
 
 fn push_open(text: &mut String, front: Front) -> Result<(), AllocError>
     ensures { OnOk result (string_bytes text.new ≡ string_bytes text.old ++ open_line (area_number front.second) front.generation front.base front.entries front.next) }
 {
     let open = area_number(front.second);
-    let Front {
-        generation,
-        base,
-        entries,
-        next,
-        ..
-    } = front;
-    write!(
+    push_parts(
         text,
-        "open {open} generation {generation} base {base} entries {entries} next {next}\n"
+        &[
+            Text("open "),
+            Number(open as u64),
+            Text(" generation "),
+            Number(front.generation),
+            Text(" base "),
+            Number(front.base),
+            Text(" entries "),
+            Number(front.entries as u64),
+            Text(" next "),
+            Number(front.next),
+            Text("\n"),
+        ],
     )
 }
 
@@ -56,7 +73,16 @@ fn push_node(text: &mut String, number: usize, node: &Node) -> Result<(), AllocE
     ensures { OnOk result (string_bytes text.new ≡ string_bytes text.old ++ node_line number (halt_byte node.now.live.cpu.halt)) }
 {
     let halt = halt_byte(node.halt());
-    write!(text, "node {number} halt {halt}\n")
+    push_parts(
+        text,
+        &[
+            Text("node "),
+            Number(number as u64),
+            Text(" halt "),
+            Number(halt as u64),
+            Text("\n"),
+        ],
+    )
 }
 
 fn push_port(text: &mut String, number: usize, port: &HostPort) -> Result<(), AllocError>
@@ -66,9 +92,21 @@ fn push_port(text: &mut String, number: usize, port: &HostPort) -> Result<(), Al
     let pending = port.pending().len();
     let out_base = port.out_base();
     let unconfirmed = port.outputs().len();
-    write!(
+    push_parts(
         text,
-        "port {number} in {in_base} pending {pending} out {out_base} unconfirmed {unconfirmed}\n"
+        &[
+            Text("port "),
+            Number(number as u64),
+            Text(" in "),
+            Number(in_base),
+            Text(" pending "),
+            Number(pending as u64),
+            Text(" out "),
+            Number(out_base),
+            Text(" unconfirmed "),
+            Number(unconfirmed as u64),
+            Text("\n"),
+        ],
     )
 }
 
@@ -90,16 +128,23 @@ fn push_ports(text: &mut String, ports: &[HostPort]) -> Result<(), AllocError>
     Ok(())
 }
 
+/// Appends all that is shown of a device.
+fn push_shown(text: &mut String, front: Front, now: &FlatNetwork) -> Result<(), AllocError>
+    ensures { OnOk result (string_bytes text.new ≡ string_bytes text.old ++ shown_text front now.now) }
+{
+    let (nodes, ports) = (now.nodes(), now.ports());
+    push_head(text, nodes.len(), ports.len(), front.area)?;
+    push_open(text, front)?;
+    push_nodes(text, nodes)?;
+    push_ports(text, ports)
+}
+
 /// All that is shown of a device.
 pub fn shown_text(alloc: Global, front: Front, now: &FlatNetwork) -> Result<String, AllocError>
     ensures { IfOk result (λ text. string_bytes text ≡ shown_text front now.now) }
 {
-    let (nodes, ports) = (now.nodes(), now.ports());
     let mut text = String::new(alloc);
-    push_head(&mut text, nodes.len(), ports.len(), front.area)?;
-    push_open(&mut text, front)?;
-    push_nodes(&mut text, nodes)?;
-    push_ports(&mut text, ports)?;
+    push_shown(&mut text, front, now)?;
     Ok(text)
 }
 

@@ -5,6 +5,8 @@ ghost use Rattle.tp_views.specs.Status.{IsSeen, bytes_accepted, accepted_before,
 ghost use Rattle.tp_node.specs.Standing.{standing};
 
 use crate::formats::form_name;
+use crate::parts::Part::{Large, Number, Text, Word};
+use crate::parts::push_parts;
 use std::alloc::{AllocError, Global};
 use std::fmt::Write;
 use tp_area::JournalRoom;
@@ -195,10 +197,17 @@ fn push_front(
 ) -> Result<(), AllocError>
     ensures { OnOk result (string_bytes text.new ≡ string_bytes text.old ++ front_part held generation form next since) }
 {
-    let (running, form) = (yes_or_no(held), form_name(form));
-    write!(
+    push_parts(
         text,
-        "running {running} generation {generation} form {form} next "
+        &[
+            Text("running "),
+            Text(yes_or_no(held)),
+            Text(" generation "),
+            Number(generation),
+            Text(" form "),
+            Text(form_name(form)),
+            Text(" next "),
+        ],
     )?;
     push_count(text, next as u128, since)
 }
@@ -208,7 +217,18 @@ fn push_journal(text: &mut String, entries: usize, room: u64) -> Result<(), Allo
     ensures { OnOk result (string_bytes text.new ≡ string_bytes text.old ++ journal_part entries room) }
 {
     let used = percent(entries, room);
-    write!(text, " entries {entries} of {room} ({used} %)")
+    push_parts(
+        text,
+        &[
+            Text(" entries "),
+            Number(entries as u64),
+            Text(" of "),
+            Number(room),
+            Text(" ("),
+            Large(used),
+            Text(" %)"),
+        ],
+    )
 }
 
 /// Appends what a port has accepted, and how much of that no node has taken.
@@ -222,9 +242,12 @@ fn push_accepted(
     requires { now < 2 ^ 65 }
     ensures { OnOk result (string_bytes text.new ≡ string_bytes text.old ++ accepted_part number now since pending) }
 {
-    write!(text, " port {number} accepted ")?;
+    push_parts(
+        text,
+        &[Text(" port "), Number(number as u64), Text(" accepted ")],
+    )?;
     push_count(text, now, since)?;
-    write!(text, " pending {pending}")
+    push_parts(text, &[Text(" pending "), Number(pending as u64)])
 }
 
 /// Appends what a port has put out, and how much of that isn't confirmed.
@@ -285,7 +308,17 @@ fn push_halted(text: &mut String, number: usize, standing: Standing) -> Result<(
     match standing {
         Standing::Halted { fault, at } => {
             let why = fault_name(fault);
-            write!(text, " halted {number} {why} at {at:08X}")
+            push_parts(
+                text,
+                &[
+                    Text(" halted "),
+                    Number(number as u64),
+                    Text(" "),
+                    Text(why),
+                    Text(" at "),
+                    Word(at),
+                ],
+            )
         }
         Standing::Waits | Standing::Free => Ok(()),
     }

@@ -11,4 +11,4 @@ joined start a b c first second third ia ib ic =
     ic ∙ ap (λ x. x ++ c) ib ∙ append_assoc first b c ∙ ap (λ x. x ++ (b ++ c)) ia ∙ append_assoc start a (b ++ c)
 
 pub returns : goal.returns
-returns c = on_ok _ _ c.write-2.result (λ ending. joined _ _ _ _ _ _ _ c.in_ok-write.ensures.bytes c.in_ok-push_all_halted.ensures ending) c.write-2.ensures.bytes
+returns c = on_ok _ _ c.push-2.result (λ ending. joined _ _ _ _ _ _ _ c.in_ok-push.ensures c.in_ok-push_all_halted.ensures ending) c.push-2.ensures
