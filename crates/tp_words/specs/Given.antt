@@ -3,9 +3,11 @@ use Rattle.std.specs.Prelude.{◌≡◌, ◌++◌, ◌||◌, ℕ, Bool, false, L
 use Rattle.std.specs.Cmp.Lexicographic.{pointwise}
 use Rattle.std.specs.Fmt.{decimal}
 use Rattle.std.specs.List.{cons_option}
-use Rattle.std.specs.Option.{option_or}
+use Rattle.std.specs.Option.{option_map, option_or, unwrap_or}
 use Rattle.std.specs.declared.alloc.Global.{Global}
 use Rattle.std.specs.declared.string.String.{String}
+use Rattle.clap.specs.Words.{found_of, matched_of, raw_values}
+use Rattle.clap.specs.declared.parser.matches.ArgMatches.{ArgMatches}
 use Rattle.tp_words.specs.Typed.{is_word}
 
 -- what stands behind an ending, where the bytes begin with it
@@ -42,6 +44,10 @@ all_given_in name ending (word ∷ words) =
 
 abbrev pub all_given : List ℕ → List (String Global) → List (List ℕ)
 all_given id words = all_given_in (codes "--" ++ id) (codes "--" ++ (id ++ codes "=")) words
+
+-- what `clap` found for an option that may be there several times
+abbrev pub found_texts : ArgMatches → List ℕ → List (List ℕ)
+found_texts found id = unwrap_or (option_map raw_values (matched_of (found_of found) id)) []
 
 -- a flag of this name was typed: one of the words is it, and no word `--` stands before that
 abbrev pub has_flag : List ℕ → List (String Global) → Bool
