@@ -44,12 +44,13 @@ by_test : (text : List ℕ) (number : ℕ) (found : Option ℕ) (p : Bool) → (
     → number < 2 ^ 64 → found ≡ (if p then Some number else None) → IfSome found (λ port. (port < MAX_PORTS) × (text ≡ decimal port)) × (found ≡ None → IsNoPort text)
 by_test text number found true low below spelt small is =
     (subst (λ (o : Option ℕ). IfSome o (λ port. (port < MAX_PORTS) × (text ≡ decimal port))) (sym is) (low refl, spelt), λ none. absurd (cc))
-by_test text number found false low below spelt small is =
-    (subst (λ (o : Option ℕ). IfSome o (λ port. (port < MAX_PORTS) × (text ≡ decimal port))) (sym is) tt,
-    λ none port fits same.
-        let one = decimal_injective number port small (omega (arith, fits)) (sym spelt ∙ same) in
-        let bad = below (omega (arith, one, fits)) in
-        absurd (cc))
+by_test text number found false low below spelt small is = (
+  subst (λ (o : Option ℕ). IfSome o (λ port. (port < MAX_PORTS) × (text ≡ decimal port))) (sym is) tt,
+  λ none port fits same.
+      let one = decimal_injective number port small (omega (arith, fits)) (sym spelt ∙ same) in
+      let bad = below (omega (arith, one, fits)) in
+      absurd (cc),
+)
 
 -- the port of a number that is spelt so, where a device may have one
 pub port_spelt : (text : List ℕ) (number : ℕ) (found : Option ℕ) → text ≡ decimal number → number < 2 ^ 64

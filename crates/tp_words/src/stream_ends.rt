@@ -203,11 +203,7 @@ fn file_of(alloc: Global, text: &str, option: FileOption) -> Result<PortFile, En
 }
 
 /// The ends that were typed so for an option.
-fn files_in(
-    alloc: Global,
-    texts: &[&str],
-    option: FileOption,
-) -> Result<Vec<PortFile>, EndsFault>
+fn files_in(alloc: Global, texts: &[&str], option: FileOption) -> Result<Vec<PortFile>, EndsFault>
     ensures files { IfOk result (λ files. All IsFile files.items) }
     ensures typed { IfOk result (λ files. map file_text files.items ≡ map (λ text. text.now) texts.now) }
     ensures refused { IfErr result (λ fault. (fault ≡ Memory) ⊎ ((fault ≡ File option) × Any IsNoFile (map (λ text. text.now) texts.now))) }

@@ -41,9 +41,12 @@ returns-in_err-files_of-2-clause-refused c =
     let ports = c.in_ok-discards_of in
     on_fault c.from_residual-in_err-files_of-2.result fault (λ (fault : EndsFault). IsRefused found words fault) is
     (told found words IsNoFile (File In) _ _ fault c.in_err-files_of-2.ensures.refused (λ other. (3, codes "in", omega arith, refl, other))
-    (λ any.
-        ((outs.field-0.items, outs.ensures.files, outs.ensures.typed), (haves.field-0.items, haves.ensures.haves, haves.ensures.typed),
-        (ports.field-0.items, ports.ensures.ports, ports.ensures.typed), any)))
+    (λ any. (
+      (outs.field-0.items, outs.ensures.files, outs.ensures.typed),
+      (haves.field-0.items, haves.ensures.haves, haves.ensures.typed),
+      (ports.field-0.items, ports.ensures.ports, ports.ensures.typed),
+      any,
+    )))
 
 pub returns-in-Some-clause-refused : goal.returns-in-Some-clause-refused
 returns-in-Some-clause-refused c =

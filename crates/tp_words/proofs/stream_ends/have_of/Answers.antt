@@ -15,6 +15,9 @@ returns-in_default-2-clause-refused c =
     let pair = c.in-Some.pair in
     let low = if_some (λ (pair : ℕ × Bor (List ℕ)). pair.0 < MAX_PORTS) found pair c.in_ok-pair.ensures.port c.in-Some.is in
     let spelt = if_some (λ (pair : ℕ × Bor (List ℕ)). c.args.text.now ≡ decimal pair.0 ++ 61 ∷ pair.1.now) found pair c.in_ok-pair.ensures.text c.in-Some.is in
-    inr (refl, λ port number below fits same.
-        c.in_ok-number.ensures.none c.in_default-2.is number fits
-        (rests c.args.text.now pair.1.now (decimal number) pair.0 port low below spelt same))
+    inr (
+      refl,
+      λ port number below fits same.
+          c.in_ok-number.ensures.none c.in_default-2.is number fits
+          (rests c.args.text.now pair.1.now (decimal number) pair.0 port low below spelt same),
+    )

@@ -11,7 +11,7 @@ returns-in_default-clause-none c = λ none port path low long spelt.
 pub returns-then-is_empty-clause-none : goal.returns-then-is_empty-clause-none
 returns-then-is_empty-clause-none c = λ none port path low long spelt.
     let parts = there_at (λ (x : Bor (List ℕ) × Bor (List ℕ)). (x.0.now ≡ decimal port) × (x.1.now ≡ path)) c.split_once.result c.in-Some.parts
-        (splits_there c.args.text.now path port c.split_once.result c.split_once.ensures.cases low spelt) c.in-Some.is in
+    (splits_there c.args.text.now path port c.split_once.result c.split_once.ensures.cases low spelt) c.in-Some.is in
     let size = ap length parts.1 in
     let test = c.is_empty.ensures in
     let holds = c.if-is_empty.true in
@@ -20,5 +20,5 @@ returns-then-is_empty-clause-none c = λ none port path low long spelt.
 pub returns-in_default-2-clause-none : goal.returns-in_default-2-clause-none
 returns-in_default-2-clause-none c = λ none port path low long spelt.
     let parts = there_at (λ (x : Bor (List ℕ) × Bor (List ℕ)). (x.0.now ≡ decimal port) × (x.1.now ≡ path)) c.split_once.result c.in-Some.parts
-        (splits_there c.args.text.now path port c.split_once.result c.split_once.ensures.cases low spelt) c.in-Some.is in
+    (splits_there c.args.text.now path port c.split_once.result c.split_once.ensures.cases low spelt) c.in-Some.is in
     c.in_ok-port.ensures.none c.in_default-2.is port low parts.0

@@ -21,8 +21,11 @@ returns-then-are_given-clause-typed c =
 
 pub returns-clause-refused : goal.returns-clause-refused
 returns-clause-refused c =
-    inr (refl, λ same.
-        let holds = (decided (map (λ (text : Bor (List ℕ)). text.now) c.found_for-texts.result.now) c.args.words.now c.args.id.now c.as_str.result.now
-            c.as_str-2.result.now c.are_given.result c.are_given.ensures (search rules) (search rules)).1 (c.found_for-texts.ensures ∙ same) in
-        let fails = c.if-are_given.false in
-        absurd (cc))
+    inr (
+      refl,
+      λ same.
+          let holds = (decided (map (λ (text : Bor (List ℕ)). text.now) c.found_for-texts.result.now) c.args.words.now c.args.id.now c.as_str.result.now
+          c.as_str-2.result.now c.are_given.result c.are_given.ensures (search rules) (search rules)).1 (c.found_for-texts.ensures ∙ same) in
+          let fails = c.if-are_given.false in
+          absurd (cc),
+    )
