@@ -1,5 +1,5 @@
-use Rattle.std.proofs.Common.{◌≡◌, ◌≢◌, ◌<◌, ◌∷◌, [], ℕ, List, Any, Err, arith, refl, rules, codes}
-use Rattle.tp_words.specs.Ends.{FoundElse, IsNoFile, IsNoHave, IsNoPort, IsRefused}
+use Rattle.std.proofs.Common.{◌≡◌, Err, arith, refl, rules, codes}
+use Rattle.tp_words.specs.Ends.{IsNoFile, IsNoHave, IsNoPort, IsRefused}
 use Rattle.tp_words.specs.declared.stream_ends.EndsFault.{EndsFault}
 use Rattle.tp_words.specs.declared.stream_ends.EndsFault.TheVariants.{File, Have, Discard}
 use Rattle.tp_words.specs.declared.stream_ends.FileOption.TheVariants.{In}

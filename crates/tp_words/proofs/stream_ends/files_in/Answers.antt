@@ -3,7 +3,7 @@ use Rattle.std.proofs.lemmas.List.Elements.{All-push}
 use Rattle.tp_stream_files.specs.declared.ends.PortFile.{PortFile}
 use Rattle.tp_words.specs.Ends.{IsFile, IsNoFile, file_text}
 use Rattle.tp_words.specs.declared.stream_ends.EndsFault.{EndsFault}
-use Rattle.tp_words.specs.declared.stream_ends.EndsFault.TheVariants.{File, Have, Discard, Memory}
+use Rattle.tp_words.specs.declared.stream_ends.EndsFault.TheVariants.{File, Memory}
 use Rattle.tp_words.proofs.Refused.{on_fault}
 use Rattle.tp_words.proofs.Texts.{one_more, some_refused}
 use Rattle.tp_words.proofs.stream_ends.files_in.Goals as goal

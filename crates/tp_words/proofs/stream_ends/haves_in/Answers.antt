@@ -1,11 +1,9 @@
-use Rattle.std.proofs.Common.{◌≡◌, ◌⊎◌, ℕ, List, All, Any, Bor, Err, map, subst, sym, rules}
-use Rattle.std.proofs.lemmas.List.Elements.{All-push}
-use Rattle.tp_stream_files.specs.declared.ends.PortFile.{PortFile}
-use Rattle.tp_words.specs.Ends.{IsFile, IsNoHave, file_text}
+use Rattle.std.proofs.Common.{◌≡◌, ◌⊎◌, ℕ, List, Any, Bor, Err, map, rules}
+use Rattle.tp_words.specs.Ends.{IsNoHave}
 use Rattle.tp_words.specs.declared.stream_ends.EndsFault.{EndsFault}
-use Rattle.tp_words.specs.declared.stream_ends.EndsFault.TheVariants.{File, Have, Discard, Memory}
+use Rattle.tp_words.specs.declared.stream_ends.EndsFault.TheVariants.{Have, Memory}
 use Rattle.tp_words.proofs.Refused.{on_fault}
-use Rattle.tp_words.proofs.Texts.{one_more, some_refused}
+use Rattle.tp_words.proofs.Texts.{some_refused}
 use Rattle.tp_words.proofs.stream_ends.haves_in.Goals as goal
 
 pub returns-in_err-have_of-clause-refused : goal.returns-in_err-have_of-clause-refused

@@ -1,4 +1,4 @@
-use Rattle.std.proofs.Common.{◌≡◌, ◌∙◌, ℕ, List, Bor, length, ap, sym, arith}
+use Rattle.std.proofs.Common.{◌≡◌, ℕ, List, Bor, length, ap, arith}
 use Rattle.std.specs.Fmt.{decimal}
 use Rattle.tp_words.proofs.Texts.{splits_there, there, there_at}
 use Rattle.tp_words.proofs.stream_ends.pair_of.Goals as goal

@@ -1,4 +1,4 @@
-use Rattle.std.proofs.Common.{◌≡◌, ℕ, List}
+use Rattle.std.proofs.Common.{◌≡◌, ℕ}
 use Rattle.std.specs.Fmt.{decimal}
 use Rattle.tp_words.proofs.Texts.{if_some, port_spelt}
 use Rattle.tp_words.proofs.stream_ends.port_of.Goals as goal
