@@ -2,9 +2,12 @@
 use Rattle.std.specs.Prelude.{◌≡◌, ◌++◌, ◌||◌, ℕ, Bool, false, List, [], ◌∷◌, Option, Some, None, if◌then◌else◌, length, take, drop, codes, string_bytes, nat_eq}
 use Rattle.std.specs.Cmp.Lexicographic.{pointwise}
 use Rattle.std.specs.Fmt.{decimal}
-use Rattle.std.specs.Option.{option_or}
+use Rattle.std.specs.List.{cons_option}
+use Rattle.std.specs.Option.{option_map, option_or, unwrap_or}
 use Rattle.std.specs.declared.alloc.Global.{Global}
 use Rattle.std.specs.declared.string.String.{String}
+use Rattle.clap.specs.Words.{found_of, matched_of, raw_values}
+use Rattle.clap.specs.declared.parser.matches.ArgMatches.{ArgMatches}
 use Rattle.tp_words.specs.Typed.{is_word}
 
 -- what stands behind an ending, where the bytes begin with it
@@ -28,6 +31,23 @@ given_in name ending (word ∷ words) =
 -- what was typed for an option
 abbrev pub given : List ℕ → List (String Global) → Option (List ℕ)
 given id words = given_in (codes "--" ++ id) (codes "--" ++ (id ++ codes "=")) words
+
+-- what a word says for the option of a name, whose ending is the name with `=` behind it, where these words stand behind it
+abbrev pub value_of : List ℕ → List ℕ → String Global → List (String Global) → Option (List ℕ)
+value_of name ending word words = if is_word name word then first_text words else value_in ending (string_bytes word)
+
+-- all that was typed for an option that may be there several times, in order; none behind a word `--`
+abbrev pub all_given_in : List ℕ → List ℕ → List (String Global) → List (List ℕ)
+all_given_in name ending [] = []
+all_given_in name ending (word ∷ words) =
+    if is_word (codes "--") word then [] else cons_option (value_of name ending word words) (all_given_in name ending words)
+
+abbrev pub all_given : List ℕ → List (String Global) → List (List ℕ)
+all_given id words = all_given_in (codes "--" ++ id) (codes "--" ++ (id ++ codes "=")) words
+
+-- what `clap` found for an option that may be there several times
+abbrev pub found_texts : ArgMatches → List ℕ → List (List ℕ)
+found_texts found id = unwrap_or (option_map raw_values (matched_of (found_of found) id)) []
 
 -- a flag of this name was typed: one of the words is it, and no word `--` stands before that
 abbrev pub has_flag : List ℕ → List (String Global) → Bool

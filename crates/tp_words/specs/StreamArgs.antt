@@ -10,7 +10,7 @@ use Rattle.tp_words.specs.declared.stream_args.StreamAsked.{StreamAsked}
 use Rattle.tp_words.specs.declared.stream_args.StreamAsked.TheVariants.{Help, Run}
 use Rattle.tp_words.specs.declared.stream_args.StreamRun.{StreamRun}
 use Rattle.tp_words.specs.Args.{IsEvery}
-use Rattle.tp_words.specs.Ends.{AreEnds}
+use Rattle.tp_words.specs.Ends.{AreEnds, WereTyped}
 use Rattle.tp_words.specs.Given.{given, IsGivenOr}
 use Rattle.tp_words.specs.Typed.{has_word}
 
@@ -34,7 +34,7 @@ IsStreamInRange (Help text) = Unit {0}
 IsStreamInRange (Run run) = IsStreamRun run × AreEnds run.ends
 
 -- Each number of a stream is what was typed for it, and else what docs/PROGRAM.md says; its turns have a bound, and it ends by a file, just
--- where one was typed.
+-- where one was typed; each end of a port is what was typed for it.
 abbrev pub IsTypedStream : List (String Global) → StreamRun → Type 0
 IsTypedStream words run = (has_word (string_bytes run.device) words ≡ true)
     × (given (codes "turns") words ≡ option_map decimal run.turns)
@@ -44,6 +44,7 @@ IsTypedStream words run = (has_word (string_bytes run.device) words ≡ true)
     × IsGivenOr 4 run.spare (given (codes "spare") words)
     × (given (codes "every") words ≡ option_map decimal run.every)
     × IsGivenOr 0 run.wait_lock (given (codes "wait-lock") words)
+    × WereTyped words run.ends
 
 abbrev pub WasStreamTyped : List (String Global) → StreamAsked → Type 0
 WasStreamTyped words (Help text) = Unit {0}

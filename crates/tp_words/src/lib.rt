@@ -27,5 +27,5 @@ pub use stop_args::{StopAsked, StopRequest, is_stop, read_stop_args};
 pub use stream_args::{
     StreamArgFault, StreamAsked, StreamRun, is_stream, read_stream_args, wants_input,
 };
-pub use stream_ends::EndsFault;
+pub use stream_ends::{EndsFault, FileOption};
 pub use views::{JournalPart, View};

@@ -1,9 +1,10 @@
 //! Words and numbers that were typed.
 
-ghost use Rattle.std.specs.Prelude.{◌≡◌, IfOk, IfSome, string_bytes};
+ghost use Rattle.std.specs.Prelude.{◌≡◌, ◌≢◌, ◌<◌, ◌^◌, ℕ, None, IfOk, IfSome, bytes_eq, map, string_bytes};
+ghost use Rattle.std.specs.Cmp.Lexicographic.{pointwise};
 ghost use Rattle.std.specs.Fmt.{decimal};
 ghost use Rattle.std.specs.Option.{option_map};
-ghost use Rattle.tp_words.specs.Given.{given_in, has_flag, value_in};
+ghost use Rattle.tp_words.specs.Given.{all_given_in, given_in, has_flag, value_in, value_of};
 ghost use Rattle.tp_words.specs.Typed.{has_value, has_word, is_value, is_word, was_typed};
 
 use std::alloc::{AllocError, Global};
@@ -43,19 +44,19 @@ pub fn was_typed(alloc: Global, words: &[String], text: &str) -> Result<bool, Al
     Ok(has_word(words, text) || has_value(words, ending.as_str()))
 }
 
-/// The number whose decimal this text is.
+/// The number whose decimal this text is; `None`: it is that of no number below 2^64.
 pub fn number_of(alloc: Global, text: &str) -> Result<Option<u64>, AllocError>
-    ensures { IfOk result (λ found. IfSome found (λ number. text.now ≡ decimal number)) }
+    ensures some { IfOk result (λ found. IfSome found (λ number. text.now ≡ decimal number)) }
+    ensures none { IfOk result (λ found. found ≡ None → (number : ℕ) → number < 2 ^ 64 → text.now ≢ decimal number) }
 {
     let Ok(number) = text.parse::<u64>() else {
         return Ok(None);
     };
     let spelt = format!(in alloc; "{number}")?;
-    if spelt.as_bytes() == text.as_bytes() {
-        Ok(Some(number))
-    } else {
-        Ok(None)
+    if spelt.as_bytes() != text.as_bytes() {
+        return Ok(None);
     }
+    Ok(Some(number))
 }
 
 /// What stands behind an ending such as `--turns=`, where a word begins with it.
@@ -80,6 +81,35 @@ pub fn given<'a>(words: &'a [String], name: &str, ending: &str) -> Option<&'a [u
         Some(text) => Some(text),
         None => given(rest, name, ending),
     }
+}
+
+/// What a word says for the option of this name, whose ending is the name with `=` behind it; `rest` stands behind it.
+fn value_of<'a>(word: &'a String, rest: &'a [String], name: &str, ending: &str) -> Option<&'a [u8]>
+    ensures { option_map (λ text. text.now) result ≡ value_of name.now ending.now word.now rest.now }
+{
+    if is_word(word, name) {
+        return Some(rest.first()?.as_bytes());
+    }
+    value_in(word, ending)
+}
+
+/// Whether the texts are all that was typed for the option of this name, whose ending is the name with `=` behind it, in order.
+pub fn are_given(words: &[String], texts: &[&str], name: &str, ending: &str) -> bool
+    ensures { result ≡ pointwise bytes_eq (map (λ text. text.now) texts.now) (all_given_in name.now ending.now words.now) }
+{
+    let Some((word, rest)) = words.split_first() else {
+        return texts.is_empty();
+    };
+    if is_word(word, "--") {
+        return texts.is_empty();
+    }
+    let Some(value) = value_of(word, rest, name, ending) else {
+        return are_given(rest, texts, name, ending);
+    };
+    let Some((text, others)) = texts.split_first() else {
+        return false;
+    };
+    text.as_bytes() == value && are_given(rest, others, name, ending)
 }
 
 /// Whether the flag of this name was typed: one of the words is it, and no word `--` stands before that.

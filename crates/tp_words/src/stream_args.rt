@@ -161,7 +161,7 @@ fn run_of(
         quantum: option_or(alloc, words, found, "quantum", 1, steps, QUANTUM as u64)? as u16,
         spare: option_or(alloc, words, found, "spare", 0, u64::MAX, 4)?,
         every: every_of(alloc, words, found)?,
-        ends: ends_of(alloc, found)?,
+        ends: ends_of(alloc, words, found)?,
         wait_lock: wait_of(alloc, words, found)?,
         device: text_of(alloc, words, found, "DEVICE")?,
     }))

@@ -1,0 +1,4 @@
+pub mod Faults
+pub mod OfEnds
+pub mod Refused
+pub mod Texts
