@@ -87,3 +87,21 @@ pub(crate) fn image(alloc: Global, tasks: &[Task]) -> Result<Vec<u8>, AllocError
     }
     Ok(image)
 }
+
+/// The images of two nodes.
+#[derive(Drop)]
+pub(crate) struct Images {
+    pub(crate) first: Vec<u8>,
+    pub(crate) second: Vec<u8>,
+}
+
+/// The images of two nodes whose processes do these tasks.
+pub(crate) fn images_of(
+    alloc: Global,
+    first: &[Task],
+    second: &[Task],
+) -> Result<Images, AllocError> {
+    let first = image(alloc, first)?;
+    let second = image(alloc, second)?;
+    Ok(Images { first, second })
+}

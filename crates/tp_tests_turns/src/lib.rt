@@ -13,6 +13,8 @@ mod cuts_replayed;
 #[cfg(test)]
 mod devices;
 #[cfg(test)]
+mod each_order;
+#[cfg(test)]
 mod machines;
 #[cfg(test)]
 mod network;
@@ -20,6 +22,14 @@ mod network;
 mod one_entry;
 #[cfg(test)]
 mod one_node;
+#[cfg(test)]
+mod open_lines;
+#[cfg(test)]
+mod open_net;
+#[cfg(test)]
+mod open_orders;
+#[cfg(test)]
+mod open_playing;
 #[cfg(test)]
 mod orders;
 #[cfg(test)]
