@@ -233,14 +233,14 @@ all_thawed (s ∷ seats) passed zero seat at =
 all_thawed (s ∷ seats) passed (suc i) seat at = all_thawed seats (and_parts (is_none s.node.frozen) (list_all (λ t. is_none t.node.frozen) seats) passed).1 i seat at
 
 pub taken_in : (seats : List Seat) (a b : BookValue) → ((i : ℕ) (seat : Seat) → slice_get seats i ≡ Some seat → seat.node.frozen ≡ None)
-    → ((cut : WholeCut) (ns : List NodeState) → HasCut (world_of a) cut ns → b ≡ after_trim a cut ns) → happens t414 (world_of a) Trim ≡ Some (world_of b) → b.form ≡ Turns → HasSeats a seats → HasSeats b seats
-taken_in seats a b thawed book act form H =
+    → ((cut : WholeCut) (ns : List NodeState) → HasCut (world_of a) cut ns → b ≡ after_trim a cut ns) → happens t414 (world_of a) Trim ≡ Some (world_of b) → HasSeats a seats → HasSeats b seats
+taken_in seats a b thawed book act H =
     let parts = trim_parts (world_of a) (world_of b) act in
     let is = book parts.0 parts.1 parts.2.0 in
     let did = one_act (world_of a) (world_of b) Trim act in
     record {
       idle = ap (λ x. x.ready) is ∙ H.idle;
-      form = form;
+      form = ap (λ x. x.form) is;
       each = λ i seat at.
           thawed_seat a b Trim did (ap (λ x. x.runs) is) parts.2.1 (λ j takes R. received_stays a b j takes (Trim ∷ []) did (tt, tt) R) i seat.away seat.node (thawed i seat at) (H.each i seat at);
     }
@@ -277,6 +277,13 @@ thawed seats number s t b there same live none H =
             image = subst IsNodeOfBytes (sym live) H.image;
           };
         }
+
+-- it goes, or there was no memory to keep it, and the node stays as it was
+pub let_go : {A E : Type 0} (r : Result A E) (seats : List Seat) (number : ℕ) (s t : Seat) (b : BookValue) → slice_get seats number ≡ Some s → t.away ≡ s.away → t.node.live ≡ s.node.live → IfOk r (λ done. t.node.frozen ≡ None) → OnErr r (t.node ≡ s.node)
+    → HasSeats b seats → HasSeats b (set seats number t)
+let_go (Ok x) seats number s t b there same live none kept H = thawed seats number s t b there same live none H
+let_go (Err e) seats number s t b there same live ok kept H =
+    moved seats number s t b b there (record { idle = refl; form = refl; others = λ i away n apart S. S }) (rw (same, kept) (H.each number s there)) H
 
 -- ## The beginning
 

@@ -1,7 +1,7 @@
 //! Two nodes and a port, and their book, without a device. A node's turn that is one entry is opened by one call and committed by another,
 //! and all else may happen in between.
 
-ghost use Rattle.std.specs.Prelude.{◌≡◌, ◌≤◌, IsSome, is_none, None, true};
+ghost use Rattle.std.specs.Prelude.{◌≡◌, ◌≤◌, IfOk, OnErr, is_none, None};
 ghost use Rattle.std.specs.List.{list_all};
 ghost use Rattle.tp_model.specs.declared.form.Form.TheVariants.{Turns};
 ghost use Rattle.tp_model.specs.declared.limits.TheConstants.{MAX_STEPS};
@@ -121,7 +121,7 @@ impl Seat {
 fn recorded_image(alloc: Global, node: &mut Node) -> Result<Option<Vec<u8>>, AllocError>
     ensures live { node.new.live ≡ node.old.live }
     ensures thawed { IfOk result (λ image. node.new.frozen ≡ None) }
-    ensures kept { IsErr result → node.new ≡ node.old }
+    ensures kept { OnErr result (node.new ≡ node.old) }
 {
     if !node.is_frozen() {
         return Ok(None);
@@ -224,11 +224,13 @@ impl OpenNet {
 
     /// The host's turn.
     pub(crate) fn host_turn(&mut self) -> bool {
+        self.book.known();
         host_turn(&mut self.book).is_ok()
     }
 
     /// Each line with a Marker is closed whose receiver has recorded.
     pub(crate) fn close_all(&mut self) {
+        self.book.known();
         close_all(&mut self.book);
     }
 
