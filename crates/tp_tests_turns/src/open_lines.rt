@@ -12,15 +12,16 @@ pub(crate) struct PlainLines {
 }
 
 /// The line that comes in on a link of a node.
-pub(crate) fn line_to(node: u8, link: u8) -> Option<usize> {
-    WIRES
+pub(crate) fn line_to(node: u8, link: u8) -> Option<u16> {
+    let at = WIRES
         .iter()
-        .position(|end| *end == Some(WireEnd::Link(node, link)))
+        .position(|end| *end == Some(WireEnd::Link(node, link)))?;
+    u16::try_from(at).ok()
 }
 
 /// The process that receives a line.
-pub(crate) fn taker(line: usize) -> Option<usize> {
-    match WIRES.get(line)? {
+pub(crate) fn taker(line: u16) -> Option<usize> {
+    match WIRES.get(usize::from(line))? {
         Some(WireEnd::Link(node, _)) => Some(usize::from(*node)),
         Some(WireEnd::Port(_)) => Some(HOST),
         None => None,
@@ -28,8 +29,9 @@ pub(crate) fn taker(line: usize) -> Option<usize> {
 }
 
 /// Whether a line is one that a process sends on.
-fn is_from(process: usize, line: usize) -> bool {
-    line / 4 == process && WIRES.get(line).is_some_and(|end| end.is_some())
+fn is_from(process: usize, line: u16) -> bool {
+    let place = usize::from(line);
+    place / 4 == process && WIRES.get(place).is_some_and(|end| end.is_some())
 }
 
 impl PlainLines {
@@ -43,8 +45,8 @@ impl PlainLines {
     }
 
     /// A token goes onto a line.
-    pub(crate) fn push(&mut self, line: usize, token: Token) -> Result<(), AllocError> {
-        if let Some(tokens) = self.lines.get_mut(line) {
+    pub(crate) fn push(&mut self, line: u16, token: Token) -> Result<(), AllocError> {
+        if let Some(tokens) = self.lines.get_mut(usize::from(line)) {
             tokens.push(token)?;
         }
         Ok(())
@@ -52,7 +54,7 @@ impl PlainLines {
 
     /// A process recorded: a Marker goes onto each of its lines.
     pub(crate) fn mark(&mut self, process: usize) -> Result<(), AllocError> {
-        for line in 0..LINES {
+        for line in 0..LINES as u16 {
             if is_from(process, line) {
                 self.push(line, Token::Marker)?;
             }
@@ -61,35 +63,39 @@ impl PlainLines {
     }
 
     /// What stands in front of a line.
-    pub(crate) fn front(&self, line: usize) -> Option<Token> {
-        self.lines.get(line)?.first().copied()
+    pub(crate) fn front(&self, line: u16) -> Option<Token> {
+        self.lines.get(usize::from(line))?.first().copied()
     }
 
     /// Takes a token off the front of a line. Answers whether it stood there.
-    pub(crate) fn pop(&mut self, line: usize, token: Token) -> bool {
-        if self.front(line) != Some(token) {
+    pub(crate) fn pop(&mut self, line: u16, token: Token) -> bool {
+        let Some(tokens) = self.lines.get_mut(usize::from(line)) else {
+            return false;
+        };
+        if tokens.is_empty() || tokens[0] != token {
             return false;
         }
-        if let Some(tokens) = self.lines.get_mut(line) {
-            let _token = tokens.remove(0);
-        }
+        let _token = tokens.remove(0);
         true
     }
 
     /// Where the Marker stands on a line.
-    pub(crate) fn marker(&self, line: usize) -> Option<usize> {
+    pub(crate) fn marker(&self, line: u16) -> Option<usize> {
         self.lines
-            .get(line)?
+            .get(usize::from(line))?
             .iter()
             .position(|token| *token == Token::Marker)
     }
 
     /// Takes the Marker off a line, wherever it stands. Answers what stood in front of it.
-    pub(crate) fn close(&mut self, alloc: Global, line: usize) -> Result<Vec<Token>, AllocError> {
+    pub(crate) fn close(&mut self, alloc: Global, line: u16) -> Result<Vec<Token>, AllocError> {
         let mut front = Vec::new(alloc);
-        if let (Some(at), Some(tokens)) = (self.marker(line), self.lines.get_mut(line)) {
-            front.extend_from_slice(&tokens[..at])?;
-            let _marker = tokens.remove(at);
+        let at = self.marker(line).unwrap_or(usize::MAX);
+        if let Some(tokens) = self.lines.get_mut(usize::from(line)) {
+            if at < tokens.len() {
+                front.extend_from_slice(&tokens[..at])?;
+                let _marker = tokens.remove(at);
+            }
         }
         Ok(front)
     }

@@ -1,5 +1,6 @@
 //! Acts one after another on a network whose turns stay open, and the plain lists beside it.
 
+use crate::cuts_network::LINES;
 use crate::open_lines::{PlainLines, line_to, taker};
 use crate::open_net::OpenNet;
 use crate::plain::{HOST, Plain};
@@ -31,7 +32,7 @@ const QUANTUM: u16 = 64;
 /// The line that comes to the port, and the one from it.
 const TO_PORT: u16 = 3;
 
-const FROM_PORT: usize = 8;
+const FROM_PORT: u16 = 8;
 
 /// A network, the tokens on its lines, what its snapshot is to gather, each node's image as it recorded, how many turns each node opened
 /// before it recorded and from then on, and whether the book was trimmed.
@@ -71,14 +72,14 @@ pub(crate) fn is_asked(play: &OpenPlay, number: u8) -> bool {
 }
 
 /// Whether a line has a Marker that its receiver, which has recorded, may take.
-fn is_closable(play: &OpenPlay, line: usize) -> bool {
+fn is_closable(play: &OpenPlay, line: u16) -> bool {
     let recorded = taker(line).is_some_and(|process| play.plain.has_recorded(process));
     recorded && play.lines.marker(line).is_some()
 }
 
 /// Closes a line: what stands in front of its Marker belongs to the cut, and stays.
 fn close(alloc: Global, play: &mut OpenPlay, line: u16) -> Result<(), AllocError> {
-    let front = play.lines.close(alloc, usize::from(line))?;
+    let front = play.lines.close(alloc, line)?;
     for token in front.iter() {
         play.plain.gather(line, *token)?;
     }
@@ -87,9 +88,9 @@ fn close(alloc: Global, play: &mut OpenPlay, line: u16) -> Result<(), AllocError
 }
 
 /// Closes the line that comes in on a link of a node, where its Marker stands in front.
-fn close_front(alloc: Global, play: &mut OpenPlay, line: usize) -> Result<(), AllocError> {
+fn close_front(alloc: Global, play: &mut OpenPlay, line: u16) -> Result<(), AllocError> {
     if is_closable(play, line) && play.lines.marker(line) == Some(0) {
-        close(alloc, play, line as u16)?;
+        close(alloc, play, line)?;
     }
     Ok(())
 }
@@ -140,7 +141,7 @@ fn note_takes(play: &mut OpenPlay, number: u8, takes: &[Received; 4]) -> Result<
             return Ok(false);
         }
         if recorded {
-            play.plain.gather(line as u16, *token)?;
+            play.plain.gather(line, *token)?;
         }
     }
     Ok(true)
@@ -150,7 +151,7 @@ fn note_takes(play: &mut OpenPlay, number: u8, takes: &[Received; 4]) -> Result<
 fn note_sends(play: &mut OpenPlay, number: u8, sent: &[(u8, Token)]) -> Result<(), AllocError> {
     for (link, token) in sent {
         play.lines
-            .push(4 * usize::from(number) + usize::from(*link), *token)?;
+            .push(4 * u16::from(number) + u16::from(*link), *token)?;
     }
     Ok(())
 }
@@ -189,7 +190,7 @@ fn note_byte(play: &mut OpenPlay, token: Token) -> Result<(), Fail> {
         token,
     })?;
     play.lines.push(FROM_PORT, Token::Ack)?;
-    if !play.lines.pop(usize::from(TO_PORT), token) {
+    if !play.lines.pop(TO_PORT, token) {
         return Err(Fail::from("a byte isn't what stood there"));
     }
     Ok(())
@@ -197,13 +198,12 @@ fn note_byte(play: &mut OpenPlay, token: Token) -> Result<(), Fail> {
 
 /// The host's turn takes at most three tokens, a Marker among them.
 fn host(alloc: Global, play: &mut OpenPlay) -> Result<bool, Fail> {
-    let line = usize::from(TO_PORT);
-    if play.lines.front(line).is_none() || !play.net.host_turn() {
+    if play.lines.front(TO_PORT).is_none() || !play.net.host_turn() {
         return Ok(false);
     }
     for _token in 0..3 {
-        match play.lines.front(line) {
-            Some(Token::Marker) => close_front(alloc, play, line)?,
+        match play.lines.front(TO_PORT) {
+            Some(Token::Marker) => close_front(alloc, play, TO_PORT)?,
             Some(token) => note_byte(play, token)?,
             None => {}
         }
@@ -224,9 +224,9 @@ fn begin(alloc: Global, play: &mut OpenPlay) -> Result<bool, Fail> {
 /// Each line is closed that may be.
 fn close_all(alloc: Global, play: &mut OpenPlay) -> Result<bool, Fail> {
     let mut closed = false;
-    for line in 0..crate::cuts_network::LINES {
+    for line in 0..LINES as u16 {
         if is_closable(play, line) {
-            close(alloc, play, line as u16)?;
+            close(alloc, play, line)?;
             closed = true;
         }
     }
