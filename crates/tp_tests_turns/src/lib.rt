@@ -5,8 +5,6 @@
 #[cfg(test)]
 mod acts;
 #[cfg(test)]
-mod cuts_machines;
-#[cfg(test)]
 mod cuts_network;
 #[cfg(test)]
 mod cuts_replayed;

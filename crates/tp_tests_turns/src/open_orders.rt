@@ -1,9 +1,9 @@
 //! Each order of two nodes' turns with what may come between a turn's opening and its commit: a snapshot that begins, recordings, lines that
 //! are closed, all of them at once, and the trim.
 
-use crate::cuts_machines::{Images, Task, images_of};
 use crate::cuts_replayed::{may_be_swapped, was_recorded};
 use crate::each_order::{Game, Games, play_all};
+use crate::machines::{Images, Task, images_of};
 use crate::open_playing::OpenAct::{Begin, CloseAll, Commit, Host, Open, TakeIn};
 use crate::open_playing::{OpenAct, OpenPlay, does, is_asked, start};
 use std::alloc::Global;

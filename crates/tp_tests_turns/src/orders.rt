@@ -1,8 +1,8 @@
 //! Each order of the acts of two nodes and the host, from some moment on up to the whole cut.
 
-use crate::cuts_machines::{Images, Task, images_of};
 use crate::cuts_replayed::comes_first;
 use crate::each_order::{Game, Games, play_all};
+use crate::machines::{Images, Task, images_of};
 use crate::playing::Act::{Begin, Close, Record, Run, Take};
 use crate::playing::{Act, Play, do_all, does, start};
 use std::alloc::Global;
