@@ -1,11 +1,11 @@
 //! What processes, a host and the flusher do over a device, one after another, each time as it was told.
 
-ghost use Rattle.std.specs.Prelude.{◌≡◌, ◌<◌, ◌≤◌, [], All, IfSome, Some};
+ghost use Rattle.std.specs.Prelude.{◌≡◌, ◌<◌, ◌≤◌, [], All, Some};
 ghost use Rattle.tp_model.specs.declared.limits.TheConstants.{MAX_STEPS};
 ghost use Rattle.tp_shared.specs.Named.{Names};
 ghost use Rattle.tp_tests_begun.specs.Spelt.{IsSpelt};
 
-use crate::script::{Done, make_turns};
+use crate::script::{Done, make_turns, only_seat};
 use std::alloc::Global;
 use std::marker::Brand;
 use std::sync::Wait;
@@ -187,16 +187,6 @@ fn do_all<J: Naming, R: Wait>(
         }
     }
     true
-}
-
-/// The only seat.
-fn only_seat<J: Naming>(net: &Net<J, NoGate>, seats: Vec<Seat<J>>) -> Option<Seat<J>>
-    requires { All (λ seat. (seat.hand.of ≡ Some net.now.queue) × (seat.slips ≡ [])) seats.items }
-    ensures { IfSome result (λ seat. seat.hand.of ≡ Some net.now.queue) }
-{
-    let _net = net;
-    let mut seats = seats;
-    seats.pop()
 }
 
 /// Whether each act comes as it was told, at the only seat and over the first port.

@@ -7,6 +7,8 @@ mod acts;
 #[cfg(test)]
 mod journals;
 #[cfg(test)]
+mod left;
+#[cfg(test)]
 mod many;
 #[cfg(test)]
 mod script;
@@ -14,6 +16,8 @@ mod script;
 mod small;
 #[cfg(test)]
 mod stops;
+#[cfg(test)]
+mod tears;
 #[cfg(test)]
 mod unkind;
 #[cfg(test)]

@@ -47,7 +47,7 @@ fn images(alloc: Global, programs: &[Program]) -> Result<Vec<Vec<u8>>, AllocErro
 }
 
 /// A device of a topology and images, with areas of `area` bytes.
-fn formatted(
+pub(crate) fn formatted(
     alloc: Global,
     topology: &Topology,
     images: &[Vec<u8>],

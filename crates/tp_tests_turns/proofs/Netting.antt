@@ -135,14 +135,14 @@ idle_thawed nodes a none H i node at = go node.frozen refl
         let no : has_recorded_in a.state.snapshot i ≡ false = ap (λ given. has_recorded_in given i) none in
         cc
 
-begin_free : (b : BookValue) (u : Unit {0}) → IsAnswer {A = Unit {0}} (begin_refusal b) (Ok u) → b.state.snapshot ≡ None
+pub begin_free : (b : BookValue) (u : Unit {0}) → IsAnswer {A = Unit {0}} (begin_refusal b) (Ok u) → b.state.snapshot ≡ None
 begin_free b u = go b.state.snapshot
   where
     go : (given : Option Snapshot) → IsAnswer {A = Unit {0}} (else_if (else_if (else_if None (is_some given) SnapshotRunning) b.broken StoreBroken) (is_full_for_snapshot b.generation) JournalFull) (Ok u) → given ≡ None
     go None answer = refl
     go (Some snap) answer = absurd answer
 
-begin_agreed : (b : BookValue) → agreed (after_begin b).state ≡ agreed b.state
+pub begin_agreed : (b : BookValue) → agreed (after_begin b).state ≡ agreed b.state
 unfolding agreed
 begin_agreed b = refl
 
@@ -152,7 +152,7 @@ begun nodes a b (Ok u) answer is err H =
 begun nodes a b (Err e) answer ok err H = subst (λ x. HasNodes x nodes) (sym err) H
 
 -- a trim has a cut and frozen nodes, and the nodes as they are stay
-trim_parts : (w v : MarkedNetwork NodeState) → happens t414 w Trim ≡ Some v → (cut : WholeCut) × (ns : List NodeState) × (HasCut w cut ns × (v.live.nodes ≡ w.live.nodes))
+pub trim_parts : (w v : MarkedNetwork NodeState) → happens t414 w Trim ≡ Some v → (cut : WholeCut) × (ns : List NodeState) × (HasCut w cut ns × (v.live.nodes ≡ w.live.nodes))
 unfolding happens
 trim_parts w v act = go (whole w) (all_some w.frozen) refl refl act
   where

@@ -1,3 +1,4 @@
 pub mod Agrees
 pub mod CutsNets
 pub mod Nets
+pub mod OpenNets

@@ -55,7 +55,7 @@ impl Model for Net {
 }
 
 /// The network of two images, before its first entry.
-fn pair_parts(alloc: Global, first: &[u8], second: &[u8]) -> Result<NetParts, AllocError>
+pub(crate) fn pair_parts(alloc: Global, first: &[u8], second: &[u8]) -> Result<NetParts, AllocError>
     ensures { IfOk result (λ net. network_made net ≡ pair_network (node_at first.now) (node_at second.now)) }
 {
     let lines = Vec::from_array(
@@ -103,7 +103,7 @@ pub(crate) fn flat_of(alloc: Global, first: &[u8], second: &[u8]) -> Result<Flat
 }
 
 /// A node's image. The node stays.
-fn image_of(alloc: Global, node: &mut Node) -> Result<Vec<u8>, AllocError>
+pub(crate) fn image_of(alloc: Global, node: &mut Node) -> Result<Vec<u8>, AllocError>
     requires { node.old.frozen ≡ None }
     ensures live { node.new.live ≡ node.old.live }
     ensures thawed { node.new.frozen ≡ None }
@@ -115,7 +115,7 @@ fn image_of(alloc: Global, node: &mut Node) -> Result<Vec<u8>, AllocError>
 }
 
 /// The image of a frozen node.
-fn frozen_image(alloc: Global, node: &Node) -> Result<Vec<u8>, AllocError>
+pub(crate) fn frozen_image(alloc: Global, node: &Node) -> Result<Vec<u8>, AllocError>
     requires { IsSome node.now.frozen }
 {
     let mut head = [0; IMAGE_HEAD_BYTES];

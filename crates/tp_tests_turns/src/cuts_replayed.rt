@@ -6,11 +6,10 @@ ghost use Rattle.tp_replay.specs.Flat.{CanCount};
 use crate::cuts_network::{LINES, PROCESSES, flat_of};
 use crate::plain::Plain;
 use crate::playing::Play;
+use crate::replayed::{is_line, is_port};
 use std::alloc::Global;
 use std::test::Fail;
 use tp_book::{Cut, NetParts, PortParts};
-use tp_model::Token;
-use tp_net::Lines;
 use tp_replay::FlatNetwork;
 
 /// Whether the network's one port can count one more byte.
@@ -33,27 +32,6 @@ fn replay(plain: &Plain, wanted: &[bool], flat: &mut FlatNetwork) -> bool {
         }
     }
     true
-}
-
-/// Whether just `tokens` stand on `line`.
-fn is_line(lines: &Lines, line: usize, tokens: &[Token]) -> bool {
-    if line >= lines.count() || lines.len(line) != tokens.len() {
-        return false;
-    }
-    for (at, token) in tokens.iter().enumerate() {
-        if lines.get(line, at) != Some(*token) {
-            return false;
-        }
-    }
-    true
-}
-
-/// Whether one port is as the other.
-fn is_port(one: &PortParts, other: &PortParts) -> bool {
-    one.pending == other.pending
-        && one.in_base == other.in_base
-        && one.outputs == other.outputs
-        && one.out_base == other.out_base
 }
 
 /// Whether `ports` are as `others`.
@@ -83,7 +61,7 @@ fn is_network(cut: &Cut, images: &[Vec<u8>], parts: &NetParts) -> bool {
 }
 
 /// Whether two networks are equal.
-fn are_same(one: &NetParts, other: &NetParts) -> bool {
+pub(crate) fn are_same(one: &NetParts, other: &NetParts) -> bool {
     one.lines == other.lines
         && are_ports(&one.ports, &other.ports)
         && are_images(&one.images, &other.images)
@@ -114,72 +92,100 @@ fn ordered(
     led
 }
 
-/// Whether the entries in the whole cut lead to the network that was recorded.
-fn is_recorded(alloc: Global, play: &Play, flat: &mut FlatNetwork) -> Result<bool, Fail> {
-    let Some(between) = led_to(alloc, &play.plain, &[true], flat)? else {
+/// Whether the entries in the cut lead to the network that was recorded: a whole cut, and the nodes' images.
+fn is_recorded(
+    alloc: Global,
+    plain: &Plain,
+    whole: Option<&Cut>,
+    images: &[Vec<u8>],
+    flat: &mut FlatNetwork,
+) -> Result<bool, Fail> {
+    let Some(between) = led_to(alloc, plain, &[true], flat)? else {
         return Ok(false);
     };
-    let is_recorded = match play.net.book().whole() {
-        Some(cut) => is_network(cut, &play.images, &between),
+    let is_recorded = match whole {
+        Some(cut) => is_network(cut, images, &between),
         None => false,
     };
     Ok(is_recorded)
 }
 
-/// Whether the nodes as they are have `images`.
-fn are_now(alloc: Global, play: &mut Play, images: &[Vec<u8>]) -> Result<bool, Fail> {
-    for (number, image) in images.iter().enumerate() {
-        let now = play.net.image(alloc, number)?;
-        if now.as_slice() != image.as_slice() {
-            return Ok(false);
-        }
-    }
-    Ok(images.len() + 1 == PROCESSES)
-}
-
-/// Whether all entries lead, in their own order, to a network, and that has the nodes as they are.
+/// Whether all entries lead, in their own order, to where they lead swapped, and that has the nodes as they are `now`.
 fn is_led(
     alloc: Global,
-    play: &mut Play,
+    plain: &Plain,
+    now: &[Vec<u8>],
     swapped: &NetParts,
     first: &[u8],
     second: &[u8],
 ) -> Result<bool, Fail> {
-    let are_now = are_now(alloc, play, &swapped.images)?;
-    let Some(all) = ordered(alloc, &play.plain, first, second)? else {
+    let Some(all) = ordered(alloc, plain, first, second)? else {
         return Ok(false);
     };
-    let are_same = are_same(swapped, &all);
-    Ok(are_now && are_same)
+    Ok(now.len() + 1 == PROCESSES && are_images(now, &swapped.images) && are_same(swapped, &all))
 }
 
-/// Whether the entries in the whole cut come first, over a network without entries: they lead to the network that was recorded, and with
-/// those outside behind them all lead to where they led in their own order, to the nodes as they are.
+/// Whether the entries outside the cut lead, behind those in it, to where all lead in their own order, to the nodes as they are `now`.
 fn leads(
     alloc: Global,
-    play: &mut Play,
+    plain: &Plain,
+    now: &[Vec<u8>],
     flat: &mut FlatNetwork,
     first: &[u8],
     second: &[u8],
 ) -> Result<bool, Fail> {
-    if !is_recorded(alloc, play, flat)? {
-        return Ok(false);
-    }
-    let Some(swapped) = led_to(alloc, &play.plain, &[false], flat)? else {
+    let Some(swapped) = led_to(alloc, plain, &[false], flat)? else {
         return Ok(false);
     };
-    let is_led = is_led(alloc, play, &swapped, first, second);
+    let is_led = is_led(alloc, plain, now, &swapped, first, second);
     is_led
 }
 
-/// Whether the entries in the whole cut come first, from the network of two images on.
+/// Whether the entries in the cut lead, from the network of two images on, to the network that was recorded: `whole` with `images`.
+pub(crate) fn was_recorded(
+    alloc: Global,
+    plain: &Plain,
+    whole: Option<&Cut>,
+    images: &[Vec<u8>],
+    first: &[u8],
+    second: &[u8],
+) -> Result<bool, Fail> {
+    let mut flat = flat_of(alloc, first, second)?;
+    let is_recorded = is_recorded(alloc, plain, whole, images, &mut flat);
+    is_recorded
+}
+
+/// Whether the entries may come in another order, those in the cut first: from the network of two images on they then lead to where they
+/// lead in their own order, to the nodes as they are `now`.
+pub(crate) fn may_be_swapped(
+    alloc: Global,
+    plain: &Plain,
+    now: &[Vec<u8>],
+    first: &[u8],
+    second: &[u8],
+) -> Result<bool, Fail> {
+    let mut flat = flat_of(alloc, first, second)?;
+    if !replay(plain, &[true], &mut flat) {
+        return Ok(false);
+    }
+    let leads = leads(alloc, plain, now, &mut flat, first, second);
+    leads
+}
+
+/// Whether the entries in the whole cut come first: from the network of two images on they lead to the network that was recorded, and with
+/// those outside behind them all lead to where they led in their own order, to the nodes as they are.
 pub(crate) fn comes_first(
     alloc: Global,
     play: &mut Play,
     first: &[u8],
     second: &[u8],
 ) -> Result<bool, Fail> {
-    let mut flat = flat_of(alloc, first, second)?;
-    let leads = leads(alloc, play, &mut flat, first, second);
-    leads
+    let now = Vec::from_array(
+        alloc,
+        [play.net.image(alloc, 0)?, play.net.image(alloc, 1)?],
+    )?;
+    let whole = play.net.book().whole();
+    let recorded = was_recorded(alloc, &play.plain, whole, &play.images, first, second)?;
+    let swapped = may_be_swapped(alloc, &play.plain, &now, first, second)?;
+    Ok(recorded && swapped)
 }

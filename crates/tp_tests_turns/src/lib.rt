@@ -5,13 +5,13 @@
 #[cfg(test)]
 mod acts;
 #[cfg(test)]
-mod cuts_machines;
-#[cfg(test)]
 mod cuts_network;
 #[cfg(test)]
 mod cuts_replayed;
 #[cfg(test)]
 mod devices;
+#[cfg(test)]
+mod each_order;
 #[cfg(test)]
 mod machines;
 #[cfg(test)]
@@ -20,6 +20,14 @@ mod network;
 mod one_entry;
 #[cfg(test)]
 mod one_node;
+#[cfg(test)]
+mod open_lines;
+#[cfg(test)]
+mod open_net;
+#[cfg(test)]
+mod open_orders;
+#[cfg(test)]
+mod open_playing;
 #[cfg(test)]
 mod orders;
 #[cfg(test)]

@@ -139,3 +139,21 @@ pub(crate) fn drawn_image(alloc: Global, chance: &mut Chance) -> Result<Vec<u8>,
     ];
     image(alloc, &tasks)
 }
+
+/// The images of two nodes.
+#[derive(Drop)]
+pub(crate) struct Images {
+    pub(crate) first: Vec<u8>,
+    pub(crate) second: Vec<u8>,
+}
+
+/// The images of two nodes whose processes do these tasks.
+pub(crate) fn images_of(
+    alloc: Global,
+    first: &[Task],
+    second: &[Task],
+) -> Result<Images, AllocError> {
+    let first = image(alloc, first)?;
+    let second = image(alloc, second)?;
+    Ok(Images { first, second })
+}

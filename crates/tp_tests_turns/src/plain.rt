@@ -58,11 +58,24 @@ impl Plain {
             inside: !recorded,
         })?;
         if let Entry::Take { line, token } = entry {
-            if recorded && self.closed.get(usize::from(line)) == Some(&false) {
-                self.taken.push((line, token))?;
+            if recorded {
+                self.gather(line, token)?;
             }
         }
         Ok(())
+    }
+
+    /// A token was taken behind a recording: it belongs to the line in the cut, where that isn't closed.
+    pub(crate) fn gather(&mut self, line: u16, token: Token) -> Result<(), AllocError> {
+        if self.closed.get(usize::from(line)) == Some(&false) {
+            self.taken.push((line, token))?;
+        }
+        Ok(())
+    }
+
+    /// Whether a process recorded.
+    pub(crate) fn has_recorded(&self, process: usize) -> bool {
+        self.recorded.get(process) == Some(&true)
     }
 
     /// A process recorded.

@@ -1,0 +1,11 @@
+use Rattle.std.proofs.Common.{◌≡◌, true, ap, rules}
+use Rattle.std.specs.Prelude.{is_none}
+use Rattle.std.specs.List.{list_all}
+use Rattle.tp_tests_turns.proofs.OpenNetting.{all_thawed, taken_in}
+use Rattle.tp_tests_turns.proofs.open_net.OpenNet.take_in.Goals as goal
+
+pub invariant_of-self : goal.invariant_of-self
+invariant_of-self c =
+    let seats = c.self.inside.seats.items in
+    let passed : list_all (λ seat. is_none seat.node.frozen) seats ≡ true = search rules in
+    taken_in seats c.self.inside.book c.take_in.new.self (all_thawed seats passed) c.take_in.ensures.book c.take_in.ensures.act c.self.invariant

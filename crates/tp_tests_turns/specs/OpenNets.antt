@@ -1,0 +1,43 @@
+-- Two nodes and a port in memory, whose turns stay open while others act.
+use Rattle.std.specs.Prelude.{◌≡◌, ◌≢◌, ℕ, true, false, List, ◌++◌, Option, Some, None, slice_get}
+use Rattle.tp_model.specs.declared.form.Form.TheVariants.{Turns}
+use Rattle.tp_node.specs.NodeContents.{NodeContents}
+use Rattle.tp_book.specs.Book.{BookValue}
+use Rattle.tp_turn.specs.Moments.{IsNodeOf}
+use Rattle.tp_turn.specs.Whole.{HasTurnedOn}
+use Rattle.tp_tests_turns.specs.declared.open_net.Away.{Away}
+use Rattle.tp_tests_turns.specs.declared.open_net.Seat.{Seat}
+
+-- ## A node
+
+-- No turn of the node is open, and it is the one that the book's entries make of it.
+pub record IsHome (b : BookValue) (number : ℕ) (node : NodeContents) : Type 0 where
+  pub free : slice_get b.runs number ≡ Some false
+  pub is : IsNodeOf b number node
+
+-- A turn of the node is open: it received what stands in front of its lines, and ran, and the book has none of it.
+pub record IsAway (b : BookValue) (number : ℕ) (away : Away) (node : NodeContents) : Type 0 where
+  pub reserved : slice_get b.runs number ≡ Some true
+  pub turned : HasTurnedOn b number away.taken.takes away.stretch.ran.count (away.taken.sent.items ++ away.stretch.sent.items) node
+
+abbrev pub IsSeated : BookValue → ℕ → Option Away → NodeContents → Type 0
+IsSeated b number None node = IsHome b number node
+IsSeated b number (Some away) node = IsAway b number away node
+
+-- ## The network
+
+pub record OpenNetValue : Type 0 where
+  pub book : BookValue
+  pub seats : List Seat
+
+-- each node is at home or away, and nothing is made ready
+pub record HasSeats (b : BookValue) (seats : List Seat) : Type 0 where
+  pub idle : b.ready ≡ None
+  pub form : b.form ≡ Turns
+  pub each : (i : ℕ) (seat : Seat) → slice_get seats i ≡ Some seat → IsSeated b i seat.away seat.node
+
+-- Others are at home or away as before, whatever one node did.
+pub record Leaves (number : ℕ) (old new : BookValue) : Type 0 where
+  pub idle : new.ready ≡ old.ready
+  pub form : new.form ≡ old.form
+  pub others : (i : ℕ) (away : Option Away) (node : NodeContents) → i ≢ number → IsSeated old i away node → IsSeated new i away node
