@@ -1,8 +1,11 @@
+pub mod Fitted
 pub mod Kept
 pub mod Looks
+pub mod Notices
 pub mod Puts
 pub mod Quiets
 pub mod Runs
 pub mod Shown
 pub mod Standings
+pub mod Started
 pub mod Stepping

@@ -5,6 +5,7 @@ use Rattle.std.specs.Prelude.{nat_lt, if◌then◌else◌, IfOk}
 use Rattle.tp_model.specs.NodeState.{NodeState}
 use Rattle.tp_model.specs.Network.{Network}
 use Rattle.tp_model.specs.Node.{node_step}
+use Rattle.tp_model.specs.Topology.{Topology, node_count}
 use Rattle.tp_model.specs.Step.{step_of}
 use Rattle.tp_model.specs.NodeWrites.{node_ranges}
 use Rattle.tp_model.specs.SharedPages.{LacksFrames}
@@ -23,7 +24,8 @@ use Rattle.tp_stream.specs.declared.fault.StreamFault.{StreamFault}
 use Rattle.tp_stream.specs.declared.pumping.Pumped.{Pumped}
 use Rattle.tp_stream.specs.declared.turns.Turns.{Turns as TurnsValue}
 use Rattle.tp_stream.specs.Endings.{IsEnding}
-use Rattle.tp_stream.specs.Quiet.{IsQuietNetwork, HasNoStep, HaveRested, HostRests, IsAsked, IsWhyEnded, NodeRests, HadNothingToDo}
+use Rattle.tp_stream.specs.Over.{LeavesNoInput}
+use Rattle.tp_stream.specs.Quiet.{IsQuietNetwork, HasNoStep, HaveRested, HostRests, IsAsked, IsWhyEnded, NodeRests, HadNothingToDo, LeavesNothingToDo}
 
 halted_rests : (node : NodeState) → IsSome node.cpu.halt → node_step node ≡ None
 unfolding node_step step_of
@@ -135,6 +137,20 @@ pub all_asked : (start : Network NodeState) (task : Task) (r : Result Ended Stre
 all_asked start task (Ok ended) is = asked start task ended.why is
 all_asked start task (Err fault) is = is
 
+-- nothing is left to do of what was picked for a topology
+left : (start : Network NodeState) (t : Topology) (task : Task) (why : Ending) → length start.nodes ≡ node_count t → length start.ports ≡ t.ports → start.wires ≡ t.wires → IsWhyEnded start task why
+    → LeavesNothingToDo t why
+left start t task Quiet nodes ports wires is = record { start = start; nodes = nodes; ports = ports; wires = wires; quiet = is.1 }
+left start t task Turns nodes ports wires is = tt
+left start t task Gone nodes ports wires is = tt
+left start t task Halted nodes ports wires is = tt
+left start t task AskedTo nodes ports wires is = tt
+
+pub all_left : (start : Network NodeState) (t : Topology) (task : Task) (r : Result Ended StreamFault) → length start.nodes ≡ node_count t → length start.ports ≡ t.ports → start.wires ≡ t.wires
+    → IfOk r (λ ended. IsWhyEnded start task ended.why) → IfOk r (λ ended. LeavesNothingToDo t ended.why)
+all_left start t task (Ok ended) nodes ports wires is = left start t task ended.why nodes ports wires is
+all_left start t task (Err fault) nodes ports wires is = tt
+
 -- where its turns are such
 pub ended_why : (start : Network NodeState) (task : Task) (turns : TurnsValue) (nodes : ℕ) (asked : Bool) (pumped : Pumped) (over : Bool) (why : Ending) → nodes ≡ length start.nodes
     → HaveRested start turns.whose turns.idle → (asked ≡ true → task.until_asked ≡ true) → IsEnding task turns nodes asked pumped over why → IsWhyEnded start task why
@@ -144,3 +160,12 @@ ended_why start task turns nodes asked pumped over Turns many H until is = rw is
 ended_why start task turns nodes asked pumped over Gone many H until is = tt
 ended_why start task turns nodes asked pumped over Halted many H until is = is.0
 ended_why start task turns nodes asked pumped over AskedTo many H until is = until is
+
+-- where it is quiet nothing is left of each input
+pub leaves_no_input : (task : Task) (turns : TurnsValue) (nodes : ℕ) (asked : Bool) (pumped : Pumped) (over all : Bool) (why : Ending) → over ≡ all → IsEnding task turns nodes asked pumped over why
+    → LeavesNoInput all why
+leaves_no_input task turns nodes asked pumped over all Quiet same is = sym same ∙ is.1.over_is
+leaves_no_input task turns nodes asked pumped over all Turns same is = tt
+leaves_no_input task turns nodes asked pumped over all Gone same is = tt
+leaves_no_input task turns nodes asked pumped over all Halted same is = tt
+leaves_no_input task turns nodes asked pumped over all AskedTo same is = tt

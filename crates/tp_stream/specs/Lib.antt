@@ -1,7 +1,9 @@
 pub mod Endings
+pub mod Fitting
 pub mod Looks
 pub mod Offered
 pub mod Outcomes
+pub mod Over
 pub mod Put
 pub mod Quiet
 pub mod Rooms

@@ -3,6 +3,7 @@ use Rattle.std.specs.Prelude.{◌≡◌, ◌<◌, ◌≤◌, ℕ, ◌+◌, false
 use Rattle.tp_model.specs.NodeState.{NodeState}
 use Rattle.tp_model.specs.Network.{Network}
 use Rattle.tp_model.specs.Node.{node_step}
+use Rattle.tp_model.specs.Topology.{Topology, node_count}
 use Rattle.tp_node.specs.declared.run.Why.{Why}
 use Rattle.tp_node.specs.declared.run.Why.TheVariants.{Full, Idle, NoFrame, Halted as Stopped}
 use Rattle.tp_book.specs.Needs.{has_recorded_in}
@@ -66,7 +67,23 @@ pub record HaveRested (start : Network NodeState) (whose idle : ℕ) : Type 0 wh
 abbrev pub IsQuietNetwork : Network NodeState → Type 0
 IsQuietNetwork start = (p : ℕ) → p ≤ length start.nodes → HadNothingToDo start p
 
+-- A network with the nodes, ports and wires of a topology, in which nothing is left to do.
+pub record IsQuietOf (t : Topology) : Type 0 where
+  pub start : Network NodeState
+  pub nodes : length start.nodes ≡ node_count t
+  pub ports : length start.ports ≡ t.ports
+  pub wires : start.wires ≡ t.wires
+  pub quiet : IsQuietNetwork start
+
 -- ## Why a stream is over
+
+-- Where it ended as quiet, nothing is left to do in the network of that topology.
+abbrev pub LeavesNothingToDo : Topology → Ending → Type 0
+LeavesNothingToDo t Quiet = IsQuietOf t
+LeavesNothingToDo t Turns = Unit {0}
+LeavesNothingToDo t Gone = Unit {0}
+LeavesNothingToDo t Halted = Unit {0}
+LeavesNothingToDo t AskedTo = Unit {0}
 
 -- It was asked to end so; and where it ended as quiet, nothing is left to do.
 abbrev pub IsWhyEnded : Network NodeState → Task → Ending → Type 0

@@ -1,55 +1,94 @@
 //! What is tested before a stream begins.
 
-ghost use Rattle.std.specs.Prelude.{◌≡◌, length, map, IfSome, OnOk, IfErr};
+ghost use Rattle.std.specs.Prelude.{◌≡◌, ◌++◌, length, map, IfNone, IfSome, OnOk, IfErr};
 ghost use Rattle.tp_book.specs.Counted.{AreCounted};
 ghost use Rattle.tp_stream_files.specs.Inputs.{given_input};
-ghost use Rattle.tp_stream_files.specs.Outputs.{given_of};
+ghost use Rattle.tp_stream_files.specs.Notices.{Noticed};
+ghost use Rattle.tp_stream_files.specs.Outputs.{OutputValue, given_of};
+ghost use Rattle.tp_stream.specs.Fitting.{AllNamed, Fits, IsFirstUnnamed, Unfit, absent_of, first_past, has_sink, lacks_pages, port_has_wire};
 ghost use Rattle.tp_stream.specs.Put.{EachWith};
 ghost use Rattle.tp_stream.specs.Standing.{AllHaveAccepted, AllMayBegin, IsFirstRefused, IsFirstShort, IsNotBegun, OfInput, OfOutput, accepted_at, port_standing};
 ghost use Rattle.tp_stream.specs.Steps.{IsSetOut};
+ghost use Rattle.tp_stream.specs.Told.{input_begins, output_begins};
 
 use crate::fault::StreamFault;
 use crate::output::begin;
 use crate::task::Task;
 use tp_book::Book;
-use tp_net::Topology;
+use tp_net::{Topology, receiver};
 use tp_stream_files::{Input, Listener, Output, Sink, Source, Streams};
 
+/// Whether a node has fewer than `spare` pages.
+fn lacks_pages(topology: &Topology, spare: u16) -> bool
+    ensures { result ≡ lacks_pages spare topology.now }
+{
+    topology.pages().iter().any(|pages| *pages < spare)
+}
+
 /// Whether a port has a wire.
-fn is_wired(topology: &Topology, port: usize) -> bool {
-    let line = (4 * topology.pages().len()).saturating_add(port);
-    topology.wires().get(line).is_some_and(|end| end.is_some())
+fn port_has_wire(topology: &Topology, port: u8) -> bool
+    ensures { result ≡ port_has_wire topology.now port }
+{
+    let line = 4 * topology.pages().len() + usize::from(port);
+    match receiver(topology.wires(), line) {
+        Some(_) => true,
+        None => false,
+    }
 }
 
 /// Whether a sink is for a port.
-fn has_sink<S: Sink>(outputs: &[Output<S>], port: u8) -> bool {
+fn has_sink<S: Sink>(outputs: &[Output<S>], port: u8) -> bool
+    ensures { result ≡ has_sink port outputs.now }
+{
     outputs.iter().any(|output| output.port() == port)
 }
 
-/// A port with a wire for which there is no sink.
-fn unnamed<S: Sink>(topology: &Topology, outputs: &[Output<S>]) -> Option<u8> {
+/// The first port with a wire for which there is no sink.
+fn unnamed<S: Sink>(topology: &Topology, outputs: &[Output<S>]) -> Option<u8>
+    ensures some { IfSome result (IsFirstUnnamed topology.now outputs.now) }
+    ensures none { IfNone result (AllNamed topology.now outputs.now) }
+{
     for port in 0..topology.port_count() {
-        if is_wired(topology, port) && !has_sink(outputs, port as u8) {
+        if port_has_wire(topology, port as u8) && !has_sink(outputs, port as u8) {
             return Some(port as u8);
         }
     }
     None
 }
 
-/// A port that isn't there, for which there is a sink or a source.
-fn absent<S: Sink, I: Source>(topology: &Topology, streams: &Streams<S, I>) -> Option<u8> {
-    let ports = topology.port_count();
-    for output in &streams.outputs {
+/// The first output whose port isn't one of `ports`.
+fn absent_output<S: Sink>(ports: usize, outputs: &[Output<S>]) -> Option<u8>
+    ensures { result ≡ first_past ports (map (λ (o : OutputValue). o.port) outputs.now) }
+{
+    for output in outputs {
         if usize::from(output.port()) >= ports {
             return Some(output.port());
         }
     }
-    for input in &streams.inputs {
+    None
+}
+
+/// The first input whose port isn't one of `ports`.
+fn absent_input<I: Source>(ports: usize, inputs: &[Input<I>]) -> Option<u8>
+    ensures { result ≡ first_past ports (map (λ i. i.port) inputs.now) }
+{
+    for input in inputs {
         if usize::from(input.port()) >= ports {
             return Some(input.port());
         }
     }
     None
+}
+
+/// The first port that isn't there, for which there is a sink; or else a source.
+fn absent<S: Sink, I: Source>(topology: &Topology, streams: &Streams<S, I>) -> Option<u8>
+    ensures { result ≡ absent_of topology.now streams.now.outputs.items (map (λ i. i.port) streams.now.inputs.items) }
+{
+    let ports = topology.port_count();
+    match absent_output(ports, &streams.outputs) {
+        Some(port) => Some(port),
+        None => absent_input(ports, &streams.inputs),
+    }
 }
 
 /// Why a network isn't run as `task` says on `streams`, where it isn't.
@@ -58,19 +97,20 @@ pub(crate) fn task_fault<S: Sink, I: Source>(
     topology: &Topology,
     streams: &Streams<S, I>,
 ) -> Option<StreamFault>
+    ensures unfit { IfSome result (Unfit task topology.now streams.now.outputs.items (map (λ i. i.port) streams.now.inputs.items)) }
+    ensures fits { IfNone result (Fits task topology.now streams.now.outputs.items (map (λ i. i.port) streams.now.inputs.items)) }
     ensures output { IfSome result (λ fault. OfOutput fault ⊥) }
     ensures input { IfSome result (λ fault. OfInput fault ⊥) }
 {
-    if topology.pages().iter().any(|pages| *pages < task.spare) {
+    if lacks_pages(topology, task.spare) {
         return Some(StreamFault::Spare);
     }
-    match (
-        absent(topology, streams),
-        unnamed(topology, &streams.outputs),
-    ) {
-        (Some(port), _) => Some(StreamFault::Port(port)),
-        (None, Some(port)) => Some(StreamFault::Unnamed(port)),
-        (None, None) => None,
+    if let Some(port) = absent(topology, streams) {
+        return Some(StreamFault::Port(port));
+    }
+    match unnamed(topology, &streams.outputs) {
+        Some(port) => Some(StreamFault::Unnamed(port)),
+        None => None,
     }
 }
 
@@ -87,6 +127,7 @@ fn begin_outputs<S: Sink, L: Listener>(
     ensures refused { IfErr result (IsFirstRefused (length book.now.state.ports) (port_standing book.now mark) (map given_of outputs.old)) }
     ensures same { map given_of outputs.new ≡ map given_of outputs.old }
     ensures set { OnOk result (EachWith (IsSetOut (port_standing book.now mark)) outputs.old outputs.new) }
+    ensures told { OnOk result (Noticed (map (output_begins (port_standing book.now mark)) (map given_of outputs.old)) (L.told listener.old) (L.told listener.new)) }
 {
     for output in outputs.iter_mut() {
         if usize::from(output.port()) >= book.ports() {
@@ -108,6 +149,7 @@ fn begin_inputs<I: Source, L: Listener>(
 ) -> Result<(), StreamFault>
     ensures begun { OnOk result (AllHaveAccepted (accepted_at book.now) (map (λ i. given_input i.port (I.input i.source)) inputs.now)) }
     ensures refused { IfErr result (IsFirstShort (length book.now.state.ports) (accepted_at book.now) (map (λ i. given_input i.port (I.input i.source)) inputs.now)) }
+    ensures told { OnOk result (Noticed (map (input_begins (accepted_at book.now)) (map (λ i. given_input i.port (I.input i.source)) inputs.now)) (L.told listener.old) (L.told listener.new)) }
 {
     for input in inputs {
         let port = input.port();
@@ -140,6 +182,8 @@ pub(crate) fn begin_all<S: Sink, I: Source, L: Listener>(
     ensures refused { IfErr result (IsNotBegun (length book.now.state.ports) (port_standing book.now mark) (accepted_at book.now) (map given_of streams.old.outputs.items) (map (λ i. given_input i.port (I.input i.source)) streams.old.inputs.items)) }
     ensures same { map given_of streams.new.outputs.items ≡ map given_of streams.old.outputs.items }
     ensures set { OnOk result (EachWith (IsSetOut (port_standing book.now mark)) streams.old.outputs.items streams.new.outputs.items) }
+    ensures told { OnOk result (Noticed (map (output_begins (port_standing book.now mark)) (map given_of streams.old.outputs.items)
+        ++ map (input_begins (accepted_at book.now)) (map (λ i. given_input i.port (I.input i.source)) streams.old.inputs.items)) (L.told listener.old) (L.told listener.new)) }
 {
     begin_outputs(book, mark, &mut streams.outputs, listener)?;
     begin_inputs(book, &streams.inputs, listener)

@@ -1,6 +1,8 @@
 //! When a stream is over.
 
+ghost use Rattle.std.specs.List.{list_all};
 ghost use Rattle.std.specs.Prelude.{◌≡◌, ◌++◌, true, nat_lt, IfSome};
+ghost use Rattle.tp_stream_files.specs.Inputs.{is_over};
 ghost use Rattle.tp_stream.specs.Endings.{IsEnding};
 ghost use Rattle.tp_stream.specs.Looks.{is_stopped, looked};
 
@@ -9,8 +11,10 @@ use crate::task::Task;
 use crate::turns::Turns;
 use tp_stream_files::{Ending, Input, Source, Stop};
 
-/// Whether no input is left that its port may take.
-pub(crate) fn are_over<I: Source>(inputs: &[Input<I>]) -> bool {
+/// Whether nothing is left of each input that its port may take.
+pub(crate) fn are_over<I: Source>(inputs: &[Input<I>]) -> bool
+    ensures { result ≡ list_all (λ i. is_over i.ended i.is_blocked) inputs.now }
+{
     inputs.iter().all(|input| input.is_over())
 }
 

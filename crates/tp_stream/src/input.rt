@@ -1,7 +1,7 @@
 //! Steps of a port's input: handed in piece by piece.
 
-ghost use Rattle.std.specs.Prelude.{◌≡◌, ◌<◌, length, true, false, Ok, IfErr, OnErr};
-ghost use Rattle.tp_book.specs.Host.{accepted_of, after_inputs, port_in};
+ghost use Rattle.std.specs.Prelude.{◌≡◌, ◌⊎◌, ◌<◌, ◌==◌, length, true, false, Ok, Some, IfErr, OnErr};
+ghost use Rattle.tp_book.specs.Host.{accepted_of, after_inputs, port_in, room_of};
 ghost use Rattle.tp_stream.specs.Offered.{Offered};
 ghost use Rattle.tp_stream.specs.Streamed.{CameBegun};
 
@@ -47,8 +47,10 @@ pub(crate) fn step<J: Naming, I: Source>(
     most: u64,
 ) -> Result<bool, StreamFault>
     requires there { input.old.port < length held.old.book.state.ports }
-    ensures taken { result ≡ Ok true → Offered (I.input input.old.source) input.old.port held.old.book held.new.book }
+    ensures taken { result ≡ Ok true → Offered (I.input input.old.source) input.old.port most held.old.book held.new.book }
     ensures refused { result ≡ Ok false → held.new ≡ held.old }
+    ensures blocked { input.new.is_blocked ≡ (room_of (port_in held.old.book input.old.port) == 0) }
+    ensures ended { (input.new.ended ≡ input.old.ended) ⊎ (input.new.ended ≡ Some (accepted_of (port_in held.old.book input.old.port))) }
     ensures same { (input.new.port ≡ input.old.port) × (I.input input.new.source ≡ I.input input.old.source) }
     ensures err { OnErr result (held.new ≡ held.old) }
     ensures begun { IfErr result CameBegun }

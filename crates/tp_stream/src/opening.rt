@@ -1,16 +1,18 @@
 //! What is made of a device that opened.
 
-ghost use Rattle.std.specs.Prelude.{◌≡◌, ◌⊎◌, IfOk, OnOk, IfErr, Some, length, map};
+ghost use Rattle.std.specs.Prelude.{◌≡◌, ◌⊎◌, ◌++◌, IfOk, OnOk, IfErr, Some, length, map};
 ghost use Rattle.tp_model.specs.Journal.{room};
 ghost use Rattle.tp_book.specs.Book.{next_in_book};
 ghost use Rattle.tp_book.specs.Opened.{IsWellOpen, opened_book};
 ghost use Rattle.tp_flush.specs.Made.{IsMadeOf};
 ghost use Rattle.tp_stream.specs.declared.fault.StreamFault.TheVariants.{Memory};
 ghost use Rattle.tp_stream_files.specs.Inputs.{given_input};
+ghost use Rattle.tp_stream_files.specs.Notices.{Noticed};
 ghost use Rattle.tp_stream_files.specs.Outputs.{given_of};
 ghost use Rattle.tp_stream.specs.Put.{EachWith};
 ghost use Rattle.tp_stream.specs.Standing.{AllHaveAccepted, AllMayBegin, IsNotBegun, accepted_opened, stands_opened};
 ghost use Rattle.tp_stream.specs.Steps.{IsSetOut};
+ghost use Rattle.tp_stream.specs.Told.{input_begins, output_begins};
 
 use crate::beginning::begin_all;
 use crate::fault::StreamFault;
@@ -56,6 +58,8 @@ pub(crate) fn parts_of<S: Sink, I: Source, L: Listener>(
     ensures refused { IfErr result (λ fault. (fault ≡ Memory) ⊎ IsNotBegun (length opened.now.ports) (stands_opened opened) (accepted_opened opened) (map given_of streams.old.outputs.items) (map (λ i. given_input i.port (I.input i.source)) streams.old.inputs.items) fault) }
     ensures untouched { map given_of streams.new.outputs.items ≡ map given_of streams.old.outputs.items }
     ensures set { OnOk result (EachWith (IsSetOut (stands_opened opened)) streams.old.outputs.items streams.new.outputs.items) }
+    ensures told { OnOk result (Noticed (map (output_begins (stands_opened opened)) (map given_of streams.old.outputs.items)
+        ++ map (input_begins (accepted_opened opened)) (map (λ i. given_input i.port (I.input i.source)) streams.old.inputs.items)) (L.told listener.old) (L.told listener.new)) }
 {
     opened_books_begin();
     opened.known();

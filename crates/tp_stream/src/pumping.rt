@@ -1,8 +1,11 @@
 //! Steps of all streams of a network.
 
-ghost use Rattle.std.specs.Prelude.{◌≡◌, IfErr};
+ghost use Rattle.std.specs.Prelude.{◌≡◌, ◌<◌, ◌-◌, length, true, false, Ok, IfErr, OnErr};
+ghost use Rattle.tp_book.specs.Refusals.{is_journal_full};
 ghost use Rattle.tp_flush.specs.Known.{Began};
+ghost use Rattle.tp_stream.specs.Offered.{Offered};
 ghost use Rattle.tp_stream.specs.Put.{EachWith};
+ghost use Rattle.tp_stream.specs.Rooms.{UnreservedBook, free_of, has_room_for};
 ghost use Rattle.tp_stream.specs.Steps.{AllStepped, AreLeft, PutsLeft, PutsShown};
 ghost use Rattle.tp_stream.specs.Streamed.{CameBegun};
 
@@ -50,11 +53,19 @@ impl Pumped {
     }
 }
 
-/// Whether the journal has room for a confirm a port.
+/// Whether the journal has room for a confirm a port, under the book's lock. Where the book lies in that journal, and no run is reserved, none
+/// of them is then refused as JournalFull.
+fn has_confirms<J: Naming>(held: &Locked<J>, pace: Pace) -> bool
+    ensures value { result ≡ has_room_for pace.rooms.journal held.now.book pace.confirms }
+    ensures keeps { UnreservedBook pace.rooms.journal held.now.book → result ≡ true → is_journal_full held.now.book pace.confirms ≡ false }
+{
+    pace.rooms.has_room(held.book(), pace.confirms)
+}
+
+/// Takes the book's lock, and asks under it whether the journal has room for a confirm a port.
 pub(crate) fn can_confirm<J: Naming, R: Wait>(rt: &R, shared: &Shared<J>, pace: Pace) -> bool {
     let held = shared.book().lock(rt);
-    held.known();
-    pace.rooms.has_room(held.book(), pace.confirms)
+    has_confirms(&held, pace)
 }
 
 /// A step of a port's output, under the book's lock. What is put is shown by the flusher's mark.
@@ -133,8 +144,31 @@ fn step_outputs<J: Naming, D: Disk, S: Sink, R: Wait>(
     step_settled(&mut held, flusher, outputs)
 }
 
-/// A step of a port's input, which takes the book's lock. Whether the port took more. Room for the confirms is kept. Where it may not
-/// wait for bytes that haven't come yet, the port then takes none.
+/// A step of a port's input, under the book's lock. Whether the port took more: no more than leaves the journal the room that a turn and
+/// the confirms behind it need. Where it may not wait for bytes that haven't come yet, the port then takes none.
+fn step_held<J: Naming, I: Source>(
+    held: &mut Locked<J>,
+    pace: Pace,
+    piece: &mut [u8],
+    may_wait: bool,
+    input: &mut Input<I>,
+) -> Result<bool, StreamFault>
+    requires there { input.old.port < length held.old.book.state.ports }
+    ensures taken { result ≡ Ok true → Offered (I.input input.old.source) input.old.port (free_of pace.rooms.journal held.old.book - pace.need) held.old.book held.new.book }
+    ensures refused { result ≡ Ok false → held.new ≡ held.old }
+    ensures err { OnErr result (held.new ≡ held.old) }
+    ensures begun { IfErr result CameBegun }
+{
+    let at = held.book().accepted(input.port());
+    if !may_wait && input.would_wait(at, 0) {
+        return Ok(false);
+    }
+    let free = pace.rooms.free(held.book());
+    let most = free.saturating_sub(u64::from(pace.need));
+    crate::input::step(input, held, piece, most)
+}
+
+/// Takes the book's lock, and makes a step of a port's input under it. Whether the port took more.
 fn step_input<J: Naming, I: Source, R: Wait>(
     rt: &R,
     shared: &Shared<J>,
@@ -150,17 +184,7 @@ fn step_input<J: Naming, I: Source, R: Wait>(
     if input.port() >= shared.ports() {
         return Err(StreamFault::InputFailed(input.port()));
     }
-    let at = held.book().accepted(input.port());
-    if !may_wait && input.would_wait(at, 0) {
-        return Ok(false);
-    }
-    let free = pace.rooms.free(held.book());
-    crate::input::step(
-        input,
-        &mut held,
-        piece,
-        free.saturating_sub(u64::from(pace.need)),
-    )
+    step_held(&mut held, pace, piece, may_wait, input)
 }
 
 /// The first input whose bytes haven't come yet for which the journal has room: its port, and how many that has accepted.

@@ -3,7 +3,7 @@
 ghost use Rattle.std.specs.Prelude.{◌≡◌, ◌<◌, true, false};
 ghost use Rattle.tp_book.specs.Refusals.{is_journal_full};
 ghost use Rattle.tp_area.specs.Capacity.{journal_of};
-ghost use Rattle.tp_stream.specs.Rooms.{HavePlace, UnreservedBook, free_of, has_room_for};
+ghost use Rattle.tp_stream.specs.Rooms.{HavePlace, UnreservedBook, every_of, free_of, has_room_for};
 ghost use Rattle.tp_stream.specs.Told.{used_of};
 
 use tp_area::JournalRoom;
@@ -50,7 +50,8 @@ impl Rooms {
     /// How many entries since the kept cut begin a snapshot, where `asked` were asked for: at most those that fill half of it, and at
     /// least one, so that none begins where nothing has happened.
     pub(crate) fn every(self, asked: Option<u32>) -> u64
-        ensures { 0 < result }
+        ensures value { result ≡ every_of self.journal asked }
+        ensures some { 0 < result }
     {
         let half = self.journal.half().max(1);
         match asked {

@@ -5,7 +5,7 @@ ghost use Rattle.tp_model.specs.declared.limits.TheConstants.{MAX_STEPS};
 ghost use Rattle.tp_book.specs.Marked.{after_begin};
 ghost use Rattle.tp_flush.specs.Due.{is_due};
 ghost use Rattle.tp_stream.specs.Quiet.{HadNothing, HasNoStep, HaveRested, HostRests, IsStill, NodeRests};
-ghost use Rattle.tp_stream.specs.Rooms.{HavePlace};
+ghost use Rattle.tp_stream.specs.Rooms.{HavePlace, has_room_for};
 ghost use Rattle.tp_stream.specs.Streamed.{CameBegun};
 
 use crate::fault::StreamFault;
@@ -123,7 +123,8 @@ struct Seen {
 
 /// What is seen of the book under its lock.
 fn look_at<J: Naming>(held: &Locked<J>, pace: Pace) -> Seen
-    ensures { result.is_running ≡ false → IsStill J.start }
+    ensures still { result.is_running ≡ false → IsStill J.start }
+    ensures room { result.has_room ≡ has_room_for pace.rooms.journal held.now.book pace.need }
 {
     held.known();
     Seen {
@@ -153,6 +154,7 @@ fn one_turn<J: Naming, R: Wait>(
 ) -> Result<(), StreamFault>
     requires rested { HaveRested J.start turns.old.whose turns.old.idle }
     requires still { seen.is_running ≡ false → IsStill J.start }
+    requires room { seen.has_room ≡ true }
     ensures rested { OnOk result (HaveRested J.start turns.new.whose turns.new.idle) }
     ensures begun { IfErr result CameBegun }
 {

@@ -1,7 +1,8 @@
 //! Nodes that have stopped.
 
-ghost use Rattle.std.specs.Prelude.{◌≡◌};
+ghost use Rattle.std.specs.Prelude.{◌≡◌, length};
 ghost use Rattle.tp_stream.specs.Outcomes.{stopped_of};
+ghost use Rattle.tp_stream.specs.Told.{ToldLater};
 
 use std::sync::Wait;
 use tp_book::Book;
@@ -61,7 +62,9 @@ pub(crate) fn tell_stopped<J: Naming, L: Listener, R: Wait>(
     why: Ending,
     rests: bool,
     listener: &mut L,
-) {
+)
+    ensures { ToldLater (length J.start.nodes) (L.told listener.old) (L.told listener.new) }
+{
     let is_stuck = is_stuck(rt, shared, why, rests);
     for node in 0..shared.nodes() {
         if let Some(how) = stopped(shared.standing(rt, node), is_stuck) {

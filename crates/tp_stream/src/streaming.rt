@@ -1,7 +1,8 @@
 //! A stream, from a device to a device.
 
-ghost use Rattle.std.specs.List.{AllByRecursion};
-ghost use Rattle.std.specs.Prelude.{◌≡◌, ◌⊎◌, ◌<◌, ◌≤◌, false, true, Ok, Err, Some, length, map, OnOk, IfOk, IfErr, IsErr};
+ghost use Rattle.std.specs.List.{AllByRecursion, list_all};
+ghost use Rattle.std.specs.Prelude.{◌≡◌, ◌⊎◌, ◌++◌, ◌<◌, ◌≤◌, false, true, Ok, Err, Some, length, map, OnOk, IfOk, IfErr, IsErr};
+ghost use Rattle.tp_area.specs.Capacity.{journal_of};
 ghost use Rattle.tp_area.specs.Places.{place_at};
 ghost use Rattle.tp_flush.specs.Known.{Began};
 ghost use Rattle.tp_model.specs.DiskHistory.{IsSynced};
@@ -10,18 +11,23 @@ ghost use Rattle.tp_model.specs.Journal.{is_roomy, room};
 ghost use Rattle.tp_model.specs.Node.{t414_ends};
 ghost use Rattle.tp_model.specs.Opening.{Opened as OpenedValue, verdict};
 ghost use Rattle.tp_model.specs.Spelling.{IsCut};
+ghost use Rattle.tp_model.specs.Topology.{node_count};
 ghost use Rattle.tp_model.specs.declared.limits.TheConstants.{MAX_STEPS};
 ghost use Rattle.tp_recover.specs.Reading.{LeavesNothingNew};
 ghost use Rattle.tp_flush.specs.Made.{IsMadeOf};
 ghost use Rattle.tp_flush.specs.History.{History};
 ghost use Rattle.tp_shared.specs.Named.{Names};
-ghost use Rattle.tp_stream_files.specs.Inputs.{given_input};
+ghost use Rattle.tp_stream_files.specs.Inputs.{given_input, is_over};
 ghost use Rattle.tp_stream_files.specs.Outputs.{given_of};
+ghost use Rattle.tp_stream.specs.Fitting.{SaysFit};
 ghost use Rattle.tp_stream.specs.Put.{ServedInto, StreamedInto};
 ghost use Rattle.tp_stream.specs.Looks.{HaveLooked};
-ghost use Rattle.tp_stream.specs.Quiet.{IsAsked};
+ghost use Rattle.tp_stream.specs.Over.{LeavesNoInput};
+ghost use Rattle.tp_stream.specs.Quiet.{IsAsked, LeavesNothingToDo};
+ghost use Rattle.tp_stream.specs.Rooms.{every_of, need_of};
 ghost use Rattle.tp_stream.specs.Standing.{AllHaveAccepted, AllMayBegin, IsFirstRefused, IsFirstShort, OfInput, OfOutput, accepted_opened, stands_opened};
 ghost use Rattle.tp_stream.specs.Streamed.{CameBegun, StaysUnstreamed, Streamed};
+ghost use Rattle.tp_stream.specs.Told.{ToldFirst, ToldLater, input_begins, output_begins};
 ghost use Rattle.tp_recover.specs.declared.unopened.Unopened.{Unopened};
 
 use crate::beginning::task_fault;
@@ -49,7 +55,11 @@ use tp_turn::{TAKES, TURN_ENTRIES};
 /// whichever is more, and for a confirm a port.
 fn pace_of(task: Task, topology: &Topology, area: u64) -> Pace
     requires { task.quantum ≤ MAX_STEPS }
-    ensures { result.task ≡ task }
+    ensures task { result.task ≡ task }
+    ensures journal { result.rooms.journal ≡ journal_of topology.now area }
+    ensures every { result.every ≡ every_of (journal_of topology.now area) task.every }
+    ensures need { result.need ≡ need_of topology.now.ports }
+    ensures confirms { result.confirms ≡ topology.now.ports }
 {
     let ports = topology.port_count() as u32;
     let rooms = Rooms::of(topology, area);
@@ -93,6 +103,9 @@ fn stream_parts<J: Naming, D: Disk + Drop, S: Sink, I: Source, L: Listener, P: S
         → ServedInto J.formatted result.1 streams.old.outputs.items streams.new.outputs.items (D.state store.disk) (D.state result.0) }
     ensures why { IfOk result.1 (λ ended. IsAsked task ended.why) }
     ensures looks { IfOk result.1 (λ ended. HaveLooked task (P.answers stop.old) (P.answers stop.new) (Some ended.why)) }
+    ensures over { IfOk result.1 (λ ended. LeavesNoInput (list_all (λ i. is_over i.ended i.is_blocked) streams.new.inputs.items) ended.why) }
+    ensures quiet { IfOk result.1 (λ ended. LeavesNothingToDo topology ended.why) }
+    ensures told { ToldLater (node_count topology) (L.told listener.old) (L.told listener.new) }
     ensures begun { IfErr result.1 CameBegun }
 {
     let (shared, key) = Shared::<J>::start(parts);
@@ -141,6 +154,15 @@ pub fn stream<D: Disk + Drop, S: Sink, I: Source, L: Listener, P: Stop, R: Wait>
         → (map given_of streams.new.outputs.items ≡ map given_of streams.old.outputs.items) ⊎ AllMayBegin (stands_opened opened) (map given_of streams.old.outputs.items) }
     ensures why { IfOk result.1 (λ ended. IsAsked task ended.why) }
     ensures looks { IfOk result.1 (λ ended. HaveLooked task (P.answers stop.old) (P.answers stop.new) (Some ended.why)) }
+    ensures over { IfOk result.1 (λ ended. LeavesNoInput (list_all (λ i. is_over i.ended i.is_blocked) streams.new.inputs.items) ended.why) }
+    ensures quiet { D.keeps → (opened : OpenedValue) → verdict (D.state disk).now.bytes ≡ Ok opened
+        → IfOk result.1 (λ ended. LeavesNothingToDo opened.head.topology ended.why) }
+    ensures fits { D.keeps → (opened : OpenedValue) → verdict (D.state disk).now.bytes ≡ Ok opened
+        → SaysFit task opened.head.topology streams.old.outputs.items (map (λ i. i.port) streams.old.inputs.items) result.1 }
+    ensures told { D.keeps → (opened : OpenedValue) → verdict (D.state disk).now.bytes ≡ Ok opened
+        → OnOk result.1 (ToldFirst (map (output_begins (stands_opened opened)) (map given_of streams.old.outputs.items)
+        ++ map (input_begins (accepted_opened opened)) (map (λ i. given_input i.port (I.input i.source)) streams.old.inputs.items))
+        (node_count opened.head.topology) (L.told listener.old) (L.told listener.new)) }
     ensures untouched { StaysUnstreamed result.1 → map given_of streams.new.outputs.items ≡ map given_of streams.old.outputs.items }
 {
     let mut disk = disk;

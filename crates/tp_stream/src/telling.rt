@@ -1,7 +1,7 @@
 //! How far a stream has come, as its listener is told.
 
 ghost use Rattle.std.specs.Prelude.{◌≡◌};
-ghost use Rattle.tp_stream.specs.Told.{IsProgress};
+ghost use Rattle.tp_stream.specs.Told.{HasTold, IsProgress, SaysPut, TellsProgress, put_in};
 
 use crate::pace::Pace;
 use crate::rooms::Rooms;
@@ -13,13 +13,25 @@ use tp_model::limits::MAX_PORTS;
 use tp_shared::{Naming, Shared};
 use tp_stream_files::{Listener, Output, Progress, Sink};
 
-/// Up to where each port's outputs were put.
-fn put_of<S: Sink>(outputs: &[Output<S>]) -> [Option<u64>; MAX_PORTS] {
-    let mut put = [None; MAX_PORTS];
+/// Up to where the outputs of a port were put; none where no sink is for it.
+fn put_at<S: Sink>(outputs: &[Output<S>], port: usize) -> Option<u64>
+    ensures { result ≡ put_in outputs.now port }
+{
     for output in outputs {
-        if usize::from(output.port()) < MAX_PORTS {
-            put[usize::from(output.port())] = Some(output.put());
+        if usize::from(output.port()) == port {
+            return Some(output.put());
         }
+    }
+    None
+}
+
+/// Up to where each port's outputs were put.
+fn put_of<S: Sink>(outputs: &[Output<S>]) -> [Option<u64>; MAX_PORTS]
+    ensures { SaysPut outputs.now result }
+{
+    let mut put = [None; MAX_PORTS];
+    for port in 0..MAX_PORTS {
+        put[port] = put_at(outputs, port);
     }
     put
 }
@@ -32,7 +44,8 @@ fn progress_of<J: Naming, D: Disk, S: Sink>(
     turns: u64,
     outputs: &[Output<S>],
 ) -> Progress
-    ensures { IsProgress rooms.journal book.now flusher.now turns result }
+    ensures numbers { IsProgress rooms.journal book.now flusher.now turns result }
+    ensures put { SaysPut outputs.now result.put }
 {
     Progress {
         next: book.next(),
@@ -53,7 +66,9 @@ pub(crate) fn tell<J: Naming, D: Disk, S: Sink, L: Listener, R: Wait>(
     turns: u64,
     outputs: &[Output<S>],
     listener: &mut L,
-) {
+)
+    ensures { TellsProgress pace.task.tells pace.rooms.journal flusher.now turns outputs.now (L.told listener.old) (L.told listener.new) }
+{
     if !pace.task.tells {
         return;
     }

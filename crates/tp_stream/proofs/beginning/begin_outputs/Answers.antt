@@ -1,10 +1,12 @@
-use Rattle.std.proofs.Common.{◌≤◌, ◌<◌, inl, inr, length, map, slice_index_or, ap, ◌∙◌, arith}
+use Rattle.std.proofs.Common.{◌≤◌, ◌<◌, inl, inr, length, map, slice_index_or, refl, ap, ◌∙◌, arith}
 use Rattle.std.proofs.lemmas.List.{length-map}
 use Rattle.tp_stream.specs.declared.fault.StreamFault.TheVariants.{Port as Absent}
 use Rattle.tp_stream_files.specs.Outputs.{given_of}
 use Rattle.tp_stream.proofs.Standings.{all_may_begin, given_at, given_set, may_begin_more, put_out_few}
 use Rattle.tp_stream.specs.Standing.{port_standing}
 use Rattle.tp_stream.specs.Steps.{IsSetOut}
+use Rattle.tp_stream.specs.Told.{output_begins}
+use Rattle.tp_stream.proofs.Notices.{noticed_none, said_output, told_all, told_more}
 use Rattle.tp_stream.proofs.Puts.{each_all, each_more}
 use Rattle.tp_stream.proofs.beginning.begin_outputs.Goals as goal
 
@@ -53,6 +55,11 @@ loop-output-preserved g c =
       same = given_set xs c.loop-output.output-index c.output-item.result c.begin.new.output c.begin.ensures.same ∙ I.same;
       set = each_more (IsSetOut (port_standing c.args.book.now c.args.mark)) c.loop-output.output-index c.args.outputs.now xs c.output-item.result c.begin.new.output within I.set c.in-Ok.ensures.set;
       begun = may_begin_more _ _ c.loop-output.output-index _ I.begun (given_at xs _ c.loop-output.output-index c.output-item.result I.same within) c.in-Ok.ensures.begun;
+      told =
+          told_more (output_begins (port_standing c.args.book.now c.args.mark)) (map given_of c.args.outputs.now) c.loop-output.output-index
+          (given_of (slice_index_or xs c.loop-output.output-index c.output-item.result)) _ _ _
+          (given_at xs _ c.loop-output.output-index c.output-item.result I.same within) I.told
+          (said_output (port_standing c.args.book.now c.args.mark) (slice_index_or xs c.loop-output.output-index c.output-item.result) c.begin.new.output _ _ _ _ c.begin.ensures.same c.in-Ok.ensures.next c.port-in-Ok.ensures c.put.ensures c.output.ensures);
     }
 
 pub returns-clause-begun : goal.returns-clause-begun
@@ -60,8 +67,16 @@ returns-clause-begun g c =
     let many : length (map given_of c.args.outputs.now) ≤ c.loop-output.output-index = let same = length-map c.args.outputs.now given_of in omega arith in
     all_may_begin _ _ c.loop-output.output-index many c.loop-output.invariant.begun
 
+pub returns-clause-told : goal.returns-clause-told
+returns-clause-told g c =
+    let many : length (map given_of c.args.outputs.now) ≤ c.loop-output.output-index = let same = length-map c.args.outputs.now given_of in omega arith in
+    told_all (output_begins (port_standing c.args.book.now c.args.mark)) (map given_of c.args.outputs.now) c.loop-output.output-index _ _ many c.loop-output.invariant.told
+
 pub returns-clause-set : goal.returns-clause-set
 returns-clause-set g c =
     each_all (IsSetOut (port_standing c.args.book.now c.args.mark)) c.loop-output.output-index c.args.outputs.now c.loop-output.outputs
     (let same = ap length c.loop-output.invariant.same in let one = length-map c.args.outputs.now given_of in let other = length-map c.loop-output.outputs given_of in omega (arith, same, one, other))
     c.loop-output.invariant.set
+
+pub loop-output-init : goal.loop-output-init
+loop-output-init g c = record { same = refl; set = refl; begun = λ k below h is. absurd (omega (arith, below)); told = noticed_none (g.L.Listener.told c.args.listener.now) }

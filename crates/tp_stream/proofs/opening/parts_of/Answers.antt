@@ -7,6 +7,7 @@ use Rattle.tp_stream_files.specs.Outputs.{given_of}
 use Rattle.tp_stream.specs.Standing.{AllHaveAccepted, AllMayBegin, accepted_at, accepted_opened, port_standing, stands_opened}
 use Rattle.tp_stream.specs.Put.{EachWith}
 use Rattle.tp_stream.specs.Steps.{IsSetOut}
+use Rattle.tp_stream.proofs.Notices.{told_where}
 use Rattle.tp_stream.proofs.Standings.{not_begun_as, opened_accepted, opened_stands}
 use Rattle.tp_stream.proofs.opening.parts_of.Goals as goal
 
@@ -58,3 +59,15 @@ returns-in-Ok-parts_with-clause-set g c =
     let o = c.args.opened in
     subst (λ at. EachWith (IsSetOut at) c.args.streams.now.outputs.items c.begin_all.new.streams.outputs.items)
     (ap (λ (b : BookValue). port_standing b s.next) c.in-Ok-open.ensures ∙ opened_stands s (Some c.journal_room-room.result) o s.next c.in-Ok.ensures.now) c.in-Ok-begin_all.ensures.set
+
+pub returns-in-Ok-parts_with-clause-told : goal.returns-in-Ok-parts_with-clause-told
+returns-in-Ok-parts_with-clause-told g c =
+    let s = c.in-Ok.state in
+    let o = c.args.opened in
+    let gs = map given_of c.args.streams.now.outputs.items in
+    let is = map (λ i. given_input i.port (g.I.Source.input i.source)) c.args.streams.now.inputs.items in
+    let where_ : port_standing c.in-Ok-open.book s.next ≡ stands_opened o =
+    ap (λ (b : BookValue). port_standing b s.next) c.in-Ok-open.ensures ∙ opened_stands s (Some c.journal_room-room.result) o s.next c.in-Ok.ensures.now in
+    let taken : accepted_at c.in-Ok-open.book ≡ accepted_opened o =
+    ap accepted_at c.in-Ok-open.ensures ∙ opened_accepted s (Some c.journal_room-room.result) o c.in-Ok.ensures.now in
+    told_where (port_standing c.in-Ok-open.book s.next) (stands_opened o) (accepted_at c.in-Ok-open.book) (accepted_opened o) gs is _ _ where_ taken c.in-Ok-begin_all.ensures.told

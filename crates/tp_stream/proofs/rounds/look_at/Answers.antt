@@ -9,8 +9,8 @@ seen_still : (seen one other : BookValue) (nodes : ℕ) (running : Bool) → one
 seen_still seen one other nodes running first second many is still =
     ap (has_recorded_in seen.state.snapshot) (sym (many ∙ ap count_of_nodes second)) ∙ sym (ap (λ (b : BookValue). has_recorded_in b.state.snapshot nodes) first) ∙ sym is ∙ still
 
-pub returns : goal.returns
-returns g c still = record {
+pub returns-clause-still : goal.returns-clause-still
+returns-clause-still g c still = record {
   seen = c.args.held.now.book;
   nodes = c.known.ensures.nodes;
   ports = c.known.ensures.ports;

@@ -1,8 +1,9 @@
-use Rattle.std.proofs.Common.{sym, subst}
+use Rattle.std.proofs.Common.{length, sym, subst}
 use Rattle.tp_flush.specs.Known.{Began}
 use Rattle.tp_flush.specs.Flushing.{Flushing, IsSameProcess, Walked}
 use Rattle.tp_flush.proofs.Turns.{walked_nowhere}
 use Rattle.tp_stream.specs.Steps.{AllStepped}
+use Rattle.tp_stream.proofs.Notices.{later_none, later_progress}
 use Rattle.tp_stream.proofs.Stepping.{all_since}
 use Rattle.tp_stream.proofs.serving.cycle.Goals as goal
 
@@ -24,3 +25,10 @@ returns-clause-put g c k began =
 
 pub returns-clause-over : goal.returns-clause-over
 returns-clause-over g c = c.go_on.ensures.over
+
+pub returns-in_err-flush-clause-told : goal.returns-in_err-flush-clause-told
+returns-in_err-flush-clause-told g c = later_none (length g.J.Naming.start.nodes) (g.L.Listener.told c.args.listener.now)
+
+pub returns-clause-told : goal.returns-clause-told
+returns-clause-told g c =
+    later_progress (length g.J.Naming.start.nodes) c.args.pace.task.tells c.args.pace.rooms.journal c.flush.new.flusher c.args.going.now.turns.made _ _ _ c.tell.ensures

@@ -1,7 +1,8 @@
-use Rattle.std.proofs.Common.{Ok, refl, sym, ap, subst, ◌∙◌, arith}
+use Rattle.std.proofs.Common.{Ok, length, refl, sym, ap, subst, ◌∙◌, arith}
 use Rattle.tp_flush.specs.Known.{Began}
 use Rattle.tp_flush.proofs.Turns.{walked_nowhere, walked_then}
 use Rattle.tp_stream.proofs.Looks.{looks_then, none_looked}
+use Rattle.tp_stream.proofs.Notices.{later_none, later_then}
 use Rattle.tp_stream.proofs.Quiets.{none_rested}
 use Rattle.tp_stream.proofs.Stepping.{all_still, all_then}
 use Rattle.tp_stream.proofs.serving.cycles.Goals as goal
@@ -12,6 +13,8 @@ loop-init g c = record {
   walks = λ k began. walked_nowhere c.args.first (c.known.ensures.disk k);
   put = λ k began. all_still g.J.Naming.formatted c.args.first c.args.first c.args.streams.now.outputs.items;
   why = tt;
+  inputs = tt;
+  told = later_none (length g.J.Naming.start.nodes) (g.L.Listener.told c.args.listener.now);
   looks = none_looked c.args.pace.task (g.P.Stop.answers c.args.stop.now);
   rested = none_rested g.J.Naming.start c.new.result.whose c.new.result.idle (omega arith) c.new.ensures.idle;
   begun = tt;
@@ -31,6 +34,8 @@ loop-preserved g c =
           all_then g.J.Naming.formatted c.args.first c.loop.flusher c.cycle-last.new.flusher (c.loop.invariant.walks k began) (c.cycle-last.ensures.walks k there)
           c.args.streams.now.outputs.items c.loop.streams.outputs.items c.cycle-last.new.streams.outputs.items (c.loop.invariant.put k began) (c.cycle-last.ensures.put k there);
       why = c.cycle-last.ensures.why;
+      inputs = c.cycle-last.ensures.inputs;
+      told = later_then (length g.J.Naming.start.nodes) _ _ _ c.loop.invariant.told c.cycle-last.ensures.told;
       looks =
           looks_then g.J.Naming.start c.args.pace.task c.loop.going.turns.made c.cycle-last.new.going.turns.made (g.P.Stop.answers c.args.stop.now)
           (g.P.Stop.answers c.loop.stop) (g.P.Stop.answers c.cycle-last.new.stop) c.loop.last c.cycle-last.result (c.in-Ok-None.is ∙ ap Ok (rw c.in-Ok-None.is at c.in-Ok-None.field-0-is)) c.loop.invariant.looks c.cycle-last.ensures.why

@@ -1,10 +1,14 @@
-use Rattle.std.specs.Prelude.{IfErr, IfOk, IfSome, OnOk}
+use Rattle.std.specs.List.{list_all}
+use Rattle.std.specs.Prelude.{IfErr, IfOk, IfSome, OnOk, length}
 use Rattle.tp_flush.specs.Known.{Began}
 use Rattle.tp_flush.specs.Flushing.{IsSameProcess, Walked}
+use Rattle.tp_stream_files.specs.Inputs.{is_over}
 use Rattle.tp_stream.specs.Looks.{HaveLooked}
+use Rattle.tp_stream.specs.Over.{LeavesNoInput}
 use Rattle.tp_stream.specs.Quiet.{HaveRested, IsWhyEnded}
 use Rattle.tp_stream.specs.Steps.{AllStepped}
 use Rattle.tp_stream.specs.Streamed.{CameBegun}
+use Rattle.tp_stream.specs.Told.{ToldLater}
 use Rattle.tp_stream.proofs.serving.cycles.Given as goal
 
 abbrev pub invariant-loop : goal.invariant-loop
@@ -15,6 +19,8 @@ invariant-loop g l = record {
       g.D.Disk.keeps → Began g.J.Naming.formatted g.J.Naming.before l.fn.first.opened
       → AllStepped g.J.Naming.formatted l.fn.first l.flusher l.fn.streams.outputs.items l.streams.outputs.items;
   why : IfOk l.last (λ ended. IfSome ended (IsWhyEnded g.J.Naming.start l.pace.task));
+  inputs : IfOk l.last (λ ended. IfSome ended (LeavesNoInput (list_all (λ i. is_over i.ended i.is_blocked) l.streams.inputs.items)));
+  told : ToldLater (length g.J.Naming.start.nodes) (g.L.Listener.told l.fn.listener) (g.L.Listener.told l.listener);
   looks : IfOk l.last (HaveLooked l.pace.task (g.P.Stop.answers l.fn.stop) (g.P.Stop.answers l.stop));
   rested : OnOk l.last (HaveRested g.J.Naming.start l.going.turns.whose l.going.turns.idle);
   begun : IfErr l.last CameBegun;

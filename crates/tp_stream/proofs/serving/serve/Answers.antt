@@ -1,6 +1,7 @@
-use Rattle.std.proofs.Common.{sym, subst}
+use Rattle.std.proofs.Common.{length, sym, subst}
 use Rattle.tp_flush.specs.Known.{Began}
 use Rattle.tp_flush.proofs.Turns.{walked_then}
+use Rattle.tp_stream.proofs.Notices.{later_then}
 use Rattle.tp_stream.proofs.Stepping.{all_until}
 use Rattle.tp_stream.proofs.serving.serve.Goals as goal
 
@@ -29,3 +30,6 @@ returns-in-Err-finish-clause-put g c k began =
 pub returns-in-Ok-clause-last : goal.returns-in-Ok-clause-last
 returns-in-Ok-clause-last g c k began =
     c.in-Ok.ensures.last k (subst (Began g.J.Naming.formatted g.J.Naming.before) (sym c.cycles-there.ensures.process.opened) began)
+
+pub returns-in-Ok-clause-told : goal.returns-in-Ok-clause-told
+returns-in-Ok-clause-told g c = later_then (length g.J.Naming.start.nodes) _ _ _ c.cycles-there.ensures.told c.tell_stopped.ensures

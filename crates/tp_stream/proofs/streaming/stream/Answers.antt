@@ -1,12 +1,19 @@
-use Rattle.std.proofs.Common.{◌≡◌, inl, inr, length, map, Err, refl, sym, ap, subst, ◌∙◌}
+use Rattle.std.proofs.Common.{◌≡◌, ◌++◌, inl, inr, length, map, Err, refl, sym, ap, subst, ◌∙◌}
+use Rattle.std.specs.Prelude.{IfOk}
 use Rattle.tp_model.specs.Disk.{Moment}
+use Rattle.tp_model.specs.Topology.{node_count}
 use Rattle.tp_flush.specs.Known.{Began}
 use Rattle.tp_stream.specs.declared.fault.StreamFault.TheVariants.{Opening}
+use Rattle.tp_stream.specs.Fitting.{Fits, SaysFit, SaysUnfit}
+use Rattle.tp_stream.specs.Quiet.{LeavesNothingToDo}
 use Rattle.tp_stream.specs.Put.{ServedInto, StreamedInto}
 use Rattle.tp_stream.specs.Streamed.{Streamed}
 use Rattle.tp_stream_files.specs.Inputs.{given_input}
 use Rattle.tp_stream_files.specs.Outputs.{given_of}
 use Rattle.tp_stream.specs.Standing.{AllHaveAccepted, AllMayBegin, IsFirstRefused, IsFirstShort, OfInput, OfOutput, accepted_opened, stands_opened}
+use Rattle.tp_stream.specs.Told.{ToldFirst, ToldLater, input_begins, output_begins}
+use Rattle.tp_stream.proofs.Fitted.{begun_fits, not_begun_fits, opened_ports, unfit}
+use Rattle.tp_stream.proofs.Notices.{first_later}
 use Rattle.tp_stream.proofs.Runs.{begun_written, into, unput, unwritten}
 use Rattle.tp_stream.proofs.Standings.{begun_refused, begun_short, no_input, no_output, on_ok, same_opened, says_first, says_short}
 use Rattle.tp_stream.proofs.streaming.stream.Goals as goal
@@ -124,3 +131,58 @@ returns-in-Err-parts_of-clause-short g c k other is =
 
 pub returns-clause-short : goal.returns-clause-short
 returns-clause-short g c k other is = begun_short c.stream_parts.result.1 _ c.stream_parts.ensures.begun
+
+-- ## What was told
+
+pub returns-clause-told : goal.returns-clause-told
+returns-clause-told g c k other is =
+    let gs = map given_of c.args.streams.now.outputs.items in
+    let inputs = map (λ i. given_input i.port (g.I.Source.input i.source)) c.args.streams.now.inputs.items in
+    let was = g.L.Listener.told c.args.listener.now in
+    let between = g.L.Listener.told c.parts_of.new.listener in
+    let now = g.L.Listener.told c.stream_parts.new.listener in
+    on_ok c.stream_parts.result.1 _
+    (subst (λ o. ToldFirst (map (output_begins (stands_opened o)) gs ++ map (input_begins (accepted_opened o)) inputs) (node_count o.head.topology) was now) (same_opened _ _ _ (c.in-Ok.ensures.is k) is)
+    (first_later _ (node_count c.in-Ok.opened.head.topology) was between now c.in-Ok-parts_of.ensures.told
+    (subst (λ t. ToldLater (node_count t) between now) c.topology_of-topology.ensures c.stream_parts.ensures.told)))
+
+-- ## Where it is quiet
+
+pub returns-clause-quiet : goal.returns-clause-quiet
+returns-clause-quiet g c k other is =
+    let done = c.stream_parts.result.1 in
+    subst (λ o. IfOk done (λ ended. LeavesNothingToDo o.head.topology ended.why)) (same_opened _ _ _ (c.in-Ok.ensures.is k) is)
+    (subst (λ t. IfOk done (λ ended. LeavesNothingToDo t ended.why)) c.topology_of-topology.ensures c.stream_parts.ensures.quiet)
+
+-- ## Whether it may be run
+
+pub returns-in-Err-clause-fits : goal.returns-in-Err-clause-fits
+returns-in-Err-clause-fits g c k other is = tt
+
+pub returns-in-Some-clause-fits : goal.returns-in-Some-clause-fits
+returns-in-Some-clause-fits g c k other is =
+    let outputs = c.args.streams.now.outputs.items in
+    let inputs = map (λ i. i.port) c.args.streams.now.inputs.items in
+    let same = c.topology.ensures.value ∙ ap (λ h. h.topology) c.head.ensures in
+    subst (λ o. SaysUnfit c.args.task o.head.topology outputs inputs c.in-Some.fault) (same_opened _ _ _ (c.in-Ok.ensures.is k) is)
+    (subst (λ t. SaysUnfit c.args.task t outputs inputs c.in-Some.fault) same (unfit c.args.task _ outputs inputs c.in-Some.fault c.in-Some.ensures.unfit))
+
+pub returns-in-Err-parts_of-clause-fits : goal.returns-in-Err-parts_of-clause-fits
+returns-in-Err-parts_of-clause-fits g c k other is =
+    let outputs = c.args.streams.now.outputs.items in
+    let items = c.args.streams.now.inputs.items in
+    let fault = c.in-Err-parts_of.fault in
+    let same = c.topology.ensures.value ∙ ap (λ h. h.topology) c.head.ensures in
+    subst (λ o. SaysUnfit c.args.task o.head.topology outputs (map (λ i. i.port) items) fault) (same_opened _ _ _ (c.in-Ok.ensures.is k) is)
+    (not_begun_fits c.args.task c.in-Ok.opened.head.topology outputs (λ i. given_input i.port (g.I.Source.input i.source)) items _ _ _ fault
+    (opened_ports c.in-Ok.opened c.known.ensures.cut c.known.ensures.leads) (subst (λ t. Fits c.args.task t outputs (map (λ i. i.port) items)) same c.in_default.ensures.fits)
+    c.in-Err-parts_of.ensures.refused)
+
+pub returns-clause-fits : goal.returns-clause-fits
+returns-clause-fits g c k other is =
+    let outputs = c.args.streams.now.outputs.items in
+    let inputs = map (λ i. i.port) c.args.streams.now.inputs.items in
+    let done = c.stream_parts.result.1 in
+    let same = c.topology.ensures.value ∙ ap (λ h. h.topology) c.head.ensures in
+    subst (λ o. SaysFit c.args.task o.head.topology outputs inputs done) (same_opened _ _ _ (c.in-Ok.ensures.is k) is)
+    (begun_fits c.args.task _ outputs inputs done (subst (λ t. Fits c.args.task t outputs inputs) same c.in_default.ensures.fits) c.stream_parts.ensures.begun)

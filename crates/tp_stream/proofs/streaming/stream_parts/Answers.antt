@@ -1,14 +1,17 @@
-use Rattle.std.proofs.Common.{◌≡◌, Ok, Some, sym, subst}
+use Rattle.std.proofs.Common.{◌≡◌, Ok, Some, sym, ap, subst, ◌∙◌}
 use Rattle.std.specs.Prelude.{IfOk}
 use Rattle.tp_model.specs.DiskHistory.{State}
 use Rattle.tp_model.specs.Opening.{held_of, verdict}
 use Rattle.tp_model.specs.Runs.{reopened}
+use Rattle.tp_model.specs.Topology.{node_count}
 use Rattle.tp_flush.specs.Known.{Began}
 use Rattle.tp_stream.specs.Looks.{HaveLooked}
 use Rattle.tp_stream.specs.Put.{ServedInto}
-use Rattle.tp_stream.specs.Quiet.{IsWhyEnded}
-use Rattle.tp_stream.proofs.Quiets.{all_asked}
+use Rattle.tp_stream.specs.Quiet.{IsWhyEnded, LeavesNothingToDo}
+use Rattle.tp_stream.specs.Told.{ToldLater}
+use Rattle.tp_stream.proofs.Quiets.{all_asked, all_left}
 use Rattle.tp_stream.proofs.Runs.{served}
+use Rattle.tp_stream.proofs.Started.{nodes_of, ports_of, wires_of}
 use Rattle.tp_stream.proofs.streaming.stream_parts.Goals as goal
 
 pub returns-clause-streamed : goal.returns-clause-streamed
@@ -34,10 +37,26 @@ returns-clause-streamed g c k began =
 pub returns-clause-why : goal.returns-clause-why
 returns-clause-why g c =
     all_asked g.J.Naming.start c.args.task c.serve-flusher.result.1
-    (subst (λ task. IfOk c.serve-flusher.result.1 (λ ended. IsWhyEnded g.J.Naming.start task ended.why)) c.pace_of-pace.ensures c.serve-flusher.ensures.why)
+    (subst (λ task. IfOk c.serve-flusher.result.1 (λ ended. IsWhyEnded g.J.Naming.start task ended.why)) c.pace_of-pace.ensures.task c.serve-flusher.ensures.why)
 
 pub returns-clause-looks : goal.returns-clause-looks
 returns-clause-looks g c =
     let old = g.P.Stop.answers c.args.stop.now in
     let new = g.P.Stop.answers c.serve-flusher.new.stop in
-    subst (λ task. IfOk c.serve-flusher.result.1 (λ ended. HaveLooked task old new (Some ended.why))) c.pace_of-pace.ensures c.serve-flusher.ensures.looks
+    subst (λ task. IfOk c.serve-flusher.result.1 (λ ended. HaveLooked task old new (Some ended.why))) c.pace_of-pace.ensures.task c.serve-flusher.ensures.looks
+
+pub returns-clause-told : goal.returns-clause-told
+returns-clause-told g c =
+    let many = nodes_of c.args.opened.value c.args.parts.book g.J.Naming.start c.requires.stands.book c.requires.cut c.requires.names.count_is ∙ ap node_count (sym c.requires.topology) in
+    subst (λ n. ToldLater n (g.L.Listener.told c.args.listener.now) (g.L.Listener.told c.serve-flusher.new.listener)) many c.serve-flusher.ensures.told
+
+pub returns-clause-quiet : goal.returns-clause-quiet
+returns-clause-quiet g c =
+    let o = c.args.opened.value in
+    let b = c.args.parts.book in
+    let start = g.J.Naming.start in
+    let N = c.requires.names in
+    let done = c.serve-flusher.result.1 in
+    subst (λ t. IfOk done (λ ended. LeavesNothingToDo t ended.why)) (sym c.requires.topology)
+    (all_left start o.head.topology c.pace_of-pace.result.task done (nodes_of o b start c.requires.stands.book c.requires.cut N.count_is)
+    (ports_of o b start c.requires.stands.ports N.ports_are) (wires_of o b start c.requires.stands.book c.requires.cut N.wires_are) c.serve-flusher.ensures.why)

@@ -1,0 +1,27 @@
+-- Networks that a device's parts are picked for.
+use Rattle.std.proofs.Common.{◌≡◌, length, sym, ap, ◌∙◌}
+use Rattle.std.proofs.lemmas.List.{length-map}
+use Rattle.tp_model.specs.Image.{page_count}
+use Rattle.tp_model.specs.NodeState.{NodeState}
+use Rattle.tp_model.specs.Network.{Network}
+use Rattle.tp_model.specs.Node.{t414_ends}
+use Rattle.tp_model.specs.Opening.{Opened}
+use Rattle.tp_model.specs.OpensTo.{book_of}
+use Rattle.tp_model.specs.Snapshot.{MarkedNetwork}
+use Rattle.tp_model.specs.Spelling.{IsCut}
+use Rattle.tp_model.specs.Topology.{node_count}
+use Rattle.tp_book.specs.Book.{BookValue, world_of}
+
+-- such a network has the nodes of the topology
+pub nodes_of : (o : Opened) (b : BookValue) (start : Network NodeState) → world_of b ≡ book_of o → IsCut t414_ends o.head.topology o.base o.cut → length b.state.start.nodes ≡ length start.nodes
+    → length start.nodes ≡ node_count o.head.topology
+nodes_of o b start world cut same =
+    sym same ∙ ap (λ (n : MarkedNetwork NodeState). length n.start.nodes) world ∙ sym (length-map o.cut.nodes (λ (n : NodeState). page_count n.memory)) ∙ ap length cut.pages
+
+-- its ports, and its wires
+pub ports_of : (o : Opened) (b : BookValue) (start : Network NodeState) → length b.state.ports ≡ o.head.topology.ports → length b.state.ports ≡ length start.ports → length start.ports ≡ o.head.topology.ports
+ports_of o b start made same = sym same ∙ made
+
+pub wires_of : (o : Opened) (b : BookValue) (start : Network NodeState) → world_of b ≡ book_of o → IsCut t414_ends o.head.topology o.base o.cut → b.state.start.wires ≡ start.wires
+    → start.wires ≡ o.head.topology.wires
+wires_of o b start world cut same = sym same ∙ ap (λ (n : MarkedNetwork NodeState). n.start.wires) world ∙ cut.wires
