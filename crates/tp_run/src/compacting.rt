@@ -58,8 +58,8 @@ pub enum CompactFault {
     /// A call of the device failed.
     #[error("DeviceFailed")]
     DeviceFailed,
-    /// The cut didn't become whole, or no snapshot could begin for another reason than want of memory. As nothing runs neither comes; that is
-    /// tested, and not proved.
+    /// The cut didn't become whole, or no snapshot could begin for another reason than want of memory. As nothing runs neither comes; that
+    /// is tested, and not proved.
     #[error("NotWhole")]
     NotWhole,
     /// Memory was refused, at whatever step.
