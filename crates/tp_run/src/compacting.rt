@@ -210,10 +210,10 @@ fn compact_parts<J: Naming, D: Disk, R: Wait>(
 /// output stays. So its journal is empty, also where it was full. Answers the device, and what is so of it then.
 ///
 /// Whatever a crash leaves at any moment of the call is what one just before might have left, or opens to where a prefix of the journal
-/// leads, with all that the device had: the store's contract says so (`Flusher::turn`, `Store::open_other`), which writes into the area that
-/// isn't open alone until its cut is whole and synced. After a call that was done, the prefix has each entry below the number that is
-/// answered, which is no less than the device's next number was, and the generation is one more than before. A fault tells its reason: what opening answers; that the device's generation is the
-/// last one; and that a call of the device failed, just where one has.
+/// leads, with all that the device had: the store's contract says so (`Flusher::turn`, `Store::open_other`), which writes into the area
+/// that isn't open alone until its cut is whole and synced. After a call that was done, the prefix has each entry below the number that is
+/// answered, which is no less than the device's next number was, and the generation is one more than before. A fault tells its reason:
+/// what opening answers; that the device's generation is the last one; and that a call of the device failed, just where one has.
 pub fn compact<D: Disk, R: Wait>(
     rt: &R,
     alloc: Global,
