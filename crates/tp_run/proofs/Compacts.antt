@@ -1,37 +1,63 @@
 -- What is left of a device that was compacted.
-use Rattle.std.proofs.Common.{◌≡◌, ◌≤◌, List, [], ℕ, Result, Ok, Err, subst}
-use Rattle.std.specs.Prelude.{IfErr, IfOk}
+use Rattle.std.proofs.Common.{◌≡◌, ◌≤◌, List, [], ℕ, Bool, false, inl, inr, Result, Ok, Err, sym, ap, subst, ◌∙◌, arith}
+use Rattle.std.specs.Prelude.{IfOk}
 use Rattle.std.proofs.lemmas.Result.{IfOk-weaker}
+use Rattle.tp_model.specs.declared.opening.OpenFault.{OpenFault}
 use Rattle.tp_model.specs.NodeState.{NodeState}
 use Rattle.tp_model.specs.Network.{Network}
 use Rattle.tp_model.specs.Disk.{MayBe}
 use Rattle.tp_model.specs.DiskHistory.{State}
-use Rattle.tp_model.specs.Opening.{Opened, held_of, verdict}
+use Rattle.tp_model.specs.Opening.{Opened, held_of, next_of, verdict}
 use Rattle.tp_model.specs.Runs.{World, reopened}
 use Rattle.tp_recover.specs.Reading.{LeavesNothingNew}
-use Rattle.tp_flush.specs.Known.{Began}
-use Rattle.tp_flush.specs.Flushing.{Flushing, Walked}
+use Rattle.tp_flush.specs.Known.{Began, Reached}
+use Rattle.tp_flush.specs.Flushing.{Flushing, Walked, position}
 use Rattle.tp_flush.specs.Follows.{Follows}
-use Rattle.tp_flush.proofs.Follows.{read_alone, read_first, stored_follows, walked_either, walked_follows}
+use Rattle.tp_flush.proofs.Turns.{walked_stays}
+use Rattle.tp_flush.proofs.Follows.{number_is, read_alone, read_first, stored_follows, walked_either, walked_follows}
 use Rattle.tp_run.specs.declared.compacting.Compaction.{Compaction}
 use Rattle.tp_run.specs.declared.compacting.CompactFault.{CompactFault}
 use Rattle.tp_run.specs.declared.compacting.CompactFault.TheVariants.{Opening, NoGeneration, DeviceFailed, NotWhole, Memory}
-use Rattle.tp_run.specs.Compacted.{Compacted, ComesOpened, StaysUnopened}
+use Rattle.tp_flush.specs.declared.fault.FlushFault.{FlushFault}
+use Rattle.tp_flush.specs.declared.fault.FlushFault.TheVariants as flush
+use Rattle.tp_flush.specs.Ends.{Ended}
+use Rattle.tp_run.proofs.Failures.{refused_as}
+use Rattle.tp_run.specs.Compacted.{Compacted, IsBeginFault, SaysLast, StaysUnopened, flush_fault, is_failure_in}
+
+-- where a flusher walks on, its mark is at least the number that the device's next entry had
+mark_grew : (start : Network NodeState) (before : World NodeState) (opened : Opened) (old new : Flushing) → Reached start old.world
+    → old.world ≡ reopened before old.state.now.bytes (held_of opened) opened.now → Walked old new → next_of opened ≤ new.world.mark
+mark_grew start before opened old new there first W =
+    let up = (walked_stays start old new there W).0 in
+    let at : old.world.mark ≡ next_of opened = ap (λ (w : World NodeState). w.mark) first ∙ number_is opened in
+    omega (arith, up, at)
+
+-- bytes open to one network
+one_opened : (given : Result Opened OpenFault) (one other : Opened) → given ≡ Ok one → given ≡ Ok other → one ≡ other
+one_opened given one other is too = cc
 
 -- a device that was opened, and whose flusher walked on from there
-pub walked_compacted : (start : Network NodeState) (before : World NodeState) (opened : Opened) (old new : Flushing) (result : Result Compaction CompactFault) → Began start before old.state.now.bytes
-    → verdict old.state.now.bytes ≡ Ok opened → old.world ≡ reopened before old.state.now.bytes (held_of opened) opened.now → Walked old new → IfOk result (λ done. done.next ≤ new.world.mark)
+pub walked_compacted : (start : Network NodeState) (before : World NodeState) (opened : Opened) (old new : Flushing) (result : Result Compaction CompactFault) → Reached start old.world → Began start before old.state.now.bytes
+    → verdict old.state.now.bytes ≡ Ok opened → old.world ≡ reopened before old.state.now.bytes (held_of opened) opened.now → Walked old new → IfOk result (λ done. done.next ≡ new.world.mark)
     → Compacted start result old.state new.state
-walked_compacted start before opened old new result began reads first W stored =
+walked_compacted start before opened old new result there began reads first W stored =
     let bytes = old.state.now.bytes in record {
       journal = new.world.journal;
       leaves = walked_either start new.world.journal old.state new.state (walked_follows start before bytes opened began reads old new first W);
-      stored = IfOk-weaker result (λ done. done.next ≤ new.world.mark) _ (λ done low left may. stored_follows start before bytes opened began reads old new first W done.next low left may) stored;
+      stored =
+          IfOk-weaker result (λ done. done.next ≡ new.world.mark) _
+          (λ done same left may. stored_follows start before bytes opened began reads old new first W done.next (omega (arith, same)) left may) stored;
+      no_fewer =
+          IfOk-weaker result (λ done. done.next ≡ new.world.mark) _
+          (λ done same other is.
+          let grew = mark_grew start before opened old new there first W in
+          subst (λ (o : Opened). next_of o ≤ done.next) (one_opened (verdict bytes) opened other reads is) (omega (arith, same, grew)))
+          stored;
     }
 
 -- a device that was only read
 pub unwritten_compacted : (start : Network NodeState) (fault : CompactFault) (old new : State) → LeavesNothingNew old new → Compacted start (Err fault) old new
-unwritten_compacted start fault old new L = record { journal = []; leaves = read_alone start [] old new L; stored = tt }
+unwritten_compacted start fault old new L = record { journal = []; leaves = read_alone start [] old new L; stored = tt; no_fewer = tt }
 
 -- a device was read, which left its bytes as they are, and was then written
 pub opened_compacted : (start : Network NodeState) (result : Result Compaction CompactFault) (old read new : State) → LeavesNothingNew old read → read.now.bytes ≡ old.now.bytes → Compacted start result read new
@@ -42,13 +68,49 @@ opened_compacted start result old read new L same R = record {
   stored =
       IfOk-weaker result (λ done. (left : List ℕ) → MayBe new.now left → Follows start R.journal done.next read.now.bytes left) _
       (λ done each left may. subst (λ bytes. Follows start R.journal done.next bytes left) same (each left may)) R.stored;
+  no_fewer =
+      IfOk-weaker result (λ done. (opened : Opened) → verdict read.now.bytes ≡ Ok opened → next_of opened ≤ done.next) _
+      (λ done all opened is. all opened (subst (λ bytes. verdict bytes ≡ Ok opened) (sym same) is)) R.no_fewer;
 }
 
 -- what was begun isn't answered as what wasn't
-pub begun_compacted : (r : Result Compaction CompactFault) → IfErr r ComesOpened → StaysUnopened r → ⊥
-begun_compacted (Ok done) begun unbegun = unbegun
-begun_compacted (Err (Opening unopened)) begun unbegun = begun
-begun_compacted (Err NoGeneration) begun unbegun = unbegun
-begun_compacted (Err DeviceFailed) begun unbegun = unbegun
-begun_compacted (Err NotWhole) begun unbegun = unbegun
-begun_compacted (Err Memory) begun unbegun = unbegun
+pub last_compacted : (r : Result Compaction CompactFault) (last : Bool) → SaysLast r last → StaysUnopened r → ⊥
+last_compacted (Ok done) last says unbegun = unbegun
+last_compacted (Err (Opening unopened)) last says unbegun = says
+last_compacted (Err NoGeneration) last says unbegun = unbegun
+last_compacted (Err DeviceFailed) last says unbegun = unbegun
+last_compacted (Err NotWhole) last says unbegun = unbegun
+last_compacted (Err Memory) last says unbegun = unbegun
+
+-- ## Faults
+
+abbrev pub fault_as : (A : Type 0) → CompactFault → Result A CompactFault
+fault_as A fault = Err fault
+
+pub begin_last : (A : Type 0) (fault : CompactFault) (last : Bool) → IsBeginFault fault → last ≡ false → SaysLast (fault_as A fault) last
+begin_last A fault last (inl memory) left = subst (λ f. SaysLast (fault_as A f) last) (sym memory) tt
+begin_last A fault last (inr whole) left = subst (λ f. SaysLast (fault_as A f) last) (sym whole) left
+
+pub begin_unfailed : (fault : CompactFault) → IsBeginFault fault → is_failure_in fault ≡ false
+begin_unfailed fault (inl memory) = ap is_failure_in memory
+begin_unfailed fault (inr whole) = ap is_failure_in whole
+
+pub flush_last : (A : Type 0) (fault : FlushFault) (last : Bool) → last ≡ false → SaysLast (fault_as A (flush_fault fault)) last
+flush_last A flush.DeviceFailed last left = left
+flush_last A flush.StoreBroken last left = left
+flush_last A flush.Memory last left = tt
+flush_last A flush.AreaFull last left = left
+
+-- the position of a flusher whose turn was refused
+ended_by : (A : Type 0) (fault : FlushFault) (old new : Flushing) → Ended (refused_as A fault) old new → new.world.at ≡ position (is_failure_in (flush_fault fault))
+ended_by A flush.DeviceFailed old new (inl F) = F.broken
+ended_by A flush.DeviceFailed old new (inr F) = F.broken
+ended_by A flush.StoreBroken old new E = ap (λ (v : Flushing). v.world.at) E.1 ∙ E.0
+ended_by A flush.Memory old new (inl W) = W.0.rested.rests
+ended_by A flush.Memory old new (inr W) = W.rested.rests
+ended_by A flush.AreaFull old new E = E.rested.rests
+
+pub flush_ended : {A : Type 0} (r : Result A FlushFault) (fault : FlushFault) (old new : Flushing) → r ≡ Err fault → Ended r old new → new.world.at ≡ position (is_failure_in (flush_fault fault))
+flush_ended (Ok x) fault old new is E = cc
+flush_ended {A} (Err other) fault old new is E =
+    let same : other ≡ fault = cc in subst (λ f. new.world.at ≡ position (is_failure_in (flush_fault f))) same (ended_by A other old new E)

@@ -1,4 +1,6 @@
 pub mod Gathered
+pub mod Answered
+pub mod Failures
 pub mod Faults
 pub mod Made
 pub mod Runs

@@ -1,15 +1,20 @@
 -- What is left of a device that was compacted, whatever becomes of it meanwhile.
-use Rattle.std.specs.Prelude.{◌≡◌, ◌≤◌, ◌⊎◌, ℕ, ◌+◌, List, Result, Ok, Err, IfOk}
+use Rattle.std.specs.Prelude.{◌≡◌, ◌≤◌, ◌⊎◌, ℕ, ◌+◌, Bool, true, false, List, Result, Ok, Err, IfOk}
 use Rattle.tp_model.specs.declared.entry.Entry.{Entry}
 use Rattle.tp_model.specs.declared.opening.OpenFault.{OpenFault}
 use Rattle.tp_model.specs.NodeState.{NodeState}
 use Rattle.tp_model.specs.Network.{Network}
 use Rattle.tp_model.specs.Topology.{Topology}
-use Rattle.tp_model.specs.Opening.{Opened}
+use Rattle.tp_model.specs.Journal.{is_full_for_snapshot}
+use Rattle.tp_model.specs.Opening.{Opened, next_of, verdict}
 use Rattle.tp_model.specs.Disk.{MayBe}
 use Rattle.tp_model.specs.DiskHistory.{State, LeavesOnly}
 use Rattle.tp_flush.specs.Follows.{Follows}
 use Rattle.tp_area.specs.Capacity.{capacity, journal_of}
+use Rattle.tp_flush.specs.declared.fault.FlushFault.{FlushFault}
+use Rattle.tp_flush.specs.declared.fault.FlushFault.TheVariants as flush
+use Rattle.tp_run.specs.Answered.{IsUnopened, OpenedWith}
+use Rattle.tp_run.specs.Failures.{failed_to_open}
 use Rattle.tp_run.specs.declared.compacting.Compaction.{Compaction}
 use Rattle.tp_run.specs.declared.compacting.CompactFault.{CompactFault}
 use Rattle.tp_run.specs.declared.compacting.CompactFault.TheVariants.{Opening, NoGeneration, DeviceFailed, NotWhole, Memory}
@@ -23,25 +28,57 @@ abbrev pub StaysUnopened : {A : Type 0} → Result A CompactFault → Type 0
 StaysUnopened (Err (Opening unopened)) = Unit {0}
 StaysUnopened _ = ⊥
 
--- a fault that comes once the device was opened
-abbrev pub ComesOpened : CompactFault → Type 0
-ComesOpened (Opening unopened) = ⊥
-ComesOpened NoGeneration = Unit {0}
-ComesOpened DeviceFailed = Unit {0}
-ComesOpened NotWhole = Unit {0}
-ComesOpened Memory = Unit {0}
+-- ## Which faults come where
+
+-- whether the open area's generation was the last one
+abbrev pub SaysLast : {A : Type 0} → Result A CompactFault → Bool → Type 0
+SaysLast (Err (Opening unopened)) last = ⊥
+SaysLast (Err NoGeneration) last = last ≡ true
+SaysLast (Err Memory) last = Unit {0}
+SaysLast _ last = last ≡ false
+
+-- A fault is the opening's own; or the device opened, and had no generation left just where that is said. Memory may be wanting before
+-- that is looked at.
+abbrev pub CompactAnswer : {A : Type 0} → Result Opened OpenFault → Result A CompactFault → Type 0
+CompactAnswer given (Err (Opening unopened)) = IsUnopened given unopened
+CompactAnswer given (Err NoGeneration) = OpenedWith given (λ (opened : Opened). is_full_for_snapshot opened.generation ≡ true)
+CompactAnswer given (Err Memory) = OpenedWith given (λ (opened : Opened). Unit {0})
+CompactAnswer given _ = OpenedWith given (λ (opened : Opened). is_full_for_snapshot opened.generation ≡ false)
+
+-- whether a fault says that a call of the device failed
+abbrev pub is_failure_in : CompactFault → Bool
+is_failure_in (Opening unopened) = failed_to_open unopened
+is_failure_in DeviceFailed = true
+is_failure_in _ = false
+
+-- whether an answer does
+abbrev pub has_failed_in : {A : Type 0} → Result A CompactFault → Bool
+has_failed_in (Ok done) = false
+has_failed_in (Err fault) = is_failure_in fault
+
+-- the fault of a flusher's turn
+abbrev pub flush_fault : FlushFault → CompactFault
+flush_fault flush.DeviceFailed = DeviceFailed
+flush_fault flush.StoreBroken = DeviceFailed
+flush_fault flush.Memory = Memory
+flush_fault flush.AreaFull = NotWhole
+
+-- a fault of a snapshot that doesn't begin, though a generation is left
+abbrev pub IsBeginFault : CompactFault → Type 0
+IsBeginFault fault = (fault ≡ Memory) ⊎ (fault ≡ NotWhole)
 
 -- The device opened, its generation is one more, and its journal takes no more entries than fit into its areas.
-pub record GrewByOne (verdict : Result Opened OpenFault) (done : Compaction) : Type 0 where
+pub record GrewByOne (given : Result Opened OpenFault) (done : Compaction) : Type 0 where
   pub opened : Opened
-  pub is : verdict ≡ Ok opened
+  pub is : given ≡ Ok opened
   pub generation : done.generation ≡ opened.generation + 1
   pub room : done.room ≤ room_behind opened.head.topology opened.head.areas.length
 
 -- A crash at any moment leaves what one just before might have left, or what opens to where a prefix of the journal leads, with all that
 -- the device had as it was opened: that is the journal's beginning, and the next number is no less than it was. Once it was done, the
--- prefix has each entry below the answered number.
+-- prefix has each entry below the answered number, which is no less than the device's next number was as it opened.
 pub record Compacted (start : Network NodeState) (result : Result Compaction CompactFault) (old new : State) : Type 0 where
   pub journal : List Entry
   pub leaves : LeavesOnly old new (λ left. MayBe old.now left ⊎ Follows start journal 0 old.now.bytes left)
   pub stored : IfOk result (λ done. (left : List ℕ) → MayBe new.now left → Follows start journal done.next old.now.bytes left)
+  pub no_fewer : IfOk result (λ done. (opened : Opened) → verdict old.now.bytes ≡ Ok opened → next_of opened ≤ done.next)

@@ -1,7 +1,9 @@
 pub mod Compacted
 pub mod Composed
 pub mod Accounted
+pub mod Answered
 pub mod Every
+pub mod Failures
 pub mod Faults
 pub mod Input
 pub mod Made

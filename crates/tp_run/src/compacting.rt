@@ -1,20 +1,22 @@
 //! A device is compacted: its network, as it is, becomes the cut, and its journal is empty.
 
 ghost use Rattle.std.specs.List.{AllByRecursion};
-ghost use Rattle.std.specs.Prelude.{◌≡◌, ◌≤◌, ◌+◌, true, false, Ok, Err, Some, IfErr, IfOk, IfSome, IsErr};
+ghost use Rattle.std.specs.Prelude.{◌≡◌, ◌≤◌, ◌+◌, true, false, Ok, Err, Some, IfOk, IfSome, IsErr};
 ghost use Rattle.tp_area.specs.Places.{place_at};
 ghost use Rattle.tp_flush.specs.Flushing.{IsSameProcess, Walked};
 ghost use Rattle.tp_flush.specs.Known.{Began};
 ghost use Rattle.tp_law_machine.specs.NodeOfBytes.{IsNodeOfBytes};
 ghost use Rattle.tp_area.specs.Capacity.{capacity};
 ghost use Rattle.tp_model.specs.DiskHistory.{IsSynced};
-ghost use Rattle.tp_model.specs.Journal.{is_roomy, room};
+ghost use Rattle.tp_model.specs.Journal.{is_full_for_snapshot, is_roomy, room};
 ghost use Rattle.tp_model.specs.Node.{t414_ends};
 ghost use Rattle.tp_model.specs.Opening.{verdict};
 ghost use Rattle.tp_model.specs.Spelling.{IsCut};
+ghost use Rattle.tp_model.specs.WriteOrder.{Resting};
 ghost use Rattle.tp_recover.specs.Reading.{LeavesNothingNew};
 ghost use Rattle.tp_recover.specs.declared.unopened.Unopened.{Unopened};
-ghost use Rattle.tp_run.specs.Compacted.{Compacted, GrewByOne, ComesOpened, StaysUnopened, room_behind};
+ghost use Rattle.tp_run.specs.Compacted.{CompactAnswer, Compacted, GrewByOne, IsBeginFault, SaysLast, StaysUnopened, flush_fault, has_failed_in, room_behind};
+ghost use Rattle.tp_run.specs.Failures.{failures_after};
 ghost use Rattle.tp_flush.specs.Made.{IsMadeOf};
 ghost use Rattle.tp_run.specs.Ran.{History};
 ghost use Rattle.tp_shared.specs.Named.{Names};
@@ -29,6 +31,7 @@ use tp_area::{JournalRoom, Store};
 use tp_book::Refusal;
 use tp_disk::Disk;
 use tp_flush::{FlushFault, Flusher, topology_of};
+use tp_model::limits::NUMBER_LIMIT;
 use tp_net::Topology;
 use tp_ready::Raiser;
 use tp_recover::{Opened, Unopened, open};
@@ -52,10 +55,11 @@ pub enum CompactFault {
     /// No generation is left for another cut.
     #[error("JournalFull")]
     NoGeneration,
-    /// The device failed.
+    /// A call of the device failed.
     #[error("DeviceFailed")]
     DeviceFailed,
-    /// The cut didn't become whole. It does, as nothing runs; that is tested, and not proved.
+    /// The cut didn't become whole, or no snapshot could begin for another reason than want of memory. As nothing runs neither comes; that
+    /// is tested, and not proved.
     #[error("NotWhole")]
     NotWhole,
     /// Memory was refused, at whatever step.
@@ -72,17 +76,23 @@ fn left_in<J: Naming, R: Wait>(rt: &R, shared: &Shared<J>, journal: JournalRoom)
     journal.left(made)
 }
 
-/// The fault of a snapshot that doesn't begin; none where one runs.
+/// Whether no generation is left behind this one.
+fn is_last(generation: u64) -> bool
+    ensures { result ≡ is_full_for_snapshot generation }
+{
+    generation == NUMBER_LIMIT - 1
+}
+
+/// The fault of a snapshot that doesn't begin, though a generation is left; none where one runs. While nothing was done to the device, and
+/// nothing runs, it is want of memory alone.
 fn fault_of(refusal: Refusal) -> Option<CompactFault>
-    ensures { IfSome result ComesOpened }
+    ensures { IfSome result IsBeginFault }
 {
     match refusal {
         Refusal::SnapshotRunning => None,
         Refusal::Memory => Some(CompactFault::Memory),
-        Refusal::JournalFull => Some(CompactFault::NoGeneration),
-        Refusal::StoreBroken | Refusal::NothingToTake | Refusal::PortFull => {
-            Some(CompactFault::DeviceFailed)
-        }
+        Refusal::JournalFull | Refusal::StoreBroken | Refusal::NothingToTake | Refusal::PortFull =>
+            Some(CompactFault::NotWhole),
     }
 }
 
@@ -93,7 +103,7 @@ fn begin<J: Naming, D: Disk, R: Wait>(
     shared: &Shared<J>,
     flusher: &Flusher<J, D>,
 ) -> Option<CompactFault>
-    ensures { IfSome result ComesOpened }
+    ensures { IfSome result IsBeginFault }
 {
     match flusher.snapshot(rt, alloc, shared).answer() {
         Ok(()) => None,
@@ -112,13 +122,12 @@ fn record_all<J: Naming, R: Wait>(rt: &R, shared: &Shared<J>) {
 
 /// The fault of a flusher's turn.
 fn fault_in(fault: FlushFault) -> CompactFault
-    ensures { ComesOpened result }
+    ensures { result ≡ flush_fault fault }
 {
     match fault {
         FlushFault::Memory => CompactFault::Memory,
-        FlushFault::DeviceFailed | FlushFault::StoreBroken | FlushFault::AreaFull => {
-            CompactFault::DeviceFailed
-        }
+        FlushFault::DeviceFailed | FlushFault::StoreBroken => CompactFault::DeviceFailed,
+        FlushFault::AreaFull => CompactFault::NotWhole,
     }
 }
 
@@ -130,14 +139,19 @@ fn switch_all<J: Naming, D: Disk, R: Wait>(
     flusher: &mut Flusher<J, D>,
     journal: JournalRoom,
 ) -> Result<Compaction, CompactFault>
+    requires rests { flusher.old.world.at ≡ Resting }
     ensures walks { D.keeps → Began J.formatted J.before flusher.old.opened → Walked flusher.old flusher.new }
     ensures process { IsSameProcess flusher.old flusher.new }
-    ensures stored { IfOk result (λ done. done.next ≤ flusher.new.world.mark) }
+    ensures failures { flusher.new.failures ≡ failures_after (has_failed_in result) flusher.old.failures }
+    ensures last { SaysLast result (is_full_for_snapshot flusher.old.place.generation) }
+    ensures stored { IfOk result (λ done. done.next ≡ flusher.new.world.mark) }
     ensures switched { IfOk result (λ done. done.generation ≡ flusher.old.place.generation + 1) }
     ensures room { IfOk result (λ done. done.room ≤ capacity journal) }
-    ensures begun { IfErr result ComesOpened }
 {
     flusher.known();
+    if is_last(flusher.generation()) {
+        return Err(CompactFault::NoGeneration);
+    }
     if let Some(fault) = begin(rt, alloc, shared, flusher) {
         return Err(fault);
     }
@@ -181,7 +195,8 @@ fn compact_parts<J: Naming, D: Disk, R: Wait>(
     ensures kept { D.keeps → Began J.formatted J.before (D.state store.disk).now.bytes → Compacted J.formatted result.1 (D.state store.disk) (D.state result.0) }
     ensures switched { IfOk result.1 (λ done. done.generation ≡ store.place.generation + 1) }
     ensures room { IfOk result.1 (λ done. done.room ≤ room_behind topology store.place.areas.length) }
-    ensures begun { IfErr result.1 ComesOpened }
+    ensures failures { D.failures_of result.0 ≡ failures_after (has_failed_in result.1) (D.failures_of store.disk) }
+    ensures last { SaysLast result.1 (is_full_for_snapshot store.place.generation) }
 {
     let (shared, key) = Shared::<J>::start(parts);
     let journal = JournalRoom::of(&topology, store.place.areas.length);
@@ -197,7 +212,8 @@ fn compact_parts<J: Naming, D: Disk, R: Wait>(
 /// Whatever a crash leaves at any moment of the call is what one just before might have left, or opens to where a prefix of the journal
 /// leads, with all that the device had: the store's contract says so (`Flusher::turn`, `Store::open_other`), which writes into the area
 /// that isn't open alone until its cut is whole and synced. After a call that was done, the prefix has each entry below the number that is
-/// answered, and the generation is one more than before.
+/// answered, which is no less than the device's next number was, and the generation is one more than before. A fault tells its reason:
+/// what opening answers; that the device's generation is the last one; and that a call of the device failed, just where one has.
 pub fn compact<D: Disk, R: Wait>(
     rt: &R,
     alloc: Global,
@@ -209,6 +225,8 @@ pub fn compact<D: Disk, R: Wait>(
     ensures grown { D.keeps → IfOk result.1 (GrewByOne (verdict (D.state disk).now.bytes)) }
     ensures unwritten { D.keeps → StaysUnopened result.1 → LeavesNothingNew (D.state disk) (D.state result.0) }
     ensures unopened { D.keeps → IsErr (verdict (D.state disk).now.bytes) → (unopened : Unopened) × (result.1 ≡ Err (CompactFault.Opening unopened)) }
+    ensures answer { D.keeps → CompactAnswer (verdict (D.state disk).now.bytes) result.1 }
+    ensures failures { D.failures_of result.0 ≡ failures_after (has_failed_in result.1) (D.failures_of disk) }
 {
     let mut disk = disk;
     let opened = match open(alloc, &mut disk) {

@@ -1,15 +1,20 @@
-use Rattle.std.proofs.Common.{◌≡◌, ◌<◌, ◌≤◌, ◌+◌, ℕ, arith, refl, sym, ap, subst, ◌∙◌}
+use Rattle.std.proofs.Common.{◌≡◌, ◌≤◌, ◌+◌, ℕ, arith, refl, sym, ap, subst, ◌∙◌}
 use Rattle.tp_model.specs.Disk.{Moment}
 use Rattle.tp_model.specs.Topology.{Topology}
 use Rattle.tp_flush.specs.Known.{Began}
+use Rattle.tp_model.specs.Opening.{Opened}
 use Rattle.tp_run.specs.declared.compacting.CompactFault.TheVariants.{Opening, Memory}
-use Rattle.tp_run.specs.Compacted.{Compacted}
+use Rattle.tp_run.specs.Compacted.{Compacted, SaysLast, has_failed_in}
 use Rattle.std.specs.Prelude.{Err}
 use Rattle.tp_area.specs.declared.place.Place.{Place}
 use Rattle.tp_run.specs.Compacted.{room_behind}
 use Rattle.tp_net.proofs.Topologies.{has_shape}
 use Rattle.tp_run.proofs.Runs.{if_both}
-use Rattle.tp_run.proofs.Compacts.{begun_compacted, opened_compacted, unwritten_compacted}
+use Rattle.tp_run.proofs.Answered.{compact_answered}
+use Rattle.tp_run.proofs.Compacts.{last_compacted, opened_compacted, unwritten_compacted}
+use Rattle.tp_run.proofs.Failures.{opening_counted}
+use Rattle.tp_run.specs.Failures.{failures_after}
+use Rattle.tp_model.specs.Journal.{is_full_for_snapshot}
 use Rattle.tp_run.proofs.compacting.compact.Goals as goal
 
 pub compact_parts-requires-clause-names : goal.compact_parts-requires-clause-names
@@ -55,4 +60,31 @@ returns-clause-grown g c k =
     c.compact_parts.ensures.switched c.compact_parts.ensures.room
 
 pub returns-clause-unwritten : goal.returns-clause-unwritten
-returns-clause-unwritten g c k unbegun = absurd (begun_compacted c.compact_parts.result.1 c.compact_parts.ensures.begun unbegun)
+returns-clause-unwritten g c k unbegun = absurd (last_compacted c.compact_parts.result.1 (is_full_for_snapshot c.store-store.result.place.generation) c.compact_parts.ensures.last unbegun)
+
+-- ## Which fault
+
+pub returns-in-Err-clause-answer : goal.returns-in-Err-clause-answer
+returns-in-Err-clause-answer g c k = c.in-Err.ensures.is k
+
+pub returns-in_default-clause-answer : goal.returns-in_default-clause-answer
+returns-in_default-clause-answer g c k = record { opened = c.in-Ok.opened; is = c.in-Ok.ensures.is k; has = tt }
+
+pub returns-clause-answer : goal.returns-clause-answer
+returns-clause-answer g c k =
+    let generation = ap (λ (p : Place). p.generation) c.store-store.ensures.place in
+    compact_answered _ c.in-Ok.opened c.compact_parts.result.1 (c.in-Ok.ensures.is k) (subst (λ n. SaysLast c.compact_parts.result.1 (is_full_for_snapshot n)) generation c.compact_parts.ensures.last)
+
+pub returns-in-Err-clause-failures : goal.returns-in-Err-clause-failures
+returns-in-Err-clause-failures g c = opening_counted Opened c.in-Err.unopened (g.D.Disk.failures_of c.args.disk) (g.D.Disk.failures_of c.open.new.disk) c.in-Err.ensures.counts.failures
+
+pub returns-in_default-clause-failures : goal.returns-in_default-clause-failures
+returns-in_default-clause-failures g c =
+    let same = ap g.D.Disk.failures_of (c.into_disk.ensures ∙ c.store-store.ensures.disk) in
+    let none = c.in-Ok.ensures.counts.failures in
+    omega (arith, same, none)
+
+pub returns-clause-failures : goal.returns-clause-failures
+returns-clause-failures g c =
+    subst (λ n. g.D.Disk.failures_of c.compact_parts.result.0 ≡ failures_after (has_failed_in c.compact_parts.result.1) n)
+    (ap g.D.Disk.failures_of c.store-store.ensures.disk ∙ c.in-Ok.ensures.counts.failures) c.compact_parts.ensures.failures

@@ -1,9 +1,13 @@
-use Rattle.std.proofs.Common.{◌≡◌, Ok, sym, subst, ◌∙◌}
+use Rattle.std.proofs.Common.{◌≡◌, Ok, sym, ap, subst, ◌∙◌}
+use Rattle.tp_area.specs.declared.place.Place.{Place}
+use Rattle.tp_model.specs.Journal.{is_full_for_snapshot}
+use Rattle.tp_model.specs.NodeState.{NodeState}
 use Rattle.tp_model.specs.DiskHistory.{State}
 use Rattle.tp_model.specs.Opening.{held_of, verdict}
-use Rattle.tp_model.specs.Runs.{reopened}
+use Rattle.tp_model.specs.Runs.{World, reopened}
 use Rattle.tp_flush.specs.Known.{Began}
-use Rattle.tp_run.specs.Compacted.{Compacted}
+use Rattle.tp_run.specs.Compacted.{Compacted, SaysLast, has_failed_in}
+use Rattle.tp_run.specs.Failures.{failures_after}
 use Rattle.tp_run.proofs.Compacts.{walked_compacted}
 use Rattle.tp_run.proofs.compacting.compact_parts.Goals as goal
 
@@ -27,5 +31,19 @@ returns-clause-kept g c k began =
     let reads : verdict old.state.now.bytes ≡ Ok opened = subst (λ (s : State). verdict s.now.bytes ≡ Ok opened) device (c.requires.read k) in
     let world : old.world ≡ reopened before old.state.now.bytes (held_of opened) opened.now =
     subst (λ (s : State). old.world ≡ reopened before s.now.bytes (held_of opened) opened.now) device c.over-flusher.ensures.world in
-    let kept : Compacted start done old.state new.state = walked_compacted start before opened old new done there reads world (c.switch_all-done.ensures.walks k first) c.switch_all-done.ensures.stored in
+    let kept : Compacted start done old.state new.state = walked_compacted start before opened old new done (c.known.ensures.reached k first) there reads world (c.switch_all-done.ensures.walks k first) c.switch_all-done.ensures.stored in
     subst (λ s. Compacted start done (g.D.Disk.state c.args.store.disk) s) (sym c.into_disk.ensures.state) (subst (λ s. Compacted start done s new.state) c.over-flusher.ensures.device.0 kept)
+
+-- ## Which fault
+
+pub switch_all-done-requires : goal.switch_all-done-requires
+switch_all-done-requires g c = record { rests = ap (λ (w : World NodeState). w.at) c.over-flusher.ensures.world }
+
+pub returns-clause-failures : goal.returns-clause-failures
+returns-clause-failures g c =
+    let here = c.over-flusher.ensures.device.2 in
+    c.into_disk.ensures.failures ∙ subst (λ n. c.switch_all-done.new.flusher.failures ≡ failures_after (has_failed_in c.switch_all-done.result) n) here c.switch_all-done.ensures.failures
+
+pub returns-clause-last : goal.returns-clause-last
+returns-clause-last g c =
+    subst (λ (p : Place). SaysLast c.switch_all-done.result (is_full_for_snapshot p.generation)) c.over-flusher.ensures.place.0 c.switch_all-done.ensures.last

@@ -1,0 +1,61 @@
+-- How many calls of the device have failed.
+use Rattle.std.specs.Prelude.{if◌then◌else◌}
+use Rattle.std.proofs.Common.{◌≡◌, ℕ, ◌+◌, inl, inr, Bool, true, false, Result, Ok, Err, refl, sym, subst, arith}
+use Rattle.tp_model.specs.NodeState.{NodeState}
+use Rattle.tp_model.specs.WriteOrder.{Position, Broken, Resting}
+use Rattle.tp_recover.specs.declared.unopened.Unopened.{Unopened}
+use Rattle.tp_recover.specs.declared.unopened.Unopened.TheVariants as why
+use Rattle.tp_recover.specs.Reading.{has_read}
+use Rattle.tp_flush.specs.declared.fault.FlushFault.{FlushFault}
+use Rattle.tp_flush.specs.declared.fault.FlushFault.TheVariants.{AreaFull, DeviceFailed, Memory, StoreBroken}
+use Rattle.tp_flush.specs.Ends.{Ended, Rested}
+use Rattle.tp_flush.specs.Flushing.{Flushing, position}
+use Rattle.tp_run.specs.Failures.{CountsFailures, failed_to_open, failures_after}
+
+-- ## The flusher's turns
+
+apart : (at : Position NodeState) → at ≡ Broken → at ≡ Resting → ⊥
+apart at broken rests = cc
+
+pub none_failed : (v : Flushing) → CountsFailures v v
+none_failed v = record { rests = λ rests. (rests, refl); broken = λ is. inl (is, refl) }
+
+rested : (old new : Flushing) → Rested old new → CountsFailures old new
+rested old new R = record { rests = λ rests. (R.began, R.failures); broken = λ broken. absurd (apart new.world.at broken R.rests) }
+
+one_failed : (old new : Flushing) → old.world.at ≡ Resting → new.world.at ≡ Broken → new.failures ≡ old.failures + 1 → CountsFailures old new
+one_failed old new began broken more = record { rests = λ rests. absurd (apart new.world.at broken rests); broken = λ is. inr (began, more) }
+
+pub turn_failures : {A : Type 0} (r : Result A FlushFault) (old new : Flushing) → Ended r old new → CountsFailures old new
+turn_failures (Ok x) old new E = rested old new E
+turn_failures (Err DeviceFailed) old new (inl F) = one_failed old new F.began F.broken F.failures
+turn_failures (Err DeviceFailed) old new (inr F) = one_failed old new F.began F.broken F.failures
+turn_failures (Err StoreBroken) old new E = subst (λ v. CountsFailures old v) (sym E.1) (none_failed old)
+turn_failures (Err Memory) old new (inl W) = rested old new W.0.rested
+turn_failures (Err Memory) old new (inr W) = rested old new W.rested
+turn_failures (Err AreaFull) old new E = rested old new E.rested
+
+abbrev pub refused_as : (A : Type 0) → FlushFault → Result A FlushFault
+refused_as A fault = Err fault
+
+-- as many as are told, from where the flusher rests on
+pub counted : (old new : Flushing) (failed : Bool) → old.world.at ≡ Resting → CountsFailures old new → new.world.at ≡ position failed → new.failures ≡ failures_after failed old.failures
+counted old new false began C at = let same = (C.rests at).1 in omega (arith, same)
+counted old new true began C at = elim (C.broken at) [
+  | inl was ↦ absurd (apart old.world.at was.0 began)
+  | inr once ↦ let more = once.1 in omega (arith, more)
+]
+
+-- where nothing failed
+pub uncounted : (now before : ℕ) (failed : Bool) → failed ≡ false → now ≡ before → now ≡ failures_after failed before
+uncounted now before failed none same = subst (λ f. now ≡ failures_after f before) (sym none) (omega (arith, same))
+
+-- ## The opening
+
+abbrev pub unopened_as : (A : Type 0) → Unopened → Result A Unopened
+unopened_as A refused = Err refused
+
+pub opening_counted : (A : Type 0) (refused : Unopened) (before now : ℕ) → now ≡ (if has_read (unopened_as A refused) then before else before + 1) → now ≡ failures_after (failed_to_open refused) before
+opening_counted A (why.Fault fault) before now same = omega (arith, same)
+opening_counted A why.ReadFailed before now same = omega (arith, same)
+opening_counted A why.Memory before now same = omega (arith, same)
