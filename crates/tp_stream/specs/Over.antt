@@ -1,4 +1,4 @@
--- Inputs of which nothing is left, as a stream ends.
+-- Inputs that are over as a stream ends.
 use Rattle.std.specs.Prelude.{◌≡◌, Bool, true}
 use Rattle.tp_stream_files.specs.declared.ending.Ending.{Ending}
 use Rattle.tp_stream_files.specs.declared.ending.Ending.TheVariants.{Quiet, Turns, Gone, Halted, Stopped}

@@ -31,7 +31,7 @@ abbrev pub every_of : JournalRoom → Option ℕ → ℕ
 every_of journal None = max (half_capacity journal) 1
 every_of journal (Some entries) = min (max (half_capacity journal) 1) (max entries 1)
 
--- How much room a turn and the confirms behind it need, where there are so many ports: a node's turn, or the host's with TAKES entries a port,
+-- How much room a turn and the confirms behind it need beside `ports` ports: a node's turn, or the host's with TAKES entries a port,
 -- whichever is more, and a confirm a port.
 abbrev pub need_of : ℕ → ℕ
 need_of ports = max TURN_ENTRIES (TAKES * ports) + ports

@@ -33,7 +33,7 @@ put_in (o ∷ outputs) port = if nat_eq o.port port then Some o.next else put_in
 abbrev pub SaysPut : List OutputValue → List (Option ℕ) → Type 0
 SaysPut outputs put = (port : ℕ) → port < MAX_PORTS → get_or put port None ≡ put_in outputs port
 
--- How far a stream has come was told once: its numbers are those of a book, of the flusher, and of so many turns, and up to where each
+-- How far a stream has come was told once: its numbers are those of a book, of the flusher, and of the turns that were made, and up to where each
 -- port's outputs were put is as these outputs say.
 pub record HasTold (journal : JournalRoom) (f : Flushing) (made : ℕ) (outputs : List OutputValue) (old new : Option (List Notice)) : Type 0 where
   pub book : BookValue
