@@ -2,5 +2,6 @@
 //! with.
 #![tactic(auto)]
 
+pub mod flushing;
 pub mod opening;
 pub mod plain;

@@ -1,26 +1,18 @@
 //! The flusher beside turns of nodes: either goes on while the other is held.
 
 use crate::hold::Hold;
+use crate::turns::turn_node;
 use std::alloc::Global;
 use std::sync::Wait;
 use std::thread::{Threads, join};
 use tp_disk::Disk;
 use tp_flush::Flusher;
-use tp_shared::{Gate, Naming, NoGate, Seat, Shared, Sights};
+use tp_shared::{Gate, Naming, NoGate, Shared};
+use tp_tests_begun::flushing::flush;
 
-/// How many steps a turn has.
-const QUANTUM: u16 = 9;
-
-/// A turn of the node `number`. Answers whether it was made, and a run with it.
+/// Whether the node `number` makes a turn, and a run with it.
 fn is_run<J: Naming, G: Gate, R: Wait>(rt: &R, shared: &Shared<J>, gate: &G, number: u8) -> bool {
-    if number >= shared.nodes() {
-        return false;
-    }
-    let mut seat = Seat::new();
-    match shared.turn(rt, gate, &mut seat, &mut Sights::new(), number, QUANTUM) {
-        Ok(turn) => turn.ran.count() > 0,
-        Err(_) => false,
-    }
+    turn_node(rt, shared, gate, number).unwrap_or(0) > 0
 }
 
 /// The number that the next entry gets.
@@ -55,9 +47,9 @@ fn flush_beside<J: Naming, D: Disk, R: Wait>(
 ) -> (Flusher<J, D>, bool) {
     let mut flusher = flusher;
     let came = gate.wait();
-    let done = flusher.turn(rt, alloc, shared);
+    let is_done = flush(rt, alloc, shared, &mut flusher).is_ok();
     gate.open();
-    (flusher, came && done.is_ok())
+    (flusher, came && is_done)
 }
 
 // A turn of the flusher that the gate holds. Answers the mark.
@@ -94,6 +86,14 @@ fn run_beside<J: Naming, R: Wait>(
     }
 }
 
+// Whether the mark of one turn of the flusher is at most a run's number, and that of the next one above it.
+fn is_between(first: Option<u64>, run: Option<u64>, second: Option<(u64, bool)>) -> bool {
+    match (first, run, second) {
+        (Some(first), Some(run), Some((second, _))) => first <= run && run < second,
+        _ => false,
+    }
+}
+
 /// Whether a run of the node `number`, which is journalled while the flusher is held, at a gate that holds it behind its copy, isn't stored
 /// by that turn, but by the next one: the mark is then at most the run's number, and above it.
 pub fn is_stored_by_the_next_turn<
@@ -113,15 +113,16 @@ pub fn is_stored_by_the_next_turn<
         move || run_beside(rt, shared, gate, number),
         move || flush_held(rt, alloc, shared, flusher, gate),
     );
-    let second = match flusher.turn(rt, alloc, shared) {
-        Ok(flushed) => Some(flushed.mark),
-        Err(_) => None,
-    };
-    let is_between = match (first, run, second) {
-        (Some(first), Some(run), Some(second)) => first <= run && run < second,
+    let second = flush(rt, alloc, shared, &mut flusher).ok();
+    (flusher, is_between(first, run, second) && gate.was_let_go())
+}
+
+// Whether the mark of a turn of the flusher is at most a run's number.
+fn is_below(mark: Option<u64>, run: Option<u64>) -> bool {
+    match (mark, run) {
+        (Some(mark), Some(run)) => mark <= run,
         _ => false,
-    };
-    (flusher, is_between && gate.was_let_go())
+    }
 }
 
 /// Whether the node `number` makes a run, records, and then makes another while the flusher is held, at a gate that holds it behind the
@@ -142,12 +143,8 @@ pub fn is_run_beside_a_copy<J: Naming + Send + Sync, D: Disk + Drop, R: Threads 
         move || run_beside(rt, shared, gate, number),
         move || flush_held(rt, alloc, shared, flusher, gate),
     );
-    let is_below = match (mark, run) {
-        (Some(mark), Some(run)) => mark <= run,
-        _ => false,
-    };
     (
         flusher,
-        is_begun && is_recorded && is_below && gate.was_let_go(),
+        is_begun && is_recorded && is_below(mark, run) && gate.was_let_go(),
     )
 }

@@ -5,8 +5,9 @@ ghost use Rattle.tp_shared.specs.Named.{Names};
 ghost use Rattle.tp_tests_begun.specs.Spelt.{IsSpelt};
 
 use crate::device::{formatted, formatted_wide, without_turns};
-use crate::left::is_journal;
+use crate::left::{is_journal, opened};
 use crate::marked::marked;
+use crate::turns::turn_all;
 use std::alloc::Global;
 use std::marker::Brand;
 use std::sync::Wait;
@@ -15,37 +16,16 @@ use tp_book::{Book, NetParts, NetState, Refusal};
 use tp_disk::MemDisk;
 use tp_flush::Flusher;
 use tp_model::Form;
-use tp_recover::{Opened, open};
-use tp_shared::{Naming, NoGate, Seat, Shared, Sights};
+use tp_recover::Opened;
+use tp_shared::{Naming, NoGate, Shared};
+use tp_tests_begun::flushing::flush;
 use tp_tests_begun::opening::{Opening, begin, opening_of};
-
-/// How many steps a node's turn has.
-const QUANTUM: u16 = 9;
 
 /// In how many rounds a snapshot has to end.
 const ROUNDS: u8 = 4;
 
 /// How often there are `ROUNDS` rounds.
 const PARTS: u8 = 4;
-
-/// A turn of each node, and one of the host. Answers whether all were made.
-pub(crate) fn turn_all<J: Naming, R: Wait>(rt: &R, shared: &Shared<J>) -> bool {
-    let mut are_made = true;
-    for number in 0..shared.nodes() {
-        let mut seat = Seat::new();
-        if shared
-            .turn(rt, &NoGate, &mut seat, &mut Sights::new(), number, QUANTUM)
-            .is_err()
-        {
-            are_made = false;
-        }
-    }
-    let mut seat = Seat::new();
-    shared
-        .host_turn(rt, &NoGate, &mut seat, &mut Sights::new())
-        .is_ok()
-        && are_made
-}
 
 /// Turns of all, and one of the flusher. Answers whether it switched.
 fn round<J: Naming, R: Wait>(
@@ -57,8 +37,8 @@ fn round<J: Naming, R: Wait>(
     if !turn_all(rt, shared) {
         return None;
     }
-    let flushed = flusher.turn(rt, alloc, shared).ok()?;
-    Some(flushed.switched)
+    let (_, switched) = flush(rt, alloc, shared, flusher).ok()?;
+    Some(switched)
 }
 
 /// Makes some rounds. Answers in how many of them the flusher switched.
@@ -147,21 +127,19 @@ fn images_of(alloc: Global, opened: Opened) -> Result<Vec<Vec<u8>>, Fail> {
     Ok(images)
 }
 
-/// The image of each node after a crash. None where the device doesn't open to what the book has.
+/// The image of each node after a crash. None where the device doesn't open to what the book has, or `is_so` is false.
 fn left<J: Naming, R: Wait>(
     rt: &R,
     alloc: Global,
     shared: &Shared<J>,
     disk: MemDisk,
     switches: u8,
+    is_so: bool,
 ) -> Result<Option<Vec<Vec<u8>>>, Fail> {
-    let mut disk = MemDisk::of_bytes(disk.crash());
-    let opened = open(alloc, &mut disk)?;
-    if !is_left_behind(rt, shared, &opened, switches) {
-        return Ok(None);
-    }
+    let opened = opened(alloc, MemDisk::of_bytes(disk.crash()))?;
+    let is_left = is_left_behind(rt, shared, &opened, switches);
     let images = images_of(alloc, opened)?;
-    Ok(Some(images))
+    Ok(if is_left && is_so { Some(images) } else { None })
 }
 
 /// The image of each node after all rounds, with `snapshots` begun, and a crash. None where something didn't go as it should.
@@ -176,8 +154,9 @@ fn play<J: Naming, R: Wait>(
 {
     let (net, _, mut flusher, _) = begin::<J, MemDisk, NoGate, R>(rt, alloc, opening, 1, NoGate)?;
     let goes_over = goes_over(rt, alloc, net.shared(), &mut flusher, snapshots);
-    let images = left(rt, alloc, net.shared(), flusher.into_disk(), snapshots)?;
-    Ok(if goes_over { images } else { None })
+    let disk = flusher.into_disk();
+    let images = left(rt, alloc, net.shared(), disk, snapshots, goes_over);
+    images
 }
 
 /// Plays all rounds under new names.
@@ -192,10 +171,47 @@ fn play_in<R: Wait>(
     play::<Brand, R>(rt, alloc, opening, snapshots)
 }
 
+/// The devices over which all rounds are made: of sixteen nodes, of four whose pages have marks, of seventeen, and of sixteen with a first
+/// area that has no turns.
+#[derive(Clone, Copy, Debug)]
+enum Device {
+    Formatted,
+    Marked,
+    Wide,
+    WithoutTurns,
+}
+
+const DEVICES: [Device; 4] = [
+    Device::Formatted,
+    Device::Marked,
+    Device::Wide,
+    Device::WithoutTurns,
+];
+
+/// A device, freshly formatted.
+fn device_of(alloc: Global, device: Device) -> Result<MemDisk, Fail> {
+    match device {
+        Device::Formatted => formatted(alloc),
+        Device::Marked => marked(alloc),
+        Device::Wide => formatted_wide(alloc),
+        Device::WithoutTurns => Ok(without_turns(formatted(alloc)?)),
+    }
+}
+
 /// Whether all rounds go as they should with `snapshots` begun.
-fn goes<R: Wait>(rt: &R, alloc: Global, disk: MemDisk, snapshots: u8) -> Result<bool, Fail> {
-    let opening = opening_of(alloc, disk)?;
+fn goes<R: Wait>(rt: &R, alloc: Global, device: Device, snapshots: u8) -> Result<bool, Fail> {
+    let opening = opening_of(alloc, device_of(alloc, device)?)?;
     Ok(play_in(rt, alloc, opening, snapshots)?.is_some())
+}
+
+/// With how many snapshots all rounds go as they should, up to the first with which they don't.
+fn gone<R: Wait>(rt: &R, alloc: Global, device: Device) -> Result<u8, Fail> {
+    for snapshots in 0..PARTS {
+        if !goes(rt, alloc, device, snapshots)? {
+            return Ok(snapshots);
+        }
+    }
+    Ok(PARTS)
 }
 
 /// The image of each node of a marked device after all rounds, with `snapshots` begun.
@@ -216,13 +232,9 @@ fn is_same<R: Wait>(rt: &R, alloc: Global, snapshots: u8) -> Result<bool, Fail> 
 
 #[test]
 fn a_checkpoint_switches_the_areas(rt: HostRuntime) -> Result<(), Fail> {
-    let alloc = rt.alloc();
-    for snapshots in 0..PARTS {
-        assert!(rt; goes(&rt, alloc, formatted(alloc)?, snapshots)?);
-        assert!(rt; goes(&rt, alloc, marked(alloc)?, snapshots)?);
-        assert!(rt; goes(&rt, alloc, formatted_wide(alloc)?, snapshots)?);
-        let disk = without_turns(formatted(alloc)?);
-        assert!(rt; goes(&rt, alloc, disk, snapshots)?);
+    for device in DEVICES {
+        let gone = gone(&rt, rt.alloc(), device)?;
+        assert_eq!(rt; gone, PARTS, "{device:?}");
     }
     Ok(())
 }

@@ -8,6 +8,7 @@ use tp_disk::MemDisk;
 use tp_flush::Flusher;
 use tp_recover::{Opened, open};
 use tp_shared::{Naming, Shared};
+use tp_tests_begun::flushing::flush;
 
 /// Whether what was opened is the book's journal: the next number, and each entry under its number.
 pub(crate) fn is_journal(book: &Book, opened: &Opened) -> bool {
@@ -17,17 +18,21 @@ pub(crate) fn is_journal(book: &Book, opened: &Opened) -> bool {
         && kept.iter().zip(entries).all(|(one, other)| one == other)
 }
 
-/// Whether what a device opens to is the journal of the book under its lock.
-fn is_journalled<J: Naming, R: Wait>(
-    rt: &R,
-    alloc: Global,
-    shared: &Shared<J>,
-    disk: MemDisk,
-) -> Result<bool, Fail> {
+/// What a device opens to.
+pub(crate) fn opened(alloc: Global, disk: MemDisk) -> Result<Opened, Fail> {
     let mut disk = disk;
-    let opened = open(alloc, &mut disk)?;
+    Ok(open(alloc, &mut disk)?)
+}
+
+/// Whether what was opened is the journal of the book under its lock.
+fn is_journalled<J: Naming, R: Wait>(rt: &R, shared: &Shared<J>, opened: &Opened) -> bool {
     let held = shared.book().lock(rt);
-    Ok(is_journal(held.book(), &opened))
+    is_journal(held.book(), opened)
+}
+
+/// Whether one thing is so and the other, which a call tells that may fail.
+pub(crate) fn both(is_so: bool, other: Result<bool, Fail>) -> Result<bool, Fail> {
+    Ok(other? && is_so)
 }
 
 /// Whether a last turn of the flusher leaves a device that opens to the book's journal.
@@ -38,7 +43,7 @@ pub(crate) fn is_left<J: Naming, R: Wait>(
     flusher: Flusher<J, MemDisk>,
 ) -> Result<bool, Fail> {
     let mut flusher = flusher;
-    let is_done = flusher.turn(rt, alloc, shared).is_ok();
-    let is_journalled = is_journalled(rt, alloc, shared, flusher.into_disk())?;
-    Ok(is_done && is_journalled)
+    let is_done = flush(rt, alloc, shared, &mut flusher).is_ok();
+    let opened = opened(alloc, flusher.into_disk())?;
+    Ok(is_journalled(rt, shared, &opened) && is_done)
 }

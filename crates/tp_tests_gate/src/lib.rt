@@ -29,3 +29,5 @@ mod team;
 mod teams;
 #[cfg(test)]
 mod trimmed;
+#[cfg(test)]
+mod turns;

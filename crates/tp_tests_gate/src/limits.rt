@@ -12,7 +12,7 @@ use std::sync::Wait;
 use std::test::Fail;
 use tp_ready::Mark;
 use tp_shared::{Naming, NoGate, Parts};
-use tp_tests_begun::opening::{Opening, opening_of};
+use tp_tests_begun::opening::opening_of;
 use tp_work::{Net, Seat, Turn};
 
 /// How many steps a turn has, and how many seats there are.
@@ -59,6 +59,21 @@ fn next_seat<J: Naming>(net: &Net<J, NoGate>, seats: &mut Vec<Seat<J>>) -> Optio
     seats.pop()
 }
 
+/// Whether the two processes whose turn it is at the seat of that number make whole turns there.
+fn are_two_made<J: Naming, R: Wait>(
+    rt: &R,
+    net: &Net<J, NoGate>,
+    seat: &mut Seat<J>,
+    place: u8,
+    quantum: u16,
+) -> bool
+    requires { seat.old.hand.of ≡ Some net.now.queue }
+{
+    let first = place.wrapping_mul(2) % (NODES + 1);
+    let second = place.wrapping_mul(2).wrapping_add(1) % (NODES + 1);
+    is_made(rt, net, seat, first, quantum) && is_made(rt, net, seat, second, quantum)
+}
+
 /// Whether there are `count` seats, and two processes make whole turns at each, all of them in their order.
 fn are_made<J: Naming, R: Wait>(
     rt: &R,
@@ -74,11 +89,7 @@ fn are_made<J: Naming, R: Wait>(
         let Some(mut seat) = next_seat(net, &mut seats) else {
             return false;
         };
-        let first = place.wrapping_mul(2) % (NODES + 1);
-        let second = place.wrapping_mul(2).wrapping_add(1) % (NODES + 1);
-        if !is_made(rt, net, &mut seat, first, quantum)
-            || !is_made(rt, net, &mut seat, second, quantum)
-        {
+        if !are_two_made(rt, net, &mut seat, place, quantum) {
             return false;
         }
     }
@@ -111,7 +122,7 @@ fn begins<R: Wait>(rt: &R, alloc: Global, quantum: u16, seats: u8) -> Result<boo
     requires quantum { (0 < quantum) × (quantum ≤ MAX_STEPS) }
     requires seats { (0 < seats) × (seats ≤ MAX_SEATS) }
 {
-    let Opening { parts, .. } = opening_of(alloc, formatted(alloc)?)?;
+    let (parts, _raiser) = opening_of(alloc, formatted(alloc)?)?.into_parts();
     Ok(starts_in(rt, alloc, parts, quantum, seats))
 }
 

@@ -5,6 +5,7 @@ ghost use Rattle.tp_shared.specs.Named.{Names};
 
 use crate::device::formatted;
 use crate::hold::Hold;
+use crate::turns::{QUANTUM, turn_node};
 use std::alloc::{AllocError, Global};
 use std::marker::Brand;
 use std::sync::Wait;
@@ -12,40 +13,20 @@ use std::test::Fail;
 use std::thread::{Threads, join, map_vec};
 use tp_model::Entry;
 use tp_shared::gate::RUN_DONE;
-use tp_shared::{Naming, NoGate, Parts, Seat, Shared, Sights};
-use tp_tests_begun::opening::{Opening, opening_of};
+use tp_shared::{Naming, NoGate, Parts, Shared};
+use tp_tests_begun::opening::opening_of;
 
 /// The node that is held. None of `OTHERS` is under its lock.
 const HELD: u8 = 1;
 
 const OTHERS: [u8; 11] = [2, 3, 4, 6, 7, 8, 10, 11, 12, 14, 15];
 
-/// How many steps a turn has.
-const QUANTUM: u16 = 9;
-
 /// How many threads make turns of other nodes.
 const TEAMS: &[usize] = &[1, 3, 15];
 
-/// A turn of a node, whatever it answers. Answers whether it was made.
+/// Whether a node makes a turn.
 fn is_turned<J: Naming, R: Wait>(rt: &R, shared: &Shared<J>, number: u8) -> bool {
-    if number >= shared.nodes() {
-        return false;
-    }
-    let mut seat = Seat::new();
-    shared
-        .turn(rt, &NoGate, &mut seat, &mut Sights::new(), number, QUANTUM)
-        .is_ok()
-}
-
-/// The turn that is held.
-fn turn_held<J: Naming, R: Wait>(rt: &R, shared: &Shared<J>, hold: &Hold) -> bool {
-    if HELD >= shared.nodes() {
-        return false;
-    }
-    let mut seat = Seat::new();
-    shared
-        .turn(rt, hold, &mut seat, &mut Sights::new(), HELD, QUANTUM)
-        .is_ok()
+    turn_node(rt, shared, &NoGate, number).is_some()
 }
 
 /// Turns of other nodes, each in a thread of its own, while one is held, which is let go then. Answers whether it was there, and all
@@ -104,7 +85,7 @@ fn overlap<J: Naming + Send + Sync, R: Threads + Wait + Sync>(
     let (lent, gate) = (&shared, &hold);
     let (held, others) = join(
         rt,
-        move || turn_held(rt, lent, gate),
+        move || turn_node(rt, lent, gate, HELD).is_some(),
         move || turn_others(rt, numbers, lent, gate),
     );
     held && others && hold.was_let_go() && is_last(rt, &shared, count + 1)
@@ -115,13 +96,17 @@ fn overlap_in<R: Threads + Wait + Sync>(rt: &R, parts: Parts, numbers: Vec<u8>) 
     overlap::<Brand, R>(rt, parts, numbers)
 }
 
+/// Makes turns of `count` other nodes on a device that is freshly formatted.
+fn overlaps<R: Threads + Wait + Sync>(rt: &R, alloc: Global, count: usize) -> Result<bool, Fail> {
+    let numbers = numbers_of(alloc, count)?;
+    let (parts, _raiser) = opening_of(alloc, formatted(alloc)?)?.into_parts();
+    Ok(overlap_in(rt, parts, numbers))
+}
+
 #[test]
 fn others_make_turns_while_one_node_is_held(rt: HostRuntime) -> Result<(), Fail> {
-    let alloc = rt.alloc();
     for count in TEAMS {
-        let Opening { parts, .. } = opening_of(alloc, formatted(alloc)?)?;
-        let numbers = numbers_of(alloc, *count)?;
-        assert!(rt; overlap_in(&rt, parts, numbers));
+        assert!(rt; overlaps(&rt, rt.alloc(), *count)?);
     }
     Ok(())
 }

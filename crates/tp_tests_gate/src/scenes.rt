@@ -6,14 +6,14 @@ ghost use Rattle.tp_tests_begun.specs.Spelt.{IsSpelt};
 ghost use Rattle.tp_work.specs.declared.start.TheConstants.{MAX_SEATS};
 
 use crate::beside::{is_flushed_beside_a_run, is_run_beside_a_copy, is_stored_by_the_next_turn};
-use crate::checkpoints::turn_all;
 use crate::device::formatted;
 use crate::hold::Hold;
-use crate::left::is_left;
+use crate::left::{both, is_left, opened};
 use crate::meanwhile::stays_stored;
 use crate::pace::{EVERY, Pace, Paced};
 use crate::team::work_as_team;
 use crate::teams::{are_all_beside, parted};
+use crate::turns::turn_all;
 use std::alloc::Global;
 use std::marker::Brand;
 use std::sync::Wait;
@@ -23,10 +23,10 @@ use tp_disk::{Disk, MemDisk};
 use tp_flush::{FLUSHER, Flusher};
 use tp_model::Entry;
 use tp_ready::Pass;
-use tp_recover::{Unopened, open};
 use tp_replay::FlatNetwork;
 use tp_shared::gate::{BACKLOG_COPIED, PAGE_COPIED, RUN_DONE};
 use tp_shared::{Naming, Shared};
+use tp_tests_begun::flushing::flush;
 use tp_tests_begun::opening::{Opening, begin, opening_of};
 use tp_tests_begun::plain::{is_network, look_at_book, replayed};
 use tp_work::{Net, Seat};
@@ -192,9 +192,8 @@ fn act<J: Naming + Send + Sync, D: Disk + Drop, R: Threads + Wait + Sync>(
 }
 
 /// The network of what a crash leaves, where it has the areas of one switch and the next number of a journal.
-fn network_left(alloc: Global, disk: MemDisk, next: u64) -> Result<Option<FlatNetwork>, Unopened> {
-    let mut disk = MemDisk::of_bytes(disk.crash());
-    let opened = open(alloc, &mut disk)?;
+fn network_left(alloc: Global, disk: MemDisk, next: u64) -> Result<Option<FlatNetwork>, Fail> {
+    let opened = opened(alloc, MemDisk::of_bytes(disk.crash()))?;
     let is_second = opened.second() && opened.generation() == 2 && opened.base() > 0;
     let is_so = is_second && opened.next() == next;
     let (_, network, _) = opened.into_parts();
@@ -218,17 +217,18 @@ fn is_replay(alloc: Global, disk: MemDisk, journal: &[Entry]) -> Result<bool, Fa
     is_replay
 }
 
-/// Whether a turn of the flusher switches the areas.
-fn switches<J: Naming, R: Wait>(
+/// Whether a snapshot that runs ends once all made a turn. Adds what the book has journalled then.
+fn ends<J: Naming, R: Wait>(
     rt: &R,
     alloc: Global,
     shared: &Shared<J>,
     flusher: &mut Flusher<J, MemDisk>,
+    journal: &mut Vec<Entry>,
 ) -> bool {
-    match flusher.turn(rt, alloc, shared) {
-        Ok(flushed) => flushed.switched,
-        Err(_) => false,
-    }
+    let is_turned = turn_all(rt, shared);
+    let is_looked = look_at_book(rt, shared, journal).is_ok();
+    let is_switched = matches!(flush(rt, alloc, shared, flusher), Ok((_, true)));
+    is_turned && is_looked && is_switched
 }
 
 /// Whether a snapshot that runs ends once all made a turn, and the device then holds a plain replay of the journal.
@@ -240,15 +240,29 @@ fn is_switched<J: Naming, R: Wait>(
 ) -> Result<bool, Fail> {
     let mut journal = Vec::new(alloc);
     let mut flusher = flusher;
-    let is_turned = turn_all(rt, shared);
-    let looked = look_at_book(rt, shared, &mut journal);
-    let is_switched = switches(rt, alloc, shared, &mut flusher);
+    let has_ended = ends(rt, alloc, shared, &mut flusher, &mut journal);
     let is_replay = is_replay(alloc, flusher.into_disk(), &journal);
-    Ok(is_replay? && is_turned && is_switched && looked.is_ok())
+    let told = both(has_ended, is_replay);
+    told
 }
 
-/// Whether a scene goes as it should, and what the flusher leaves then is the book's journal. Where an image was copied meanwhile, the area
-/// with it is gone over to.
+/// Whether what the flusher leaves behind a scene is the book's journal. Where an image was copied meanwhile, the area with it is gone over
+/// to.
+fn leaves<J: Naming, R: Wait>(
+    rt: &R,
+    alloc: Global,
+    shared: &Shared<J>,
+    flusher: Flusher<J, MemDisk>,
+    scene: Scene,
+) -> Result<bool, Fail> {
+    if matches!(scene, Scene::Held(Held::Page)) {
+        is_switched(rt, alloc, shared, flusher)
+    } else {
+        is_left(rt, alloc, shared, flusher)
+    }
+}
+
+/// Whether a scene goes as it should, and the flusher leaves then what it should.
 fn play<J: Naming + Send + Sync, R: Threads + Wait + Sync>(
     rt: &R,
     alloc: Global,
@@ -267,11 +281,9 @@ fn play<J: Naming + Send + Sync, R: Threads + Wait + Sync>(
         rt, alloc, opening, workers, gate,
     )?;
     let (flusher, is_so) = act(rt, alloc, scene, &net, seats, first, flusher, pass, &pace);
-    let is_left = match scene {
-        Scene::Held(Held::Page) => is_switched(rt, alloc, net.shared(), flusher),
-        _ => is_left(rt, alloc, net.shared(), flusher),
-    };
-    Ok(is_left? && is_so)
+    let is_left = leaves(rt, alloc, net.shared(), flusher, scene);
+    let told = both(is_so, is_left);
+    told
 }
 
 /// Plays a scene under new names.

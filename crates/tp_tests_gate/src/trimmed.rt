@@ -6,7 +6,8 @@ ghost use Rattle.tp_tests_begun.specs.Spelt.{IsSpelt};
 
 use crate::device::{formatted, without_turns};
 use crate::hold::Hold;
-use crate::left::is_left;
+use crate::left::{both, is_left};
+use crate::turns::{QUANTUM, turn_host, turn_node, turn_nodes};
 use std::alloc::Global;
 use std::marker::Brand;
 use std::sync::Wait;
@@ -16,55 +17,15 @@ use tp_disk::MemDisk;
 use tp_flush::Flusher;
 use tp_model::{Entry, Form, Received, Token};
 use tp_shared::gate::RUN_DONE;
-use tp_shared::{Gate, Naming, NoGate, Seat, Shared, Sights};
+use tp_shared::{Naming, NoGate, Shared};
+use tp_tests_begun::flushing::flush;
 use tp_tests_begun::opening::{Opening, begin, opening_of};
 
 /// The node that sends a letter, and whose turn is open.
 const NODE: u8 = 0;
 
-/// How many steps a turn has.
-const QUANTUM: u16 = 9;
-
 /// The line from the port to the node.
 const LINE: u16 = 64;
-
-/// A turn of the node `number`. Answers whether it was made.
-fn is_turned<J: Naming, G: Gate, R: Wait>(
-    rt: &R,
-    shared: &Shared<J>,
-    gate: &G,
-    number: u8,
-) -> bool {
-    if number >= shared.nodes() {
-        return false;
-    }
-    let mut seat = Seat::new();
-    shared
-        .turn(rt, gate, &mut seat, &mut Sights::new(), number, QUANTUM)
-        .is_ok()
-}
-
-/// A turn of each node.
-fn are_turned<J: Naming, R: Wait>(rt: &R, shared: &Shared<J>) -> bool {
-    let mut are_made = true;
-    for number in 0..shared.nodes() {
-        are_made = is_turned(rt, shared, &NoGate, number) && are_made;
-    }
-    are_made
-}
-
-/// A turn of the flusher. Answers whether it switched.
-fn switches<J: Naming, R: Wait>(
-    rt: &R,
-    alloc: Global,
-    shared: &Shared<J>,
-    flusher: &mut Flusher<J, MemDisk>,
-) -> Option<bool> {
-    match flusher.turn(rt, alloc, shared) {
-        Ok(flushed) => Some(flushed.switched),
-        Err(_) => None,
-    }
-}
 
 /// The node sends its letter, and a snapshot begins, in which all nodes record. The flusher copies their images, and doesn't switch, since
 /// the letter is on its line, and a Marker behind it. Then the host takes both, and nothing is wanting any more.
@@ -74,14 +35,11 @@ fn comes_whole<J: Naming, R: Wait>(
     shared: &Shared<J>,
     flusher: &mut Flusher<J, MemDisk>,
 ) -> bool {
-    let is_sent = is_turned(rt, shared, &NoGate, NODE);
+    let is_sent = turn_node(rt, shared, &NoGate, NODE).is_some();
     let is_begun = flusher.snapshot(rt, alloc, shared).answer().is_ok();
-    let are_recorded = are_turned(rt, shared);
-    let is_copied = switches(rt, alloc, shared, flusher) == Some(false);
-    let mut seat = Seat::new();
-    let is_taken = shared
-        .host_turn(rt, &NoGate, &mut seat, &mut Sights::new())
-        .is_ok();
+    let are_recorded = turn_nodes(rt, shared);
+    let is_copied = matches!(flush(rt, alloc, shared, flusher), Ok((_, false)));
+    let is_taken = turn_host(rt, shared);
     is_sent && is_begun && are_recorded && is_copied && is_taken
 }
 
@@ -95,9 +53,9 @@ fn switch_beside<J: Naming, R: Wait>(
 ) -> (Flusher<J, MemDisk>, bool) {
     let mut flusher = flusher;
     let came = gate.wait();
-    let switched = switches(rt, alloc, shared, &mut flusher);
+    let is_switched = matches!(flush(rt, alloc, shared, &mut flusher), Ok((_, true)));
     gate.open();
-    (flusher, came && switched == Some(true))
+    (flusher, came && is_switched)
 }
 
 /// Whether the areas are switched while the node is held behind its run, and its turn is made.
@@ -111,7 +69,7 @@ fn is_switched_beside<J: Naming + Send + Sync, R: Threads + Wait + Sync>(
     let gate = &hold;
     let (is_made, (flusher, is_switched)) = join(
         rt,
-        move || is_turned(rt, shared, gate, NODE),
+        move || turn_node(rt, shared, gate, NODE).is_some(),
         move || switch_beside(rt, alloc, shared, flusher, gate),
     );
     (flusher, is_made && is_switched && hold.was_let_go())
@@ -146,8 +104,9 @@ fn play<J: Naming + Send + Sync, R: Threads + Wait + Sync>(
     let is_whole = comes_whole(rt, alloc, net.shared(), &mut flusher);
     let (flusher, is_switched) = is_switched_beside(rt, alloc, net.shared(), flusher);
     let is_last = ends_with(rt, net.shared(), wanted);
-    let is_left = is_left(rt, alloc, net.shared(), flusher)?;
-    Ok(is_whole && is_switched && is_last && is_left)
+    let is_left = is_left(rt, alloc, net.shared(), flusher);
+    let told = both(is_whole && is_switched && is_last, is_left);
+    told
 }
 
 /// Plays such a turn under new names.
@@ -160,6 +119,17 @@ fn play_in<R: Threads + Wait + Sync>(
     requires { IsSpelt opening.opened.value }
 {
     play::<Brand, R>(rt, alloc, opening, wanted)
+}
+
+/// Plays it on a device.
+fn plays<R: Threads + Wait + Sync>(
+    rt: &R,
+    alloc: Global,
+    disk: MemDisk,
+    wanted: &[Entry],
+) -> Result<bool, Fail> {
+    let opening = opening_of(alloc, disk)?;
+    play_in(rt, alloc, opening, wanted)
 }
 
 /// The open turn journals the letter's acknowledge and the run in one entry, or apart.
@@ -178,8 +148,7 @@ fn a_turn_that_is_open_at_a_trim_is_committed_as_it_was_opened(
         ],
         count: QUANTUM,
     }];
-    let opening = opening_of(alloc, formatted(alloc)?)?;
-    assert!(rt; play_in(&rt, alloc, opening, &whole)?);
+    assert!(rt; plays(&rt, alloc, formatted(alloc)?, &whole)?);
     let apart = [
         Entry::Take {
             line: LINE,
@@ -190,7 +159,6 @@ fn a_turn_that_is_open_at_a_trim_is_committed_as_it_was_opened(
             count: QUANTUM,
         },
     ];
-    let opening = opening_of(alloc, without_turns(formatted(alloc)?))?;
-    assert!(rt; play_in(&rt, alloc, opening, &apart)?);
+    assert!(rt; plays(&rt, alloc, without_turns(formatted(alloc)?), &apart)?);
     Ok(())
 }

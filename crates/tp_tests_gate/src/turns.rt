@@ -1,0 +1,47 @@
+//! Turns of nodes and of the host, one at a time.
+
+use std::sync::Wait;
+use tp_shared::{Gate, Naming, NoGate, Seat, Shared, Sights};
+
+/// How many steps a node's turn has.
+pub(crate) const QUANTUM: u16 = 9;
+
+/// A turn of the node `number` at a gate. Answers how many steps it made; none where it was refused, or there is no such node.
+pub(crate) fn turn_node<J: Naming, G: Gate, R: Wait>(
+    rt: &R,
+    shared: &Shared<J>,
+    gate: &G,
+    number: u8,
+) -> Option<u16> {
+    if number >= shared.nodes() {
+        return None;
+    }
+    let mut seat = Seat::new();
+    match shared.turn(rt, gate, &mut seat, &mut Sights::new(), number, QUANTUM) {
+        Ok(turn) => Some(turn.ran.count()),
+        Err(_) => None,
+    }
+}
+
+/// A turn of each node. Answers whether all were made.
+pub(crate) fn turn_nodes<J: Naming, R: Wait>(rt: &R, shared: &Shared<J>) -> bool {
+    let mut are_made = true;
+    for number in 0..shared.nodes() {
+        are_made = turn_node(rt, shared, &NoGate, number).is_some() && are_made;
+    }
+    are_made
+}
+
+/// A turn of the host. Answers whether it was made.
+pub(crate) fn turn_host<J: Naming, R: Wait>(rt: &R, shared: &Shared<J>) -> bool {
+    let mut seat = Seat::new();
+    shared
+        .host_turn(rt, &NoGate, &mut seat, &mut Sights::new())
+        .is_ok()
+}
+
+/// A turn of each node, and one of the host. Answers whether all were made.
+pub(crate) fn turn_all<J: Naming, R: Wait>(rt: &R, shared: &Shared<J>) -> bool {
+    let are_made = turn_nodes(rt, shared);
+    turn_host(rt, shared) && are_made
+}
