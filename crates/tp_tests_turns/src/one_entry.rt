@@ -37,6 +37,43 @@ const BYTE: [Received; 4] = [JustData(0x58), Nothing, Nothing, Nothing];
 
 const ACKNOWLEDGE: [Received; 4] = [JustAck, Nothing, Nothing, Nothing];
 
+const NOTHING: [Received; 4] = [Nothing, Nothing, Nothing, Nothing];
+
+/// Another byte; an acknowledge in front of the byte; the byte on another link, alone and with its acknowledge.
+const OTHER_BYTE: [Received; 4] = [JustData(0x59), Nothing, Nothing, Nothing];
+
+const ACKNOWLEDGE_AND_BYTE: [Received; 4] = [AckThenData(0x58), Nothing, Nothing, Nothing];
+
+const OTHER_LINK: [Received; 4] = [Nothing, JustData(0x58), Nothing, Nothing];
+
+const BYTE_AND_ITS_ACKNOWLEDGE: [Received; 4] = [Nothing, JustData(0x58), JustAck, Nothing];
+
+/// The byte is taken by the second node, and its acknowledge by the first; the runs behind these.
+const TAKE_BYTE: Entry = Entry::Take {
+    line: 0,
+    token: Data(0x58),
+};
+
+const TAKE_ACK: Entry = Entry::Take {
+    line: 4,
+    token: Ack,
+};
+
+const RUN_SENDER: Entry = Entry::Run { node: 0, count: 2 };
+
+const RUN_HEARER: Entry = Entry::Run { node: 1, count: 3 };
+
+/// Both are taken by the node that is wired to itself.
+const TAKE_OWN_BYTE: Entry = Entry::Take {
+    line: 2,
+    token: Data(0x58),
+};
+
+const TAKE_OWN_ACK: Entry = Entry::Take {
+    line: 1,
+    token: Ack,
+};
+
 /// A network, and entries that lead to where a row begins.
 #[derive(Clone, Copy)]
 struct Start<'a> {
@@ -66,6 +103,11 @@ fn one_node(before: &[Entry]) -> Start {
 /// Where a row begins, takes and runs, and turns that lead where these lead.
 type Leads<'a> = (Start<'a>, &'a [Entry], &'a [Entry]);
 
+/// The turn of a node that takes this and makes `count` steps.
+fn turn(node: u8, takes: [Received; 4], count: u16) -> Entry {
+    Entry::Turn { node, takes, count }
+}
+
 /// The device of a network before its first entry.
 fn device(alloc: Global, start: Start) -> Result<MemDisk, Fail> {
     let mut images = Vec::new(alloc);
@@ -90,33 +132,38 @@ fn goes_on(network: &mut FlatNetwork, entries: &[Entry]) -> bool {
     true
 }
 
-/// The network where a row begins; `None` where it can't.
-fn begun(alloc: Global, start: Start) -> Result<Option<FlatNetwork>, Fail> {
+/// The network behind the entries `before` and then `entries`; `None` where those before aren't possible, or whether those are isn't as
+/// `is_possible` says.
+fn parts_behind(
+    alloc: Global,
+    network: &mut FlatNetwork,
+    before: &[Entry],
+    entries: &[Entry],
+    is_possible: bool,
+) -> Result<Option<NetParts>, Fail> {
+    let is_so = goes_on(network, before) && goes_on(network, entries) == is_possible;
+    Ok(if is_so {
+        Some(network.parts(alloc)?)
+    } else {
+        None
+    })
+}
+
+/// The network behind `entries`, from where a row begins, where they are possible, or one isn't, as `is_possible` says.
+fn behind(
+    alloc: Global,
+    start: Start,
+    entries: &[Entry],
+    is_possible: bool,
+) -> Result<Option<NetParts>, Fail> {
     let mut disk = device(alloc, start)?;
     let mut network = flat_of(alloc, &mut disk)?;
-    if goes_on(&mut network, start.before) {
-        Ok(Some(network))
-    } else {
-        Ok(None)
-    }
+    let parts = parts_behind(alloc, &mut network, start.before, entries, is_possible);
+    parts
 }
 
-/// The network behind `entries`, from where a row begins; `None` where one isn't possible.
-fn behind(alloc: Global, start: Start, entries: &[Entry]) -> Result<Option<NetParts>, Fail> {
-    let Some(mut network) = begun(alloc, start)? else {
-        return Ok(None);
-    };
-    if !goes_on(&mut network, entries) {
-        return Ok(None);
-    }
-    Ok(Some(network.parts(alloc)?))
-}
-
-/// Whether both are there, with one state.
-fn are_one(one: &Option<NetParts>, other: &Option<NetParts>) -> bool {
-    let (Some(one), Some(other)) = (one, other) else {
-        return false;
-    };
+/// Whether two networks have one state.
+fn is_one(one: &NetParts, other: &NetParts) -> bool {
     let ports = one.ports.len() == other.ports.len()
         && one
             .ports
@@ -126,12 +173,31 @@ fn are_one(one: &Option<NetParts>, other: &Option<NetParts>) -> bool {
     ports && one.images == other.images && one.lines == other.lines
 }
 
+/// Whether both are there, with one state.
+fn are_one(one: &Option<NetParts>, other: &Option<NetParts>) -> bool {
+    match (one, other) {
+        (Some(one), Some(other)) => is_one(one, other),
+        _ => false,
+    }
+}
+
+/// Whether `turns` lead where `entries` lead, which are possible. The turns are, or one isn't, as `is_possible` says.
+fn are_alike(
+    alloc: Global,
+    start: Start,
+    entries: &[Entry],
+    turns: &[Entry],
+    is_possible: bool,
+) -> Result<bool, Fail> {
+    let one = behind(alloc, start, entries, true)?;
+    let other = behind(alloc, start, turns, is_possible)?;
+    Ok(are_one(&one, &other))
+}
+
 /// The first of `rows` whose turns don't lead where its takes and runs lead.
 fn first_apart(alloc: Global, rows: &[Leads]) -> Result<Option<usize>, Fail> {
     for (i, (start, plain, turns)) in rows.iter().enumerate() {
-        let one = behind(alloc, *start, *plain)?;
-        let other = behind(alloc, *start, *turns)?;
-        if !are_one(&one, &other) {
+        if !are_alike(alloc, *start, *plain, *turns, true)? {
             return Ok(Some(i));
         }
     }
@@ -142,97 +208,28 @@ fn first_apart(alloc: Global, rows: &[Leads]) -> Result<Option<usize>, Fail> {
 fn a_turn_leads_where_its_takes_and_its_run_lead(rt: HostRuntime) -> Result<(), Fail> {
     let (sent, waiting) = (SENT, WAITING);
     let (two_nodes, one_node) = (two_nodes(&sent), one_node(&waiting));
+    let plain = [TAKE_BYTE, TAKE_ACK, RUN_SENDER, RUN_HEARER];
+    let turns = [turn(1, BYTE, 0), turn(0, ACKNOWLEDGE, 2), RUN_HEARER];
+    let heard = [TAKE_BYTE, RUN_HEARER];
+    let hearing = [turn(1, BYTE, 3)];
+    let own = [TAKE_OWN_BYTE, TAKE_OWN_ACK];
+    let own_turns = [
+        turn(0, OTHER_LINK, 0),
+        turn(0, [Nothing, Nothing, JustAck, Nothing], 0),
+    ];
     let leads: [Leads; 3] = [
-        (
-            two_nodes,
-            &[
-                Entry::Take {
-                    line: 0,
-                    token: Data(0x58),
-                },
-                Entry::Take {
-                    line: 4,
-                    token: Ack,
-                },
-                Entry::Run { node: 0, count: 2 },
-                Entry::Run { node: 1, count: 3 },
-            ],
-            &[
-                Entry::Turn {
-                    node: 1,
-                    takes: BYTE,
-                    count: 0,
-                },
-                Entry::Turn {
-                    node: 0,
-                    takes: ACKNOWLEDGE,
-                    count: 2,
-                },
-                Entry::Run { node: 1, count: 3 },
-            ],
-        ),
-        (
-            two_nodes,
-            &[
-                Entry::Take {
-                    line: 0,
-                    token: Data(0x58),
-                },
-                Entry::Run { node: 1, count: 3 },
-            ],
-            &[Entry::Turn {
-                node: 1,
-                takes: BYTE,
-                count: 3,
-            }],
-        ),
-        (
-            one_node,
-            &[
-                Entry::Take {
-                    line: 2,
-                    token: Data(0x58),
-                },
-                Entry::Take {
-                    line: 1,
-                    token: Ack,
-                },
-            ],
-            &[
-                Entry::Turn {
-                    node: 0,
-                    takes: [Nothing, JustData(0x58), Nothing, Nothing],
-                    count: 0,
-                },
-                Entry::Turn {
-                    node: 0,
-                    takes: [Nothing, Nothing, JustAck, Nothing],
-                    count: 0,
-                },
-            ],
-        ),
+        (two_nodes, &plain, &turns),
+        (two_nodes, &heard, &hearing),
+        (one_node, &own, &own_turns),
     ];
     assert_eq!(rt; first_apart(rt.alloc(), &leads)?, None);
     Ok(())
 }
 
-/// Whether the turn is refused, and leaves the network as it was.
-fn is_refused(alloc: Global, start: Start, turn: &Entry) -> Result<bool, Fail> {
-    let before = behind(alloc, start, &[])?;
-    let Some(mut network) = begun(alloc, start)? else {
-        return Ok(false);
-    };
-    if goes_on(&mut network, &[*turn]) {
-        return Ok(false);
-    }
-    let after = Some(network.parts(alloc)?);
-    Ok(are_one(&before, &after))
-}
-
 /// The first of `rows`, where a row begins and a turn, whose turn is possible there or doesn't leave the network as it was.
 fn first_possible(alloc: Global, rows: &[(Start, Entry)]) -> Result<Option<usize>, Fail> {
     for (i, (start, turn)) in rows.iter().enumerate() {
-        if !is_refused(alloc, *start, turn)? {
+        if !are_alike(alloc, *start, &[], &[*turn], false)? {
             return Ok(Some(i));
         }
     }
@@ -246,114 +243,28 @@ fn a_turn_takes_what_stood_on_its_lines_before_it(rt: HostRuntime) -> Result<(),
     // where a row begins, and a turn that isn't possible there
     let refused: [(Start, Entry); 9] = [
         // another byte, an acknowledge, and an acknowledge in front of the byte
-        (
-            two_nodes,
-            Entry::Turn {
-                node: 1,
-                takes: [JustData(0x59), Nothing, Nothing, Nothing],
-                count: 0,
-            },
-        ),
-        (
-            two_nodes,
-            Entry::Turn {
-                node: 1,
-                takes: ACKNOWLEDGE,
-                count: 0,
-            },
-        ),
-        (
-            two_nodes,
-            Entry::Turn {
-                node: 1,
-                takes: [AckThenData(0x58), Nothing, Nothing, Nothing],
-                count: 0,
-            },
-        ),
+        (two_nodes, turn(1, OTHER_BYTE, 0)),
+        (two_nodes, turn(1, ACKNOWLEDGE, 0)),
+        (two_nodes, turn(1, ACKNOWLEDGE_AND_BYTE, 0)),
         // another link, the other node, a node that isn't there
-        (
-            two_nodes,
-            Entry::Turn {
-                node: 1,
-                takes: [Nothing, JustData(0x58), Nothing, Nothing],
-                count: 0,
-            },
-        ),
-        (
-            two_nodes,
-            Entry::Turn {
-                node: 0,
-                takes: BYTE,
-                count: 0,
-            },
-        ),
-        (
-            two_nodes,
-            Entry::Turn {
-                node: 2,
-                takes: BYTE,
-                count: 0,
-            },
-        ),
+        (two_nodes, turn(1, OTHER_LINK, 0)),
+        (two_nodes, turn(0, BYTE, 0)),
+        (two_nodes, turn(2, BYTE, 0)),
         // nothing is taken; a step too many for any run
-        (
-            two_nodes,
-            Entry::Turn {
-                node: 0,
-                takes: [Nothing, Nothing, Nothing, Nothing],
-                count: 0,
-            },
-        ),
-        (
-            two_nodes,
-            Entry::Turn {
-                node: 1,
-                takes: BYTE,
-                count: 4097,
-            },
-        ),
+        (two_nodes, turn(0, NOTHING, 0)),
+        (two_nodes, turn(1, BYTE, 4097)),
         // the acknowledge that the byte's take sends wasn't on its line before the turn
-        (
-            one_node,
-            Entry::Turn {
-                node: 0,
-                takes: [Nothing, JustData(0x58), JustAck, Nothing],
-                count: 0,
-            },
-        ),
+        (one_node, turn(0, BYTE_AND_ITS_ACKNOWLEDGE, 0)),
     ];
     assert_eq!(rt; first_possible(rt.alloc(), &refused)?, None);
     Ok(())
 }
 
-/// The network in which the hearer's turn was cut short: it can't make that many steps.
-fn cut_short(alloc: Global) -> Result<Option<NetParts>, Fail> {
-    let long = Entry::Turn {
-        node: 1,
-        takes: BYTE,
-        count: 4096,
-    };
-    let sent = SENT;
-    let Some(mut network) = begun(alloc, two_nodes(&sent))? else {
-        return Ok(None);
-    };
-    if goes_on(&mut network, &[long]) {
-        return Ok(None);
-    }
-    Ok(Some(network.parts(alloc)?))
-}
-
+/// The hearer can't make the steps of a turn, and the network is where one with fewer leads, in which it took its byte.
 #[test]
 fn a_turn_that_is_cut_short_has_taken_its_tokens(rt: HostRuntime) -> Result<(), Fail> {
-    let alloc = rt.alloc();
-    let made = Entry::Turn {
-        node: 1,
-        takes: BYTE,
-        count: 5,
-    };
     let sent = SENT;
-    let left = cut_short(alloc)?;
-    let wanted = behind(alloc, two_nodes(&sent), &[made])?;
-    assert!(rt; are_one(&left, &wanted));
+    let (made, long) = ([turn(1, BYTE, 5)], [turn(1, BYTE, 4096)]);
+    assert!(rt; are_alike(rt.alloc(), two_nodes(&sent), &made, &long, false)?);
     Ok(())
 }
