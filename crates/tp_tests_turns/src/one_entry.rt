@@ -1,9 +1,8 @@
 //! Turns that are one entry: they lead where their takes and their runs lead, and take fronts of the lines before them alone.
 
-use crate::cuts_replayed::are_same;
 use crate::devices::formatted;
 use crate::machines::{Task, image};
-use crate::replayed::flat_of;
+use crate::replayed::{flat_of, is_port};
 use std::alloc::Global;
 use std::test::Fail;
 use tp_book::NetParts;
@@ -163,25 +162,6 @@ fn behind(
     parts
 }
 
-<<<<<<< HEAD
-/// The network behind `entries`, from where a row begins; `None` where one isn't possible.
-fn behind(alloc: Global, start: Start, entries: &[Entry]) -> Result<Option<NetParts>, Fail> {
-    let Some(mut network) = begun(alloc, start)? else {
-        return Ok(None);
-    };
-    if !goes_on(&mut network, entries) {
-        return Ok(None);
-    }
-    Ok(Some(network.parts(alloc)?))
-}
-
-/// Whether both are there, with one state.
-fn are_one(one: &Option<NetParts>, other: &Option<NetParts>) -> bool {
-    let (Some(one), Some(other)) = (one, other) else {
-        return false;
-    };
-    are_same(one, other)
-=======
 /// Whether two networks have one state.
 fn is_one(one: &NetParts, other: &NetParts) -> bool {
     let ports = one.ports.len() == other.ports.len()
@@ -191,7 +171,6 @@ fn is_one(one: &NetParts, other: &NetParts) -> bool {
             .zip(&other.ports)
             .all(|(a, b)| is_port(a, b));
     ports && one.images == other.images && one.lines == other.lines
->>>>>>> 546b3569bdd2f08e8fdfda613683f8d839d53c5b
 }
 
 /// Whether both are there, with one state.
@@ -281,29 +260,9 @@ fn a_turn_takes_what_stood_on_its_lines_before_it(rt: HostRuntime) -> Result<(),
     Ok(())
 }
 
-<<<<<<< HEAD
-/// The network in which the hearer's turn was cut short: it can't make that many steps.
-fn cut_short(alloc: Global) -> Result<Option<NetParts>, Fail> {
-    let long = turn(1, BYTE, 4096);
-    let sent = SENT;
-    let Some(mut network) = begun(alloc, two_nodes(&sent))? else {
-        return Ok(None);
-    };
-    if goes_on(&mut network, &[long]) {
-        return Ok(None);
-    }
-    Ok(Some(network.parts(alloc)?))
-}
-
-#[test]
-fn a_turn_that_is_cut_short_has_taken_its_tokens(rt: HostRuntime) -> Result<(), Fail> {
-    let alloc = rt.alloc();
-    let made = turn(1, BYTE, 5);
-=======
 /// The hearer can't make the steps of a turn, and the network is where one with fewer leads, in which it took its byte.
 #[test]
 fn a_turn_that_is_cut_short_has_taken_its_tokens(rt: HostRuntime) -> Result<(), Fail> {
->>>>>>> 546b3569bdd2f08e8fdfda613683f8d839d53c5b
     let sent = SENT;
     let (made, long) = ([turn(1, BYTE, 5)], [turn(1, BYTE, 4096)]);
     assert!(rt; are_alike(rt.alloc(), two_nodes(&sent), &made, &long, false)?);
