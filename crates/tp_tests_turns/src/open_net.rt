@@ -1,10 +1,11 @@
 //! Two nodes and a port, and their book, without a device. A node's turn that is one entry is opened by one call and committed by another,
 //! and all else may happen in between.
 
-ghost use Rattle.std.specs.Prelude.{◌≡◌, ◌≤◌, IfOk, OnErr, is_none, None};
+ghost use Rattle.std.specs.Prelude.{◌≡◌, ◌≤◌, IfOk, Ok, OnErr, is_none, None};
 ghost use Rattle.std.specs.List.{list_all};
 ghost use Rattle.tp_model.specs.declared.form.Form.TheVariants.{Turns};
 ghost use Rattle.tp_model.specs.declared.limits.TheConstants.{MAX_STEPS};
+ghost use Rattle.tp_turn.specs.Tried.{ReadsFresh};
 ghost use Rattle.tp_tests_turns.specs.OpenNets.{IsAway, IsHome, IsSeated, Leaves};
 
 use crate::cuts_network::{frozen_image, image_of, pair_parts};
@@ -41,6 +42,7 @@ pub(crate) struct OpenNet {
 }
 
 impl Model for OpenNet {
+    ghost use Rattle.tp_turn.specs.Tried.{ReadsFresh};
     ghost use Rattle.tp_tests_turns.specs.OpenNets.{OpenNetValue, HasSeats};
 
     ghost Value = { OpenNetValue };
@@ -136,11 +138,23 @@ fn add_all(all: &mut Vec<(u8, Token)>, tokens: &[(u8, Token)]) -> Result<(), All
     all.extend_from_slice(tokens)
 }
 
+/// How many spare frames a node has: one a page, so that it goes on as if it weren't frozen.
+const FRAMES: usize = 4;
+
+/// The node of an image whose links are idle, with frames for all its pages while it is frozen.
+fn framed_node(alloc: Global, image: &[u8]) -> Result<Node, Fail>
+    ensures { IfOk result (λ node. ReadsFresh image.now (Ok node)) }
+{
+    let _idle = lone_node(alloc, image)?;
+    let node = Node::from_image(alloc, image, FRAMES)?;
+    Ok(node)
+}
+
 impl OpenNet {
     /// The network of two images, before its first entry.
     pub(crate) fn start(alloc: Global, first: &[u8], second: &[u8]) -> Result<OpenNet, Fail> {
-        let one = lone_node(alloc, first)?;
-        let other = lone_node(alloc, second)?;
+        let one = framed_node(alloc, first)?;
+        let other = framed_node(alloc, second)?;
         let one = Seat {
             node: one,
             away: None,
