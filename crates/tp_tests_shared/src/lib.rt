@@ -2,28 +2,26 @@
 //! a snapshot of it to its end.
 #![tactic(auto)]
 
-mod counts;
-mod day;
-mod journal;
-mod naming;
-mod seat;
-mod shared;
-
-pub use counts::{Left, Right};
-pub use day::{Day, day_of, sum, sum_of};
-pub use journal::{Entry, Journal};
-pub use naming::Naming;
-pub use seat::Seat;
-pub use shared::Shared;
-
 #[cfg(test)]
 mod checkpoint;
 #[cfg(test)]
+mod counts;
+#[cfg(test)]
+mod day;
+#[cfg(test)]
+mod journal;
+#[cfg(test)]
 mod marks;
+#[cfg(test)]
+mod naming;
 #[cfg(test)]
 mod numbers;
 #[cfg(test)]
 mod pair;
+#[cfg(test)]
+mod seat;
+#[cfg(test)]
+mod shared;
 #[cfg(test)]
 mod tests;
 #[cfg(test)]

@@ -1,5 +1,5 @@
 //! One thread raises the mark, another watches it.
-ghost use Rattle.std.specs.Prelude.{◌≡◌, ◌≤◌, max};
+ghost use Rattle.std.specs.Prelude.{◌≡◌, ◌≤◌, max, All, IfSome};
 
 use std::sync::Wait;
 use std::test::Fail;
@@ -88,16 +88,58 @@ fn race<R: Threads + Wait + Sync>(
     (raiser, pass, stays)
 }
 
+// The next pass of the mark.
+fn next_pass(mark: &Mark, passes: &mut Vec<Pass>) -> Option<Pass>
+    requires { All (λ pass. pass.mark ≡ mark.now) passes.old.items }
+    ensures rest { All (λ pass. pass.mark ≡ mark.now) passes.new.items }
+    ensures pass { IfSome result (λ pass. pass.mark ≡ mark.now) }
+{
+    let _mark = mark;
+    passes.pop()
+}
+
+// Whether both passes see the first number, then one of them the last, as the race leaves it, and the mark stays there.
+fn stays<R: Threads + Wait + Sync>(
+    rt: &R,
+    mark: &Mark,
+    raiser: Raiser,
+    first: Pass,
+    second: Pass,
+) -> bool
+    requires raiser { raiser.mark ≡ mark.now }
+    requires passes { (first.mark ≡ mark.now) × (second.mark ≡ mark.now) }
+{
+    let mut second = second;
+    let begun = (raiser.raised(), first.seen(), second.seen()) == (FIRST, FIRST, FIRST);
+    let (mut raiser, mut first, stays) = race(rt, mark, raiser, first);
+    let ended = (raiser.raised(), first.seen(), second.seen()) == (LAST, LAST, FIRST);
+    let settled = is_settled(mark, &mut raiser, &mut first, &mut second);
+    begun && stays && ended && settled
+}
+
+// Whether there are two passes, with which it stays so.
+fn two_stay<R: Threads + Wait + Sync>(
+    rt: &R,
+    mark: &Mark,
+    raiser: Raiser,
+    passes: &mut Vec<Pass>,
+) -> bool
+    requires raiser { raiser.mark ≡ mark.now }
+    requires passes { All (λ pass. pass.mark ≡ mark.now) passes.old.items }
+{
+    let Some(second) = next_pass(mark, passes) else {
+        return false;
+    };
+    let Some(first) = next_pass(mark, passes) else {
+        return false;
+    };
+    passes.is_empty() && stays(rt, mark, raiser, first, second)
+}
+
 #[test]
 fn stored_stays_stored_while_another_thread_raises(rt: HostRuntime) -> Result<(), Fail> {
     let (mark, raiser, mut passes) = Mark::start(rt.alloc(), FIRST, 2)?;
-    let mut second = passes.pop().ok_or("a pass")?;
-    let first = passes.pop().ok_or("a pass")?;
-    assert!(rt; passes.pop().is_none());
-    assert!(rt; (raiser.raised(), first.seen(), second.seen()) == (FIRST, FIRST, FIRST));
-    let (mut raiser, mut first, stays) = race(&rt, &mark, raiser, first);
-    assert!(rt; stays);
-    assert!(rt; (raiser.raised(), first.seen(), second.seen()) == (LAST, LAST, FIRST));
-    assert!(rt; is_settled(&mark, &mut raiser, &mut first, &mut second));
+    let told = two_stay(&rt, &mark, raiser, &mut passes);
+    assert!(rt; told);
     Ok(())
 }

@@ -125,18 +125,24 @@ fn all_come<R: Wait + Abort>(rt: &R, queue: &ReadyQueue, hand: &mut Hand) -> [bo
     seen
 }
 
+// Whether there are four hands, and the numbers come in order to them.
+fn four_in_order<R: Wait + Abort>(rt: &R, queue: &ReadyQueue, hands: &mut Vec<Hand>) -> Option<bool>
+    requires { All (λ hand. hand.of ≡ Some queue.now) hands.old.items }
+{
+    let mut spare = next_hand(queue, hands)?;
+    let mut third = next_hand(queue, hands)?;
+    let mut second = next_hand(queue, hands)?;
+    let mut first = next_hand(queue, hands)?;
+    let order = all_in_order(rt, queue, &mut first, &mut second, &mut third, &mut spare);
+    let again = come_in_order(rt, queue, &mut spare, &[1, 0, 2, 1, 0, 2]);
+    Some(hands.is_empty() && order == [0, 1, 2] && again)
+}
+
 #[test]
 fn numbers_come_in_order(rt: HostRuntime) -> Result<(), Fail> {
     let (queue, mut hands) = ReadyQueue::start(&rt, rt.alloc(), 2, 4)?;
-    let mut spare = next_hand(&queue, &mut hands).ok_or("a hand")?;
-    let mut third = next_hand(&queue, &mut hands).ok_or("a hand")?;
-    let mut second = next_hand(&queue, &mut hands).ok_or("a hand")?;
-    let mut first = next_hand(&queue, &mut hands).ok_or("a hand")?;
-    assert!(rt; hands.pop().is_none());
-    assert!(rt;
-        all_in_order(&rt, &queue, &mut first, &mut second, &mut third, &mut spare) == [0, 1, 2]
-    );
-    assert!(rt; come_in_order(&rt, &queue, &mut spare, &[1, 0, 2, 1, 0, 2]));
+    let told = four_in_order(&rt, &queue, &mut hands);
+    assert!(rt; told == Some(true));
     Ok(())
 }
 
@@ -167,11 +173,16 @@ fn race<R: Threads + Wait + Sync>(
     (first, second, alone)
 }
 
-#[test]
-fn each_number_is_in_one_hand_at_a_time(rt: HostRuntime) -> Result<(), Fail> {
-    let (queue, mut hands) = ReadyQueue::start(&rt, rt.alloc(), 4, 2)?;
-    let second = next_hand(&queue, &mut hands).ok_or("a hand")?;
-    let first = next_hand(&queue, &mut hands).ok_or("a hand")?;
+// Whether two hands draw the five numbers alone, and all come afterwards.
+fn are_alone<R: Threads + Wait + Sync + Abort>(
+    rt: &R,
+    queue: &ReadyQueue,
+    first: Hand,
+    second: Hand,
+) -> bool
+    requires hands { (first.of ≡ Some queue.now) × (second.of ≡ Some queue.now) }
+    requires five { queue.now.count ≡ 5 }
+{
     let busy: [AtomicBool; 5] = [
         AtomicBool::new(false),
         AtomicBool::new(false),
@@ -179,8 +190,28 @@ fn each_number_is_in_one_hand_at_a_time(rt: HostRuntime) -> Result<(), Fail> {
         AtomicBool::new(false),
         AtomicBool::new(false),
     ];
-    let (mut first, _second, alone) = race(&rt, &queue, first, second, &busy);
-    assert!(rt; alone);
-    assert!(rt; all_come(&rt, &queue, &mut first) == [true; 5]);
+    let (mut first, _second, alone) = race(rt, queue, first, second, &busy);
+    alone && all_come(rt, queue, &mut first) == [true; 5]
+}
+
+// Whether there are two hands that do.
+fn two_are_alone<R: Threads + Wait + Sync + Abort>(
+    rt: &R,
+    queue: &ReadyQueue,
+    hands: &mut Vec<Hand>,
+) -> Option<bool>
+    requires hands { All (λ hand. hand.of ≡ Some queue.now) hands.old.items }
+    requires five { queue.now.count ≡ 5 }
+{
+    let second = next_hand(queue, hands)?;
+    let first = next_hand(queue, hands)?;
+    Some(are_alone(rt, queue, first, second))
+}
+
+#[test]
+fn each_number_is_in_one_hand_at_a_time(rt: HostRuntime) -> Result<(), Fail> {
+    let (queue, mut hands) = ReadyQueue::start(&rt, rt.alloc(), 4, 2)?;
+    let told = two_are_alone(&rt, &queue, &mut hands);
+    assert!(rt; told == Some(true));
     Ok(())
 }

@@ -6,9 +6,9 @@ use Rattle.tp_model.specs.NodeState.{NodeState}
 use Rattle.tp_model.specs.Network.{Network}
 use Rattle.tp_law_network.specs.Piece.{Agrees, Covers}
 use Rattle.tp_pieces.specs.Whole.{EndsAgree, AreWhole}
-use Rattle.tp_tests_store.specs.declared.member.Member.{Member}
-use Rattle.tp_tests_store.specs.declared.member.Member.TheVariants.{Node, Host as OfHost}
-use Rattle.tp_tests_store.specs.declared.side.Side.TheVariants.{First, Second}
+use Rattle.tp_tests_store.specs.declared.halted.Member.{Member}
+use Rattle.tp_tests_store.specs.declared.halted.Member.TheVariants.{Node, Host as OfHost}
+use Rattle.tp_tests_store.specs.declared.halted.Side.TheVariants.{First, Second}
 use Rattle.tp_tests_store.specs.Member.{member_piece, member_network}
 use Rattle.tp_tests_store.specs.Pair.{pair_whole, whole_pieces}
 use Rattle.tp_tests_store.proofs.PairWhole.{pair_is_whole}

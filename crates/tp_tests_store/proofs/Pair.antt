@@ -18,8 +18,8 @@ use Rattle.tp_law_network.specs.Piece.{Piece, from_piece}
 use Rattle.tp_law_network.specs.InPiece.{next_in}
 use Rattle.tp_pieces.specs.Blocked.{IsBlocked}
 use Rattle.tp_pieces.specs.FirstNode.{HasNoNode, IsFirstNode}
-use Rattle.tp_tests_store.specs.declared.side.Side.{Side}
-use Rattle.tp_tests_store.specs.declared.side.Side.TheVariants.{First, Second}
+use Rattle.tp_tests_store.specs.declared.halted.Side.{Side}
+use Rattle.tp_tests_store.specs.declared.halted.Side.TheVariants.{First, Second}
 use Rattle.tp_tests_store.proofs.PairTurns.{became, none_either, host_sends_none, next_in-turn}
 use Rattle.tp_tests_store.specs.Pair.{pair_wires, pair_network, number_of, node_piece, host_piece, node_after, host_goes, host_network}
 

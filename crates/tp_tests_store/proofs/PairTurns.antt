@@ -18,8 +18,8 @@ use Rattle.tp_model.specs.Step.{step_of}
 use Rattle.tp_model.specs.Node.{t414, node_step, took}
 use Rattle.tp_law_network.specs.Piece.{Piece, from_piece}
 use Rattle.tp_law_network.specs.InPiece.{next_in}
-use Rattle.tp_tests_store.specs.declared.side.Side.{Side}
-use Rattle.tp_tests_store.specs.declared.side.Side.TheVariants.{First, Second}
+use Rattle.tp_tests_store.specs.declared.halted.Side.{Side}
+use Rattle.tp_tests_store.specs.declared.halted.Side.TheVariants.{First, Second}
 use Rattle.tp_tests_store.specs.Pair.{pair_wires, pair_network, halted_node, number_of, node_piece, host_piece, host_network, node_after, without_all, all_received, first_received, from_line_of, is_nothing, are_nothing, byte_of, only_byte, after_turn}
 
 -- the pair after what became of it

@@ -15,7 +15,7 @@ use Rattle.tp_model.specs.Word.{bit}
 use Rattle.tp_law_network.specs.Piece.{Agrees, Covers, sends}
 use Rattle.tp_law_network.specs.Reach.{reach}
 use Rattle.tp_pieces.specs.Whole.{AreWhole}
-use Rattle.tp_tests_store.specs.declared.side.Side.TheVariants.{First, Second}
+use Rattle.tp_tests_store.specs.declared.halted.Side.TheVariants.{First, Second}
 use Rattle.tp_tests_store.specs.Pair.{pair_end, pair_whole, pair_wires, pair_network, node_piece, host_piece, host_network, whole_pieces, whole_parts}
 
 -- ## Lines of a number past all

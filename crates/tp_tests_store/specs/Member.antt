@@ -2,8 +2,8 @@
 use Rattle.tp_model.specs.NodeState.{NodeState}
 use Rattle.tp_model.specs.Network.{Network}
 use Rattle.tp_law_network.specs.Piece.{Piece}
-use Rattle.tp_tests_store.specs.declared.member.Member.{Member}
-use Rattle.tp_tests_store.specs.declared.member.Member.TheVariants.{Node, Host}
+use Rattle.tp_tests_store.specs.declared.halted.Member.{Member}
+use Rattle.tp_tests_store.specs.declared.halted.Member.TheVariants.{Node, Host}
 use Rattle.tp_tests_store.specs.Pair.{node_piece, pair_network, host_piece, host_network}
 
 abbrev pub member_piece : Member → Piece

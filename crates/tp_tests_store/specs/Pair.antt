@@ -17,8 +17,8 @@ use Rattle.tp_model.specs.Network.{◌>>=◌, Network, same_token}
 use Rattle.tp_model.specs.Turn.{received}
 use Rattle.tp_law_machine.specs.Start.{resting, blank, transfer}
 use Rattle.tp_law_network.specs.Piece.{Piece}
-use Rattle.tp_tests_store.specs.declared.side.Side.{Side}
-use Rattle.tp_tests_store.specs.declared.side.Side.TheVariants.{First, Second}
+use Rattle.tp_tests_store.specs.declared.halted.Side.{Side}
+use Rattle.tp_tests_store.specs.declared.halted.Side.TheVariants.{First, Second}
 
 -- A node that has halted. Its first link holds a byte that came in, or none, and waits for the acknowledge of a byte that it sent,
 -- behind which another one would have to go out, from an address where no memory is; so it can't take the acknowledge.

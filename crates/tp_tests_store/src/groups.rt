@@ -51,17 +51,26 @@ fn one_entry_is_read(rt: HostRuntime) {
     assert!(rt; told == Ok(true));
 }
 
-#[test]
-fn parts_of_a_group_are_none(rt: HostRuntime) {
-    assert!(rt; count_in(&ONE_ENTRY) == Ok(Some(1)));
+/// How many bytes of the group are read as one, though some are left out; none where there is no such count.
+fn read_part() -> Option<usize> {
     for (count, _) in ONE_ENTRY.iter().enumerate() {
-        let told = count_in(ONE_ENTRY.get(..count).unwrap_or(&[]));
-        assert!(rt; told == Err(BadGroup), "the first {count} bytes");
+        if count_in(ONE_ENTRY.get(..count).unwrap_or(&[])) != Err(BadGroup) {
+            return Some(count);
+        }
     }
+    None
 }
 
-/// What stands there after one byte was changed: its place, the byte, and how many entries are read.
-const CHANGES: &[(usize, u8, Result<Option<usize>, BadGroup>)] = &[
+#[test]
+fn parts_of_a_group_are_none(rt: HostRuntime) {
+    assert!(rt; count_in(&ONE_ENTRY) == Ok(Some(1)) && read_part().is_none());
+}
+
+/// A byte of a group: its place, what is there instead, and how many entries are then read.
+type Change = (usize, u8, Result<Option<usize>, BadGroup>);
+
+/// What stands there after one byte was changed.
+const CHANGES: &[Change] = &[
     (0, 0xA4, Ok(None)),
     (0, 0, Ok(None)),
     (0, 0x5A, Ok(None)),
@@ -83,20 +92,33 @@ const CHANGES: &[(usize, u8, Result<Option<usize>, BadGroup>)] = &[
     (32, 1, Ok(Some(1))),
 ];
 
+/// Whether as many entries are read after a change as ought to be.
+fn is_changed(alloc: Global, change: &Change) -> Result<bool, AllocError> {
+    let (at, byte, want) = *change;
+    let other = changed(alloc, at, byte)?;
+    Ok(count_in(&other) == want)
+}
+
 #[test]
 fn one_byte_is_changed(rt: HostRuntime) -> Result<(), Fail> {
-    for (at, byte, want) in CHANGES {
-        let other = changed(rt.alloc(), *at, *byte)?;
-        assert!(rt; count_in(&other) == *want, "byte {at} is {byte}");
+    for change in CHANGES {
+        let told = is_changed(rt.alloc(), change)?;
+        assert!(rt; told, "byte {}", change.0);
     }
     Ok(())
+}
+
+/// Whether the group is read where its entry's bytes are of a kind that there isn't.
+fn reads_bad_entry(alloc: Global) -> Result<bool, AllocError> {
+    let other = changed(alloc, 16, 9)?;
+    Ok(reads_as(&other, Err(BadEntry)) == Ok(true))
 }
 
 /// Bytes of a kind that there isn't make no bad group.
 #[test]
 fn a_bad_entry_is_read_with_its_group(rt: HostRuntime) -> Result<(), Fail> {
-    let other = changed(rt.alloc(), 16, 9)?;
-    assert!(rt; reads_as(&other, Err(BadEntry)) == Ok(true));
+    let told = reads_bad_entry(rt.alloc())?;
+    assert!(rt; told);
     Ok(())
 }
 
@@ -129,16 +151,15 @@ fn two_entries_are_written(rt: HostRuntime) {
     assert!(rt; group == TWO_ENTRIES.as_slice() && rest == [0xEE, 0xEE].as_slice());
 }
 
-/// A group of entries with `numbers`, each the run of a step.
-fn group_of(alloc: Global, numbers: &[u8]) -> Result<Vec<u8>, AllocError> {
-    let mut bytes = Vec::new(alloc);
+/// Adds a group of entries with `numbers`, each the run of a step.
+fn add_group(bytes: &mut Vec<u8>, numbers: &[u8]) -> Result<(), AllocError> {
     bytes.extend_from_slice(&[0xA5, 0, numbers.len().min(255) as u8, 0, 0, 0, 0, 0])?;
     bytes.extend_from_slice(&[numbers.first().copied().unwrap_or(0), 0, 0, 0, 0, 0, 0, 0])?;
     for number in numbers {
         bytes.extend_from_slice(&[1, 0, 1, 0, 0, 0, 0, 0, *number, 0, 0, 0, 0, 0, 0, 0])?;
     }
     bytes.push(0)?;
-    Ok(bytes)
+    Ok(())
 }
 
 /// The numbers from 0 on: one more than a group may have.
@@ -149,7 +170,9 @@ const RISING: [u8; 65] = [
 ];
 
 /// The numbers of a group's entries, and how many are read.
-const NUMBERS: &[(&[u8], Result<Option<usize>, BadGroup>)] = &[
+type Numbers<'a> = (&'a [u8], Result<Option<usize>, BadGroup>);
+
+const NUMBERS: &[Numbers<'static>] = &[
     (&[0], Ok(Some(1))),
     (&[7, 8, 9], Ok(Some(3))),
     (&[7, 9, 200], Ok(Some(3))),
@@ -159,13 +182,22 @@ const NUMBERS: &[(&[u8], Result<Option<usize>, BadGroup>)] = &[
     (&RISING, Err(BadGroup)),
 ];
 
+/// Whether as many entries are read of a group with such numbers as ought to be.
+fn are_numbers(alloc: Global, row: &Numbers<'_>) -> Result<bool, AllocError> {
+    let (numbers, want) = *row;
+    let mut bytes = Vec::new(alloc);
+    add_group(&mut bytes, numbers)?;
+    Ok(count_in(&bytes) == want)
+}
+
 #[test]
 fn numbers_rise_and_entries_are_few(rt: HostRuntime) -> Result<(), Fail> {
-    for (i, (numbers, want)) in NUMBERS.iter().enumerate() {
-        let bytes = group_of(rt.alloc(), numbers)?;
-        assert!(rt; count_in(&bytes) == *want, "row {i}");
+    for (i, row) in NUMBERS.iter().enumerate() {
+        let told = are_numbers(rt.alloc(), row)?;
+        assert!(rt; told, "row {i}");
     }
-    let most = group_of(rt.alloc(), RISING.get(..64).unwrap_or(&[]))?;
-    assert!(rt; count_in(&most) == Ok(Some(64)));
+    let most = (RISING.get(..64).unwrap_or(&[]), Ok(Some(64)));
+    let told = are_numbers(rt.alloc(), &most)?;
+    assert!(rt; told);
     Ok(())
 }

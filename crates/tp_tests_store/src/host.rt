@@ -7,12 +7,9 @@ ghost use Rattle.tp_pieces.specs.Blocked.{IsBlocked};
 ghost use Rattle.tp_pieces.specs.FirstNode.{HasNoNode, IsFirstNode};
 ghost use Rattle.tp_tests_store.specs.Pair.{most_entries, host_goes, host_network, host_piece};
 
+use crate::halted::Host;
 use tp_model::Entry;
 use tp_pieces::Part;
-
-/// A host that has no port.
-#[derive(Drop)]
-pub struct Host;
 
 /// Whether the host's part goes on with an entry.
 fn goes_on(entry: &Entry) -> bool

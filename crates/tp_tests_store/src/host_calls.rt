@@ -4,8 +4,7 @@ ghost use Rattle.tp_tests_store.specs.Lone.{IsUsable};
 
 use crate::calls::{hand_in, is_shown};
 use crate::fixture::book;
-use std::alloc::Global;
-use std::process::Abort;
+use std::alloc::{AllocError, Global};
 use std::test::Fail;
 use tp_book::Refusal::{JournalFull, PortFull, StoreBroken};
 use tp_book::{Book, Refusal};
@@ -14,7 +13,7 @@ use tp_book::{Book, Refusal};
 const OUTPUTS: &[u8] = b"hi";
 
 /// A call of the host, or the store breaks.
-#[derive(Clone, Copy, Debug)]
+#[derive(Clone, Copy)]
 enum Call<'a> {
     HandIn(&'a [u8]),
     Confirm(u64),
@@ -152,23 +151,51 @@ fn is_lone(book: &Book) -> bool
         && is_shown(book, 0, 1, b"i")
 }
 
-fn play<R: AllocGlobal + Abort>(rt: &R, alloc: Global, story: &Story<'_>) -> Result<(), Fail> {
+/// Whether a call answers as it ought to, and the book then says so.
+fn is_row(book: &mut Book, row: &Row<'_>) -> bool
+    requires { IsUsable book.old }
+    ensures { IsUsable book.new }
+{
+    let (call, answer, (next, accepted, confirmed)) = *row;
+    make(book, call) == answer && is_so(book, next, accepted, confirmed)
+}
+
+/// The first of `rows` that isn't so, one made after another.
+fn first_other(book: &mut Book, rows: &[Row<'_>]) -> Option<usize>
+    requires { IsUsable book.old }
+{
+    for (i, row) in rows.iter().enumerate() {
+        if !is_row(book, row) {
+            return Some(i);
+        }
+    }
+    None
+}
+
+/// Whether the book is as it ought to be at first.
+fn is_begun(book: &Book) -> bool
+    requires { IsUsable book.now }
+{
+    is_lone(book) && is_so(book, 2, 0, 0)
+}
+
+/// The first call of a story behind which the book isn't as it ought to be; a number above all where it isn't so at first.
+fn wrong_call(alloc: Global, story: &Story<'_>) -> Result<Option<usize>, AllocError> {
     let (room, rows) = *story;
     let mut book = book(alloc, room)?;
-    let told = is_lone(&book) && is_so(&book, 2, 0, 0);
-    assert!(rt; told);
-    for row in rows {
-        let (call, answer, (next, accepted, confirmed)) = *row;
-        let told = make(&mut book, call) == answer && is_so(&book, next, accepted, confirmed);
-        assert!(rt; told, "{call:?}");
-    }
-    Ok(())
+    let wrong = if is_begun(&book) {
+        first_other(&mut book, rows)
+    } else {
+        Some(usize::MAX)
+    };
+    Ok(wrong)
 }
 
 #[test]
 fn each_call_of_the_host(rt: HostRuntime) -> Result<(), Fail> {
-    for story in STORIES {
-        play(&rt, rt.alloc(), story)?;
+    for (i, story) in STORIES.iter().enumerate() {
+        let wrong = wrong_call(rt.alloc(), story)?;
+        assert!(rt; wrong.is_none(), "story {i}, call {}", wrong.unwrap_or(0));
     }
     Ok(())
 }

@@ -5,23 +5,11 @@
 pub mod calls;
 mod crowd;
 mod gates;
-mod host;
-mod member;
-mod node;
-mod side;
-mod waiting;
-mod watched;
-mod whole;
+mod halted;
 
 pub use crowd::Crowd;
 pub use gates::Meeting;
-pub use host::Host;
-pub use member::Member;
-pub use node::HaltedNode;
-pub use side::Side;
-pub use waiting::Waiting;
-pub use watched::{Watch, Watched};
-pub use whole::{replay_pair, the_pair_is_whole};
+pub use halted::{HaltedNode, Host, Member, Side};
 
 #[cfg(test)]
 mod entries;
@@ -30,7 +18,15 @@ mod fixture;
 #[cfg(test)]
 mod groups;
 #[cfg(test)]
+mod host;
+#[cfg(test)]
 mod host_calls;
+#[cfg(test)]
+mod member;
+#[cfg(test)]
+mod node;
+#[cfg(test)]
+mod side;
 #[cfg(test)]
 mod stops;
 #[cfg(test)]
@@ -41,3 +37,9 @@ mod topologies;
 mod topology_faults;
 #[cfg(test)]
 mod turns;
+#[cfg(test)]
+mod waiting;
+#[cfg(test)]
+mod watched;
+#[cfg(test)]
+mod whole;

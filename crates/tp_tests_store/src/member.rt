@@ -8,17 +8,9 @@ ghost use Rattle.tp_pieces.specs.FirstNode.{HasNoNode, IsFirstNode};
 ghost use Rattle.tp_tests_store.specs.Pair.{most_entries};
 ghost use Rattle.tp_tests_store.specs.Member.{member_network, member_piece};
 
-use crate::host::Host;
-use crate::node::HaltedNode;
+use crate::halted::Member;
 use tp_model::Entry;
 use tp_pieces::Part;
-
-/// A part of the pair.
-#[derive(Drop)]
-pub enum Member {
-    Node(HaltedNode),
-    Host(Host),
-}
 
 impl Part for Member {
     ghost has = { member_piece };

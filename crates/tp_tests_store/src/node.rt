@@ -9,17 +9,9 @@ ghost use Rattle.tp_pieces.specs.Blocked.{IsBlocked};
 ghost use Rattle.tp_pieces.specs.FirstNode.{HasNoNode, IsFirstNode};
 ghost use Rattle.tp_tests_store.specs.Pair.{all_received, are_nothing, byte_of, from_line_of, hold, is_nothing, let_go, most_entries, node_after, node_piece, only_byte, pair_network, without_all};
 
-use crate::side::Side;
+use crate::halted::{HaltedNode, Side};
 use tp_model::{Entry, Received, Token};
 use tp_pieces::Part;
-
-/// A node that has halted, with the byte on the line that it sends and the byte that it holds.
-#[derive(Drop)]
-pub struct HaltedNode {
-    pub side: Side,
-    pub out: Option<u8>,
-    pub held: Option<u8>,
-}
 
 /// Whether nothing is taken.
 fn is_nothing(one: Received) -> bool
@@ -115,20 +107,6 @@ impl HaltedNode {
         }
     }
 
-    /// What a turn takes goes from its line, if it is there.
-    fn lose_all(&mut self, takes: &[Received; 4]) -> bool
-        ensures side { self.new.side ≡ self.old.side }
-        ensures held { self.new.held ≡ self.old.held }
-        ensures goes { MatchBool result (without_all self.old.out (all_received takes.now) ≡ Some self.new.out) (without_all self.old.out (all_received takes.now) ≡ None) }
-    {
-        for one in takes {
-            if !self.lose(*one) {
-                return false;
-            }
-        }
-        true
-    }
-
     /// What the turn of another node takes goes from its line, if it is there.
     fn let_turn(&mut self, node: u8, takes: &[Received; 4]) -> bool
         ensures side { self.new.side ≡ self.old.side }
@@ -137,7 +115,7 @@ impl HaltedNode {
             (without_all self.old.out (from_line_of self.old.side node takes.now) ≡ None) }
     {
         match self.side {
-            Side::First => self.lose_all(takes),
+            Side::First => lose_all(self, takes),
             Side::Second => node != 0 || self.lose(takes[0]),
         }
     }
@@ -170,6 +148,20 @@ impl HaltedNode {
             Entry::Turn { node, takes, count } => self.turn(node, &takes, count),
         }
     }
+}
+
+/// What a turn takes goes from the node's line, if it is there.
+fn lose_all(node: &mut HaltedNode, takes: &[Received; 4]) -> bool
+    ensures side { node.new.side ≡ node.old.side }
+    ensures held { node.new.held ≡ node.old.held }
+    ensures goes { MatchBool result (without_all node.old.out (all_received takes.now) ≡ Some node.new.out) (without_all node.old.out (all_received takes.now) ≡ None) }
+{
+    for one in takes {
+        if !node.lose(*one) {
+            return false;
+        }
+    }
+    true
 }
 
 impl Part for HaltedNode {

@@ -1,14 +1,9 @@
-//! Which of two nodes.
+//! Which of two nodes: its number, and its lines.
 
 ghost use Rattle.std.specs.Prelude.{◌≡◌};
 ghost use Rattle.tp_tests_store.specs.Pair.{line_in, line_out, number_of};
 
-/// Which of two nodes.
-#[derive(Clone, Copy, Debug, PartialEq, Eq)]
-pub enum Side {
-    First,
-    Second,
-}
+use crate::halted::Side;
 
 impl Side {
     /// The node's number.

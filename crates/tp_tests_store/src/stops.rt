@@ -1,6 +1,6 @@
 //! Where parts stop, and which of their stops is answered.
 
-use crate::member::Member;
+use crate::halted::Member;
 use crate::whole::replay_pair;
 use std::alloc::{AllocError, Global};
 use std::test::Fail;

@@ -4,9 +4,7 @@ ghost use Rattle.std.specs.Prelude.{◌≡◌, IfOk, vec_len};
 
 use crate::crowd::Crowd;
 use crate::gates::Meeting;
-use crate::host::Host;
-use crate::node::HaltedNode;
-use crate::side::Side;
+use crate::halted::{HaltedNode, Host, Side};
 use crate::waiting::Waiting;
 use crate::watched::{Watch, Watched};
 use std::alloc::{AllocError, Global};

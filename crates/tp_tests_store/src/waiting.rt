@@ -8,7 +8,7 @@ ghost use Rattle.tp_pieces.specs.FirstNode.{HasNoNode, IsFirstNode};
 ghost use Rattle.tp_tests_store.specs.Pair.{most_entries, node_piece, pair_network};
 
 use crate::crowd::Crowd;
-use crate::node::HaltedNode;
+use crate::halted::HaltedNode;
 use tp_model::Entry;
 use tp_pieces::Part;
 

@@ -7,7 +7,7 @@ ghost use Rattle.tp_pieces.specs.Blocked.{IsBlocked};
 ghost use Rattle.tp_pieces.specs.FirstNode.{HasNoNode, IsFirstNode};
 ghost use Rattle.tp_tests_store.specs.Pair.{most_entries, node_piece, pair_network};
 
-use crate::node::HaltedNode;
+use crate::halted::HaltedNode;
 use std::sync::atomic::{AtomicU32, Ordering};
 use tp_gate::Gate;
 use tp_model::Entry;

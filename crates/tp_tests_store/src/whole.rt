@@ -12,10 +12,7 @@ ghost use Rattle.tp_pieces.specs.Whole.{EndsAgree, IsStop, AreWhole};
 ghost use Rattle.tp_tests_store.specs.Member.{member_network};
 ghost use Rattle.tp_tests_store.specs.Pair.{pair_end, pair_whole, whole_parts, whole_pieces};
 
-use crate::host::Host;
-use crate::member::Member;
-use crate::node::HaltedNode;
-use crate::side::Side;
+use crate::halted::{HaltedNode, Host, Member, Side};
 use std::alloc::{AllocError, Global};
 use std::thread::Threads;
 use tp_entry::Numbered;
