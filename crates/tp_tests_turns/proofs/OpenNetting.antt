@@ -35,8 +35,8 @@ use Rattle.tp_turn.proofs.Adding.{others_stay}
 use Rattle.tp_turn.proofs.Ahead.{received_stays, stays_with}
 use Rattle.tp_turn.proofs.Hosting.{nodes_stay}
 use Rattle.tp_tests_turns.specs.CutsNets.{HasNodes}
-use Rattle.tp_tests_turns.specs.declared.open_net.Away.{Away}
-use Rattle.tp_tests_turns.specs.declared.open_net.Seat.{Seat}
+use Rattle.tp_tests_turns.specs.declared.seat.Away.{Away}
+use Rattle.tp_tests_turns.specs.declared.seat.Seat.{Seat}
 use Rattle.tp_tests_turns.specs.OpenNets.{HasSeats, IsAway, IsHome, IsSeated, Leaves}
 use Rattle.tp_tests_turns.proofs.Netting.{begin_agreed, begin_free, trim_parts}
 

@@ -5,8 +5,8 @@ use Rattle.tp_node.specs.NodeContents.{NodeContents}
 use Rattle.tp_book.specs.Book.{BookValue}
 use Rattle.tp_turn.specs.Moments.{IsNodeOf}
 use Rattle.tp_turn.specs.Whole.{HasTurnedOn}
-use Rattle.tp_tests_turns.specs.declared.open_net.Away.{Away}
-use Rattle.tp_tests_turns.specs.declared.open_net.Seat.{Seat}
+use Rattle.tp_tests_turns.specs.declared.seat.Away.{Away}
+use Rattle.tp_tests_turns.specs.declared.seat.Seat.{Seat}
 
 -- ## A node
 

@@ -40,7 +40,10 @@ mod replayed;
 mod rows;
 #[cfg(test)]
 mod schedules;
+mod seat;
 #[cfg(test)]
 mod two_nodes;
 #[cfg(test)]
 mod whole_turns;
+
+pub use seat::{Away, Seat};

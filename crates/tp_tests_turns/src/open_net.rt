@@ -9,6 +9,7 @@ ghost use Rattle.tp_turn.specs.Tried.{ReadsFresh};
 ghost use Rattle.tp_tests_turns.specs.OpenNets.{IsAway, IsHome, IsSeated, Leaves};
 
 use crate::cuts_network::{frozen_image, image_of, pair_parts};
+use crate::seat::{Away, Seat};
 use std::alloc::{AllocError, Global};
 use std::marker::Model;
 use std::test::Fail;
@@ -16,23 +17,7 @@ use tp_book::{Book, tokens_of};
 use tp_model::Token;
 use tp_model::limits::MAX_STEPS;
 use tp_node::Node;
-use tp_turn::{
-    Stretch, Taken, close_all, commit_whole, host_turn, lone_node, open_whole, run_node,
-};
-
-/// What a node received for its open turn, and then ran.
-#[derive(Drop)]
-pub(crate) struct Away {
-    taken: Taken,
-    stretch: Stretch,
-}
-
-/// A node, and its turn where one is open.
-#[derive(Drop)]
-pub(crate) struct Seat {
-    node: Node,
-    away: Option<Away>,
-}
+use tp_turn::{close_all, commit_whole, host_turn, lone_node, open_whole, run_node};
 
 /// The two nodes and the book.
 #[derive(Drop)]
