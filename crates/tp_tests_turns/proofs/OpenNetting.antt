@@ -1,10 +1,9 @@
 -- Nodes at home or away stay so, whatever others do.
-use Rattle.std.proofs.Common.{◌≡◌, ◌≢◌, ℕ, zero, suc, inl, inr, Bool, true, false, List, [], ◌∷◌, ◌++◌, get_or, length, replicate, set, refl, sym, ap, subst, ◌∙◌, arith, Option, Some, None, slice_get}
+use Rattle.std.proofs.Common.{◌≡◌, ◌≢◌, ℕ, zero, suc, inl, inr, Bool, true, false, List, [], ◌∷◌, ◌++◌, length, set, refl, sym, ap, subst, ◌∙◌, arith, Option, Some, None, slice_get}
 use Rattle.std.specs.Prelude.{is_none, is_some, Result, Ok, Err, IfOk, OnErr}
 use Rattle.std.specs.List.{list_all}
 use Rattle.std.proofs.lemmas.Bool.{and_parts, cases_eq}
-use Rattle.std.proofs.lemmas.List.{get_or-replicate}
-use Rattle.std.proofs.lemmas.Option.{slice_get-get_or, slice_get_past}
+use Rattle.std.proofs.lemmas.Option.{slice_get_past}
 use Rattle.tp_model.specs.declared.form.Form.TheVariants.{Turns}
 use Rattle.tp_model.specs.declared.link.Received.{Received}
 use Rattle.tp_model.specs.declared.link.Token.{Token}
@@ -28,8 +27,8 @@ use Rattle.tp_book.specs.Trimmed.{after_trim}
 use Rattle.tp_book.proofs.Commit.{length-agreed}
 use Rattle.tp_book.proofs.Stood.{one_act}
 use Rattle.tp_turn.specs.Hosted.{HostAdded}
-use Rattle.tp_turn.specs.Moments.{Added, Done, IsNodeOf, moment_of}
-use Rattle.tp_turn.specs.Whole.{Closes, HasTurnedOn, IsOpenWhole}
+use Rattle.tp_turn.specs.Moments.{Added, IsNodeOf, moment_of}
+use Rattle.tp_turn.specs.Whole.{HasTurnedOn, IsOpenWhole}
 use Rattle.tp_turn.specs.declared.receiving.Taken.{Taken}
 use Rattle.tp_turn.proofs.Adding.{others_stay}
 use Rattle.tp_turn.proofs.Ahead.{received_stays, stays_with}
@@ -37,7 +36,7 @@ use Rattle.tp_turn.proofs.Hosting.{nodes_stay}
 use Rattle.tp_tests_turns.specs.CutsNets.{HasNodes}
 use Rattle.tp_tests_turns.specs.declared.seat.Away.{Away}
 use Rattle.tp_tests_turns.specs.declared.seat.Seat.{Seat}
-use Rattle.tp_tests_turns.specs.OpenNets.{HasSeats, IsAway, IsHome, IsSeated, Leaves}
+use Rattle.tp_tests_turns.specs.OpenNets.{HasSeats, IsHome, IsSeated, Leaves}
 use Rattle.tp_tests_turns.proofs.Netting.{begin_agreed, begin_free, trim_parts}
 
 -- ## One node acts

@@ -1,5 +1,5 @@
 -- The network of two nodes and a port is sound before its first entry.
-use Rattle.std.proofs.Common.{◌≡◌, ℕ, zero, suc, ◌%◌, ◌<◌, ◌≤◌, true, false, List, [], ◌∷◌, length, refl, ap, subst, sym, ◌∙◌, arith, Option, Some, None, slice_get}
+use Rattle.std.proofs.Common.{◌≡◌, ℕ, zero, suc, ◌%◌, ◌<◌, true, false, List, [], ◌∷◌, refl, ap, subst, sym, ◌∙◌, arith, Option, Some, None, slice_get}
 use Rattle.std.proofs.lemmas.Bool.{and_parts}
 use Rattle.std.specs.List.{list_all}
 use Rattle.tp_model.specs.declared.wire.WireEnd.TheVariants.{Link}
@@ -10,7 +10,7 @@ use Rattle.tp_model.specs.Markers.{markers}
 use Rattle.tp_model.specs.NodeState.{NodeState}
 use Rattle.tp_model.specs.Node.{t414_ends}
 use Rattle.tp_model.specs.Network.{Network, Own, OfNode, OfHost, own, receiver, has_wire, back, on_line}
-use Rattle.tp_model.specs.Sound.{Sound, owner, is_pending, waits_at, holds_at, end_waits, end_holds}
+use Rattle.tp_model.specs.Sound.{owner, is_pending, waits_at, holds_at, end_waits, end_holds}
 use Rattle.tp_law_network.proofs.Local.{own_node, own_host}
 use Rattle.tp_law_machine.proofs.Idle.{none_waits, none_holds}
 use Rattle.tp_law_machine.proofs.Images.{node_of_bytes}
@@ -23,7 +23,7 @@ use Rattle.tp_replay.specs.Flat.{IsFlat}
 use Rattle.tp_tests_turns.specs.Agrees.{Agrees}
 use Rattle.tp_turn.specs.Tried.{fresh_image}
 use Rattle.tp_turn.proofs.Begun.{fresh_is, node_of_is, first_agreed}
-use Rattle.tp_tests_turns.specs.CutsNets.{pair_wires, pair_network, HasNodes}
+use Rattle.tp_tests_turns.specs.CutsNets.{pair_network, HasNodes}
 
 module _ (n m : NodeState) (n_idle : has_idle_links n ≡ true) (m_idle : has_idle_links m ≡ true) where
   abbrev s : Network NodeState

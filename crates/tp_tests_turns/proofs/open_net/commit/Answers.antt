@@ -1,4 +1,3 @@
-use Rattle.std.specs.Prelude.{◌++◌}
 use Rattle.tp_law_network.specs.Reserved.{turn_acts}
 use Rattle.tp_tests_turns.proofs.OpenNetting.{committed_free, leaves_committed}
 use Rattle.tp_tests_turns.proofs.open_net.commit.Goals as goal

@@ -1,4 +1,4 @@
-use Rattle.std.proofs.Common.{arith, ap, ◌∙◌, slice_get}
+use Rattle.std.proofs.Common.{arith}
 use Rattle.tp_node.proofs.Answered.{why_most}
 use Rattle.tp_turn.proofs.Ahead.{ran_ahead}
 use Rattle.tp_tests_turns.proofs.OpenNetting.{leaves_added, leaves_opened, opened_reserved}

@@ -1,4 +1,4 @@
-use Rattle.std.proofs.Common.{◌≡◌, true, ap, rules}
+use Rattle.std.proofs.Common.{◌≡◌, true, rules}
 use Rattle.std.specs.Prelude.{is_none}
 use Rattle.std.specs.List.{list_all}
 use Rattle.tp_tests_turns.proofs.OpenNetting.{all_thawed, taken_in}
