@@ -1,22 +1,10 @@
-use Rattle.std.proofs.Common.{rules, ℕ, List, take, sym, subst}
-use Rattle.std.proofs.lemmas.List.{take_rest}
+use Rattle.std.proofs.Common.{◌≡◌, length, take, sym, subst, arith}
+use Rattle.std.proofs.lemmas.List.{take_all}
 use Rattle.std.specs.Io.KnownBytes.{Appends}
-use Rattle.tp_stream_files.proofs.Fronts.{more_appended, kept_appended}
-use Rattle.tp_run.proofs.printing.put.Goals.{in-Ok, in-Err}
 use Rattle.tp_run.proofs.printing.put.Goals as goal
 
-pub loop-preserved : goal.loop-preserved
-loop-preserved g c = elim c.match-write.branch [
-  | in-Ok w ↦ record {
-    few = search rules;
-    front = subst (λ (n : ℕ). Appends (g.O.Write.contents c.args.out.now) (g.O.Write.contents c.write.new.self) (take n c.args.bytes.now)) (sym w.written-is)
-        (more_appended _ (g.O.Write.contents c.loop.out) _ c.args.bytes.now c.loop.written w.in-Ok.count c.loop.invariant.front
-        (subst (λ (part : List ℕ). Appends (g.O.Write.contents c.loop.out) (g.O.Write.contents c.write.new.self) (take w.in-Ok.count part))
-        (take_rest c.args.bytes.now c.loop.written) w.in-Ok.ensures.bytes));
-  }
-  | in-Err w ↦ record {
-    few = search rules;
-    front = subst (λ (n : ℕ). Appends (g.O.Write.contents c.args.out.now) (g.O.Write.contents c.write.new.self) (take n c.args.bytes.now)) (sym w.written-is)
-        (kept_appended _ (g.O.Write.contents c.loop.out) _ _ c.loop.invariant.front w.in-Err.ensures.bytes);
-  }
-]
+pub returns-clause-written : goal.returns-clause-written
+returns-clause-written g c =
+    let all = c.if-written.false in
+    subst (Appends (g.O.Write.contents c.args.out.now) (g.O.Write.contents c.write_front-written.new.out)) (take_all c.write_front-written.result c.args.bytes.now (omega (arith, all)))
+    c.write_front-written.ensures.front
