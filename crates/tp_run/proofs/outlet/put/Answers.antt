@@ -1,7 +1,7 @@
 use Rattle.std.proofs.Common.{◌≡◌, length, take, sym, subst, arith}
 use Rattle.std.proofs.lemmas.List.{take_all}
 use Rattle.std.specs.Io.KnownBytes.{Appends}
-use Rattle.tp_run.proofs.printing.put.Goals as goal
+use Rattle.tp_run.proofs.outlet.put.Goals as goal
 
 pub returns-clause-written : goal.returns-clause-written
 returns-clause-written g c =
