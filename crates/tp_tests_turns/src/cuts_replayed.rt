@@ -6,10 +6,11 @@ ghost use Rattle.tp_replay.specs.Flat.{CanCount};
 use crate::cuts_network::{LINES, PROCESSES, flat_of};
 use crate::plain::Plain;
 use crate::playing::Play;
-use crate::replayed::{is_line, is_port};
 use std::alloc::Global;
 use std::test::Fail;
 use tp_book::{Cut, NetParts, PortParts};
+use tp_model::Token;
+use tp_net::Lines;
 use tp_replay::FlatNetwork;
 
 /// Whether the network's one port can count one more byte.
@@ -32,6 +33,27 @@ fn replay(plain: &Plain, wanted: &[bool], flat: &mut FlatNetwork) -> bool {
         }
     }
     true
+}
+
+/// Whether just `tokens` stand on `line`.
+fn is_line(lines: &Lines, line: usize, tokens: &[Token]) -> bool {
+    if line >= lines.count() || lines.len(line) != tokens.len() {
+        return false;
+    }
+    for (at, token) in tokens.iter().enumerate() {
+        if lines.get(line, at) != Some(*token) {
+            return false;
+        }
+    }
+    true
+}
+
+/// Whether one port is as the other.
+fn is_port(one: &PortParts, other: &PortParts) -> bool {
+    one.pending == other.pending
+        && one.in_base == other.in_base
+        && one.outputs == other.outputs
+        && one.out_base == other.out_base
 }
 
 /// Whether `ports` are as `others`.
@@ -61,7 +83,7 @@ fn is_network(cut: &Cut, images: &[Vec<u8>], parts: &NetParts) -> bool {
 }
 
 /// Whether two networks are equal.
-pub(crate) fn are_same(one: &NetParts, other: &NetParts) -> bool {
+fn are_same(one: &NetParts, other: &NetParts) -> bool {
     one.lines == other.lines
         && are_ports(&one.ports, &other.ports)
         && are_images(&one.images, &other.images)

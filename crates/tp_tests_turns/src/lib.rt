@@ -5,6 +5,8 @@
 #[cfg(test)]
 mod acts;
 #[cfg(test)]
+mod cuts_machines;
+#[cfg(test)]
 mod cuts_network;
 #[cfg(test)]
 mod cuts_replayed;

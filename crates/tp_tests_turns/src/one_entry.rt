@@ -1,9 +1,8 @@
 //! Turns that are one entry: they lead where their takes and their runs lead, and take fronts of the lines before them alone.
 
-use crate::cuts_replayed::are_same;
 use crate::devices::formatted;
 use crate::machines::{Task, image};
-use crate::replayed::flat_of;
+use crate::replayed::{flat_of, is_port};
 use std::alloc::Global;
 use std::test::Fail;
 use tp_book::NetParts;
@@ -133,42 +132,72 @@ fn goes_on(network: &mut FlatNetwork, entries: &[Entry]) -> bool {
     true
 }
 
-/// The network where a row begins; `None` where it can't.
-fn begun(alloc: Global, start: Start) -> Result<Option<FlatNetwork>, Fail> {
-    let mut disk = device(alloc, start)?;
-    let mut network = flat_of(alloc, &mut disk)?;
-    if goes_on(&mut network, start.before) {
-        Ok(Some(network))
+/// The network behind the entries `before` and then `entries`; `None` where those before aren't possible, or whether those are isn't as
+/// `is_possible` says.
+fn parts_behind(
+    alloc: Global,
+    network: &mut FlatNetwork,
+    before: &[Entry],
+    entries: &[Entry],
+    is_possible: bool,
+) -> Result<Option<NetParts>, Fail> {
+    let is_so = goes_on(network, before) && goes_on(network, entries) == is_possible;
+    Ok(if is_so {
+        Some(network.parts(alloc)?)
     } else {
-        Ok(None)
-    }
+        None
+    })
 }
 
-/// The network behind `entries`, from where a row begins; `None` where one isn't possible.
-fn behind(alloc: Global, start: Start, entries: &[Entry]) -> Result<Option<NetParts>, Fail> {
-    let Some(mut network) = begun(alloc, start)? else {
-        return Ok(None);
-    };
-    if !goes_on(&mut network, entries) {
-        return Ok(None);
-    }
-    Ok(Some(network.parts(alloc)?))
+/// The network behind `entries`, from where a row begins, where they are possible, or one isn't, as `is_possible` says.
+fn behind(
+    alloc: Global,
+    start: Start,
+    entries: &[Entry],
+    is_possible: bool,
+) -> Result<Option<NetParts>, Fail> {
+    let mut disk = device(alloc, start)?;
+    let mut network = flat_of(alloc, &mut disk)?;
+    let parts = parts_behind(alloc, &mut network, start.before, entries, is_possible);
+    parts
+}
+
+/// Whether two networks have one state.
+fn is_one(one: &NetParts, other: &NetParts) -> bool {
+    let ports = one.ports.len() == other.ports.len()
+        && one
+            .ports
+            .iter()
+            .zip(&other.ports)
+            .all(|(a, b)| is_port(a, b));
+    ports && one.images == other.images && one.lines == other.lines
 }
 
 /// Whether both are there, with one state.
 fn are_one(one: &Option<NetParts>, other: &Option<NetParts>) -> bool {
-    let (Some(one), Some(other)) = (one, other) else {
-        return false;
-    };
-    are_same(one, other)
+    match (one, other) {
+        (Some(one), Some(other)) => is_one(one, other),
+        _ => false,
+    }
+}
+
+/// Whether `turns` lead where `entries` lead, which are possible. The turns are, or one isn't, as `is_possible` says.
+fn are_alike(
+    alloc: Global,
+    start: Start,
+    entries: &[Entry],
+    turns: &[Entry],
+    is_possible: bool,
+) -> Result<bool, Fail> {
+    let one = behind(alloc, start, entries, true)?;
+    let other = behind(alloc, start, turns, is_possible)?;
+    Ok(are_one(&one, &other))
 }
 
 /// The first of `rows` whose turns don't lead where its takes and runs lead.
 fn first_apart(alloc: Global, rows: &[Leads]) -> Result<Option<usize>, Fail> {
     for (i, (start, plain, turns)) in rows.iter().enumerate() {
-        let one = behind(alloc, *start, *plain)?;
-        let other = behind(alloc, *start, *turns)?;
-        if !are_one(&one, &other) {
+        if !are_alike(alloc, *start, *plain, *turns, true)? {
             return Ok(Some(i));
         }
     }
@@ -197,23 +226,10 @@ fn a_turn_leads_where_its_takes_and_its_run_lead(rt: HostRuntime) -> Result<(), 
     Ok(())
 }
 
-/// Whether the turn is refused, and leaves the network as it was.
-fn is_refused(alloc: Global, start: Start, turn: &Entry) -> Result<bool, Fail> {
-    let before = behind(alloc, start, &[])?;
-    let Some(mut network) = begun(alloc, start)? else {
-        return Ok(false);
-    };
-    if goes_on(&mut network, &[*turn]) {
-        return Ok(false);
-    }
-    let after = Some(network.parts(alloc)?);
-    Ok(are_one(&before, &after))
-}
-
 /// The first of `rows`, where a row begins and a turn, whose turn is possible there or doesn't leave the network as it was.
 fn first_possible(alloc: Global, rows: &[(Start, Entry)]) -> Result<Option<usize>, Fail> {
     for (i, (start, turn)) in rows.iter().enumerate() {
-        if !is_refused(alloc, *start, turn)? {
+        if !are_alike(alloc, *start, &[], &[*turn], false)? {
             return Ok(Some(i));
         }
     }
@@ -244,26 +260,11 @@ fn a_turn_takes_what_stood_on_its_lines_before_it(rt: HostRuntime) -> Result<(),
     Ok(())
 }
 
-/// The network in which the hearer's turn was cut short: it can't make that many steps.
-fn cut_short(alloc: Global) -> Result<Option<NetParts>, Fail> {
-    let long = turn(1, BYTE, 4096);
-    let sent = SENT;
-    let Some(mut network) = begun(alloc, two_nodes(&sent))? else {
-        return Ok(None);
-    };
-    if goes_on(&mut network, &[long]) {
-        return Ok(None);
-    }
-    Ok(Some(network.parts(alloc)?))
-}
-
+/// The hearer can't make the steps of a turn, and the network is where one with fewer leads, in which it took its byte.
 #[test]
 fn a_turn_that_is_cut_short_has_taken_its_tokens(rt: HostRuntime) -> Result<(), Fail> {
-    let alloc = rt.alloc();
-    let made = turn(1, BYTE, 5);
     let sent = SENT;
-    let left = cut_short(alloc)?;
-    let wanted = behind(alloc, two_nodes(&sent), &[made])?;
-    assert!(rt; are_one(&left, &wanted));
+    let (made, long) = ([turn(1, BYTE, 5)], [turn(1, BYTE, 4096)]);
+    assert!(rt; are_alike(rt.alloc(), two_nodes(&sent), &made, &long, false)?);
     Ok(())
 }

@@ -1,7 +1,7 @@
 //! Each order of the acts of two nodes and the host, from some moment on up to the whole cut.
 
+use crate::cuts_machines::{Task, image};
 use crate::cuts_replayed::comes_first;
-use crate::machines::{Task, image};
 use crate::playing::Act::{Begin, Close, Record, Run, Take};
 use crate::playing::{Act, Play, do_all, does, start};
 use std::alloc::{AllocError, Global};

@@ -1,8 +1,8 @@
 //! Snapshots of two nodes, worked out by hand, act by act; each is ended by `take_in` alone.
 
+use crate::cuts_machines::{Task, image};
 use crate::cuts_network::LINES;
 use crate::cuts_replayed::comes_first;
-use crate::machines::{Task, image};
 use crate::playing::Act::{Begin, Close, HandIn, Record, Run, Take};
 use crate::playing::{Act, Play, do_all, does, start};
 use std::alloc::{AllocError, Global};

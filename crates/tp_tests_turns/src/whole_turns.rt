@@ -10,7 +10,7 @@ use std::test::Fail;
 use tp_book::Refusal;
 use tp_disk::MemDisk;
 use tp_model::Entry;
-use tp_model::Received::{self, JustAck, JustData, Nothing};
+use tp_model::Received::{JustAck, JustData, Nothing};
 use tp_model::Token::Data;
 use tp_net::Topology;
 use tp_replay::FlatNetwork;
@@ -22,7 +22,19 @@ const TWO: &[u8] = b"node a 4\nnode b 4\nport h\nwire a.0 b.0\nwire a.3 h\n";
 /// A node whose links 1 and 2 are wired together.
 const SELF: &[u8] = b"node a 4\nport h\nwire a.1 a.2\nwire a.3 h\n";
 
-const ACKNOWLEDGE: [Received; 4] = [JustAck, Nothing, Nothing, Nothing];
+/// The node sends its letter; the host takes it; the node takes the acknowledge, and makes a whole turn's steps.
+const LETTER_SENT: Entry = Entry::Run { node: 0, count: 3 };
+
+const LETTER_TAKEN: Entry = Entry::Take {
+    line: 0,
+    token: Data(b'A'),
+};
+
+const LETTER_ACKNOWLEDGED: Entry = Entry::Turn {
+    node: 0,
+    takes: [JustAck, Nothing, Nothing, Nothing],
+    count: 16,
+};
 
 /// What is done: a node's whole turn of at most that many steps, the host's turn, or a snapshot begins.
 #[derive(Clone, Copy, Debug, PartialEq, Eq)]
@@ -75,107 +87,117 @@ fn do_all(alloc: Global, net: &mut Net, steps: &[Step]) -> bool {
     true
 }
 
+/// Whether the steps on the network of a device aren't refused, and just these entries are made by them.
+fn makes(
+    alloc: Global,
+    disk: &mut MemDisk,
+    steps: &[Step],
+    wanted: &[Entry],
+) -> Result<bool, Fail> {
+    let mut net = Net::of_device(alloc, disk, 4)?;
+    Ok(do_all(alloc, &mut net, steps) && are(net.book().entries(), wanted))
+}
+
 #[test]
 fn a_nodes_turn_is_one_entry(rt: HostRuntime) -> Result<(), Fail> {
     let mut disk = letter_device(rt.alloc())?;
-    let mut net = Net::of_device(rt.alloc(), &mut disk, 4)?;
     let steps = [Step::Node(0, 16), Step::Host, Step::Node(0, 16), Step::Host];
-    let wanted = [
-        Entry::Run { node: 0, count: 3 },
-        Entry::Take {
-            line: 0,
-            token: Data(b'A'),
-        },
-        Entry::Turn {
-            node: 0,
-            takes: ACKNOWLEDGE,
-            count: 16,
-        },
-    ];
-    assert!(rt; do_all(rt.alloc(), &mut net, &steps));
-    assert!(rt; are(net.book().entries(), &wanted));
+    let wanted = [LETTER_SENT, LETTER_TAKEN, LETTER_ACKNOWLEDGED];
+    let are_made = makes(rt.alloc(), &mut disk, &steps, &wanted)?;
+    assert!(rt; are_made);
     Ok(())
 }
 
-/// The Marker stands behind the acknowledge. The turn takes that, and the next one closes the line. Answers how many tokens stand on the
-/// lines of the cut, which is then whole; none where it is otherwise.
-fn marker_behind(
+/// A snapshot: the steps up to a Marker that stands in front of a line, those that take it and make the cut whole, and all entries of both;
+/// then the number of the first entry behind the cut, and the next number.
+struct Snapshot<'a> {
+    first: &'a [Step],
+    line: u16,
+    then: &'a [Step],
+    entries: &'a [Entry],
+    base: u64,
+    next: u64,
+}
+
+/// How many tokens stand on the lines of a snapshot's cut, which is taken in; none where it isn't as it was told.
+fn taken_in(
     alloc: Global,
     net: &mut Net,
     flat: &mut FlatNetwork,
+    told: &Snapshot,
 ) -> Result<Option<usize>, Fail> {
-    let first = [
-        Step::Node(0, 16),
-        Step::Host,
-        Step::Begin,
-        Step::Node(0, 16),
-    ];
-    let then = [Step::Node(0, 16), Step::Host];
-    let wanted = [
-        Entry::Run { node: 0, count: 3 },
-        Entry::Take {
-            line: 0,
-            token: Data(b'A'),
-        },
-        Entry::Turn {
-            node: 0,
-            takes: ACKNOWLEDGE,
-            count: 16,
-        },
-        Entry::Run { node: 0, count: 16 },
-    ];
-    let taken = do_all(alloc, net, &first) && net.is_marked(4);
-    if !taken || !do_all(alloc, net, &then) || net.is_marked(4) {
+    let is_marked = do_all(alloc, net, told.first) && net.is_marked(told.line);
+    if !is_marked || !do_all(alloc, net, told.then) || net.is_marked(told.line) {
         return Ok(None);
     }
-    let made = are(net.book().entries(), &wanted);
+    let are_made = are(net.book().entries(), told.entries);
     let tokens = take_in(alloc, net, flat)?;
-    let left = net.book().base() == 2 && net.book().next() == 4;
-    Ok(if made && left { tokens } else { None })
+    let is_left = net.book().base() == told.base && net.book().next() == told.next;
+    Ok(if are_made && is_left { tokens } else { None })
 }
 
+/// How many, on the network of a device whose nodes have `spare` spare frames.
+fn taken_in_on(
+    alloc: Global,
+    disk: &mut MemDisk,
+    spare: usize,
+    told: &Snapshot,
+) -> Result<Option<usize>, Fail> {
+    let mut flat = flat_of(alloc, disk)?;
+    let mut net = Net::of_device(alloc, disk, spare)?;
+    let tokens = taken_in(alloc, &mut net, &mut flat, told);
+    tokens
+}
+
+/// The Marker stands behind the acknowledge. The turn takes that, and the next one closes the line.
 #[test]
 fn a_marker_behind_what_is_taken_waits_for_the_next_turn(rt: HostRuntime) -> Result<(), Fail> {
+    let told = Snapshot {
+        first: &[
+            Step::Node(0, 16),
+            Step::Host,
+            Step::Begin,
+            Step::Node(0, 16),
+        ],
+        line: 4,
+        then: &[Step::Node(0, 16), Step::Host],
+        entries: &[
+            LETTER_SENT,
+            LETTER_TAKEN,
+            LETTER_ACKNOWLEDGED,
+            Entry::Run { node: 0, count: 16 },
+        ],
+        base: 2,
+        next: 4,
+    };
     let mut disk = letter_device(rt.alloc())?;
-    let mut net = Net::of_device(rt.alloc(), &mut disk, 0)?;
-    let mut flat = flat_of(rt.alloc(), &mut disk)?;
-    assert_eq!(rt; marker_behind(rt.alloc(), &mut net, &mut flat)?, Some(1));
+    let tokens = taken_in_on(rt.alloc(), &mut disk, 0, &told)?;
+    assert_eq!(rt; tokens, Some(1));
     Ok(())
 }
 
 /// The sender records before it sends, so its byte stands behind its Marker: the hearer closes the line, and takes the byte.
-fn marker_in_front(
-    alloc: Global,
-    net: &mut Net,
-    flat: &mut FlatNetwork,
-) -> Result<Option<usize>, Fail> {
-    let first = [Step::Begin, Step::Node(0, 16)];
-    let then = [Step::Node(1, 16), Step::Node(0, 16), Step::Host];
-    let wanted = [
-        Entry::Run { node: 0, count: 5 },
-        Entry::Turn {
-            node: 1,
-            takes: [JustData(0x58), Nothing, Nothing, Nothing],
-            count: 0,
-        },
-    ];
-    let sent = do_all(alloc, net, &first) && net.is_marked(0);
-    if !sent || !do_all(alloc, net, &then) {
-        return Ok(None);
-    }
-    let made = are(net.book().entries(), &wanted);
-    let tokens = take_in(alloc, net, flat)?;
-    let left = net.book().base() == 0 && net.book().next() == 2;
-    Ok(if made && left { tokens } else { None })
-}
-
 #[test]
 fn a_marker_in_front_is_closed(rt: HostRuntime) -> Result<(), Fail> {
+    let told = Snapshot {
+        first: &[Step::Begin, Step::Node(0, 16)],
+        line: 0,
+        then: &[Step::Node(1, 16), Step::Node(0, 16), Step::Host],
+        entries: &[
+            Entry::Run { node: 0, count: 5 },
+            Entry::Turn {
+                node: 1,
+                takes: [JustData(0x58), Nothing, Nothing, Nothing],
+                count: 0,
+            },
+        ],
+        base: 0,
+        next: 2,
+    };
     let tasks: [&[Task]; 2] = [&[Task::Once(0)], &[]];
     let mut disk = tasks_device(rt.alloc(), TWO, &tasks)?;
-    let mut net = Net::of_device(rt.alloc(), &mut disk, 4)?;
-    let mut flat = flat_of(rt.alloc(), &mut disk)?;
-    assert_eq!(rt; marker_in_front(rt.alloc(), &mut net, &mut flat)?, Some(0));
+    let tokens = taken_in_on(rt.alloc(), &mut disk, 4, &told)?;
+    assert_eq!(rt; tokens, Some(0));
     Ok(())
 }
 
@@ -184,7 +206,6 @@ fn a_marker_in_front_is_closed(rt: HostRuntime) -> Result<(), Fail> {
 fn a_node_that_is_wired_to_itself_takes_what_stood_there(rt: HostRuntime) -> Result<(), Fail> {
     let tasks: [&[Task]; 1] = [&[Task::Once(2), Task::Relay(1, 0)]];
     let mut disk = tasks_device(rt.alloc(), SELF, &tasks)?;
-    let mut net = Net::of_device(rt.alloc(), &mut disk, 4)?;
     let steps = [
         Step::Node(0, 16),
         Step::Node(0, 0),
@@ -204,8 +225,8 @@ fn a_node_that_is_wired_to_itself_takes_what_stood_there(rt: HostRuntime) -> Res
             count: 0,
         },
     ];
-    assert!(rt; do_all(rt.alloc(), &mut net, &steps));
-    assert!(rt; are(net.book().entries(), &wanted));
+    let are_made = makes(rt.alloc(), &mut disk, &steps, &wanted)?;
+    assert!(rt; are_made);
     Ok(())
 }
 
@@ -240,20 +261,28 @@ fn full(alloc: Global, net: &mut Net) -> Option<[u64; 3]> {
     Some([before, asked, net.book().next()])
 }
 
+/// The device of a node that hears on link 0, and of one that sends letters there.
+fn relay_device(alloc: Global) -> Result<MemDisk, Fail> {
+    let mut images = Vec::new(alloc);
+    images.push(image(alloc, &[Task::Relay(0, 1)])?)?;
+    images.push(letter(alloc)?)?;
+    let disk = device(alloc, TWO, &images);
+    disk
+}
+
+/// The numbers of a journal that is full on the network of a device, and its last entry.
+fn full_on(alloc: Global, disk: &mut MemDisk) -> Result<(Option<[u64; 3]>, Option<Entry>), Fail> {
+    let mut net = Net::of_device(alloc, disk, 4)?;
+    let numbers = full(alloc, &mut net);
+    let last = net.book().entries().last().map(|last| last.entry);
+    Ok((numbers, last))
+}
+
 #[test]
 fn a_full_journal_has_room_for_what_a_snapshot_needs(rt: HostRuntime) -> Result<(), Fail> {
-    let images = Vec::from_array(
-        rt.alloc(),
-        [
-            image(rt.alloc(), &[Task::Relay(0, 1)])?,
-            letter(rt.alloc())?,
-        ],
-    )?;
-    let mut disk = device(rt.alloc(), TWO, &images)?;
-    let mut net = Net::of_device(rt.alloc(), &mut disk, 4)?;
-    let numbers = full(rt.alloc(), &mut net);
+    let mut disk = relay_device(rt.alloc())?;
+    let (numbers, last) = full_on(rt.alloc(), &mut disk)?;
     let [before, asked, behind] = numbers.unwrap_or([0; 3]);
-    let last = net.book().entries().last().map(|last| last.entry);
     let wanted = Entry::Turn {
         node: 0,
         takes: [Nothing, Nothing, Nothing, JustData(b'x')],
