@@ -1,5 +1,5 @@
 use Rattle.std.proofs.Common.{refl}
-use Rattle.tp_tests_stops.proofs.script.play_in.Goals as goal
+use Rattle.tp_tests_gate.proofs.acts.play_in.Goals as goal
 
 pub play-requires-clause-names : goal.play-requires-clause-names
 play-requires-clause-names g c =

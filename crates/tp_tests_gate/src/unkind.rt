@@ -3,7 +3,7 @@
 ghost use Rattle.std.specs.Prelude.{◌≡◌, ◌+◌, ◌≤◌, length, take, drop, OnOk, OnErr};
 ghost use Rattle.tp_model.specs.Disk.{Write, Sync, Read, done};
 ghost use Rattle.tp_model.specs.DiskHistory.{MomentPassed, Fails, unknown};
-ghost use Rattle.tp_tests_stops.specs.Unkind.{no_unkind, unkind_keeps};
+ghost use Rattle.tp_tests_gate.specs.Unkind.{no_unkind, unkind_keeps};
 
 use std::alloc::{AllocError, Global};
 use tp_disk::{Counted, DeviceFailed, RawDisk};

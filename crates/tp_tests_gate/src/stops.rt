@@ -1,6 +1,6 @@
 //! A script whose device fails, or stops it, at each of its calls: what the device then opens to, and how it goes on.
 
-use crate::left::{Left, calls_of, ended, fresh, kept, known, recovered, run, untold};
+use crate::remains::{Left, calls_of, ended, fresh, kept, known, recovered, run, untold};
 use crate::script::{Done, Step};
 use crate::tears::{EACH, SOME, Tear, fault_at};
 use crate::unkind::{Ending, Fault, RawUnkind, Torn};

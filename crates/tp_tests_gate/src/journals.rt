@@ -1,7 +1,7 @@
 //! What the script journals, over a device whose areas have turns, and over one whose first area has none.
 
 use crate::acts::turn;
-use crate::left::{fresh, kept, recovered, run, untold};
+use crate::remains::{fresh, kept, recovered, run, untold};
 use crate::script::Done;
 use crate::stops::{SCRIPT, is_last};
 use std::alloc::Global;

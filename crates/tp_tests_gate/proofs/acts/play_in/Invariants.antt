@@ -2,7 +2,7 @@ use Rattle.std.proofs.Common.{[]}
 use Rattle.tp_model.specs.Runs.{fresh}
 use Rattle.tp_model.specs.WriteOrder.{Resting}
 use Rattle.tp_shared.specs.Parted.{name_of}
-use Rattle.tp_tests_stops.proofs.acts.play_in.Given as goal
+use Rattle.tp_tests_gate.proofs.acts.play_in.Given as goal
 
 -- No history is told of: nothing here speaks of crashes.
 abbrev pub ghosts-play : goal.ghosts-play
