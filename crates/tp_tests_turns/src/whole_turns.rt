@@ -110,6 +110,7 @@ fn a_nodes_turn_is_one_entry(rt: HostRuntime) -> Result<(), Fail> {
 
 /// A snapshot: the steps up to a Marker that stands in front of a line, those that take it and make the cut whole, and all entries of both;
 /// then the number of the first entry behind the cut, and the next number.
+#[derive(Clone, Copy)]
 struct Snapshot<'a> {
     first: &'a [Step],
     line: u16,
