@@ -1,4 +1,5 @@
 pub mod Faults
 pub mod OfEnds
 pub mod Refused
+pub mod Standard
 pub mod Texts

@@ -3,6 +3,7 @@ pub mod Given
 pub mod Size
 pub mod Args
 pub mod Ends
+pub mod Standard
 pub mod StreamArgs
 pub mod BackupArgs
 pub mod StopArgs

@@ -12,6 +12,7 @@ use Rattle.tp_words.specs.declared.stream_args.StreamRun.{StreamRun}
 use Rattle.tp_words.specs.Args.{IsEvery}
 use Rattle.tp_words.specs.Ends.{AreEnds, WereTyped}
 use Rattle.tp_words.specs.Given.{given, IsGivenOr}
+use Rattle.tp_words.specs.Standard.{AreStandard}
 use Rattle.tp_words.specs.Typed.{has_word}
 
 -- turns have no bound, or one in its range
@@ -45,6 +46,7 @@ IsTypedStream words run = (has_word (string_bytes run.device) words ≡ true)
     × (given (codes "every") words ≡ option_map decimal run.every)
     × IsGivenOr 0 run.wait_lock (given (codes "wait-lock") words)
     × WereTyped words run.ends
+    × AreStandard words run.ends
 
 abbrev pub WasStreamTyped : List (String Global) → StreamAsked → Type 0
 WasStreamTyped words (Help text) = Unit {0}
