@@ -9,8 +9,8 @@ ghost use Rattle.tp_turn.specs.Opened.{HasTurnedBy, IsOpenedIn, OpensIn, opened_
 use crate::receiving::Taken;
 use crate::stages::{Stretch, commit_turn, open_turn};
 use crate::whole::{commit_whole, open_whole};
-use tp_book::{Book, Refusal, tokens_of};
-use tp_model::Form;
+use tp_book::{Book, Refusal};
+use tp_model::{Form, Received};
 use tp_node::{Node, Ran};
 
 /// How a node's turn was opened.
@@ -29,7 +29,7 @@ impl Opened {
     {
         match self {
             Opened::Apart(taken) => *taken,
-            Opened::Whole(taken) => tokens_of(&taken.takes).len() as u64,
+            Opened::Whole(taken) => count_of(&taken.takes),
         }
     }
 }
@@ -71,4 +71,18 @@ pub fn commit_opened(
         Opened::Apart(_) => commit_turn(book, node, number, stretch),
         Opened::Whole(taken) => commit_whole(book, node, number, taken, stretch),
     }
+}
+
+/// How many tokens were received on one link.
+fn count_on(one: Received) -> u64 {
+    match one {
+        Received::Nothing => 0,
+        Received::JustData(_) | Received::JustAck => 1,
+        Received::DataThenAck(_) | Received::AckThenData(_) => 2,
+    }
+}
+
+/// How many tokens a turn takes.
+fn count_of(takes: &[Received; 4]) -> u64 {
+    count_on(takes[0]) + count_on(takes[1]) + count_on(takes[2]) + count_on(takes[3])
 }
