@@ -20,7 +20,7 @@ pub const AREA_PLACE: usize = 16;
 /// The pages of each node, in two bytes each.
 pub const PAGES_PLACE: usize = 24;
 
-/// The end that each link's wire leads to, behind the pages of as many nodes as the head has fields for.
+/// The end that each link's wire leads to, behind the pages of all nodes that the head has fields for.
 pub fn ends_place(version: HeadVersion) -> usize
     ensures { result ≡ ends_place version }
 {

@@ -7,6 +7,6 @@ pub record IsCounted (next : ℕ) (port : Port) : Type 0 where
   pub inputs : port.in_base ≤ next
   pub outputs : port.out_base + length port.outputs ≤ next
 
--- so is that of each port
+-- what each port has counted is no more than there are entries
 abbrev pub AreCounted : ℕ → List Port → Type 0
 AreCounted next ports = (p : ℕ) (port : Port) → slice_get ports p ≡ Some port → IsCounted next port

@@ -1,4 +1,4 @@
-//! A network that contracts alone see.
+//! The kept cut's network, as contracts alone see it.
 
 ghost use Rattle.std.specs.Prelude.{◌≡◌};
 ghost use Rattle.std.specs.Borrow.{ftrue};

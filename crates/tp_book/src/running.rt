@@ -1,4 +1,4 @@
-//! A snapshot that runs.
+//! What a snapshot that runs has gathered.
 
 ghost use Rattle.std.specs.Prelude.{◌≡◌, ◌+◌, ◌<◌, ◌≤◌, ◌^◌, ◌++◌, ℕ, IfOk, Option, Some, List, length, map, get_or, true, not, ◌||◌, ◌∷◌, []};
 ghost use Rattle.std.specs.List.{AllByRecursion, list_all};

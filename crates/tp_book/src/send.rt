@@ -22,7 +22,7 @@ fn send(wires: &[Option<WireEnd>], lines: &mut Lines, line: usize, token: Token)
     }
 }
 
-/// Sends tokens in order, each on the line that lies as many places behind `first` as its number says.
+/// Sends `tokens` in order: one with the number `m` goes on the line `first` + `m`.
 pub fn send_all(wires: &[Option<WireEnd>], lines: &mut Lines, first: usize, tokens: &[(u8, Token)])
     requires known { AllByRecursion (λ m. first + m.0 < length wires.now) tokens.now }
     requires there { length lines.old ≡ length wires.now }

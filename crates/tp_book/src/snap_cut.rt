@@ -1,4 +1,4 @@
-//! Cuts.
+//! The cut that a snapshot gathers: `Cut`.
 
 ghost use Rattle.std.specs.Prelude.{◌≡◌, ◌+◌, ◌<◌, ◌≤◌, ◌^◌, ◌++◌, ◌∷◌, [], IfOk, length, map, set, replicate};
 ghost use Rattle.tp_model.specs.Markers.{before};

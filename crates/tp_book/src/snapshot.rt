@@ -1,4 +1,4 @@
-//! The snapshot that runs.
+//! A book's calls for the snapshot that runs: begin, record, close, whole.
 //!
 //! With the node's half, under its lock, what a call does is the act: `tp_law_network::halves_join`. A whole cut stays, and neither it
 //! nor its images change, until the trim: `tp_law_network::whole_cuts_stay`.

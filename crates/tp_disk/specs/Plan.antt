@@ -33,7 +33,7 @@ is_done Done = true
 is_done Refused = false
 is_done (Torn torn) = false
 
--- the bytes after a call that failed: a write's range begins with as many of the torn bytes as fit
+-- the bytes after a call that failed: a write's range begins with the torn bytes, up to its end at most
 abbrev pub torn_over : Call → List ℕ → List ℕ → List ℕ
 torn_over (Write at bytes) torn old = written old at (take (length bytes) torn)
 torn_over Sync torn old = old

@@ -36,7 +36,7 @@ pub trait Disk {
     fn failures(&self) -> u64
         ensures { result ≡ min (failures_of self.now) (2 ^ 64 - 1) };
 
-    /// Reads as many bytes as `out` has. After a failure `out` may hold anything.
+    /// Fills `out` with the bytes from `at` on. After a failure `out` may hold anything.
     fn read(&mut self, at: u64, out: &mut [u8]) -> Result<(), DeviceFailed>
         requires { at + length out.old ≤ size_of self.old }
         ensures counts { Counts (is_ok result) (size_of self.old) (size_of self.new) (failures_of self.old) (failures_of self.new) }
@@ -60,7 +60,7 @@ pub trait Disk {
         ensures after { keeps → OnOk result ((state self.new).now ≡ done Sync (state self.old).now) }
         ensures failed { keeps → OnErr result (Fails Sync (state self.old) (state self.new)) };
 
-    /// What a read gives has as many bytes as the device.
+    /// The device's size is the number of bytes that its model has.
     ghost whole: { keeps → (d : Self) → length (state d).now.bytes ≡ size_of d };
 }
 

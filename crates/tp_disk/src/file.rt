@@ -44,7 +44,7 @@ pub(crate) fn answer(
 }
 
 impl<F: SystemFile + Drop> RawFile<F> {
-    /// The device in an open file, which has as many bytes as the file.
+    /// The device in an open file; its size is the file's.
     pub fn new(mut file: F) -> io::Result<RawFile<F>>
         ensures { IfOk result (λ raw. F.calls raw.file ≡ F.calls file ++ Measures raw.size ∷ []) }
     {
@@ -111,7 +111,7 @@ impl<F: SystemFile + Drop> RawDisk for RawFile<F> {
 }
 
 impl<F: FileExt + OpenFile + Drop> Counted<RawFile<NotedFile<F>>> {
-    /// The device in the file at this path, which has as many bytes as the file.
+    /// The device in the file at this path; its size is the file's.
     pub fn open<R: Files<File = F>>(
         rt: &R,
         path: &str,

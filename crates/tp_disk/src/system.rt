@@ -21,7 +21,7 @@ pub trait SystemFile {
     fn resize(&mut self, length: u64) -> io::Result<()>
         ensures { calls self.new ≡ calls self.old ++ Resizes length (is_ok result) ∷ [] };
 
-    /// Reads as many bytes as `out` has. Ok only where all of them came.
+    /// Fills `out` with the bytes from `at` on. Ok only where all of them came.
     fn read_all(&mut self, at: u64, out: &mut [u8]) -> io::Result<()>
         ensures { calls self.new ≡ calls self.old ++ Reads at out.new (is_ok result) ∷ [] };
 

@@ -10,7 +10,7 @@ use Rattle.tp_model.specs.Topology.{Topology}
 use Rattle.tp_area.specs.Pieces.{piece_place}
 use Rattle.tp_shared.specs.Frozen.{keeps_pages}
 
--- Of the frozen image of node i, the head and as many pages stand at their places in a content.
+-- Of the frozen image of node i, the head and the first `count` pages stand at their places in a content.
 pub record IsPartOut (t : Topology) (net : MarkedNetwork NodeState) (content : List ℕ) (i count : ℕ) : Type 0 where
   pub node : NodeState
   pub frozen : IsFrozenAs net i node

@@ -2,6 +2,6 @@
 use Rattle.std.specs.Prelude.{ℕ, ◌-◌, Bool, nat_le}
 use Rattle.tp_book.specs.Book.{BookValue, next_in_book}
 
--- as many entries have been made since the kept cut
+-- at least `every` entries have been made since the kept cut
 abbrev pub is_due : ℕ → BookValue → Bool
 is_due every b = nat_le every (next_in_book b - b.base)

@@ -31,7 +31,7 @@ use Rattle.tp_flush.specs.Known.{Known, Began, Reached}
 
 -- The world as the flusher knows it; what has become of its device, how many bytes that has, and how many of its calls have
 -- failed; the bytes that this process opened; the place of the next group, in the open area; the device's topology; how far the
--- copy of the snapshot that runs has come; and of which nodes pages were kept as it was told of the book last.
+-- copy of the snapshot that runs has come; and which nodes had kept pages as it was told of the book last.
 pub record Flushing : Type 0 where
   pub world : World NodeState
   pub state : State

@@ -12,7 +12,7 @@ use Rattle.tp_model.specs.Runs.{World}
 use Rattle.tp_model.specs.Walks.{RecoversTo}
 use Rattle.tp_flush.specs.Known.{Began}
 
--- `was` opens, to the network where the first entries of the journal lead, as many as its next number says. `left` opens to where a prefix
+-- `was` opens, to the network where the journal's entries below its next number lead. `left` opens to where a prefix
 -- of the journal leads that has all of them, and each entry below `least`. A process may begin with it again.
 pub record Follows (start : Network NodeState) (journal : List Entry) (least : ℕ) (was left : List ℕ) : Type 0 where
   pub opened : Opened

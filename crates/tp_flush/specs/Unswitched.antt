@@ -16,8 +16,8 @@ use Rattle.tp_flush.specs.declared.unswitched.Unswitched.TheVariants.{ImageMissi
 use Rattle.tp_flush.specs.Progress.{is_out}
 use Rattle.tp_flush.specs.Flushing.{Flushing}
 
--- It is a reason, on a device of this topology, with these images out, with an open area of this generation, and where the flusher was
--- told this of the book last, and of which nodes pages are kept.
+-- `why` is a reason not to switch: with `t` the device's topology, `p` the images that are out, `generation` that of the open area, and
+-- `net` and `frozen` the book and the nodes with kept pages as the flusher was told of them last.
 abbrev pub IsReason : Unswitched → Topology → Progress → ℕ → MarkedNetwork NodeState → List Bool → Type 0
 IsReason ImageMissing t p generation net frozen = (i : ℕ) × (i < length t.pages) × (is_out p i ≡ false)
 IsReason LastGeneration t p generation net frozen = NUMBER_LIMIT ≤ generation + 1

@@ -9,6 +9,6 @@ pub record WasTold (seen : List BookValue) : Type 0 where
   pub shown : seen ≡ before ++ found ∷ []
   pub broken : found.broken ≡ true
 
--- so it is where a call failed
+-- where a call failed, the last book that was seen is broken
 abbrev pub ToldWhere : Bool → List BookValue → Type 0
 ToldWhere failed seen = failed ≡ true → WasTold seen

@@ -25,7 +25,7 @@ pub(crate) enum Image {
     Unrecorded,
     /// It had, and not all its pages were kept.
     Lacking,
-    /// The image is out now. It has as many pages.
+    /// The image is out now; it has this number of pages.
     Copied(usize),
 }
 

@@ -10,7 +10,7 @@ use tp_disk::Disk;
 use tp_shared::{Locked, Naming, Seat};
 
 impl<J: Naming, D: Disk> Flusher<J, D> {
-    /// Changes nothing. Whether `seat` has as many slips as there are entries since the opening, whose first number is `first`, and all
+    /// Changes nothing. Whether `seat` has a slip for each entry since the opening, whose first number is `first`, and all
     /// of them are below the flusher's mark. Then the flusher's journal has these entries and no further ones, and of each of them
     /// there is one slip.
     pub fn settle_all(&mut self, held: &mut Locked<J>, seat: &mut Seat<J>, first: u64) -> bool

@@ -58,8 +58,8 @@ pub fn areas_hold()
 /// After each run over a device that was formatted, whatever a crash leaves stands for the network after a prefix of the
 /// journal, and the prefix has each entry below a mark that was ever read. Opening it goes on with the run. What the
 /// journal has below the mark at some moment, it has at each later one. In one sentence: whatever a crash leaves opens, and
-/// opening answers the network after the first entries of the journal, as many as its next number says, each entry below a
-/// mark that was ever read among them.
+/// opening answers the network after the journal's entries below its next number, and each entry below a mark that was ever
+/// read is among them.
 pub fn crashes_hold()
     ensures recovers { (start : Network NodeState) (events : List (Event NodeState)) (first last : World NodeState)
         → BeginsFormatted t414 device_areas start first → Run t414 device_areas first events last
@@ -149,7 +149,7 @@ pub fn openings_begin()
 /// At each moment of a run over a device that was formatted, the journal is possible from the start on and leads to the network
 /// as it is, its Markers left out; so do the entries since the kept cut, in their own order and in that of a whole cut. There is
 /// at most one Marker on a line; the network is sound, and a line has at most three tokens. A port's accepted number has grown
-/// since the start by as many bytes as the journal's entries hand to it, and what came out of it by as many as they take to it.
+/// since the start by the count of bytes that the journal's entries hand to it, and what came out of it by the count that they take to it.
 pub fn histories_hold()
     ensures journal { (start : Network NodeState) (events : List (Event NodeState)) (first last : World NodeState)
         → BeginsFormatted t414 device_areas start first → Run t414 device_areas first events last → after t414 start last.journal ≡ Some (plain_network last.net.live) }

@@ -14,7 +14,7 @@ CarriesByte (Data byte) = byte < 256
 CarriesByte Ack = Unit {0}
 CarriesByte Marker = Unit {0}
 
--- so is what an input end holds
+-- what an input end holds is a byte
 abbrev pub HoldsByte : InEnd → Type 0
 HoldsByte (Idle None) = Unit {0}
 HoldsByte (Idle (Some byte)) = byte < 256

@@ -23,8 +23,8 @@ from_piece has N (m ∷ ms) = if sends has N m.0 then m ∷ from_piece has N ms 
 abbrev pub Covers : ℕ → (ℕ → Piece) → Type 0
 Covers count pieces = (p : ℕ) → (i : ℕ) × (i < count) × (pieces i p ≡ true)
 
--- In u, the piece's processes and the lines that they send are as they are in s. The wires of u are those of s, and it has as
--- many nodes, ports and lines; whatever else it has may differ.
+-- In u, the piece's processes and the lines that they send are as they are in s. The wires of u are those of s, and its
+-- numbers of nodes, ports and lines are, too; whatever else it has may differ.
 pub record Agrees {Node : Type 0} (has : Piece) (s u : Network Node) : Type 0 where
   pub wires : u.wires ≡ s.wires
   pub nodes : length u.nodes ≡ length s.nodes

@@ -36,7 +36,7 @@ current_of false false later = None
 abbrev pub current : List ℕ → Option Bool
 current bytes = current_of (is_small_open bytes 0) (is_small_open bytes 9) (nat_lt (small_byte bytes 1) (small_byte bytes 10))
 
--- the entries of the groups from a place on, at most as many as are given, up to the first closed gate
+-- the entries of the groups from a place on, at most the number that is given, up to the first closed gate
 unfoldable pub entries_at : List ℕ → ℕ → ℕ → List Entry
 entries_at bytes zero place = []
 entries_at bytes (suc more) place =

@@ -3,7 +3,7 @@ use Rattle.std.specs.Prelude.{◌≡◌, ◌<◌, ℕ, true, length}
 use Rattle.tp_model.specs.Network.{Network, own, on_line}
 use Rattle.tp_law_network.specs.Piece.{Piece, sends}
 
--- w has v's wires, and as many nodes and lines
+-- w has v's wires, its number of nodes and its number of lines
 pub record IsShapedAs {Node : Type 0} (v w : Network Node) : Type 0 where
   pub wires : w.wires ≡ v.wires
   pub nodes : length w.nodes ≡ length v.nodes

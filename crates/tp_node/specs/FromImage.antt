@@ -16,7 +16,7 @@ ReadsImage None (Err BadImage) = Unit {0}
 ReadsImage None (Err Memory) = ⊥
 ReadsImage None (Ok node) = ⊥
 
--- no page of it is shared, and it has that many spare frames, but no more than pages
+-- no page of it is shared, and it has `wanted` spare frames, but no more than pages
 pub record HasFrames (wanted : ℕ) (node : NodeContents) : Type 0 where
   pub shared : node.shared ≡ replicate (length node.live.memory / PAGE_BYTES) false
   pub spare : node.spare ≡ min wanted (length node.live.memory / PAGE_BYTES)

@@ -10,7 +10,7 @@ use tp_mem::FIRST_ADDRESS;
 use tp_model::limits::{MAX_PAGES, MIN_PAGES, PAGE_BYTES};
 use tp_model::{InEnd, OutEnd, Transfer};
 
-/// Whether `len` bytes of memory are whole pages, as many as a node may have.
+/// Whether `len` bytes of memory are whole pages, in a number that a node may have.
 pub(crate) fn is_memory(len: usize) -> bool
     ensures { (memory : List ℕ) → length memory ≡ len → result ≡ is_memory memory }
 {

@@ -26,6 +26,6 @@ blank_node = record {
 abbrev pub blank_port : Port
 blank_port = record { pending = []; in_base = 0; outputs = []; out_base = 0 }
 
--- nodes with as many before them, and behind them
+-- nodes with `before` blank ones in front of them, and `behind` blank ones behind them
 abbrev pub among : ℕ → List NodeState → ℕ → List NodeState
 among before nodes behind = replicate before blank_node ++ (nodes ++ replicate behind blank_node)

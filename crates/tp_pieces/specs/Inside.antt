@@ -31,7 +31,7 @@ pub record IsLive (node : NodeContents) : Type 0 where
   pub bytes : IsNodeOfBytes node.live
   pub thawed : node.frozen ≡ None
 
--- so does each of them
+-- each of the nodes has an image and is not frozen
 abbrev pub AreLive : List NodeContents → Type 0
 AreLive nodes = (i : ℕ) (node : NodeContents) → slice_get nodes i ≡ Some node → IsLive node
 

@@ -9,7 +9,7 @@ pub record LanesValue : Type 0 where
   pub wires : List (Option WireEnd)
   pub lines : List (List Token)
 
--- as many lines, on the same wires
+-- the wires and the number of lines stay as they were
 pub record SameLanes (was now : LanesValue) : Type 0 where
   pub wires : now.wires ≡ was.wires
   pub count : length now.lines ≡ length was.lines

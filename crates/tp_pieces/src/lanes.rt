@@ -89,7 +89,7 @@ impl Lanes {
         true
     }
 
-    /// Sends tokens in order, each on the line that lies as many places behind `first` as its number says. Answers whether all
+    /// Sends `tokens` in order: one with the number `m` goes on the line `first` + `m`. Answers whether all
     /// have room.
     pub(crate) fn send_all(&mut self, first: usize, tokens: &[(u8, Token)]) -> bool
         requires { first ≤ 1024 }

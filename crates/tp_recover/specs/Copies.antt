@@ -46,7 +46,7 @@ pub record OpensAsKept (bytes : List ℕ) (kept : Kept) : Type 0 where
   pub is : verdict bytes ≡ Ok opened
   pub same : kept ≡ area_kept opened
 
--- So do those of a moment, and behind it all of them are synced.
+-- A moment's bytes open as `kept`, and behind it all of them are synced.
 pub record OpensAs (kept : Kept) (old new : Moment) : Type 0 where
   pub opens : OpensAsKept old.bytes kept
   pub synced : new ≡ done Sync old

@@ -19,7 +19,7 @@ pub record HasImage (pages : ℕ) (node : NodeState) : Type 0 where
   pub image : IsNodeOfBytes node
   pub count : page_count node.memory ≡ pages
 
--- each has an image, and as many pages as `pages` says
+-- each node has an image, and the number of pages that `pages` gives for it
 pub record HaveImages (pages : List ℕ) (nodes : List NodeState) : Type 0 where
   pub images : AllByRecursion IsNodeOfBytes nodes
   pub counts : map (λ n. page_count n.memory) nodes ≡ pages

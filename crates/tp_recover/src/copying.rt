@@ -130,11 +130,11 @@ fn copy_kept<D: Disk, K: Disk>(
     Ok(Some(kept.next))
 }
 
-/// Copies a device that was `opened`, and that another process may be running, over what is in `copy`, which has to have as many bytes at
-/// least. Answers the number of the next entry: all of the copy is synced then, and it opens to the area, the generation, the form, the end
-/// of the groups and the number to which the device was opened. Answers none where the area that is copied has another gate or generation
-/// behind the copying: then the copy's gates are closed, and it has to be made anew, of the device as it then opens. Nothing is written to
-/// the device, and a crash finds nothing there that the call made.
+/// Copies a device that was `opened`, and that another process may be running, over what is in `copy`, which has to be no smaller. Answers
+/// the number of the next entry: all of the copy is synced then, and it opens to the area, the generation, the form, the end of the groups
+/// and the number to which the device was opened. Answers none where the area that is copied has another gate or generation behind the
+/// copying: then the copy's gates are closed, and it has to be made anew, of the device as it then opens. Nothing is written to the device,
+/// and a crash finds nothing there that the call made.
 pub fn copy_opened<D: Disk, K: Disk>(
     alloc: Global,
     source: &mut D,

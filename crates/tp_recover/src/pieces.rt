@@ -24,7 +24,7 @@ pub(crate) fn put_bytes<K: Disk>(copy: &mut K, at: u64, bytes: &[u8]) -> Result<
     }
 }
 
-/// Copies as many bytes as `piece` has.
+/// Copies the bytes from `at` on through `piece`, whose length is their number.
 fn copy_piece<D: Disk, K: Disk>(
     source: &mut D,
     copy: &mut K,

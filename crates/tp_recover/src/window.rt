@@ -39,7 +39,7 @@ impl Window {
         self.from <= at && at - self.from + count as u64 <= self.count as u64
     }
 
-    /// Reads `count` bytes from a place on, if they aren't there, and as many more as fit in front of `end`. After a failure it may have
+    /// Reads `count` bytes from `at` on, if they aren't there, and more, up to the window's size or to `end`. After a failure it may have
     /// anything.
     pub(crate) fn fetch<D: Disk>(
         &mut self,

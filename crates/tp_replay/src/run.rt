@@ -28,7 +28,7 @@ impl FlatNetwork {
         ran.count()
     }
 
-    /// Has `node` make `count` steps. Where it can't, it has made as many as it can.
+    /// Has `node` make `count` steps. Where it can't make all of them, it has made those that it can.
     pub(crate) fn run(&mut self, node: u8, count: u16) -> Result<(), NotPossible>
         ensures applies { AppliesEntry (next t414 self.old (Run node count)) result self.new }
         ensures err { OnErr result (LeavesShort self.old (Run node count) self.new) }

@@ -20,7 +20,7 @@ use tp_net::link_line;
 
 impl FlatNetwork {
     /// Has `node` take what came in on its links, and then make `count` steps. Where it can't make them, it has taken the tokens and
-    /// made as many as it can.
+    /// made the steps that it can.
     pub(crate) fn turn(
         &mut self,
         node: u8,

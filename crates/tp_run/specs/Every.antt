@@ -13,6 +13,6 @@ abbrev pub every_of : Option ℕ → Topology → ℕ → ℕ
 every_of (Some asked) t area = asked
 every_of None t area = if nat_le (half_of t area) 1 then 1 else half_of t area
 
--- how many entries are wanting until there are as many
+-- how many entries are wanting until there are `every` since the kept cut
 abbrev pub missing_in : ℕ → BookValue → ℕ
 missing_in every b = every - (next_in_book b - b.base)

@@ -52,7 +52,7 @@ impl Outset {
         Err(RunFault::OfferRefused)
     }
 
-    /// Tests that as many outputs of the port are confirmed in a book, before more are printed.
+    /// Tests that a book has confirmed just the outputs of the port that it had confirmed at the opening.
     pub(crate) fn is_confirmed_in(self, book: &Book) -> Result<(), RunFault>
         requires { self.port < length book.now.state.ports }
         ensures confirmed { IfOk result (λ done. (port_in book.now self.port).out_base ≡ self.confirmed) }

@@ -97,8 +97,8 @@ fn is_all_shown(book: &Book, port: u8, mark: u64) -> Result<(), RunFault>
     Err(RunFault::OutputFailed)
 }
 
-/// Prints and confirms where the book has confirmed as many outputs as `outset` says, and `mark` shows all of them and is above all
-/// entries. Else prints none; but it is so behind a flush, while only workers have been there since the opening.
+/// Prints and confirms, where the book has confirmed what it had as the device was opened, and `mark` shows all outputs and is above
+/// all entries; else it prints nothing. Behind a flush, with no other thread there, both are so.
 pub(crate) fn print_from<J: Naming, O: Write>(
     held: &mut Locked<J>,
     outset: Outset,

@@ -13,8 +13,8 @@ const LOOK_TURNS: u64 = 64;
 /// waits for the device and for one such sleep.
 const SLEEP: u64 = 500;
 
-/// How many entries are made when those since the kept cut are counted again, once `made` were made and `missing` were wanting. Where none
-/// is, a snapshot has begun or can't, and they aren't until that may have changed.
+/// At how many made entries it is worth a look at the book again, after `made` were made and `missing` were wanting then. `missing` is
+/// 0 where a snapshot has begun or can't begin: then it isn't until `count_anew`.
 fn due_behind(made: u64, missing: u64) -> u64
     ensures soon { 0 < missing → result ≤ made + missing }
     ensures later { 0 < missing → made < 2 ^ 64 - 1 → made < result }
@@ -27,8 +27,8 @@ fn due_behind(made: u64, missing: u64) -> u64
     }
 }
 
-/// How many turns there are, and how many were drawn; how many entries they made, or more; whether the workers have ended; and how many
-/// entries since the kept cut begin a snapshot, with the number of entries made at which there may be as many. No lock is taken for it.
+/// How many turns there are, and how many were drawn; entries made, or a greater number; whether the workers have ended; how many
+/// entries since the kept cut begin a snapshot (`every`), and at how many made entries that may be so (`due`). No lock is taken for it.
 #[derive(Drop)]
 pub(crate) struct Watch {
     turns: u64,
@@ -75,7 +75,7 @@ impl Watch {
         }
     }
 
-    /// How many entries were made, where there may be as many since the kept cut as begin a snapshot.
+    /// The count of entries made, where it has come to `due`: since the kept cut there may be `every` then.
     pub(crate) fn made_when_due(&self) -> Option<u64> {
         let made = self.made.load(Ordering::SeqCst);
         if made < self.due.load(Ordering::SeqCst) {

@@ -20,7 +20,7 @@ keeps_pages frozen i = get_or frozen i false
 abbrev pub none_kept : List Bool → Bool
 none_kept frozen = list_all (λ is. not is) frozen
 
--- A node that has recorded in the snapshot that runs, and no page of which was kept, has none kept.
+-- A node that has recorded in the snapshot that runs, and that had no page kept, has none kept.
 abbrev pub StayGone : MarkedNetwork NodeState → List Bool → List Bool → Type 0
 StayGone net old new = (i : ℕ) (node : NodeState) → IsFrozenAs net i node → keeps_pages old i ≡ false → keeps_pages new i ≡ false
 

@@ -23,7 +23,7 @@ pub record TurnedWhole (number : ℕ) (turn : NodeTurn) (seat_old seat_new : Lis
   pub many : turn.taken ≡ length (by_link 0 takes)
   pub gained : Gained (λ entries. entries ≡ turn_entries number takes turn.ran.count) seat_old seat_new
 
--- The node took as many tokens as the turn says, and then ran as many steps as it says, of as many as were asked for. The seat
+-- The node took the number of tokens that the turn says, and then ran the number of steps that it says, at most `quantum`. The seat
 -- has the slips of just the turn's entries.
 pub record NodeTurned (start : Network NodeState) (number quantum : ℕ) (turn : NodeTurn) (seat_old seat_new : List (ℕ × Entry)) : Type 0 where
   pub asked : turn.ran.max ≡ quantum

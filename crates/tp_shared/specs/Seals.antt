@@ -48,7 +48,7 @@ pub record IsSealOf (name : ℕ) (agreement : Agreement) (is_frozen : Bool) (sea
   -- beside the seal stands whether it is frozen
   pub flag : is_frozen ≡ is_some agreement.frozen
 
--- so does each
+-- each seal is that of its node, under its name
 abbrev pub Sealed : (ℕ → ℕ) → List NodeSeal → BookValue → Type 0
 Sealed names seals b = (i : ℕ) (s : NodeSeal) → slice_get seals i ≡ Some s → IsSealOf (names i) s.seal.value.state s.frozen s.seal.name b i
 
@@ -71,7 +71,7 @@ pub record ShowsOpen (place : Place) (takes : Option (List Received)) (sent : Li
   pub took : took_all t414 (tokens_in takes) before ≡ Some (place.node.live, sent)
   pub image : IsNodeOfBytes place.node.live
 
--- so it is, whatever was received for it
+-- a turn of the node is open, whatever was received for it
 pub record IsInTurn (place : Place) : Type 0 where
   pub takes : Option (List Received)
   pub sent : List (ℕ × Token)

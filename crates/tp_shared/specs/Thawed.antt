@@ -17,6 +17,6 @@ pub record HasThawed (told : Told) (seals : List NodeSeal) : Type 0 where
   pub holds : CutInvariant t414 told.net
   pub none : AllByRecursion (λ s. s.frozen ≡ false) seals
 
--- so it is where it was told
+-- where it was told that a cut is whole and no page is kept, that is so
 abbrev pub ThawedAsTold : Told → List NodeSeal → Type 0
 ThawedAsTold told seals = told.thawed ≡ true → HasThawed told seals

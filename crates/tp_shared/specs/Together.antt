@@ -36,7 +36,7 @@ pub record AreTogether (roll_name first : ℕ) (start : Network NodeState) (node
   pub tied : IsTied first roll.items book
   -- the wires are those of the network
   pub wires_are : book.state.start.wires ≡ start.wires
-  -- there are as many nodes as in the network
+  -- the number of nodes is that of the network
   pub count_is : length book.state.start.nodes ≡ length start.nodes
   -- the flusher has the key of this seal
   pub flusher_is : told.name ≡ flusher

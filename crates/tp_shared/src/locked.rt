@@ -32,7 +32,7 @@ use tp_turn::{Opened, Stretch};
 
 /// The book, the seal of each node, the roll of all entries since the opening, the seal of what the flusher was told, and the roll of what
 /// was seen of the book. Contracts see the book, the roll of entries, from which position on entries have their positions as numbers, and
-/// of which nodes pages are kept as they recorded.
+/// which nodes have kept pages, as they recorded.
 #[derive(Drop)]
 pub struct Locked<J: Naming> {
     pub(crate) book: Book,

@@ -17,7 +17,7 @@ pub trait Naming {
     /// The number of the first entry after the opening.
     ghost first: { ℕ };
 
-    /// A network with this one's wires, and as many nodes and ports.
+    /// A network with this one's wires, and its numbers of nodes and ports.
     ghost start: { Network NodeState };
 
     /// The name of each node's twin.

@@ -78,7 +78,7 @@ impl<J: Naming> Locked<J> {
         here.frozen = false;
     }
 
-    /// The same. The flusher is told of the book, in which no page of the node is kept.
+    /// Does what `thaw` does, and tells the flusher of the book, in which no page of the node is kept then.
     pub(crate) fn thaw_told(
         &mut self,
         key: &mut Key<Shown>,

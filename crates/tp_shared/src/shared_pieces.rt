@@ -15,7 +15,7 @@ use tp_token::Key;
 
 impl<J: Naming> Shared<J> {
     /// The bytes in front of the memory in the image of node `number`, as it recorded in the snapshot that runs. False exactly
-    /// where no pages of it are kept. `key` shows then what is told of the book, also of which nodes pages are kept.
+    /// where no pages of it are kept. `key` shows then what is told of the book, also which nodes have kept pages.
     pub fn frozen_head<R: Wait>(
         &self,
         rt: &R,

@@ -8,7 +8,7 @@ use crate::naming::Naming;
 use crate::seat::Seat;
 
 impl<J: Naming> Locked<J> {
-    /// Changes nothing. Whether `seat` has as many slips as there are entries since the opening, so that these are all of them: of each
+    /// Changes nothing. Whether `seat` has a slip for each entry since the opening, as the counts of both tell: then of each
     /// number there is the slip of the journal's entry, once, and no other. The first entry's number is `first`.
     pub fn has_all(&mut self, seat: &mut Seat<J>, first: u64) -> bool
         requires first { first ≡ J.first }

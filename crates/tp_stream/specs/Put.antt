@@ -56,7 +56,7 @@ pub record IsPut (start : Network NodeState) (journal : List Entry) (port from :
   pub later : moment old ≤ moment p.there
   pub since : LeavesOnly p.there new (RecoversTo t414 device_areas start journal p.number)
 
--- So was each, one behind the other and none earlier than the one before.
+-- Each piece of a list was put, one behind the other and none earlier than the one before it.
 abbrev pub ArePut : Network NodeState → List Entry → ℕ → ℕ → State → State → List PutPiece → Type 0
 ArePut start journal port from old new [] = Unit {0}
 ArePut start journal port from old new (p ∷ ps) =

@@ -63,13 +63,13 @@ IsLater nodes (InputBegins port accepted) = ⊥
 IsLater nodes (HasCome progress) = Unit {0}
 IsLater nodes (NodeStopped node how) = node < nodes
 
--- Such notices were told, and nothing else.
+-- Only notices were told that come behind where streams begin.
 pub record ToldLater (nodes : ℕ) (old new : Option (List Notice)) : Type 0 where
   pub notices : List Notice
   pub each : All (IsLater nodes) notices
   pub told : Noticed notices old new
 
--- These were told first, and behind them such notices.
+-- `first` was told, and behind it only notices that come behind where streams begin.
 pub record ToldFirst (first : List Notice) (nodes : ℕ) (old new : Option (List Notice)) : Type 0 where
   pub between : Option (List Notice)
   pub told : Noticed first old between

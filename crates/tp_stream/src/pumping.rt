@@ -34,7 +34,7 @@ pub(crate) enum Pumped {
 }
 
 impl Pumped {
-    /// What these come to, and those behind them.
+    /// What these steps and the ones behind them come to together.
     fn then(self, more: Pumped) -> Pumped {
         match (self, more) {
             (Pumped::Gone, _) | (_, Pumped::Gone) => Pumped::Gone,

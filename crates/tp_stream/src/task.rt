@@ -16,8 +16,8 @@ pub struct Task {
     pub quantum: u16,
     /// How many spare frames each node has, at most its pages, for pages that it writes while it is frozen.
     pub spare: u16,
-    /// How many entries since the kept cut begin a snapshot, at most as many as fill half of the journal; none: that many, and at least
-    /// one.
+    /// At how many entries since the kept cut a snapshot begins: at least 1, and at most as many as fill half of the journal, which `None`
+    /// stands for.
     pub every: Option<u32>,
     /// Whether it is told how far it has come: behind each flush, and while input is waited for.
     pub tells: bool,

@@ -90,13 +90,13 @@ LineEnds number line count (Ok left.PortFull) m = ⊥
 LineEnds number line count (Ok left.JournalFull) m = (count < TAKES) × IsLeft number line left.JournalFull m
 LineEnds number line count (Err e) m = (count < TAKES) × EndsTurn line e m.book
 
--- Acts one after another at the front of a line: three, or as many as there are up to a reason why there are no more.
+-- Acts one after another at the front of a line: three, or fewer, where there is a reason why there are no more.
 pub record OnLine (number line : ℕ) (answer : Result Left Refusal) (s : TurnMoment) (acts : List Act) (t : TurnMoment) : Type 0 where
   pub count : ℕ
   pub did : InOrder (λ at. AtFront number line) count s acts t
   pub ends : LineEnds number line count answer t
 
--- So on a wire; where there is none, nothing is done.
+-- What is done at the front of a line that may have no wire: where it has none, nothing.
 abbrev pub OnWire : ℕ → Option ℕ → Result Left Refusal → TurnMoment → List Act → TurnMoment → Type 0
 OnWire number None answer s acts t = (answer ≡ Ok left.NoWire) × (acts ≡ []) × (t ≡ s)
 OnWire number (Some line) answer s acts t = OnLine number line answer s acts t

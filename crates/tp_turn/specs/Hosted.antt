@@ -80,13 +80,13 @@ PortLineEnds line count (Ok left.PortFull) b = (count < TAKES) × PortIsLeft lin
 PortLineEnds line count (Ok left.JournalFull) b = (count < TAKES) × PortIsLeft line left.JournalFull b
 PortLineEnds line count (Err e) b = (count < TAKES) × PortIsStop line e b
 
--- Acts one after another at the front of a line: three, or as many as there are up to a reason why there are no more.
+-- Acts one after another at the front of a line: three, or fewer, where there is a reason why there are no more.
 pub record OnPortLine (line : ℕ) (answer : Result Left Refusal) (s : BookValue) (acts : List Act) (t : BookValue) : Type 0 where
   pub count : ℕ
   pub did : InOrder (λ at. PortAtFront line) count s acts t
   pub ends : PortLineEnds line count answer t
 
--- So on a wire; where there is none, nothing is done.
+-- What is done at the front of a line that may have no wire: where it has none, nothing.
 abbrev pub OnPortWire : Option ℕ → Result Left Refusal → BookValue → List Act → BookValue → Type 0
 OnPortWire None answer s acts t = (answer ≡ Ok left.NoWire) × (acts ≡ []) × (t ≡ s)
 OnPortWire (Some line) answer s acts t = OnPortLine line answer s acts t

@@ -55,7 +55,7 @@ pub record Made (act : Network NodeState → List Entry → Network NodeState �
   pub counted : new.entries ≡ old.entries + length entries
   pub did : act old.network entries new.network
 
--- Such an act was done, and a node with its book has gone on by it.
+-- An act of at most `most` entries was done, and a node with its book has gone on by it.
 pub record WentByAct (act : Network NodeState → List Entry → Network NodeState → Type 0) (most : ℕ) (old new : Lone) : Type 0 where
   pub made : Made act most (lone_of old) (lone_of new)
   pub lone : IsLone new

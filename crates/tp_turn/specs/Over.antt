@@ -10,6 +10,6 @@ pub record ClosesOver (line : ℕ) (s : BookValue) (acts : List Act) (t : BookVa
   pub are : acts ≡ (if is_closable s line then Close line ∷ [] else [])
   pub is : t ≡ (if is_closable s line then after_close_over s line else s)
 
--- So is each line, in their order.
+-- Each line of a network is closed over, in their order.
 abbrev pub ClosesAll : BookValue → List Act → BookValue → Type 0
 ClosesAll s acts t = InOrder ClosesOver (length s.state.lines) s acts t

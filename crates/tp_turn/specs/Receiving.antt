@@ -95,7 +95,7 @@ pub record IsAhead (b : BookValue) (number : ℕ) (takes : List Received) (sent 
   pub kept : node.frozen ≡ before.frozen
   pub image : IsNodeOfBytes node.live
 
--- so it is where it received; else the book has its node
+-- where it received, the node is ahead of the book by that; else the book has its node
 abbrev pub IsAheadBy : Result Taken Refusal → BookValue → ℕ → NodeContents → Type 0
 IsAheadBy (Ok taken) b number node = IsAhead b number taken.takes taken.sent.items node
 IsAheadBy (Err e) b number node = IsNodeOf b number node

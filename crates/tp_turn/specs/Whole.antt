@@ -36,7 +36,7 @@ close_acts b number None = []
 close_acts b number (Some line) =
     if is_first (on_line b.state.lines line) Marker && has_recorded_in b.state.snapshot number then Close line ∷ [] else []
 
--- So is the line that comes in on a link, and the node stays as it is. What stands behind the Marker stays on the line.
+-- The line that comes in on a link is closed where it can be, and the node stays as it is. What stands behind the Marker stays there.
 pub record ClosesFront (number link : ℕ) (s : TurnMoment) (acts : List Act) (t : TurnMoment) : Type 0 where
   pub are : acts ≡ close_acts s.book number (back s.book.state.start (4 * number + link))
   pub added : Added number t.node.live acts s.book t.book
@@ -80,7 +80,7 @@ pub record TakesNeeded (number : ℕ) (e : Refusal) (s : TurnMoment) (acts : Lis
   pub are : acts ≡ turn_acts number takes 0
   pub added : Added number t.node.live acts s.book t.book
 
--- so it ends where no turn can be reserved
+-- how a turn ends that can't be reserved
 abbrev pub EndsWhole : ℕ → Refusal → TurnMoment → List Act → TurnMoment → Type 0
 EndsWhole number e s acts t = IsUnreserved number e s acts t ⊎ TakesNeeded number e s acts t
 

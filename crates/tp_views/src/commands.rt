@@ -1,4 +1,4 @@
-//! What each command does, over bytes and two writers.
+//! `tpnet try`, and how each command prints and is refused.
 
 ghost use Rattle.std.specs.Prelude.{◌≡◌, ◌≤◌, None, OnOk, IfErr};
 ghost use Rattle.std.specs.Io.KnownBytes.{Appends};

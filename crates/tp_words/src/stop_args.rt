@@ -59,8 +59,8 @@ fn request_of(alloc: Global, words: &[String], matches: &ArgMatches) -> Result<S
     }
 }
 
-/// Reads the words of a command line of `stop`, the program's name first. The device is one of them, and it is waited for just where that
-/// was typed, for as many seconds.
+/// Reads the words of a command line of `stop`, the program's name first. The device is one of them; it is waited for just where
+/// `--wait` was typed, for the seconds that were typed.
 pub fn read_stop_args(alloc: Global, words: &[String]) -> Result<StopAsked, ArgFault>
     ensures range { IfOk result IsStopInRange }
     ensures typed { IfOk result (WasStopTyped words.now) }

@@ -45,7 +45,7 @@ pub struct StreamRun {
     pub stop_file: Option<String>,
     /// Whether it says how far it has come.
     pub has_progress: bool,
-    /// After how many seconds it says so again, and that it does; `None`: where `has_progress` says that it does, after those of its own.
+    /// How many seconds lie between two lines, where that was typed, which asks for lines, too; `None`: 10, if `has_progress` asks for any.
     pub progress_every: Option<u32>,
     /// The most steps of a turn.
     pub quantum: u16,

@@ -18,7 +18,7 @@ pub record PutBack (queue : Numbers) (number : ℕ) (old new : Past) : Type 0 wh
 abbrev pub PutBackOne : Numbers → List Answer → List Answer → Past → Past → Type 0
 PutBackOne queue asked_old asked_new old new = (number : ℕ) × (asked_new ≡ asked_old ++ answer queue (Some number) ∷ []) × PutBack queue number old new
 
--- so it was after a turn that was refused; after `Empty` nothing was called
+-- after a turn that was refused the number was put back; after `Empty` nothing was called
 abbrev pub PutBackBehind : Numbers → TurnFault → List Answer → List Answer → Past → Past → Type 0
 PutBackBehind queue Empty asked_old asked_new old new = new ≡ old
 PutBackBehind queue JournalFull asked_old asked_new old new = PutBackOne queue asked_old asked_new old new

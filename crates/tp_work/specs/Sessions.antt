@@ -20,7 +20,7 @@ use Rattle.tp_work.specs.declared.host_fault.OfferFault.TheVariants.{Memory as N
 use Rattle.tp_work.specs.declared.host_fault.ShownFault.{ShownFault}
 use Rattle.tp_work.specs.declared.host_fault.ShownFault.TheVariants.{Memory as NoMemoryToShow}
 
--- A book with as many nodes and ports as the network, the session's port among these.
+-- A book with the network's numbers of nodes and ports, the session's port among these.
 pub record HasPort (start : Network NodeState) (port : ℕ) (b : BookValue) : Type 0 where
   pub nodes : length b.state.start.nodes ≡ length start.nodes
   pub ports : length b.state.ports ≡ length start.ports
@@ -61,8 +61,8 @@ pub record OfferedIn (start : Network NodeState) (port at : ℕ) (bytes : List �
   pub nothing : length bytes ≡ 0 → at ≡ accepted_of (port_in found port) → IsOk answer
   pub did : DidJust found left (after_inputs found port bytes) (map (HostIn port) bytes) answer
 
--- So it was as outputs of the port were confirmed up to a position: one that the mark shows, or it is refused. Up to one that was confirmed
--- before it isn't, and nothing is done.
+-- The book was found and left so as outputs of the port were confirmed up to `upto`. That is refused where the mark doesn't show it. Where
+-- it was confirmed before, it isn't refused, and nothing is done.
 pub record ConfirmedIn (start : Network NodeState) (port mark upto : ℕ) (answer : Result Receipted ConfirmFault) (old new : List BookValue) : Type 0 where
   pub found : BookValue
   pub left : BookValue

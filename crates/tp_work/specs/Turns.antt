@@ -18,8 +18,8 @@ use Rattle.tp_work.specs.declared.fault.TurnFault.{TurnFault}
 use Rattle.tp_work.specs.declared.fault.TurnFault.TheVariants.{Empty, JournalFull, StoreBroken, Memory}
 use Rattle.tp_work.specs.declared.turn.Turn.{Turn}
 
--- A node that is there took and ran as the turn says; or the host took as many tokens as it says. The seat has the slips of what was
--- journalled and no others, behind all that it had.
+-- A node that is there took and ran as the turn says; or the host took the number of tokens that it says. The seat has the slips of what
+-- was journalled and no others, behind all that it had.
 abbrev pub TurnedAs : Network NodeState → ℕ → ℕ → ℕ → Option RunEnd → List (ℕ × Entry) → List (ℕ × Entry) → Type 0
 TurnedAs start quantum process takes (Some ran) old new =
     (process < length start.nodes) × NodeTurned start process quantum (record { taken = takes; ran = ran }) old new

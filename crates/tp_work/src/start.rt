@@ -42,7 +42,7 @@ fn seats_of<J: Naming>(alloc: Global, hands: Vec<Hand>) -> Result<Vec<Seat<J>>, 
 
 impl<J: Naming, G: Gate + Drop> Net<J, G> {
     /// Puts `parts` under locks, fills the ready queue with the numbers of all processes, the nodes' in order and then the
-    /// host's, and gives as many seats as `seats` says. A node's turn may have `quantum` steps. The key is the flusher's, and shows
+    /// host's, and gives `seats` seats. A node's turn may have `quantum` steps. The key is the flusher's, and shows
     /// what is told of the book as it is.
     pub fn start<R: Wait>(
         rt: &R,
