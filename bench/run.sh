@@ -36,15 +36,24 @@ if [ ! -e "$work/built" ] && [ -z "$WORKERS_ALONE" ]; then
         [ -x "$work/crates/bench_$kind/out/bench_$kind" ] || { tail -20 "$work/build.log"; exit 1; }
     done
 
-    # writes the groups whose numbers of entries stand on standard input, as the store does: the bytes behind the gate, a sync, the gate, a sync
+    # writes the groups whose numbers of entries stand on standard input, as the store does: the bytes behind the gate, a sync, the gate, a sync;
+    # and prints the seconds that this took
     cat > "$work/raw.c" <<'C'
 #include <fcntl.h>
 #include <stdio.h>
 #include <stdlib.h>
 #include <string.h>
+#include <time.h>
 #include <unistd.h>
 
 static char body[16 + 16 * 64];
+static int counts[1 << 22];
+
+static double seconds(void) {
+    struct timespec now;
+    clock_gettime(CLOCK_MONOTONIC, &now);
+    return now.tv_sec + 1e-9 * now.tv_nsec;
+}
 
 static void put(int file, const void *bytes, size_t count, off_t at) {
     if (pwrite(file, bytes, count, at) != (ssize_t)count || fsync(file) != 0) exit(1);
@@ -54,15 +63,19 @@ int main(int count, char **words) {
     int file = open(words[1], O_RDWR);
     off_t gate = atoll(words[2]);
     const unsigned char is_open = 0xA5;
-    int entries;
+    int groups = 0;
+    double begun;
     if (count != 3 || file < 0) return 1;
     memset(body, 1, sizeof body);
-    while (scanf("%d", &entries) == 1) {
-        size_t length = 16 + 16 * (size_t)entries;
+    while (groups < 1 << 22 && scanf("%d", &counts[groups]) == 1) groups++;
+    begun = seconds();
+    for (int i = 0; i < groups; i++) {
+        size_t length = 16 + 16 * (size_t)counts[i];
         put(file, body, length, gate + 1);
         put(file, &is_open, 1, gate);
         gate += (off_t)length;
     }
+    printf("%.9f\n", seconds() - begun);
     return 0;
 }
 C
@@ -163,10 +176,9 @@ for folder in sys.argv[4:]:
             first, counts, _ = journal(file)
             return took / sum(counts), first, counts
         def write_groups(first, counts):
-            raw = [os.path.join(work, "raw"), file, str(first)]
             fresh("one", file)
-            idle = timed(raw, given=b"")
-            return (timed(raw, given=" ".join(map(str, counts)).encode()) - idle) / sum(counts)
+            raw = subprocess.run([os.path.join(work, "raw"), file, str(first)], input=" ".join(map(str, counts)).encode(), capture_output=True, check=True)
+            return float(raw.stdout) / sum(counts)
         ours, plain, sizes = [], [], []
         _, first, counts = run_entries()
         for number in range(4 * len(rounds)):
