@@ -2,6 +2,7 @@
 """Compares `tpnet try` with the plain interpreter over random images, outside the gate.
 
 usage: bench/compare.py TPNET PLAIN [COUNT [SEED [FIRST]]]      10,000 images by default, from image FIRST on
+       bench/compare.py --whole FAST PLAIN [COUNT [SEED [FIRST]]]  all that a node has after 2,000 steps, by two plain interpreters
        bench/compare.py --cases FOLDER PLAIN [COUNT [SEED]]
 
 Each image's program ends by putting out its registers, the error flag and a block of its memory on link 0. A difference
@@ -268,6 +269,9 @@ def main():
     if sys.argv[1] == "--cases":
         count = int(sys.argv[4]) if len(sys.argv) > 4 else 10000
         return cases(sys.argv[2], sys.argv[3], count, int(sys.argv[5]) if len(sys.argv) > 5 else 1)
+    is_whole = sys.argv[1] == "--whole"
+    if is_whole:
+        del sys.argv[1]
     tpnet, plain = sys.argv[1], sys.argv[2]
     count = int(sys.argv[3]) if len(sys.argv) > 3 else 10000
     seed = int(sys.argv[4]) if len(sys.argv) > 4 else 1
@@ -281,8 +285,11 @@ def main():
         path = os.path.join(folder, "%d.img" % k)
         with open(path, "wb") as out:
             out.write(image(rng, kind))
-        mine = run([tpnet, "try", path, "--turns", str(TURNS)])
-        other = run([plain, "try", path, str(TURNS)])
+        if is_whole:
+            mine, other = (run([program, "whole", path, "2000"]) for program in (tpnet, plain))
+        else:
+            mine = run([tpnet, "try", path, "--turns", str(TURNS)])
+            other = run([plain, "try", path, str(TURNS)])
         same = mine == other and mine[0] >= 0
         if same:
             os.unlink(path)

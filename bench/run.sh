@@ -1,9 +1,11 @@
 #!/bin/bash
-# The speed of `tpnet run`, as ratios of programs that run in turns on one machine, outside the gate:
-#   workers   four busy nodes, 4,096 steps a turn: four workers beside one
+# The speed of `tpnet run`, as ratios of programs that run in turns on one machine, outside the gate. A run makes the turns that it was
+# asked for, and those of the host, which find nothing to do, are more where workers are many: so what is compared isn't turns but the
+# steps and entries that stand in the journal afterwards:
+#   workers   four busy nodes, 4,096 steps a turn: steps a second, and entries, of four workers beside one
 #   steps     one busy node, 4,096 steps a turn: steps a second beside the interpreter alone (bench/steps.rattle), over memory that copies
-#             before it writes, as a node's does, and over flat memory
-#   turns     four busy nodes, one step a turn, one worker: nanoseconds of a turn, in memory alone
+#             before it writes, as a node's does, and over flat memory; and beside the plain interpreter at its best (bench/plain_fast.rs)
+#   turns     four busy nodes, one step a turn, one worker: nanoseconds of an entry, in memory alone
 #   entries   one busy node, one step a turn: durable entries a second beside the same groups written and synced alone. Where a sync costs
 #             next to nothing, as in memory, this compares turns with writes: two turns make an entry, that of the node and that of the host.
 #             Now the run goes first, now the groups, four times as often as the others: on a disk a sync takes now 70 and now 2,000
@@ -34,15 +36,24 @@ if [ ! -e "$work/built" ] && [ -z "$WORKERS_ALONE" ]; then
         [ -x "$work/crates/bench_$kind/out/bench_$kind" ] || { tail -20 "$work/build.log"; exit 1; }
     done
 
-    # writes the groups whose numbers of entries stand on standard input, as the store does: the bytes behind the gate, a sync, the gate, a sync
+    # writes the groups whose numbers of entries stand on standard input, as the store does: the bytes behind the gate, a sync, the gate, a sync;
+    # and prints the seconds that this took
     cat > "$work/raw.c" <<'C'
 #include <fcntl.h>
 #include <stdio.h>
 #include <stdlib.h>
 #include <string.h>
+#include <time.h>
 #include <unistd.h>
 
 static char body[16 + 16 * 64];
+static int counts[1 << 22];
+
+static double seconds(void) {
+    struct timespec now;
+    clock_gettime(CLOCK_MONOTONIC, &now);
+    return now.tv_sec + 1e-9 * now.tv_nsec;
+}
 
 static void put(int file, const void *bytes, size_t count, off_t at) {
     if (pwrite(file, bytes, count, at) != (ssize_t)count || fsync(file) != 0) exit(1);
@@ -52,19 +63,24 @@ int main(int count, char **words) {
     int file = open(words[1], O_RDWR);
     off_t gate = atoll(words[2]);
     const unsigned char is_open = 0xA5;
-    int entries;
+    int groups = 0;
+    double begun;
     if (count != 3 || file < 0) return 1;
     memset(body, 1, sizeof body);
-    while (scanf("%d", &entries) == 1) {
-        size_t length = 16 + 16 * (size_t)entries;
+    while (groups < 1 << 22 && scanf("%d", &counts[groups]) == 1) groups++;
+    begun = seconds();
+    for (int i = 0; i < groups; i++) {
+        size_t length = 16 + 16 * (size_t)counts[i];
         put(file, body, length, gate + 1);
         put(file, &is_open, 1, gate);
         gate += (off_t)length;
     }
+    printf("%.9f\n", seconds() - begun);
     return 0;
 }
 C
     cc -O2 -o "$work/raw" "$work/raw.c"
+    rustc -O --edition 2021 -o "$work/plain_fast" "$top/bench/plain_fast.rs"
     touch "$work/built"
 fi
 [ "$rounds" -gt 0 ] || exit 0
@@ -92,20 +108,29 @@ def fresh(which, file):
     subprocess.run(["cp", "--sparse=always", os.path.join(work, which), file], check=True)
     subprocess.run(["sync", file], check=True)
 
+def journal(file):
+    """Where the first group begins, how many entries each has, and how many steps all have."""
+    device = open(file, "rb").read()
+    first = at = 512 + 13 + struct.unpack_from("<I", device, 521)[0]
+    found, steps = [], 0
+    while device[at] == 0xA5:
+        found.append(struct.unpack_from("<H", device, at + 2)[0])
+        for kind, _, count, _, _ in struct.iter_unpack("<BBHIQ", device[at + 16:at + 16 + 16 * found[-1]]):
+            if kind in (1, 5):
+                steps += count
+        at += 16 + 16 * found[-1]
+    return first, found, steps
+
 def run(which, file, turns, workers, quantum):
     """The seconds of a run on a new copy of the formatted device."""
     fresh(which, file)
     return timed([tpnet, "run", file, "--turns", str(turns), "--workers", str(workers), "--quantum", str(quantum), "--every", str(NEVER)])
 
-def groups(file):
-    """Where the first group begins, and how many entries each has."""
-    device = open(file, "rb").read()
-    first = at = 512 + 13 + struct.unpack_from("<I", device, 521)[0]
-    found = []
-    while device[at] == 0xA5:
-        found.append(struct.unpack_from("<H", device, at + 2)[0])
-        at += 16 + 16 * found[-1]
-    return first, found
+def made(which, file, turns, workers, quantum, idle):
+    """The seconds of a run for each step, and for each entry, and how many entries a turn it made."""
+    took = run(which, file, turns, workers, quantum) - idle
+    _, counts, steps = journal(file)
+    return took / steps, took / sum(counts), sum(counts) / turns
 
 def said(name, mine, other, what):
     print("    %-8s %s; ratio %.2f best, %.2f median" % (
@@ -119,37 +144,41 @@ for folder in sys.argv[4:]:
         one, four = [], []
         for _ in rounds:
             idle = run("four", file, 0, 1, 4096)
-            one.append(run("four", file, TURNS, 1, 4096) - idle)
-            four.append(run("four", file, TURNS, 4, 4096) - idle)
-        made = TURNS * 4 // 5 * 4096
-        said("workers", four, one, "1 worker %.1f, 4 workers %.1f million steps a second" % (made / min(one) / 1e6, made / min(four) / 1e6))
+            one.append(made("four", file, TURNS, 1, 4096, idle))
+            four.append(made("four", file, TURNS, 4, 4096, idle))
+        steps_of, entries_of = ([[way[at] for way in ways] for ways in (four, one)] for at in (0, 1))
+        said("workers", *steps_of, "1 worker %.1f, 4 workers %.1f million steps a second" % tuple(1e-6 / min(ways) for ways in reversed(steps_of)))
+        said("", *entries_of, "1 worker %.0f, 4 workers %.0f entries a second; %.2f and %.2f a turn" % (
+            1 / min(entries_of[1]), 1 / min(entries_of[0]), one[0][2], four[0][2]))
         if os.environ.get("WORKERS_ALONE"):
             continue
-        ours, alone = [], {"cow": [], "flat": []}
+        ours, alone = [], {"cow memory": [], "flat memory": [], "plain at its best": []}
         for _ in rounds:
             idle = run("one", file, 0, 1, 4096)
-            ours.append((run("one", file, TURNS, 1, 4096) - idle) / (TURNS // 2 * 4096))
-            for memory, times in alone.items():
-                program = os.path.join(work, "crates", "bench_" + memory, "out", "bench_" + memory)
-                times.append(timed([program], cwd=os.path.join(work, "steps")) / 1e8)
-        for memory, times in alone.items():
-            said("steps", ours, times, "run %.1f, interpreter alone %.1f million a second (%s memory)" % (1e-6 / min(ours), 1e-6 / min(times), memory))
+            ours.append(made("one", file, TURNS, 1, 4096, idle)[0])
+            for kind_of, times in alone.items():
+                if kind_of == "plain at its best":
+                    times.append(timed([os.path.join(work, "plain_fast"), "steps", os.path.join(work, "a.img"), "100000000"]) / 1e8)
+                else:
+                    program = "bench_" + kind_of.split()[0]
+                    times.append(timed([os.path.join(work, "crates", program, "out", program)], cwd=os.path.join(work, "steps")) / 1e8)
+        for kind_of, times in alone.items():
+            said("steps", ours, times, "run %.1f, interpreter alone %.1f million a second (%s)" % (1e-6 / min(ours), 1e-6 / min(times), kind_of))
         if kind == "tmpfs":
             turns = []
             for _ in rounds:
                 idle = run("four", file, 0, 1, 1)
-                turns.append((run("four", file, SHORT_TURNS, 1, 1) - idle) / SHORT_TURNS)
-            print("    turns    one step: %.0f ns best, %.0f median" % (1e9 * min(turns), 1e9 * statistics.median(turns)), flush=True)
+                turns.append(made("four", file, SHORT_TURNS, 1, 1, idle)[1])
+            print("    turns    one step: %.0f ns an entry best, %.0f median" % (1e9 * min(turns), 1e9 * statistics.median(turns)), flush=True)
         def run_entries():
             idle = run("one", file, 0, 2, 1)
             took = run("one", file, SHORT_TURNS, 2, 1) - idle
-            first, counts = groups(file)
+            first, counts, _ = journal(file)
             return took / sum(counts), first, counts
         def write_groups(first, counts):
-            raw = [os.path.join(work, "raw"), file, str(first)]
             fresh("one", file)
-            idle = timed(raw, given=b"")
-            return (timed(raw, given=" ".join(map(str, counts)).encode()) - idle) / sum(counts)
+            raw = subprocess.run([os.path.join(work, "raw"), file, str(first)], input=" ".join(map(str, counts)).encode(), capture_output=True, check=True)
+            return float(raw.stdout) / sum(counts)
         ours, plain, sizes = [], [], []
         _, first, counts = run_entries()
         for number in range(4 * len(rounds)):

@@ -1,43 +1,64 @@
 #!/bin/bash
-# Steps per second of the proved interpreter beside the plain one, interleaved in one run, outside the gate.
-# usage: bench/steps.sh [ROUNDS]      5 rounds by default; 10^8 steps a round
+# Steps per second of the proved interpreter beside the plain ones, interleaved in one run, and instructions a step of all three by
+# callgrind, which load doesn't change, outside the gate.
+# usage: bench/steps.sh [ROUNDS]      5 rounds by default; 10^8 steps a round. With 0 rounds nothing is timed
+# BUILT=FOLDER names where what is built is kept, and taken from if it is there
 set -e
 top=$(cd "$(dirname "$0")/.." && pwd)
 rounds=${1:-5}
-work=$(mktemp -d /tmp/bench-steps-XXXX)
-trap 'rm -rf "$work"' EXIT
+work=$([ -n "$BUILT" ] && realpath -m "$BUILT" || mktemp -d /tmp/bench-steps-XXXX)
+[ -n "$BUILT" ] || trap 'rm -rf "$work"' EXIT
+mkdir -p "$work"
 
-rustc -O --edition 2021 -o "$work/plain" "$top/bench/plain.rs"
-tar -C "$top" -c --exclude=incremental crates crates.txt HANDLES | tar -C "$work" -x
-mkdir -p "$work/crates/bench_steps/src"
-cp "$top/bench/steps.rattle" "$work/crates/bench_steps/src/main.rt"
-echo "bench_steps: tp_cpu tp_mem tp_model" >> "$work/crates.txt"
-(cd "$work/crates/bench_steps" && rt run > "$work/build.log" 2>&1) || true
 proved=$work/crates/bench_steps/out/bench_steps
-[ -x "$proved" ] || { tail -20 "$work/build.log"; exit 1; }
+if [ ! -e "$work/built" ]; then
+    for name in plain plain_fast; do rustc -O --edition 2021 -o "$work/$name" "$top/bench/$name.rs"; done
+    tar -C "$top" -c --exclude=incremental crates crates.txt HANDLES | tar -C "$work" -x
+    mkdir -p "$work/crates/bench_steps/src"
+    cp "$top/bench/steps.rattle" "$work/crates/bench_steps/src/main.rt"
+    echo "bench_steps: tp_cpu tp_mem tp_model" >> "$work/crates.txt"
+    (cd "$work/crates/bench_steps" && rt run > "$work/build.log" 2>&1) || true
+    [ -x "$proved" ] || { tail -20 "$work/build.log"; exit 1; }
+    touch "$work/built"
+fi
 
 for listing in "$top"/examples/{compute,talk}.txt "$top"/bench/loops/*.txt; do
     loop=$(basename "$listing" .txt)
     "$top/tools/make-image" "$listing" "$work/$loop.img"
-    python3 - "$proved" "$work/plain" "$work" "$loop" "$rounds" <<'PY'
-import os, resource, shutil, subprocess, sys
-proved, plain, work, loop, rounds = sys.argv[1:6]
+    python3 - "$proved" "$work" "$loop" "$rounds" <<'PY'
+import os, re, resource, shutil, subprocess, sys
+proved, work, loop, rounds = sys.argv[1:5]
 shutil.copy(os.path.join(work, loop + ".img"), os.path.join(work, "node.img"))
 
-def seconds(command):
+def command(kind, count):
+    """The program of that kind, which makes COUNT steps."""
+    return [proved, str(count)] if kind == "proved" else [os.path.join(work, kind), "steps", "node.img", str(count)]
+
+def seconds(kind):
     before = resource.getrusage(resource.RUSAGE_CHILDREN).ru_utime
-    out = subprocess.run(command, cwd=work, capture_output=True, text=True, check=True).stdout
+    out = subprocess.run(command(kind, 100000000), cwd=work, capture_output=True, text=True, check=True).stdout
     return resource.getrusage(resource.RUSAGE_CHILDREN).ru_utime - before, out.split()[-5:]
 
-mine, other = [], []
+def instructions(kind, count):
+    said = subprocess.run(["valgrind", "--tool=callgrind", "--callgrind-out-file=/dev/null", *command(kind, count)],
+                          cwd=work, capture_output=True, text=True, check=True).stderr
+    return int(re.search(r"Collected : (\d+)", said).group(1))
+
+KINDS = ("proved", "plain", "plain_fast")
+each = [(instructions(kind, 100000) - instructions(kind, 50000)) / 50000 for kind in KINDS]
+print("%-9s instructions a step: proved %.1f, plain %.1f, at its best %.1f; proved over the best %.2f" % (loop, *each, each[0] / each[2]), flush=True)
+times = {kind: [] for kind in KINDS}
 for _ in range(int(rounds)):
-    took, ended = seconds([proved])
-    mine.append(took)
-    took, expected = seconds([plain, "steps", "node.img", "100000000"])
-    other.append(took)
-    if ended != expected:
-        sys.exit("%s: the registers differ: %s %s" % (loop, ended, expected))
-print("%-9s proved %5.1f million steps a second, plain %5.1f, ratio %.2f (best of %s: %.2f s, %.2f s)" % (
-    loop, 100 / min(mine), 100 / min(other), min(other) / min(mine), rounds, min(mine), min(other)))
+    ends = []
+    for kind in KINDS:
+        took, ended = seconds(kind)
+        times[kind].append(took)
+        ends.append(ended)
+    if ends != ends[:1] * 3:
+        sys.exit("%s: the registers differ: %s" % (loop, ends))
+if times["proved"]:
+    mine, other, fast = (min(times[kind]) for kind in KINDS)
+    print("%-9s million steps a second: proved %.1f, plain %.1f, at its best %.1f; ratios %.2f, %.2f (best of %s)" % (
+        loop, 100 / mine, 100 / other, 100 / fast, other / mine, fast / mine, rounds), flush=True)
 PY
 done

@@ -1,0 +1,80 @@
+#!/bin/bash
+# Runs what compares the program with its anchors, and makes one table of it in bench/README.md: goal, anchor, ratio, date and machine;
+# in some 30 minutes on a quiet machine once all is built, outside the gate. What fails or takes too long is a row without a ratio.
+# usage: bench/all.sh TPNET [ROUNDS]      3 rounds by default, in /dev/shm
+#        ONLY="steps link" bench/all.sh ..      these alone; the other rows stay as they are
+# BUILT=FOLDER names where what is built, and what each said, is kept (/tmp/bench-all where it isn't named)
+top=$(cd "$(dirname "$0")/.." && pwd)
+tpnet=$(realpath "$1") || exit 2
+rounds=${2:-3}
+kept=$(realpath -m "${BUILT:-/tmp/bench-all}")
+mkdir -p "$kept/said"
+
+# one of the scripts: its name, its seconds, its words
+one() {
+    local name=$1 seconds=$2
+    shift 2
+    case " ${ONLY:-$name} " in *" $name "*) ;; *) return ;; esac
+    echo "$name .." >&2
+    BUILT="$kept/$name" timeout "$seconds" "$top/bench/$name.sh" "$@" > "$kept/said/$name" 2> "$kept/said/$name.err" || echo "    $name stopped: status $?" >&2
+}
+
+# what is built first isn't timed; steps and book build what they count
+for name in run open checkpoint; do one "$name" 3600 "$tpnet" 0; done
+one steps 1200 0
+one book 1200 0
+one link 240 "$tpnet"
+one run 300 "$tpnet" "$rounds"
+one open 180 "$tpnet" "$rounds"
+one forms 180 "$tpnet" 64 "$rounds"
+one stream 180 "$tpnet" 4
+one checkpoint 300 "$tpnet" "$rounds"
+
+python3 - "$top/bench/README.md" "$kept/said" "${ONLY:-all}" <<'PY'
+import datetime, os, re, sys
+page, folder, only = sys.argv[1:4]
+BEGIN, END = "<!-- bench/all.sh writes this table -->\n", "<!-- its end -->\n"
+
+# the script, the goal, the anchor, what is wanted, and where the ratio stands in what it said
+ROWS = [
+    ("steps", "instructions a step in `compute`", "the plain interpreter at its best", "at most 1.15", r"compute +instructions.*best ([\d.]+)"),
+    ("steps", "instructions a step in `talk`", "the plain interpreter at its best", "at most 1.15", r"talk +instructions.*best ([\d.]+)"),
+    ("book", "instructions of the copy of the tail at 10^6 entries", "at 10^4", "at most 1.2", r"copy of the tail .*ratio ([\d.]+)"),
+    ("book", "instructions of the trim at 10^6 entries", "at 10^4", "at most 1.2", r"trim .*ratio ([\d.]+)"),
+    ("link", "instructions of a link turn", "a plain network without locks or device", "at most 2.5", r"a link turn.*ratio ([\d.]+)"),
+    ("run", "steps a second, four workers", "one worker", "3.6", r"workers .*ratio ([\d.]+ best, [\d.]+ median)"),
+    ("run", "steps a second of `run`", "the interpreter alone, the same memory", "", r"\(cow memory\); ratio ([\d.]+ best, [\d.]+ median)"),
+    ("run", "steps a second of `run`", "the plain interpreter at its best", "", r"\(plain at its best\); ratio ([\d.]+ best, [\d.]+ median)"),
+    ("run", "durable entries a second, in memory", "the same groups written alone", "0.5", r"entries  run .*ratio ([\d.]+ best, [\d.]+ median)"),
+    ("open", "seconds to open, 64 steps an entry, four threads", "one thread", "2.2", r"device-64, best.*one thread over four ([\d.]+)"),
+    ("open", "seconds to open, 16 steps an entry, four threads", "one thread", "1.8", r"device-16, best.*one thread over four ([\d.]+)"),
+    ("forms", "bytes a second through three nodes", "the same device in a plain area", "", r"relay: .*best ([\d.]+, median [\d.]+)"),
+    ("stream", "bytes a second from pipe to pipe, two nodes", "the same groups written alone", "0.5", r"stream .*ratio ([\d.]+)"),
+    ("checkpoint", "entries a second with checkpoints", "without", "0.8", r"entries  with .*ratio of the medians ([\d.]+)"),
+    ("checkpoint", "seconds of a checkpoint", "a raw copy", "1.0", r"copy .*ratio of the medians ([\d.]+)"),
+    ("checkpoint", "the 99th percentile of turns of 1,024 steps beside a snapshot", "the median turn without one", "at most 1.3", r"of 1024 steps.*the 99th percentile ([\d.]+)"),
+]
+
+def machine():
+    said = open("/proc/cpuinfo").read()
+    model = re.search(r"model name\s*: (.*)", said)
+    return "%d x %s, load %s" % (os.cpu_count(), model.group(1) if model else "unknown", "%.1f" % os.getloadavg()[1])
+
+text = open(page).read()
+if BEGIN not in text:
+    sys.exit("no table in " + page)
+before, rest = text.split(BEGIN)
+table, after = rest.split(END)
+old = {tuple(cell.strip() for cell in line.split("|")[1:3]): line for line in table.splitlines() if line.startswith("| ")}
+today = "%s, %s" % (datetime.datetime.now(datetime.timezone.utc).strftime("%d %B %Y"), machine())
+lines = ["| Goal | Anchor | Wanted | Ratio | Date and machine |", "|---|---|---|---|---|"]
+for script, goal, anchor, wanted, pattern in ROWS:
+    if only != "all" and script not in only.split():
+        lines.append(old.get((goal, anchor), "| %s | %s | %s | | |" % (goal, anchor, wanted)))
+        continue
+    path = os.path.join(folder, script)
+    found = re.search(pattern, open(path).read()) if os.path.exists(path) else None
+    lines.append("| %s | %s | %s | %s | %s |" % (goal, anchor, wanted, found.group(1) if found else "it stopped", today))
+open(page, "w").write(before + BEGIN + "\n".join(lines) + "\n" + END + after)
+print("\n".join(lines))
+PY
