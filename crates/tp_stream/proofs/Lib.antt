@@ -1,3 +1,6 @@
+pub mod Confirms
+pub mod FailedEnds
+pub mod Failures
 pub mod Fitted
 pub mod Kept
 pub mod Looks

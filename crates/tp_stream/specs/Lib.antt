@@ -1,4 +1,6 @@
 pub mod Endings
+pub mod FailedEnds
+pub mod Failures
 pub mod Fitting
 pub mod Looks
 pub mod Offered

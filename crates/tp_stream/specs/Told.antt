@@ -1,5 +1,5 @@
 -- What is told of how far a stream has come.
-use Rattle.std.specs.Prelude.{◌≡◌, ◌<◌, ℕ, ◌-◌, ◌*◌, ◌/◌, max, Bool, true, false, if◌then◌else◌, nat_eq, List, [], ◌∷◌, ◌++◌, All, get_or, Option, Some, None}
+use Rattle.std.specs.Prelude.{◌≡◌, ◌<◌, ℕ, ◌-◌, ◌*◌, ◌/◌, max, Bool, true, false, if◌then◌else◌, nat_eq, List, [], ◌∷◌, All, get_or, Option, Some, None}
 use Rattle.tp_model.specs.declared.limits.TheConstants.{MAX_PORTS}
 use Rattle.tp_book.specs.Book.{BookValue, next_in_book}
 use Rattle.tp_flush.specs.Flushing.{Flushing}

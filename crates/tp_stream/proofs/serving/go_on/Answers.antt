@@ -1,6 +1,9 @@
-use Rattle.std.proofs.Common.{ap, ◌∙◌}
+use Rattle.std.proofs.Common.{rules, ◌≡◌, Err, ap, ◌∙◌}
 use Rattle.std.specs.List.{list_all}
 use Rattle.tp_stream_files.specs.Inputs.{is_over}
+use Rattle.tp_stream.specs.Streamed.{CameBetween}
+use Rattle.tp_stream.proofs.FailedEnds.{turns_between}
+use Rattle.tp_stream.proofs.Failures.{if_err}
 use Rattle.tp_stream.proofs.Quiets.{ended_why, leaves_no_input}
 use Rattle.tp_stream.proofs.serving.go_on.Goals as goal
 
@@ -13,3 +16,17 @@ pub returns-in-Some-clause-inputs : goal.returns-in-Some-clause-inputs
 returns-in-Some-clause-inputs g c =
     leaves_no_input c.args.pace.task c.args.going.now.turns c.nodes-2.result c.is_asked-asked.result c.in_ok-pumped.pumped c.are_over-over.result _ c.in-Some.why
     (c.are_over-over.ensures ∙ ap (λ inputs. list_all (λ i. is_over i.ended i.is_blocked) inputs) c.deref.ensures.value) c.in-Some.ensures.why
+
+-- ## Which fault
+
+pub returns-in_err-settle-clause-begun : goal.returns-in_err-settle-clause-begun
+returns-in_err-settle-clause-begun g c =
+    let fault = c.in_err-settle.field-0.0 in
+    let is : c.from_residual.result ≡ Err fault = search rules in
+    if_err c.from_residual.result fault CameBetween is (turns_between fault c.in_err-settle.ensures.begun)
+
+pub returns-in_err-make_turns-clause-begun : goal.returns-in_err-make_turns-clause-begun
+returns-in_err-make_turns-clause-begun g c =
+    let fault = c.in_err-make_turns.field-0.0 in
+    let is : c.from_residual-in_err-make_turns.result ≡ Err fault = search rules in
+    if_err c.from_residual-in_err-make_turns.result fault CameBetween is (turns_between fault c.in_err-make_turns.ensures.begun)
