@@ -1,5 +1,8 @@
 //! Why words ask for nothing, and what is said then.
 
+ghost use Rattle.std.specs.Prelude.{◌≡◌};
+ghost use Rattle.tp_words.specs.declared.arg_fault.ArgFault.TheVariants.{Memory};
+
 use crate::args::MAX_WORDS;
 use std::alloc::{AllocError, AllocFailed};
 use std::fmt;
@@ -96,12 +99,16 @@ impl From<clap::Error> for ArgFault {
 }
 
 impl From<AllocError> for ArgFault {
+    ghost from_gives = { λ _ fault. fault ≡ Memory };
+
     fn from(_error: AllocError) -> ArgFault {
         ArgFault::Memory
     }
 }
 
 impl<T: Drop> From<AllocFailed<T>> for ArgFault {
+    ghost from_gives = { λ _ fault. fault ≡ Memory };
+
     fn from(_error: AllocFailed<T>) -> ArgFault {
         ArgFault::Memory
     }

@@ -8,7 +8,7 @@ ghost use Rattle.tp_words.specs.StopArgs.{IsStopInRange, IsWait, WasStopTyped};
 
 use crate::arg_fault::ArgFault;
 use crate::args::{MAX_WAIT, MAX_WORDS};
-use crate::found::{option_number, text_of};
+use crate::found::{option_short, text_of};
 use crate::words::command;
 use clap::ArgMatches;
 use std::alloc::Global;
@@ -39,10 +39,7 @@ fn seconds_of(alloc: Global, words: &[String], found: &ArgMatches) -> Result<Opt
     ensures range { IfOk result IsWait }
     ensures typed { IfOk result (λ seconds. given (codes "wait") words.now ≡ option_map decimal seconds) }
 {
-    match option_number(alloc, words, found, "wait", 1, MAX_WAIT)? {
-        Some(seconds) => Ok(Some(seconds as u32)),
-        None => Ok(None),
-    }
+    option_short(alloc, words, found, "wait", 1, MAX_WAIT)
 }
 
 /// The request that was found among the words.
