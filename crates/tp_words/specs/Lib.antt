@@ -3,6 +3,7 @@ pub mod Given
 pub mod Size
 pub mod Args
 pub mod Numbers
+pub mod Parsing
 pub mod Ends
 pub mod Standard
 pub mod StreamArgs

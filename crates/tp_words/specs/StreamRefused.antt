@@ -1,10 +1,8 @@
 -- Why the words of a stream ask for nothing, and what is told of them where several things are wrong.
-use Rattle.std.specs.Prelude.{◌≡◌, ◌≢◌, ◌⊎◌, ◌≤◌, ◌<◌, ℕ, false, List, [], ◌∷◌, IfSome, codes, length}
+use Rattle.std.specs.Prelude.{◌≡◌, ◌⊎◌, ◌≤◌, ◌<◌, ℕ, false, List, [], ◌∷◌, IfSome, codes, length}
 use Rattle.std.specs.declared.alloc.Global.{Global}
 use Rattle.std.specs.declared.string.String.{String}
-use Rattle.clap.specs.Words.{first_value, found_of, kind_of}
-use Rattle.clap.specs.declared.error.Error.{Error}
-use Rattle.clap.specs.declared.error.kind.ErrorKind.TheVariants.{DisplayHelp, DisplayVersion}
+use Rattle.clap.specs.Words.{first_value, found_of}
 use Rattle.clap.specs.declared.parser.matches.ArgMatches.{ArgMatches}
 use Rattle.tp_model.specs.declared.limits.TheConstants.{MAX_STEPS}
 use Rattle.tp_words.specs.declared.arg_fault.ArgFault.{ArgFault}
@@ -15,6 +13,7 @@ use Rattle.tp_words.specs.declared.stream_args.StreamArgFault.TheVariants.{Arg, 
 use Rattle.tp_words.specs.declared.stream_args.TheConstants.{MAX_PROGRESS}
 use Rattle.tp_words.specs.Ends.{IsRefused}
 use Rattle.tp_words.specs.Numbers.{AllFit, FoundOther, IsFirstNumberFault, NumberOption, every_option, wait_option}
+use Rattle.tp_words.specs.Parsing.{IsMistake}
 use Rattle.tp_words.specs.Typed.{has_word}
 
 -- the options of a stream that take numbers, in the order in which they are looked at
@@ -45,11 +44,11 @@ IsRunRefused found words (Arg fault) =
     IsFirstNumberFault found words number_options fault ⊎ (AllFit words number_options × IsWordFault found words fault)
 IsRunRefused found words (Ends fault) = AllFit words number_options × IsRefused found words fault
 
--- it isn't help, nor the version
-abbrev pub IsMistake : Error → Type 0
-IsMistake error = (kind_of error ≢ DisplayHelp) × (kind_of error ≢ DisplayVersion)
+-- why what `clap` found among the words is refused: it found no command, or that one is
+abbrev pub IsMatchRefused : List (String Global) → StreamArgFault → Type 0
+IsMatchRefused words fault = (fault ≡ Arg Missing) ⊎ ((found : ArgMatches) × IsRunRefused found words fault)
 
--- Why words ask for no stream. First they are counted; then `clap` reads them; and then it is looked at what `clap` found. Memory may be refused
+-- Why words ask for no stream. First they are counted; then `clap` reads them; and then it is looked at what it found. Memory may be refused
 -- at any place behind the count, and `clap` may find other values than those that were typed.
 abbrev pub IsStreamRefused : List (String Global) → StreamArgFault → Type 0
 IsStreamRefused words (Arg Many) = MAX_WORDS < length words

@@ -3,16 +3,17 @@
 ghost use Rattle.std.specs.Prelude.{◌≡◌, IfErr, IfOk, OnOk};
 ghost use Rattle.tp_words.specs.Numbers.{AllFit, IsFirstNumberFault};
 ghost use Rattle.tp_words.specs.StreamArgs.{AreInRange, AreTyped, IsStreamInRange, WasStreamTyped};
-ghost use Rattle.tp_words.specs.StreamRefused.{IsRunRefused, IsStreamRefused, number_options};
+ghost use Rattle.tp_words.specs.StreamRefused.{IsMatchRefused, IsRunRefused, IsStreamRefused, number_options};
 ghost use Rattle.tp_words.specs.declared.stream_args.StreamArgFault.TheVariants.{Arg, Ends};
 
 use crate::arg_fault::ArgFault;
-use crate::args::{MAX_TURNS, MAX_WORDS, QUANTUM};
+use crate::args::{MAX_TURNS, QUANTUM};
 use crate::device_args::{every_of, wait_of};
 use crate::found::{option_or, option_short, option_string, text_of};
 use crate::numbers::has_word;
+use crate::parsing::{Parsed, parse};
 use crate::stream_ends::{EndsFault, ends_of};
-use crate::stream_words::stream_command;
+use crate::words::STREAM_COMMANDS;
 use clap::ArgMatches;
 use std::alloc::Global;
 use std::fmt;
@@ -136,13 +137,19 @@ fn numbers_of(
     ensures refused { IfErr result (IsFirstNumberFault found.now words.now number_options) }
 {
     let steps = MAX_STEPS as u64;
+    let turns = option_short(alloc, words, found, "turns", 0, MAX_TURNS)?;
+    let seconds = option_short(alloc, words, found, "progress-every", 1, MAX_PROGRESS)?;
+    let quantum = option_or(alloc, words, found, "quantum", 1, steps, QUANTUM as u64)?;
+    let spare = option_or(alloc, words, found, "spare", 0, u64::MAX, 4)?;
+    let every = every_of(alloc, words, found)?;
+    let wait_lock = wait_of(alloc, words, found)?;
     Ok(StreamNumbers {
-        turns: option_short(alloc, words, found, "turns", 0, MAX_TURNS)?,
-        progress_every: option_short(alloc, words, found, "progress-every", 1, MAX_PROGRESS)?,
-        quantum: option_or(alloc, words, found, "quantum", 1, steps, QUANTUM as u64)? as u16,
-        spare: option_or(alloc, words, found, "spare", 0, u64::MAX, 4)?,
-        every: every_of(alloc, words, found)?,
-        wait_lock: wait_of(alloc, words, found)?,
+        turns,
+        progress_every: seconds,
+        quantum: quantum as u16,
+        spare,
+        every,
+        wait_lock,
     })
 }
 
@@ -174,6 +181,22 @@ fn run_of(
     }))
 }
 
+/// The stream that `clap` found.
+fn stream_in(
+    alloc: Global,
+    words: &[String],
+    matches: &ArgMatches,
+) -> Result<StreamAsked, StreamArgFault>
+    ensures range { IfOk result IsStreamInRange }
+    ensures typed { IfOk result (WasStreamTyped words.now) }
+    ensures refused { IfErr result (IsMatchRefused words.now) }
+{
+    match matches.subcommand() {
+        Some((_, found)) => run_of(alloc, words, found),
+        None => Err(StreamArgFault::Arg(ArgFault::Missing)),
+    }
+}
+
 /// Reads the words of a command line with `--stream`, the program's name first. Each number is the decimal that was typed, and in its
 /// range, the path of a file that ends it is what was typed for it, and the device is one of the words.
 pub fn read_stream_args(alloc: Global, words: &[String]) -> Result<StreamAsked, StreamArgFault>
@@ -181,22 +204,8 @@ pub fn read_stream_args(alloc: Global, words: &[String]) -> Result<StreamAsked, 
     ensures typed { IfOk result (WasStreamTyped words.now) }
     ensures refused { IfErr result (IsStreamRefused words.now) }
 {
-    if words.len() > MAX_WORDS {
-        return Err(StreamArgFault::Arg(ArgFault::Many));
-    }
-    let command = match stream_command(alloc) {
-        Ok(command) => command,
-        Err(_) => return Err(StreamArgFault::Arg(ArgFault::Memory)),
-    };
-    match command.try_get_matches_from(words) {
-        Ok(matches) => match matches.subcommand() {
-            Some((_, found)) => run_of(alloc, words, found),
-            None => Err(StreamArgFault::Arg(ArgFault::Missing)),
-        },
-        Err(error) if !error.use_stderr() => match format!(in alloc; "{error}") {
-            Ok(text) => Ok(StreamAsked::Help(text)),
-            Err(_) => Err(StreamArgFault::Arg(ArgFault::Memory)),
-        },
-        Err(error) => Err(StreamArgFault::Arg(ArgFault::Words(error))),
+    match parse(alloc, words, STREAM_COMMANDS)? {
+        Parsed::Help(text) => Ok(StreamAsked::Help(text)),
+        Parsed::Found(matches) => stream_in(alloc, words, &matches),
     }
 }
