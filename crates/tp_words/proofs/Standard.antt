@@ -78,10 +78,11 @@ from_at (file ∷ files) port (suc k) low each count there is =
 -- where one file at most is standard, it is that of the port for which a dash was typed
 pub standard_is : (files : List PortFile) (texts : List (List ℕ)) → map file_text files ≡ texts → All IsFile files → standard_count files ≤ 1
     → IsStandard (standard_port files) texts
-standard_is files texts same each count = λ port low.
-    (λ is. subst (λ (all : List (List ℕ)). Contains all (standard_text port)) same (to_text files port is),
-    λ typed.
-        let at = subst (λ (all : List (List ℕ)). Contains all (standard_text port)) (sym same) typed in
-        let long = length-map files file_text in
-        let there = at.1 in
-        from_at files port at.0 low each count (omega (arith, there, long)) at.2)
+standard_is files texts same each count = λ port low. (
+  λ is. subst (λ (all : List (List ℕ)). Contains all (standard_text port)) same (to_text files port is),
+  λ typed.
+      let at = subst (λ (all : List (List ℕ)). Contains all (standard_text port)) (sym same) typed in
+      let long = length-map files file_text in
+      let there = at.1 in
+      from_at files port at.0 low each count (omega (arith, there, long)) at.2,
+)

@@ -11,7 +11,7 @@ use Rattle.tp_words.specs.declared.stream_args.StreamArgFault.{StreamArgFault}
 use Rattle.tp_words.specs.declared.stream_args.StreamArgFault.TheVariants.{Arg, Ends}
 use Rattle.tp_words.specs.Numbers.{IsFirstNumberFault, IsNumberFault, NumberOption}
 use Rattle.tp_words.specs.Parsing.{IsUnparsed}
-use Rattle.tp_words.specs.StreamRefused.{IsMatchRefused, IsRunRefused, IsStreamRefused, IsWordFault}
+use Rattle.tp_words.specs.StreamRefused.{IsMatchRefused, IsRunRefused, IsStreamRefused, IsWordFault, number_options}
 
 -- what `?` makes of a fault and hands on
 pub on_told : {T F : Type 0} (r : Result T F) (told : F) (P : F → Type 0) → IsErrAnd r (λ fault. fault ≡ told) → P told → IfErr r P
@@ -39,7 +39,7 @@ never_first found words (option ∷ options) fault never (inr later) = never_fir
 
 never : (found : ArgMatches) (words : List (String Global)) (fault : ArgFault) → ((option : NumberOption) → IsNumberFault found words option fault → ⊥)
     → (IsWordFault found words fault → ⊥) → IsRunRefused found words (Arg fault) → ⊥
-never found words fault number word (inl first) = never_first found words _ fault number first
+never found words fault number word (inl first) = never_first found words number_options fault number first
 never found words fault number word (inr other) = word other.1
 
 -- what is told of what `clap` found is told of the words
@@ -51,16 +51,16 @@ of_match words (Arg Many) few (inr at) = absurd (never at.0 words Many (λ optio
 of_match words (Arg (Words error)) few (inl missing) = absurd (cc)
 of_match words (Arg (Words error)) few (inr at) = absurd (never at.0 words (Words error) (λ option is. is) (λ is. is) at.1)
 of_match words (Arg (Range id least most)) few (inl missing) = absurd (cc)
-of_match words (Arg (Range id least most)) few (inr at) = (few, at)
+of_match words (Arg (Range id least most)) few (inr at) = (few, at.0, at.1)
 of_match words (Arg Area) few (inl missing) = absurd (cc)
-of_match words (Arg Area) few (inr at) = (few, at)
+of_match words (Arg Area) few (inr at) = (few, at.0, at.1)
 of_match words (Arg Size) few (inl missing) = absurd (cc)
-of_match words (Arg Size) few (inr at) = (few, at)
+of_match words (Arg Size) few (inr at) = (few, at.0, at.1)
 of_match words (Arg Number) few (inl missing) = absurd (cc)
-of_match words (Arg Number) few (inr at) = (few, at)
+of_match words (Arg Number) few (inr at) = (few, at.0, at.1)
 of_match words (Arg Order) few (inl missing) = absurd (cc)
-of_match words (Arg Order) few (inr at) = (few, at)
+of_match words (Arg Order) few (inr at) = (few, at.0, at.1)
 of_match words (Arg (Stream id)) few (inl missing) = absurd (cc)
-of_match words (Arg (Stream id)) few (inr at) = (few, at)
+of_match words (Arg (Stream id)) few (inr at) = (few, at.0, at.1)
 of_match words (Ends fault) few (inl missing) = absurd (cc)
-of_match words (Ends fault) few (inr at) = (few, at)
+of_match words (Ends fault) few (inr at) = (few, at.0, at.1)

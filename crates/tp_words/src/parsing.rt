@@ -20,11 +20,7 @@ pub enum Parsed<'a> {
 }
 
 /// Reads the words of a command line by `clap`, as those of a command of these names. Asking for help is no fault.
-pub fn parse<'a>(
-    alloc: Global,
-    words: &'a [String],
-    names: &[Name],
-) -> Result<Parsed<'a>, ArgFault>
+pub fn parse<'a>(alloc: Global, words: &'a [String], names: &[Name]) -> Result<Parsed<'a>, ArgFault>
     ensures few { OnOk result (length words.now ≤ MAX_WORDS) }
     ensures refused { IfErr result (IsUnparsed words.now) }
 {
