@@ -1,4 +1,3 @@
-use Rattle.std.proofs.Common.{◌≡◌}
 use Rattle.std.proofs.lemmas.Result.{IfErr-weaker}
 use Rattle.tp_words.specs.StreamRefused.{IsMatchRefused, IsStreamRefused}
 use Rattle.tp_words.specs.declared.stream_args.StreamArgFault.{StreamArgFault}
