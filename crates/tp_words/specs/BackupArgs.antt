@@ -2,7 +2,6 @@
 use Rattle.std.specs.Prelude.{◌≡◌, true, List, string_bytes}
 use Rattle.std.specs.declared.alloc.Global.{Global}
 use Rattle.std.specs.declared.string.String.{String}
-use Rattle.tp_words.specs.declared.backup_args.Backup.{Backup}
 use Rattle.tp_words.specs.declared.backup_args.BackupAsked.{BackupAsked}
 use Rattle.tp_words.specs.declared.backup_args.BackupAsked.TheVariants.{Help, Make}
 use Rattle.tp_words.specs.Typed.{has_word}

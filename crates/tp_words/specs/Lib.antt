@@ -2,7 +2,11 @@ pub mod Typed
 pub mod Given
 pub mod Size
 pub mod Args
+pub mod Numbers
+pub mod Parsing
 pub mod Ends
+pub mod Standard
 pub mod StreamArgs
+pub mod StreamRefused
 pub mod BackupArgs
 pub mod StopArgs

@@ -8,10 +8,12 @@ use Rattle.tp_model.specs.declared.limits.TheConstants.{MAX_STEPS}
 use Rattle.tp_words.specs.declared.args.TheConstants.{QUANTUM}
 use Rattle.tp_words.specs.declared.stream_args.StreamAsked.{StreamAsked}
 use Rattle.tp_words.specs.declared.stream_args.StreamAsked.TheVariants.{Help, Run}
+use Rattle.tp_words.specs.declared.stream_args.StreamNumbers.{StreamNumbers}
 use Rattle.tp_words.specs.declared.stream_args.StreamRun.{StreamRun}
 use Rattle.tp_words.specs.Args.{IsEvery}
 use Rattle.tp_words.specs.Ends.{AreEnds, WereTyped}
 use Rattle.tp_words.specs.Given.{given, IsGivenOr}
+use Rattle.tp_words.specs.Standard.{AreStandard}
 use Rattle.tp_words.specs.Typed.{has_word}
 
 -- turns have no bound, or one in its range
@@ -45,7 +47,24 @@ IsTypedStream words run = (has_word (string_bytes run.device) words ≡ true)
     × (given (codes "every") words ≡ option_map decimal run.every)
     × IsGivenOr 0 run.wait_lock (given (codes "wait-lock") words)
     × WereTyped words run.ends
+    × AreStandard words run.ends
 
 abbrev pub WasStreamTyped : List (String Global) → StreamAsked → Type 0
 WasStreamTyped words (Help text) = Unit {0}
 WasStreamTyped words (Run run) = IsTypedStream words run
+
+-- The numbers of a stream are in their ranges.
+pub record AreInRange (numbers : StreamNumbers) : Type 0 where
+  pub turns : IsBound numbers.turns
+  pub progress_every : IsProgressEvery numbers.progress_every
+  pub quantum : (0 < numbers.quantum) × (numbers.quantum ≤ MAX_STEPS)
+  pub every : IsEvery numbers.every
+
+-- They are what was typed for them, and else what docs/PROGRAM.md says.
+pub record AreTyped (words : List (String Global)) (numbers : StreamNumbers) : Type 0 where
+  pub turns : given (codes "turns") words ≡ option_map decimal numbers.turns
+  pub progress_every : given (codes "progress-every") words ≡ option_map decimal numbers.progress_every
+  pub quantum : IsGivenOr QUANTUM numbers.quantum (given (codes "quantum") words)
+  pub spare : IsGivenOr 4 numbers.spare (given (codes "spare") words)
+  pub every : given (codes "every") words ≡ option_map decimal numbers.every
+  pub wait_lock : IsGivenOr 0 numbers.wait_lock (given (codes "wait-lock") words)

@@ -1,5 +1,8 @@
 //! Why words ask for nothing, and what is said then.
 
+ghost use Rattle.std.specs.Prelude.{◌≡◌};
+ghost use Rattle.tp_words.specs.declared.arg_fault.ArgFault.TheVariants.{Memory};
+
 use crate::args::MAX_WORDS;
 use std::alloc::{AllocError, AllocFailed};
 use std::fmt;
@@ -32,6 +35,16 @@ pub enum ArgFault {
     Memory,
 }
 
+/// Which numbers an option takes, where that isn't told by the least and the most of them.
+const BOUNDS: &[(&str, &str)] = &[
+    ("spare", "from 0 to the pages of the smallest node"),
+    ("port", "from 0 to 7, a port of the device"),
+    ("from", "below 2^64"),
+    ("to", "below 2^64"),
+    ("node", "below 2^64, a node of the device"),
+    ("last", "from 1, below 2^64"),
+];
+
 /// Says which numbers an option takes.
 fn say_bounds<W: fmt::Write>(
     f: &mut fmt::Formatter<W>,
@@ -39,14 +52,12 @@ fn say_bounds<W: fmt::Write>(
     least: u64,
     most: u64,
 ) -> fmt::Result {
-    match id {
-        "spare" => f.write_str("from 0 to the pages of the smallest node"),
-        "port" => f.write_str("from 0 to 7, a port of the device"),
-        "from" | "to" => f.write_str("below 2^64"),
-        "node" => f.write_str("below 2^64, a node of the device"),
-        "last" => f.write_str("from 1, below 2^64"),
-        _ => write!(f, "from {least} to {most}"),
+    for (name, bounds) in BOUNDS {
+        if *name == id {
+            return f.write_str(bounds);
+        }
     }
+    write!(f, "from {least} to {most}")
 }
 
 /// Says what an option takes.
@@ -96,12 +107,16 @@ impl From<clap::Error> for ArgFault {
 }
 
 impl From<AllocError> for ArgFault {
+    ghost from_gives = { λ _ fault. fault ≡ Memory };
+
     fn from(_error: AllocError) -> ArgFault {
         ArgFault::Memory
     }
 }
 
 impl<T: Drop> From<AllocFailed<T>> for ArgFault {
+    ghost from_gives = { λ _ fault. fault ≡ Memory };
+
     fn from(_error: AllocFailed<T>) -> ArgFault {
         ArgFault::Memory
     }

@@ -5,10 +5,11 @@ ghost use Rattle.tp_words.specs.Args.{IsInRange, WasTyped};
 
 use crate::arg_fault::ArgFault;
 use crate::device_args::{asked_compact, asked_format, asked_run};
+use crate::parsing::{Parsed, parse};
 use crate::stream_words::stream_option;
 use crate::view_args::{asked_check, asked_to_read, asked_trace, asked_try};
 use crate::views::View;
-use crate::words::command;
+use crate::words::COMMANDS;
 use clap::ArgMatches;
 use std::alloc::Global;
 
@@ -152,22 +153,26 @@ fn asked_in(alloc: Global, words: &[String], matches: &ArgMatches) -> Result<Ask
     }
 }
 
+/// What is told of words that `clap` doesn't take: that an option goes with `--stream`, where one of them is such.
+fn fault_in(words: &[String], fault: ArgFault) -> ArgFault {
+    match fault {
+        ArgFault::Words(error) => match stream_option(words) {
+            Some(id) => ArgFault::Stream(id),
+            None => ArgFault::Words(error),
+        },
+        fault => fault,
+    }
+}
+
 /// Reads the words of a command line, the program's name first. Each number is the decimal that was typed, and in its range;
 /// each text is one of the words. Those of `backup` and `stop` are read by functions of their own, and are none here.
 pub fn read_args(alloc: Global, words: &[String]) -> Result<Asked, ArgFault>
     ensures range { IfOk result IsInRange }
     ensures typed { IfOk result (WasTyped words.now) }
 {
-    if words.len() > MAX_WORDS {
-        return Err(ArgFault::Many);
-    }
-    let command = command(alloc)?;
-    match command.try_get_matches_from(words) {
-        Ok(matches) => asked_in(alloc, words, &matches),
-        Err(error) if !error.use_stderr() => Ok(Asked::Help(format!(in alloc; "{error}")?)),
-        Err(error) => match stream_option(words) {
-            Some(id) => Err(ArgFault::Stream(id)),
-            None => Err(ArgFault::Words(error)),
-        },
+    match parse(alloc, words, COMMANDS) {
+        Ok(Parsed::Help(text)) => Ok(Asked::Help(text)),
+        Ok(Parsed::Found(matches)) => asked_in(alloc, words, &matches),
+        Err(fault) => Err(fault_in(words, fault)),
     }
 }

@@ -4,9 +4,9 @@ ghost use Rattle.std.specs.Prelude.{IfOk};
 ghost use Rattle.tp_words.specs.BackupArgs.{WasBackupTyped};
 
 use crate::arg_fault::ArgFault;
-use crate::args::MAX_WORDS;
 use crate::found::text_of;
-use crate::words::command;
+use crate::parsing::{Parsed, parse};
+use crate::words::COMMANDS;
 use clap::ArgMatches;
 use std::alloc::Global;
 
@@ -48,12 +48,8 @@ fn backup_of(alloc: Global, words: &[String], matches: &ArgMatches) -> Result<Ba
 pub fn read_backup_args(alloc: Global, words: &[String]) -> Result<BackupAsked, ArgFault>
     ensures { IfOk result (WasBackupTyped words.now) }
 {
-    if words.len() > MAX_WORDS {
-        return Err(ArgFault::Many);
-    }
-    match command(alloc)?.try_get_matches_from(words) {
-        Ok(matches) => backup_of(alloc, words, &matches),
-        Err(error) if !error.use_stderr() => Ok(BackupAsked::Help(format!(in alloc; "{error}")?)),
-        Err(error) => Err(ArgFault::Words(error)),
+    match parse(alloc, words, COMMANDS)? {
+        Parsed::Help(text) => Ok(BackupAsked::Help(text)),
+        Parsed::Found(matches) => backup_of(alloc, words, &matches),
     }
 }

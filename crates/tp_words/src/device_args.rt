@@ -1,14 +1,15 @@
 //! What the commands ask for that write a device.
 
-ghost use Rattle.std.specs.Prelude.{◌≡◌, ◌≤◌, IfOk, codes};
+ghost use Rattle.std.specs.Prelude.{◌≡◌, ◌≤◌, IfErr, IfOk, OnOk, codes};
 ghost use Rattle.std.specs.Fmt.{decimal};
 ghost use Rattle.std.specs.Option.{option_map};
 ghost use Rattle.tp_words.specs.Args.{IsEvery, IsInRange, WasTyped};
 ghost use Rattle.tp_words.specs.Given.{given, IsGivenOr};
+ghost use Rattle.tp_words.specs.Numbers.{Fits, IsNumberFault, every_option, wait_option};
 
 use crate::arg_fault::ArgFault;
 use crate::args::{Asked, MAX_WAIT, MAX_WORKERS, NewDevice, QUANTUM, Run};
-use crate::found::{area_of, option_number, option_or, option_string, text_of, turns_of};
+use crate::found::{area_of, option_or, option_short, option_string, text_of, turns_of};
 use clap::ArgMatches;
 use std::alloc::Global;
 use tp_model::limits::MAX_STEPS;
@@ -36,17 +37,18 @@ pub fn every_of(
 ) -> Result<Option<u32>, ArgFault>
     ensures range { IfOk result IsEvery }
     ensures typed { IfOk result (λ every. given (codes "every") words.now ≡ option_map decimal every) }
+    ensures fits { OnOk result (Fits words.now every_option) }
+    ensures refused { IfErr result (IsNumberFault found.now words.now every_option) }
 {
-    match option_number(alloc, words, found, "every", 1, u32::MAX as u64)? {
-        Some(every) => Ok(Some(every as u32)),
-        None => Ok(None),
-    }
+    option_short(alloc, words, found, "every", 1, u32::MAX as u64)
 }
 
 /// How many seconds another process is waited for that holds the device.
 pub fn wait_of(alloc: Global, words: &[String], found: &ArgMatches) -> Result<u32, ArgFault>
     ensures range { IfOk result (λ seconds. seconds ≤ MAX_WAIT) }
     ensures typed { IfOk result (λ seconds. IsGivenOr 0 seconds (given (codes "wait-lock") words.now)) }
+    ensures fits { OnOk result (Fits words.now wait_option) }
+    ensures refused { IfErr result (IsNumberFault found.now words.now wait_option) }
 {
     Ok(option_or(alloc, words, found, "wait-lock", 0, MAX_WAIT, 0)? as u32)
 }

@@ -1,11 +1,14 @@
 //! What `clap` found among the words, and that it was typed.
 
-ghost use Rattle.std.specs.Prelude.{◌≡◌, ◌≤◌, true, Some, IfOk, IfSome, codes, string_bytes};
+ghost use Rattle.std.specs.Prelude.{◌≡◌, ◌≤◌, ◌<◌, ◌⊎◌, ◌^◌, true, Some, IfErr, IfOk, IfSome, OnOk, codes, string_bytes};
 ghost use Rattle.std.specs.Fmt.{decimal};
 ghost use Rattle.std.specs.Option.{option_map};
 ghost use Rattle.tp_words.specs.Given.{given, has_flag, IsGivenOr};
+ghost use Rattle.tp_words.specs.Numbers.{Fits, FoundOther, IsNumberFault};
 ghost use Rattle.tp_words.specs.Size.{IsArea, IsSize};
+ghost use Rattle.tp_words.specs.StreamRefused.{FoundNoWord};
 ghost use Rattle.tp_words.specs.Typed.{has_word, was_typed};
+ghost use Rattle.tp_words.specs.declared.arg_fault.ArgFault.TheVariants.{Missing, Memory};
 
 use crate::arg_fault::ArgFault;
 use crate::args::{MAX_AREA, MAX_TURNS};
@@ -44,7 +47,8 @@ fn option_text<'a>(
     found: &'a ArgMatches,
     id: &str,
 ) -> Result<Option<&'a str>, ArgFault>
-    ensures { IfOk result (λ text. option_map (λ typed. typed.now) text ≡ given id.now words.now) }
+    ensures typed { IfOk result (λ text. option_map (λ typed. typed.now) text ≡ given id.now words.now) }
+    ensures refused { IfErr result (λ fault. (fault ≡ Memory) ⊎ ((fault ≡ Missing) × FoundOther found.now words.now id.now)) }
 {
     let name = format!(in alloc; "--{id}")?;
     let ending = format!(in alloc; "--{id}=")?;
@@ -69,6 +73,8 @@ pub fn option_number(
 ) -> Result<Option<u64>, ArgFault>
     ensures range { IfOk result (λ found. IfSome found (λ number. (least ≤ number) × (number ≤ most))) }
     ensures typed { IfOk result (λ found. given id.now words.now ≡ option_map decimal found) }
+    ensures fits { OnOk result (Fits words.now (record { id = id.now; least = least; most = most })) }
+    ensures refused { IfErr result (IsNumberFault found.now words.now (record { id = id.now; least = least; most = most })) }
 {
     let Some(text) = option_text(alloc, words, found, id)? else {
         return Ok(None);
@@ -76,6 +82,27 @@ pub fn option_number(
     match number_of(alloc, text)? {
         Some(number) if least <= number && number <= most => Ok(Some(number)),
         _ => Err(ArgFault::Range { id, least, most }),
+    }
+}
+
+/// The number of 32 bits that was typed for an option, which has to be in its range.
+pub fn option_short(
+    alloc: Global,
+    words: &[String],
+    found: &ArgMatches,
+    id: &'static str,
+    least: u64,
+    most: u64,
+) -> Result<Option<u32>, ArgFault>
+    requires { most < 2 ^ 32 }
+    ensures range { IfOk result (λ found. IfSome found (λ number. (least ≤ number) × (number ≤ most))) }
+    ensures typed { IfOk result (λ found. given id.now words.now ≡ option_map decimal found) }
+    ensures fits { OnOk result (Fits words.now (record { id = id.now; least = least; most = most })) }
+    ensures refused { IfErr result (IsNumberFault found.now words.now (record { id = id.now; least = least; most = most })) }
+{
+    match option_number(alloc, words, found, id, least, most)? {
+        Some(number) => Ok(Some(number as u32)),
+        None => Ok(None),
     }
 }
 
@@ -92,6 +119,8 @@ pub fn option_or(
     requires range { (least ≤ fallback) × (fallback ≤ most) }
     ensures range { IfOk result (λ number. (least ≤ number) × (number ≤ most)) }
     ensures typed { IfOk result (λ number. IsGivenOr fallback number (given id.now words.now)) }
+    ensures fits { OnOk result (Fits words.now (record { id = id.now; least = least; most = most })) }
+    ensures refused { IfErr result (IsNumberFault found.now words.now (record { id = id.now; least = least; most = most })) }
 {
     match option_number(alloc, words, found, id, least, most)? {
         Some(number) => Ok(number),
@@ -106,7 +135,8 @@ pub fn option_string(
     found: &ArgMatches,
     id: &str,
 ) -> Result<Option<String>, ArgFault>
-    ensures { IfOk result (λ text. given id.now words.now ≡ option_map string_bytes text) }
+    ensures typed { IfOk result (λ text. given id.now words.now ≡ option_map string_bytes text) }
+    ensures refused { IfErr result (λ fault. (fault ≡ Memory) ⊎ ((fault ≡ Missing) × FoundOther found.now words.now id.now)) }
 {
     match option_text(alloc, words, found, id)? {
         Some(text) => Ok(Some(String::from_str(alloc, text)?)),
@@ -118,8 +148,8 @@ pub fn option_string(
 pub fn turns_of(alloc: Global, words: &[String], found: &ArgMatches) -> Result<u32, ArgFault>
     ensures { IfOk result (λ turns. given (codes "turns") words.now ≡ Some (decimal turns)) }
 {
-    match option_number(alloc, words, found, "turns", 0, MAX_TURNS)? {
-        Some(turns) => Ok(turns as u32),
+    match option_short(alloc, words, found, "turns", 0, MAX_TURNS)? {
+        Some(turns) => Ok(turns),
         None => Err(ArgFault::Missing),
     }
 }
@@ -164,7 +194,8 @@ pub fn text_of(
     found: &ArgMatches,
     id: &str,
 ) -> Result<String, ArgFault>
-    ensures { IfOk result (λ text. has_word (string_bytes text) words.now ≡ true) }
+    ensures typed { IfOk result (λ text. has_word (string_bytes text) words.now ≡ true) }
+    ensures refused { IfErr result (λ fault. (fault ≡ Memory) ⊎ ((fault ≡ Missing) × FoundNoWord found.now words.now id.now)) }
 {
     let Some(text) = found.get_str(id) else {
         return Err(ArgFault::Missing);

@@ -10,6 +10,7 @@ mod found;
 mod help;
 mod journal_args;
 mod numbers;
+mod parsing;
 mod sizes;
 mod stop_args;
 mod stream_args;

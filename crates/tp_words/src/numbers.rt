@@ -46,6 +46,7 @@ pub fn was_typed(alloc: Global, words: &[String], text: &str) -> Result<bool, Al
 
 /// The number whose decimal this text is; `None`: it is that of no number below 2^64.
 pub fn number_of(alloc: Global, text: &str) -> Result<Option<u64>, AllocError>
+    ensures small { IfOk result (λ found. IfSome found (λ number. number < 2 ^ 64)) }
     ensures some { IfOk result (λ found. IfSome found (λ number. text.now ≡ decimal number)) }
     ensures none { IfOk result (λ found. found ≡ None → (number : ℕ) → number < 2 ^ 64 → text.now ≢ decimal number) }
 {

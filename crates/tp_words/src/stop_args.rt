@@ -7,9 +7,10 @@ ghost use Rattle.tp_words.specs.Given.{given};
 ghost use Rattle.tp_words.specs.StopArgs.{IsStopInRange, IsWait, WasStopTyped};
 
 use crate::arg_fault::ArgFault;
-use crate::args::{MAX_WAIT, MAX_WORDS};
-use crate::found::{option_number, text_of};
-use crate::words::command;
+use crate::args::MAX_WAIT;
+use crate::found::{option_short, text_of};
+use crate::parsing::{Parsed, parse};
+use crate::words::COMMANDS;
 use clap::ArgMatches;
 use std::alloc::Global;
 
@@ -39,10 +40,7 @@ fn seconds_of(alloc: Global, words: &[String], found: &ArgMatches) -> Result<Opt
     ensures range { IfOk result IsWait }
     ensures typed { IfOk result (λ seconds. given (codes "wait") words.now ≡ option_map decimal seconds) }
 {
-    match option_number(alloc, words, found, "wait", 1, MAX_WAIT)? {
-        Some(seconds) => Ok(Some(seconds as u32)),
-        None => Ok(None),
-    }
+    option_short(alloc, words, found, "wait", 1, MAX_WAIT)
 }
 
 /// The request that was found among the words.
@@ -65,12 +63,8 @@ pub fn read_stop_args(alloc: Global, words: &[String]) -> Result<StopAsked, ArgF
     ensures range { IfOk result IsStopInRange }
     ensures typed { IfOk result (WasStopTyped words.now) }
 {
-    if words.len() > MAX_WORDS {
-        return Err(ArgFault::Many);
-    }
-    match command(alloc)?.try_get_matches_from(words) {
-        Ok(matches) => request_of(alloc, words, &matches),
-        Err(error) if !error.use_stderr() => Ok(StopAsked::Help(format!(in alloc; "{error}")?)),
-        Err(error) => Err(ArgFault::Words(error)),
+    match parse(alloc, words, COMMANDS)? {
+        Parsed::Help(text) => Ok(StopAsked::Help(text)),
+        Parsed::Found(matches) => request_of(alloc, words, &matches),
     }
 }

@@ -1,18 +1,19 @@
 //! What a command line with `--stream` asks for.
 
-ghost use Rattle.std.specs.Prelude.{◌≡◌, IfOk, codes};
-ghost use Rattle.std.specs.Fmt.{decimal};
-ghost use Rattle.std.specs.Option.{option_map};
-ghost use Rattle.tp_words.specs.Given.{given};
-ghost use Rattle.tp_words.specs.StreamArgs.{IsBound, IsProgressEvery, IsStreamInRange, WasStreamTyped};
+ghost use Rattle.std.specs.Prelude.{◌≡◌, IfErr, IfOk, OnOk};
+ghost use Rattle.tp_words.specs.Numbers.{AllFit, IsFirstNumberFault};
+ghost use Rattle.tp_words.specs.StreamArgs.{AreInRange, AreTyped, IsStreamInRange, WasStreamTyped};
+ghost use Rattle.tp_words.specs.StreamRefused.{IsMatchRefused, IsRunRefused, IsStreamRefused, number_options};
+ghost use Rattle.tp_words.specs.declared.stream_args.StreamArgFault.TheVariants.{Arg, Ends};
 
 use crate::arg_fault::ArgFault;
-use crate::args::{MAX_TURNS, MAX_WORDS, QUANTUM};
+use crate::args::{MAX_TURNS, QUANTUM};
 use crate::device_args::{every_of, wait_of};
-use crate::found::{option_number, option_or, option_string, text_of};
+use crate::found::{option_or, option_short, option_string, text_of};
 use crate::numbers::has_word;
+use crate::parsing::{Parsed, parse};
 use crate::stream_ends::{EndsFault, ends_of};
-use crate::stream_words::stream_command;
+use crate::words::STREAM_COMMANDS;
 use clap::ArgMatches;
 use std::alloc::Global;
 use std::fmt;
@@ -58,6 +59,17 @@ pub struct StreamRun {
     pub wait_lock: u32,
 }
 
+/// The numbers of a stream, as they are in `StreamRun`.
+#[derive(Clone, Copy)]
+struct StreamNumbers {
+    turns: Option<u32>,
+    progress_every: Option<u32>,
+    quantum: u16,
+    spare: u64,
+    every: Option<u32>,
+    wait_lock: u32,
+}
+
 /// Why the words ask for no stream. Each ends the program with status 2.
 #[derive(Drop)]
 pub enum StreamArgFault {
@@ -75,12 +87,16 @@ impl fmt::Display for StreamArgFault {
 }
 
 impl From<ArgFault> for StreamArgFault {
+    ghost from_gives = { λ fault told. told ≡ Arg fault };
+
     fn from(fault: ArgFault) -> StreamArgFault {
         StreamArgFault::Arg(fault)
     }
 }
 
 impl From<EndsFault> for StreamArgFault {
+    ghost from_gives = { λ fault told. told ≡ Ends fault };
+
     fn from(fault: EndsFault) -> StreamArgFault {
         StreamArgFault::Ends(fault)
     }
@@ -109,35 +125,32 @@ pub fn wants_input(words: &[String]) -> bool {
     false
 }
 
-/// How many turns are made at most: there is a bound just where one was typed.
-fn turns_of(
+/// The numbers of a stream that were found among the words.
+fn numbers_of(
     alloc: Global,
     words: &[String],
     found: &ArgMatches,
-) -> Result<Option<u32>, StreamArgFault>
-    ensures range { IfOk result IsBound }
-    ensures typed { IfOk result (λ turns. given (codes "turns") words.now ≡ option_map decimal turns) }
+) -> Result<StreamNumbers, ArgFault>
+    ensures range { IfOk result AreInRange }
+    ensures typed { IfOk result (AreTyped words.now) }
+    ensures fit { OnOk result (AllFit words.now number_options) }
+    ensures refused { IfErr result (IsFirstNumberFault found.now words.now number_options) }
 {
-    match option_number(alloc, words, found, "turns", 0, MAX_TURNS)? {
-        Some(turns) => Ok(Some(turns as u32)),
-        None => Ok(None),
-    }
-}
-
-/// After how many seconds it is said again how far the stream has come.
-fn progress_of(
-    alloc: Global,
-    words: &[String],
-    found: &ArgMatches,
-) -> Result<Option<u32>, StreamArgFault>
-    ensures range { IfOk result IsProgressEvery }
-    ensures typed { IfOk result (λ seconds. given (codes "progress-every") words.now ≡ option_map decimal seconds) }
-{
-    let Some(seconds) = option_number(alloc, words, found, "progress-every", 1, MAX_PROGRESS)?
-    else {
-        return Ok(None);
-    };
-    Ok(Some(seconds as u32))
+    let steps = MAX_STEPS as u64;
+    let turns = option_short(alloc, words, found, "turns", 0, MAX_TURNS)?;
+    let seconds = option_short(alloc, words, found, "progress-every", 1, MAX_PROGRESS)?;
+    let quantum = option_or(alloc, words, found, "quantum", 1, steps, QUANTUM as u64)?;
+    let spare = option_or(alloc, words, found, "spare", 0, u64::MAX, 4)?;
+    let every = every_of(alloc, words, found)?;
+    let wait_lock = wait_of(alloc, words, found)?;
+    Ok(StreamNumbers {
+        turns,
+        progress_every: seconds,
+        quantum: quantum as u16,
+        spare,
+        every,
+        wait_lock,
+    })
 }
 
 /// The stream that was found among the words.
@@ -149,22 +162,39 @@ fn run_of(
 ) -> Result<StreamAsked, StreamArgFault>
     ensures range { IfOk result IsStreamInRange }
     ensures typed { IfOk result (WasStreamTyped words.now) }
+    ensures refused { IfErr result (IsRunRefused found.now words.now) }
 {
-    let steps = MAX_STEPS as u64;
+    let numbers = numbers_of(alloc, words, found)?;
     Ok(StreamAsked::Run(StreamRun {
-        turns: turns_of(alloc, words, found)?,
+        turns: numbers.turns,
         until_quiet: found.get_flag("until-quiet"),
         stop_on_halt: found.get_flag("stop-on-halt"),
         stop_file: option_string(alloc, words, found, "stop-file")?,
         has_progress: found.get_flag("progress"),
-        progress_every: progress_of(alloc, words, found)?,
-        quantum: option_or(alloc, words, found, "quantum", 1, steps, QUANTUM as u64)? as u16,
-        spare: option_or(alloc, words, found, "spare", 0, u64::MAX, 4)?,
-        every: every_of(alloc, words, found)?,
-        ends: ends_of(alloc, words, found)?,
-        wait_lock: wait_of(alloc, words, found)?,
+        progress_every: numbers.progress_every,
+        quantum: numbers.quantum,
+        spare: numbers.spare,
+        every: numbers.every,
+        wait_lock: numbers.wait_lock,
         device: text_of(alloc, words, found, "DEVICE")?,
+        ends: ends_of(alloc, words, found)?,
     }))
+}
+
+/// The stream that `clap` found.
+fn stream_in(
+    alloc: Global,
+    words: &[String],
+    matches: &ArgMatches,
+) -> Result<StreamAsked, StreamArgFault>
+    ensures range { IfOk result IsStreamInRange }
+    ensures typed { IfOk result (WasStreamTyped words.now) }
+    ensures refused { IfErr result (IsMatchRefused words.now) }
+{
+    match matches.subcommand() {
+        Some((_, found)) => run_of(alloc, words, found),
+        None => Err(StreamArgFault::Arg(ArgFault::Missing)),
+    }
 }
 
 /// Reads the words of a command line with `--stream`, the program's name first. Each number is the decimal that was typed, and in its
@@ -172,23 +202,10 @@ fn run_of(
 pub fn read_stream_args(alloc: Global, words: &[String]) -> Result<StreamAsked, StreamArgFault>
     ensures range { IfOk result IsStreamInRange }
     ensures typed { IfOk result (WasStreamTyped words.now) }
+    ensures refused { IfErr result (IsStreamRefused words.now) }
 {
-    if words.len() > MAX_WORDS {
-        return Err(StreamArgFault::Arg(ArgFault::Many));
-    }
-    let command = match stream_command(alloc) {
-        Ok(command) => command,
-        Err(_) => return Err(StreamArgFault::Arg(ArgFault::Memory)),
-    };
-    match command.try_get_matches_from(words) {
-        Ok(matches) => match matches.subcommand() {
-            Some((_, found)) => run_of(alloc, words, found),
-            None => Err(StreamArgFault::Arg(ArgFault::Missing)),
-        },
-        Err(error) if !error.use_stderr() => match format!(in alloc; "{error}") {
-            Ok(text) => Ok(StreamAsked::Help(text)),
-            Err(_) => Err(StreamArgFault::Arg(ArgFault::Memory)),
-        },
-        Err(error) => Err(StreamArgFault::Arg(ArgFault::Words(error))),
+    match parse(alloc, words, STREAM_COMMANDS)? {
+        Parsed::Help(text) => Ok(StreamAsked::Help(text)),
+        Parsed::Found(matches) => stream_in(alloc, words, &matches),
     }
 }

@@ -4,6 +4,7 @@ ghost use Rattle.std.specs.Prelude.{◌≡◌, ◌≢◌, ◌⊎◌, ◌++◌, �
 ghost use Rattle.std.specs.Fmt.{decimal};
 ghost use Rattle.tp_words.specs.Ends.{AreEnds, AreSound, IsFaultOf, IsFile, IsFirstFault, IsHave, IsNoFile, IsNoHave, IsNoPort, IsPort, IsRefused, IsTextFault, WereTyped, fault_at, file_text, have_text, id_of, reader_fault, standard_count};
 ghost use Rattle.tp_words.specs.Given.{all_given, found_texts};
+ghost use Rattle.tp_words.specs.Standard.{AreStandard};
 ghost use Rattle.tp_words.specs.declared.stream_ends.EndsFault.TheVariants.{File, Have, Discard, Missing, Memory};
 ghost use Rattle.tp_model.specs.declared.limits.TheConstants.{MAX_PORTS};
 ghost use Rattle.tp_stream_files.specs.Named.{standard_port};
@@ -380,6 +381,7 @@ fn fault_of(ends: &Ends) -> Option<EndsFault>
 pub fn ends_of(alloc: Global, words: &[String], found: &ArgMatches) -> Result<Ends, EndsFault>
     ensures ends { IfOk result AreEnds }
     ensures typed { IfOk result (WereTyped words.now) }
+    ensures standard { IfOk result (AreStandard words.now) }
     ensures refused { IfErr result (IsRefused found.now words.now) }
 {
     let ends = Ends {

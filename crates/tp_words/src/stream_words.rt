@@ -1,12 +1,10 @@
 //! The words that `clap` takes with `run --stream`.
 
 use crate::forms::{EXPLAIN, WAIT_LOCK, WRITTEN};
-use crate::words::{Form, Word, command_of, program};
-use clap::Command;
-use std::alloc::{AllocError, Global};
+use crate::words::{Form, Word};
 
 /// What `tpnet run --stream` refuses.
-const STREAM_REFUSALS: &str =
+pub const STREAM_REFUSALS: &str =
     "P is a port's number, as in tpnet show. Byte number q of port P stands at offset q of its FILE.
 Each port with a wire needs an --out or a --discard.
 Without --turns and --until-quiet it runs until its ends are gone: whoever reads standard output has ended, or all input has come
@@ -68,7 +66,7 @@ pub fn stream_option(words: &[String]) -> Option<&'static str> {
 }
 
 /// `run` with `--stream`: where the bytes of ports go and come from, how turns are made, and when the stream ends.
-const STREAM: Form = Form {
+pub const STREAM: Form = Form {
     name: "run",
     about: "Opens a device and runs its network, whose ports live on files, standard input and standard output for as long as it runs",
     words: &[
@@ -129,8 +127,3 @@ const STREAM: Form = Form {
         ),
     ],
 };
-
-/// The words that the program takes with `run --stream`.
-pub fn stream_command<'a>(alloc: Global) -> Result<Command<'a>, AllocError> {
-    program(alloc)?.subcommand(command_of(alloc, &STREAM, STREAM_REFUSALS)?)
-}

@@ -8,6 +8,7 @@ use crate::help::{
     BACKUP_REFUSALS, CHECK_REFUSALS, COMPACT_REFUSALS, FORMAT_REFUSALS, OPENING_REFUSALS,
     RUN_REFUSALS, STATUS_REFUSALS, STOP_REFUSALS, TRACE_REFUSALS, TRY_REFUSALS,
 };
+use crate::stream_words::{STREAM, STREAM_REFUSALS};
 use clap::{Arg, ArgAction, Command};
 use std::alloc::{AllocError, Global};
 
@@ -44,7 +45,7 @@ pub struct Form {
 
 /// A command by its name.
 #[derive(Clone, Copy)]
-enum Name {
+pub enum Name {
     Try,
     Trace,
     Check,
@@ -60,10 +61,12 @@ enum Name {
     Image,
     Journal,
     Port,
+    /// `run` with `--stream`.
+    Stream,
 }
 
 /// The commands, in the order in which help lists them.
-const NAMES: &[Name] = &[
+pub const COMMANDS: &[Name] = &[
     Name::Try,
     Name::Trace,
     Name::Check,
@@ -80,6 +83,9 @@ const NAMES: &[Name] = &[
     Name::Journal,
     Name::Port,
 ];
+
+/// `run` with `--stream`, which is read apart from the others.
+pub const STREAM_COMMANDS: &[Name] = &[Name::Stream];
 
 /// The command of that name.
 fn form_of(name: Name) -> Form {
@@ -99,6 +105,7 @@ fn form_of(name: Name) -> Form {
         Name::Image => IMAGE,
         Name::Journal => JOURNAL,
         Name::Port => PORT,
+        Name::Stream => STREAM,
     }
 }
 
@@ -114,6 +121,7 @@ fn refusals_of(name: Name) -> &'static str {
         Name::Compact => COMPACT_REFUSALS,
         Name::Backup => BACKUP_REFUSALS,
         Name::Status => STATUS_REFUSALS,
+        Name::Stream => STREAM_REFUSALS,
         Name::Recover | Name::Show | Name::Node | Name::Image | Name::Journal | Name::Port => {
             OPENING_REFUSALS
         }
@@ -170,7 +178,7 @@ fn arg_of<'a>(alloc: Global, word: &Word) -> Result<Arg<'a>, AllocError> {
 }
 
 /// A command as `clap` takes it; its help ends with what it refuses.
-pub fn command_of<'a>(
+fn command_of<'a>(
     alloc: Global,
     form: &Form,
     refusals: &'static str,
@@ -185,18 +193,18 @@ pub fn command_of<'a>(
 }
 
 /// The program, with no commands yet.
-pub fn program<'a>(alloc: Global) -> Result<Command<'a>, AllocError> {
+fn program<'a>(alloc: Global) -> Result<Command<'a>, AllocError> {
     Command::new(alloc, "tpnet")
         .subcommand_required(true)
         .bin_name("tpnet")
 }
 
-/// The words that the program takes.
-pub fn command<'a>(alloc: Global) -> Result<Command<'a>, AllocError> {
+/// The words that the program takes for commands of these names.
+pub fn command<'a>(alloc: Global, names: &[Name]) -> Result<Command<'a>, AllocError> {
     let mut command = program(alloc)?.version(VERSION).about(
         "A network of transputers whose computations survive any crash",
     );
-    for name in NAMES {
+    for name in names {
         let added = command_of(alloc, &form_of(*name), refusals_of(*name))?;
         command = command.subcommand(added)?;
     }

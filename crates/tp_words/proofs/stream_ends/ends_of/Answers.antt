@@ -4,6 +4,8 @@ use Rattle.tp_words.specs.declared.stream_ends.EndsFault.{EndsFault}
 use Rattle.tp_words.specs.declared.stream_ends.EndsFault.TheVariants.{File, Have, Discard}
 use Rattle.tp_words.specs.declared.stream_ends.FileOption.TheVariants.{In}
 use Rattle.tp_words.proofs.OfEnds.{of_ends}
+use Rattle.tp_words.proofs.Standard.{standard_is}
+use Rattle.tp_words.specs.Given.{all_given}
 use Rattle.tp_words.proofs.Refused.{on_fault, told}
 use Rattle.tp_words.proofs.stream_ends.ends_of.Goals as goal
 
@@ -59,3 +61,12 @@ returns-in-Some-clause-refused c =
       discards = c.in_ok-discards_of.ensures.typed;
       ins = c.in_ok-files_of-2.ensures.typed;
     }) c.in-Some.ensures.fault
+
+pub returns-in-None-clause-standard : goal.returns-in-None-clause-standard
+returns-in-None-clause-standard c =
+    let words = c.args.words.now in
+    let sound = c.fault_of.ensures.none c.in-None.is in
+    record {
+      output = standard_is c.in_ok-files_of.field-0.items (all_given (codes "out") words) c.in_ok-files_of.ensures.typed c.in_ok-files_of.ensures.files sound.one_out;
+      input = standard_is c.in_ok-files_of-2.field-0.items (all_given (codes "in") words) c.in_ok-files_of-2.ensures.typed c.in_ok-files_of-2.ensures.files sound.one_in;
+    }

@@ -1,0 +1,21 @@
+-- Words that `clap` doesn't take.
+use Rattle.std.specs.Prelude.{◌≢◌, ◌≤◌, ◌<◌, List, length}
+use Rattle.std.specs.declared.alloc.Global.{Global}
+use Rattle.std.specs.declared.string.String.{String}
+use Rattle.clap.specs.Words.{kind_of}
+use Rattle.clap.specs.declared.error.Error.{Error}
+use Rattle.clap.specs.declared.error.kind.ErrorKind.TheVariants.{DisplayHelp, DisplayVersion}
+use Rattle.tp_words.specs.declared.arg_fault.ArgFault.{ArgFault}
+use Rattle.tp_words.specs.declared.arg_fault.ArgFault.TheVariants.{Words, Many, Memory}
+use Rattle.tp_words.specs.declared.args.TheConstants.{MAX_WORDS}
+
+-- what is said is neither help nor the version
+abbrev pub IsMistake : Error → Type 0
+IsMistake error = (kind_of error ≢ DisplayHelp) × (kind_of error ≢ DisplayVersion)
+
+-- Why words aren't taken. First they are counted; then `clap` reads them, or memory is refused.
+abbrev pub IsUnparsed : List (String Global) → ArgFault → Type 0
+IsUnparsed words Many = MAX_WORDS < length words
+IsUnparsed words (Words error) = (length words ≤ MAX_WORDS) × IsMistake error
+IsUnparsed words Memory = length words ≤ MAX_WORDS
+IsUnparsed words _ = ⊥

@@ -1,0 +1,58 @@
+-- Why the words of a stream ask for nothing, and what is told of them where several things are wrong.
+use Rattle.std.specs.Prelude.{◌≡◌, ◌⊎◌, ◌≤◌, ◌<◌, ℕ, false, List, [], ◌∷◌, IfSome, codes, length}
+use Rattle.std.specs.declared.alloc.Global.{Global}
+use Rattle.std.specs.declared.string.String.{String}
+use Rattle.clap.specs.Words.{first_value, found_of}
+use Rattle.clap.specs.declared.parser.matches.ArgMatches.{ArgMatches}
+use Rattle.tp_model.specs.declared.limits.TheConstants.{MAX_STEPS}
+use Rattle.tp_words.specs.declared.arg_fault.ArgFault.{ArgFault}
+use Rattle.tp_words.specs.declared.arg_fault.ArgFault.TheVariants.{Words, Many, Missing, Memory}
+use Rattle.tp_words.specs.declared.args.TheConstants.{MAX_TURNS, MAX_WORDS}
+use Rattle.tp_words.specs.declared.stream_args.StreamArgFault.{StreamArgFault}
+use Rattle.tp_words.specs.declared.stream_args.StreamArgFault.TheVariants.{Arg, Ends}
+use Rattle.tp_words.specs.declared.stream_args.TheConstants.{MAX_PROGRESS}
+use Rattle.tp_words.specs.Ends.{IsRefused}
+use Rattle.tp_words.specs.Numbers.{AllFit, FoundOther, IsFirstNumberFault, NumberOption, every_option, wait_option}
+use Rattle.tp_words.specs.Parsing.{IsMistake}
+use Rattle.tp_words.specs.Typed.{has_word}
+
+-- the options of a stream that take numbers, in the order in which they are looked at
+abbrev pub number_options : List NumberOption
+number_options =
+    record { id = codes "turns"; least = 0; most = MAX_TURNS }
+    ∷ record { id = codes "progress-every"; least = 1; most = MAX_PROGRESS }
+    ∷ record { id = codes "quantum"; least = 1; most = MAX_STEPS }
+    ∷ record { id = codes "spare"; least = 0; most = 18446744073709551615 }
+    ∷ every_option
+    ∷ wait_option
+    ∷ []
+
+-- what `clap` found for a word, where it found something, is none of the words
+abbrev pub FoundNoWord : ArgMatches → List (String Global) → List ℕ → Type 0
+FoundNoWord found words id = IfSome (first_value (found_of found) id) (λ text. has_word text words ≡ false)
+
+-- why the file that ends it, and its device, are refused: memory was, or `clap` found something else
+abbrev pub IsWordFault : ArgMatches → List (String Global) → ArgFault → Type 0
+IsWordFault found words Memory = Unit {0}
+IsWordFault found words Missing = FoundOther found words (codes "stop-file") ⊎ FoundNoWord found words (codes "DEVICE")
+IsWordFault found words _ = ⊥
+
+-- Why what `clap` found asks for no stream. First its numbers are looked at, one behind the other, then its words, and then the ends of its ports:
+-- what is wrong with one of these is told where nothing is with those in front of it.
+abbrev pub IsRunRefused : ArgMatches → List (String Global) → StreamArgFault → Type 0
+IsRunRefused found words (Arg fault) =
+    IsFirstNumberFault found words number_options fault ⊎ (AllFit words number_options × IsWordFault found words fault)
+IsRunRefused found words (Ends fault) = AllFit words number_options × IsRefused found words fault
+
+-- why what `clap` found among the words is refused: it found no command, or that one is
+abbrev pub IsMatchRefused : List (String Global) → StreamArgFault → Type 0
+IsMatchRefused words fault = (fault ≡ Arg Missing) ⊎ ((found : ArgMatches) × IsRunRefused found words fault)
+
+-- Why words ask for no stream. First they are counted; then `clap` reads them; and then it is looked at what it found. Memory may be refused
+-- at any place behind the count, and `clap` may find other values than those that were typed.
+abbrev pub IsStreamRefused : List (String Global) → StreamArgFault → Type 0
+IsStreamRefused words (Arg Many) = MAX_WORDS < length words
+IsStreamRefused words (Arg (Words error)) = (length words ≤ MAX_WORDS) × IsMistake error
+IsStreamRefused words (Arg Memory) = length words ≤ MAX_WORDS
+IsStreamRefused words (Arg Missing) = length words ≤ MAX_WORDS
+IsStreamRefused words fault = (length words ≤ MAX_WORDS) × (found : ArgMatches) × IsRunRefused found words fault

@@ -1,0 +1,35 @@
+//! What `clap` makes of words.
+
+ghost use Rattle.std.specs.Prelude.{◌≤◌, IfErr, OnOk, length};
+ghost use Rattle.tp_words.specs.Parsing.{IsUnparsed};
+ghost use Rattle.tp_words.specs.declared.args.TheConstants.{MAX_WORDS};
+
+use crate::arg_fault::ArgFault;
+use crate::args::MAX_WORDS;
+use crate::words::{Name, command};
+use clap::ArgMatches;
+use std::alloc::Global;
+
+/// What `clap` makes of words that it takes.
+#[derive(Drop)]
+pub enum Parsed<'a> {
+    /// How to call the program, or which version it is.
+    Help(String),
+    /// What it found among them.
+    Found(ArgMatches<'a>),
+}
+
+/// Reads the words of a command line by `clap`, as those of a command of these names. Asking for help is no fault.
+pub fn parse<'a>(alloc: Global, words: &'a [String], names: &[Name]) -> Result<Parsed<'a>, ArgFault>
+    ensures few { OnOk result (length words.now ≤ MAX_WORDS) }
+    ensures refused { IfErr result (IsUnparsed words.now) }
+{
+    if words.len() > MAX_WORDS {
+        return Err(ArgFault::Many);
+    }
+    match command(alloc, names)?.try_get_matches_from(words) {
+        Ok(matches) => Ok(Parsed::Found(matches)),
+        Err(error) if error.use_stderr() => Err(ArgFault::Words(error)),
+        Err(error) => Ok(Parsed::Help(format!(in alloc; "{error}")?)),
+    }
+}
