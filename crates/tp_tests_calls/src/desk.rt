@@ -12,6 +12,7 @@ use tp_disk::MemDisk;
 use tp_flush::{FlushFault, Flusher};
 use tp_ready::Pass;
 use tp_shared::{Naming, NoGate, Sights};
+use tp_tests_begun::flushing;
 use tp_tests_begun::opening::{Opening, begin_with};
 use tp_work::{ConfirmFault, Net, OfferFault, Seat, Session, ShownFault, TurnFault};
 
@@ -38,7 +39,7 @@ pub(crate) struct Desk<J: Naming> {
 }
 
 /// One of the seats.
-fn seat_of<J: Naming>(net: &Net<J, NoGate>, seats: Vec<Seat<J>>) -> Option<Seat<J>>
+pub(crate) fn seat_of<J: Naming>(net: &Net<J, NoGate>, seats: Vec<Seat<J>>) -> Option<Seat<J>>
     requires { All (λ seat. (seat.hand.of ≡ Some net.now.queue) × (seat.slips ≡ [])) seats.items }
     ensures { IfSome result (λ seat. seat.hand.of ≡ Some net.now.queue) }
 {
@@ -106,8 +107,7 @@ impl<J: Naming> Desk<J> {
         rt: &R,
         alloc: Global,
     ) -> Result<(u64, bool), FlushFault> {
-        let flushed = self.flusher.turn(rt, alloc, self.net.shared())?;
-        Ok((flushed.mark, flushed.switched))
+        flushing::flush(rt, alloc, self.net.shared(), &mut self.flusher)
     }
 
     /// A snapshot begins.
@@ -156,10 +156,9 @@ impl<J: Naming> Desk<J> {
         }
     }
 
-    /// The network, and the device as a crash leaves it.
-    pub(crate) fn crash(self) -> (Net<J, NoGate>, MemDisk) {
-        let Desk { net, flusher, .. } = self;
-        let disk = MemDisk::of_bytes(flusher.into_disk().crash());
-        (net, disk)
+    /// The device as a crash leaves it.
+    pub(crate) fn crash(self) -> MemDisk {
+        let Desk { flusher, .. } = self;
+        MemDisk::of_bytes(flusher.into_disk().crash())
     }
 }

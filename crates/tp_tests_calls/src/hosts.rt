@@ -1,9 +1,10 @@
 //! What a worker and a host get, call by call.
 
-ghost use Rattle.std.specs.Prelude.{◌≡◌, [], All, IfOk, IfSome, Some};
+ghost use Rattle.std.specs.Prelude.{◌≡◌, IfOk, Some};
 ghost use Rattle.tp_shared.specs.Named.{Names};
 
 use crate::copied::formatted;
+use crate::desk::seat_of;
 use std::alloc::Global;
 use std::marker::Brand;
 use std::process::Abort;
@@ -11,7 +12,7 @@ use std::sync::Wait;
 use std::test::Fail;
 use tp_model::{Entry, Received, Token};
 use tp_ready::{Pass, Raiser};
-use tp_shared::{Naming, NoGate, Parts, Sights};
+use tp_shared::{Naming, NoGate, Parts, Receipt, Sights};
 use tp_tests_begun::opening::opening_of;
 use tp_work::{ConfirmFault, Net, OfferFault, Seat, Session, ShownFault, TurnFault};
 
@@ -118,6 +119,45 @@ fn is_journalled<J: Naming, R: Wait>(rt: &R, net: &Net<J, NoGate>) -> bool {
             .all(|(one, other)| one.entry == *other)
 }
 
+/// Shows nothing until the mark is above the letter's Take, and confirms nothing.
+fn play_unshown<J: Naming, R: Wait + Abort>(
+    rt: &R,
+    alloc: Global,
+    session: &Session<'_, J>,
+    pass: &mut Pass,
+)
+    requires { pass.old.mark ≡ J.mark }
+    ensures { pass.new.mark ≡ J.mark }
+{
+    assert!(rt; is_shown(rt, alloc, session, pass, 0, Ok(b"")));
+    assert!(rt; is_shown(rt, alloc, session, pass, 1, Err(ShownFault::TooNew)));
+    assert!(rt;
+        matches!(
+            session.confirm(rt, 1, pass, &mut Sights::new()),
+            Err(ConfirmFault::NotShown)
+        )
+    );
+}
+
+/// Says of a receipt that it is stored once the mark is its number.
+fn play_stored<J: Naming, R: Wait + Abort>(
+    rt: &R,
+    session: &Session<'_, J>,
+    net: &Net<J, NoGate>,
+    raiser: &mut Raiser,
+    receipt: &Receipt<J>,
+    pass: &mut Pass,
+)
+    requires { (pass.old.mark ≡ J.mark) × (raiser.old.mark ≡ J.mark) }
+    ensures { (pass.new.mark ≡ J.mark) × (raiser.new.mark ≡ J.mark) }
+{
+    assert!(rt; !session.is_stored(receipt, pass));
+    net.shared().mark().raise(raiser, 5);
+    assert!(rt; !session.is_stored(receipt, pass));
+    net.shared().mark().raise(raiser, 6);
+    assert!(rt; session.is_stored(receipt, pass));
+}
+
 /// Shows the letter once the mark is above its Take, and confirms it once; then what was offered is stored once the mark says so.
 fn play_outputs<J: Naming, R: Wait + Abort>(
     rt: &R,
@@ -130,25 +170,14 @@ fn play_outputs<J: Naming, R: Wait + Abort>(
     requires { (pass.old.mark ≡ J.mark) × (raiser.old.mark ≡ J.mark) }
     ensures { (pass.new.mark ≡ J.mark) × (raiser.new.mark ≡ J.mark) }
 {
-    assert!(rt; is_shown(rt, alloc, session, pass, 0, Ok(b"")));
-    assert!(rt; is_shown(rt, alloc, session, pass, 1, Err(ShownFault::TooNew)));
-    assert!(rt;
-        matches!(
-            session.confirm(rt, 1, pass, &mut Sights::new()),
-            Err(ConfirmFault::NotShown)
-        )
-    );
+    play_unshown(rt, alloc, session, pass);
     net.shared().mark().raise(raiser, 2);
     assert!(rt; is_shown(rt, alloc, session, pass, 0, Ok(b"A")));
     let Ok(receipt) = session.confirm(rt, 1, pass, &mut Sights::new()) else {
         panic!(rt; "the letter is confirmed")
     };
     assert!(rt; receipt.number() == 6);
-    assert!(rt; !session.is_stored(&receipt, pass));
-    net.shared().mark().raise(raiser, 5);
-    assert!(rt; !session.is_stored(&receipt, pass));
-    net.shared().mark().raise(raiser, 6);
-    assert!(rt; session.is_stored(&receipt, pass));
+    play_stored(rt, session, net, raiser, &receipt, pass);
     assert!(rt; is_shown(rt, alloc, session, pass, 0, Err(ShownFault::TooOld)));
     assert!(rt; is_shown(rt, alloc, session, pass, 1, Ok(b"")));
     assert!(rt; matches!(session.confirm(rt, 1, pass, &mut Sights::new()), Ok(_)));
@@ -174,14 +203,6 @@ fn play_broken<J: Naming, R: Wait + Abort>(
     }
 }
 
-fn next_seat<J: Naming>(net: &Net<J, NoGate>, seats: &mut Vec<Seat<J>>) -> Option<Seat<J>>
-    requires { All (λ seat. (seat.hand.of ≡ Some net.now.queue) × (seat.slips ≡ [])) seats.old.items }
-    ensures { IfSome result (λ seat. seat.hand.of ≡ Some net.now.queue) }
-{
-    let _net = net;
-    seats.pop()
-}
-
 fn play<J: Naming, R: Wait + Abort>(
     rt: &R,
     alloc: Global,
@@ -191,9 +212,9 @@ fn play<J: Naming, R: Wait + Abort>(
     requires names { Names J.roll J.first J.start J.node J.mark J.flusher J.sights J.room parts }
     requires mark { raiser.mark ≡ J.mark }
 {
-    let (net, mut seats, _key) = Net::<J, NoGate>::start(rt, alloc, parts, 16, 1, NoGate)?;
+    let (net, seats, _key) = Net::<J, NoGate>::start(rt, alloc, parts, 16, 1, NoGate)?;
     let mut pass = net.shared().mark().pass(&mut raiser);
-    let Some(mut seat) = next_seat(&net, &mut seats) else {
+    let Some(mut seat) = seat_of(&net, seats) else {
         panic!(rt; "a seat is there")
     };
     assert!(rt; Session::new(net.shared(), 1).is_none());

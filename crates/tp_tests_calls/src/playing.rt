@@ -16,9 +16,9 @@ use std::test::Fail;
 use tp_disk::MemDisk;
 use tp_model::Entry;
 use tp_recover::{Opened, open};
-use tp_shared::{Naming, NoGate};
+use tp_shared::Naming;
 use tp_tests_begun::opening::{Opening, opening_with};
-use tp_work::{Net, OfferFault, TurnFault};
+use tp_work::{OfferFault, TurnFault};
 
 /// Whether a step goes as it should, where `offered` bytes were offered first, and the next entry gets the number `next` then.
 fn goes<J: Naming, R: Wait>(
@@ -90,16 +90,20 @@ fn is_left(opened: &Opened, story: &Story, next: u64) -> bool {
         && are_kept(opened, offered, story.kept)
 }
 
-/// The number that the next entry gets.
-fn next_of<J: Naming, R: Wait>(rt: &R, net: &Net<J, NoGate>) -> u64 {
-    net.shared().book().lock(rt).book().next()
-}
-
 /// What is left of a device, where memory is refused once at most.
 fn opened_again(alloc: Global, disk: &mut MemDisk) -> Option<Opened> {
     match open(alloc, disk) {
         Ok(opened) => Some(opened),
         Err(_) => open(alloc, disk).ok(),
+    }
+}
+
+/// Whether a device opens to what the story leaves.
+fn leaves(alloc: Global, disk: MemDisk, story: &Story, next: u64) -> bool {
+    let mut disk = disk;
+    match opened_again(alloc, &mut disk) {
+        Some(opened) => is_left(&opened, story, next),
+        None => false,
     }
 }
 
@@ -114,14 +118,9 @@ fn play<J: Naming, R: Wait + Abort>(
     requires spelt { IsSpelt opening.opened.value }
 {
     let mut desk = desk::begin::<J, R>(rt, alloc, opening).ok()?;
-    if !are_gone(rt, alloc, &mut desk, story) {
-        return Some(false);
-    }
-    let (net, mut disk) = desk.crash();
-    let Some(opened) = opened_again(alloc, &mut disk) else {
-        return Some(false);
-    };
-    Some(is_left(&opened, story, next_of(rt, &net)))
+    let are_gone = are_gone(rt, alloc, &mut desk, story);
+    let next = desk.next(rt);
+    Some(leaves(alloc, desk.crash(), story, next) && are_gone)
 }
 
 /// Plays a story under new names.

@@ -5,7 +5,7 @@ ghost use Rattle.tp_model.specs.declared.limits.TheConstants.{MAX_STEPS};
 ghost use Rattle.tp_shared.specs.Named.{Names};
 ghost use Rattle.tp_tests_begun.specs.Spelt.{IsSpelt};
 
-use crate::script::{Done, make_turns, only_seat};
+use crate::script::{Done, make_turns, offer, only_seat};
 use std::alloc::Global;
 use std::marker::Brand;
 use std::sync::Wait;
@@ -14,7 +14,8 @@ use tp_disk::MemDisk;
 use tp_flush::{FlushFault, Flusher};
 use tp_model::{Entry, Received};
 use tp_node::Why;
-use tp_shared::{Naming, NoGate, Shared, Sights};
+use tp_shared::{Naming, NoGate, Shared};
+use tp_tests_begun::flushing::flush;
 use tp_tests_begun::opening::{Opening, begin_with};
 use tp_work::{Net, Seat, Session, Turn};
 
@@ -109,10 +110,7 @@ fn is_flushed<J: Naming, R: Wait>(
     switched: bool,
 ) -> bool {
     let next = next_of(rt, shared);
-    match flusher.turn(rt, alloc, shared) {
-        Ok(flushed) => flushed.mark == next && flushed.switched == switched,
-        Err(_) => false,
-    }
+    flush(rt, alloc, shared, flusher) == Ok((next, switched))
 }
 
 /// Whether a node and the host make a turn, and then the flusher one, as many times as is told.
@@ -128,9 +126,8 @@ fn are_groups<J: Naming, R: Wait>(
     ensures { seat.new.hand.of ≡ Some net.now.queue }
 {
     for _ in 0..count {
-        let is_ran = net.turn(rt, seat).is_ok();
-        let is_taken = net.turn(rt, seat).is_ok();
-        if !is_ran || !is_taken || !is_flushed(rt, alloc, net.shared(), flusher, false) {
+        let are_made = make_turns(rt, net, seat, 2) == Done::All;
+        if !are_made || !is_flushed(rt, alloc, net.shared(), flusher, false) {
             return false;
         }
     }
@@ -153,16 +150,13 @@ fn does<J: Naming, R: Wait>(
     let shared = net.shared();
     match act {
         Act::Turn(number, takes, ran) => is_turned(rt, net, seat, number, takes, ran),
-        Act::Offer(at, bytes) => session.offer(rt, at, bytes, &mut Sights::new()).is_ok(),
+        Act::Offer(at, bytes) => offer(rt, session, at, bytes).is_ok(),
         Act::Begin => flusher.snapshot(rt, alloc, shared).answer().is_ok(),
         Act::Book(next, is_whole) => is_book(rt, shared, next, is_whole),
         Act::Flush(switched) => is_flushed(rt, alloc, shared, flusher, switched),
         Act::Groups(count) => are_groups(rt, alloc, net, seat, flusher, count),
         Act::Turns(count) => make_turns(rt, net, seat, count) == Done::All,
-        Act::Fails => matches!(
-            flusher.turn(rt, alloc, shared),
-            Err(FlushFault::DeviceFailed)
-        ),
+        Act::Fails => flush(rt, alloc, shared, flusher) == Err(FlushFault::DeviceFailed),
     }
 }
 
