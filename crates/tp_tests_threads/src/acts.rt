@@ -5,9 +5,11 @@ ghost use Rattle.tp_model.specs.declared.limits.TheConstants.{MAX_STEPS};
 ghost use Rattle.tp_shared.specs.Named.{Names};
 ghost use Rattle.tp_tests_threads.specs.Spelt.{IsSpelt};
 
+use crate::desk::seat_of;
 use crate::flushing::flush;
 use crate::opening::{Opening, begin_with};
-use crate::script::{Done, make_turns, offer, only_seat};
+use crate::plain::next_of;
+use crate::script::{Done, make_turns, offer};
 use std::alloc::Global;
 use std::marker::Brand;
 use std::sync::Wait;
@@ -94,11 +96,6 @@ fn is_turned<J: Naming, R: Wait>(
 fn is_book<J: Naming, R: Wait>(rt: &R, shared: &Shared<J>, next: u64, is_whole: bool) -> bool {
     let held = shared.book().lock(rt);
     held.book().next() == next && held.book().whole().is_some() == is_whole
-}
-
-/// The number that the next entry gets.
-fn next_of<J: Naming, R: Wait>(rt: &R, shared: &Shared<J>) -> u64 {
-    shared.book().lock(rt).book().next()
 }
 
 /// Whether a turn of the flusher brings all to the device, and switches its areas or doesn't.
@@ -195,7 +192,7 @@ fn are_done<J: Naming, R: Wait>(
 ) -> bool
     requires { All (λ seat. (seat.hand.of ≡ Some net.now.queue) × (seat.slips ≡ [])) seats.items }
 {
-    let Some(mut seat) = only_seat(net, seats) else {
+    let Some(mut seat) = seat_of(net, seats) else {
         return false;
     };
     let Some(session) = Session::new(net.shared(), 0) else {

@@ -2,6 +2,7 @@
 
 use crate::flushing::flush;
 use crate::hold::Hold;
+use crate::plain::next_of;
 use crate::turns::turn_node;
 use std::alloc::Global;
 use std::sync::Wait;
@@ -13,11 +14,6 @@ use tp_shared::{Gate, Naming, NoGate, Shared};
 /// Whether the node `number` makes a turn, and a run with it.
 fn is_run<J: Naming, G: Gate, R: Wait>(rt: &R, shared: &Shared<J>, gate: &G, number: u8) -> bool {
     turn_node(rt, shared, gate, number).unwrap_or(0) > 0
-}
-
-/// The number that the next entry gets.
-fn next_of<J: Naming, R: Wait>(rt: &R, shared: &Shared<J>) -> u64 {
-    shared.book().lock(rt).book().next()
 }
 
 /// Whether the flusher's turn is done while the node `number` is held, at a gate that holds it behind its run.

@@ -1,5 +1,6 @@
 //! Devices of one node, and of its first turns, which are copied.
 
+use crate::left;
 use std::alloc::Global;
 use std::test::Fail;
 use tp_area::format;
@@ -84,8 +85,7 @@ pub(crate) fn turned_behind_a_wide_head(alloc: Global) -> Result<Vec<u8>, Fail> 
 
 /// What a device opens to.
 pub(crate) fn opened(alloc: Global, bytes: &[u8]) -> Result<Opened, Fail> {
-    let mut disk = MemDisk::of_bytes(Vec::from_slice(alloc, bytes)?);
-    Ok(open(alloc, &mut disk)?)
+    left::opened(alloc, MemDisk::of_bytes(Vec::from_slice(alloc, bytes)?))
 }
 
 /// Whether a device opens.

@@ -146,7 +146,7 @@ fn failing(alloc: Global, of_source: bool, fault: CopyFault) -> Result<(u64, boo
 #[test]
 fn a_call_that_fails_is_said(rt: HostRuntime) -> Result<(), Fail> {
     let reads = failing(rt.alloc(), true, CopyFault::ReadFailed)?;
-    assert_eq!(rt; reads, (READS, true));
+    assert!(rt; reads == (READS, true));
     let (calls, is_said) = failing(rt.alloc(), false, CopyFault::DeviceFailed)?;
     assert!(rt; is_said && calls > WRITES);
     Ok(())

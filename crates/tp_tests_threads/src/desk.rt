@@ -6,6 +6,7 @@ ghost use Rattle.tp_tests_threads.specs.Spelt.{IsSpelt};
 
 use crate::flushing;
 use crate::opening::{Opening, begin_with};
+use crate::plain::next_of;
 use std::alloc::{AllocError, Global};
 use std::process::Abort;
 use std::sync::Wait;
@@ -77,7 +78,7 @@ impl<J: Naming> Desk<J> {
 
     /// The number that the next entry gets.
     pub(crate) fn next<R: Wait>(&self, rt: &R) -> u64 {
-        self.net.shared().book().lock(rt).book().next()
+        next_of(rt, self.net.shared())
     }
 
     /// Whether a snapshot runs.

@@ -5,6 +5,7 @@ use std::test::Fail;
 use tp_area::format;
 use tp_disk::MemDisk;
 use tp_net::Topology;
+use tp_tests_fixtures::place;
 
 /// Bytes of an area, and of the device, which has room for a head of either version.
 const AREA: u64 = 131_072;
@@ -47,12 +48,6 @@ pub(crate) const BYTES: &[(usize, &[u8])] = &[
 
 /// The process begins where it goes round, and so makes as many steps as a turn has.
 pub(crate) const ROUND: (usize, &[u8]) = (4, &[0x0B]);
-
-pub(crate) fn place(image: &mut [u8], at: usize, bytes: &[u8]) {
-    for (slot, byte) in image.iter_mut().skip(at).zip(bytes.iter()) {
-        *slot = *byte;
-    }
-}
 
 fn image(alloc: Global) -> Result<Vec<u8>, AllocError> {
     let mut image = Vec::from_elem(alloc, 0u8, 172 + 4096)?;

@@ -1,6 +1,7 @@
 //! Many entries at once: in one turn of the flusher, around the most that 16 bits count, and behind a cut.
 
 use crate::acts::Act::{Begin, Book, Flush, Turns};
+use crate::left::opened;
 use crate::small::{Network, Program};
 use crate::worked::left_by;
 use crate::worked_stories::{COUNTS, Story};
@@ -8,7 +9,6 @@ use std::alloc::Global;
 use std::sync::Wait;
 use std::test::Fail;
 use tp_disk::MemDisk;
-use tp_recover::open;
 use tp_tests_fixtures::ONE_NODE;
 
 /// A node that never stops, so that each of its turns is an entry, and every other turn is its own. The journal has room for them all.
@@ -60,8 +60,7 @@ fn keeps<R: Wait>(
     let Some(bytes) = left_by(rt, alloc, story, None, false)? else {
         return Ok(false);
     };
-    let mut disk = MemDisk::of_bytes(bytes);
-    let opened = open(alloc, &mut disk)?;
+    let opened = opened(alloc, MemDisk::of_bytes(bytes))?;
     let kept = opened.kept().len() as u64;
     Ok(opened.base() == base && opened.next() == next && kept == next - base)
 }

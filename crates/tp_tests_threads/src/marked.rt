@@ -1,11 +1,12 @@
 //! A device of four nodes, in memory, where each page of a node has a mark of its own.
 
-use crate::device::{BYTES, ROUND, formatted_with, place};
+use crate::device::{BYTES, ROUND, formatted_with};
 use std::alloc::{AllocError, Global};
 use std::test::Fail;
 use tp_disk::MemDisk;
 use tp_model::limits::{IMAGE_HEAD_BYTES, PAGE_BYTES};
 use tp_net::Topology;
+use tp_tests_fixtures::place;
 
 /// Four nodes in a ring. Link 0 of the first goes to a port.
 const TEXT: &[u8] =

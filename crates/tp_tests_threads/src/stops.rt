@@ -1,5 +1,6 @@
 //! A script whose device fails, or stops it, at each of its calls: what the device then opens to, and how it goes on.
 
+use crate::copied::opened;
 use crate::remains::{Left, calls_of, ended, fresh, kept, known, recovered, run, untold};
 use crate::script::{Done, Step};
 use crate::tears::{EACH, SOME, Tear, fault_at};
@@ -10,7 +11,6 @@ use std::io::Write;
 use std::process::Abort;
 use std::sync::Wait;
 use std::test::Fail;
-use tp_disk::MemDisk;
 use tp_model::Form;
 use tp_recover::{Unopened, open};
 
@@ -169,8 +169,7 @@ impl Script {
 /// Whether a device that was opened is what the script leaves: its first area was written anew, and of the `next` entries the last run
 /// alone isn't in its cut.
 pub(crate) fn is_last(alloc: Global, bytes: &[u8], next: u64) -> Result<bool, Fail> {
-    let mut disk = MemDisk::of_bytes(Vec::from_slice(alloc, bytes)?);
-    let opened = open(alloc, &mut disk)?;
+    let opened = opened(alloc, bytes)?;
     Ok(
         !opened.second()
             && opened.generation() == 3
@@ -219,8 +218,7 @@ fn opened_and_left<R: Wait>(rt: &R, alloc: Global) -> Result<(u64, Left), Fail> 
 fn an_opening_whose_device_fails_changes_nothing(rt: HostRuntime) -> Result<(), Fail> {
     let (calls, left) = opened_and_left(&rt, rt.alloc())?;
     let opened = first_opened(rt.alloc(), &left.bytes, calls)?;
-    assert!(rt; calls > 0);
-    assert_eq!(rt; opened, None);
+    assert!(rt; calls > 0 && opened.is_none());
     Ok(())
 }
 
@@ -254,10 +252,11 @@ fn tell_each<R: AllocGlobal + Wait + Abort, O: Write>(
     tears: &[Tear],
     out: &mut O,
 ) -> Result<(), Fail> {
-    let found = end_each(rt, rt.alloc(), first, tears)?;
-    assert!(rt; found.is_ok(), "{found:?}");
-    if let Ok((ended, behind)) = found {
-        let _ = write!(out, "{ended} ended, {behind} checkpoints behind them\n");
+    match end_each(rt, rt.alloc(), first, tears)? {
+        Ok((ended, behind)) => {
+            let _ = write!(out, "{ended} ended, {behind} checkpoints behind them\n");
+        }
+        Err(call) => panic!(rt; "call {call}"),
     }
     Ok(())
 }

@@ -1,6 +1,7 @@
 //! Checkpoints that were worked out by hand, from a device that is formatted to what a crash leaves of it.
 
 use crate::acts::{play_in, turn};
+use crate::left::opened;
 use crate::opening::opening_with;
 use crate::plain::is_network;
 use crate::small::formatted_as;
@@ -14,7 +15,7 @@ use std::test::Fail;
 use tp_book::{NetParts, NetState, Numbered};
 use tp_disk::{MemDisk, PlannedFault};
 use tp_model::{Entry, Received, Token};
-use tp_recover::{Opened, open};
+use tp_recover::Opened;
 use tp_tests_fixtures::SECOND;
 
 /// Whether a piece stands at a place.
@@ -89,8 +90,7 @@ fn net_of(
     bytes: Vec<u8>,
     left: Option<&Left<'_>>,
 ) -> Result<Option<NetParts>, Fail> {
-    let mut disk = MemDisk::of_bytes(bytes);
-    let opened = open(alloc, &mut disk)?;
+    let opened = opened(alloc, MemDisk::of_bytes(bytes))?;
     if !left.is_none_or(|left| is_opened(&opened, left)) {
         return Ok(None);
     }
