@@ -69,12 +69,13 @@ C
     tar -C "$top" -c --exclude=incremental crates crates.txt HANDLES | tar -C "$work" -x
     turns=$work/crates/bench_turns
     mkdir -p "$turns/src" "$turns/specs" "$turns/proofs/time_in"
-    begun=$top/crates/tp_tests_begun
+    begun=$top/crates/tp_tests_threads
     cp "$top/bench/turns.rattle" "$turns/src/main.rt"
     cp "$begun/src/opening.rt" "$turns/src/"
-    cp "$begun/specs/"*.antt "$turns/specs/"
+    cp "$begun/specs/Spelt.antt" "$turns/specs/"
+    echo 'pub mod Spelt' > "$turns/specs/Lib.antt"
     cp -r "$begun/proofs/opening" "$turns/proofs/"
-    cp "$top/crates/tp_tests_gate/proofs/scenes/play_in/"*.antt "$turns/proofs/time_in/"
+    cp "$begun/proofs/scenes/play_in/"*.antt "$turns/proofs/time_in/"
     mkdir -p "$turns/proofs/make_turns" "$turns/proofs/make_rounds"
     for pair in make_turns:loop-number make_rounds:loop; do
         cat > "$turns/proofs/${pair%:*}/Invariants.antt" <<A
@@ -85,8 +86,8 @@ abbrev pub invariant-${pair#*:} : goal.invariant-${pair#*:}
 invariant-${pair#*:} g l = l.seat.hand.of ≡ Some l.net.queue
 A
     done
-    find "$turns" -type f | xargs sed -i 's/tp_tests_\(begun\|gate\)/bench_turns/g; s/proofs\.scenes\.play_in/proofs.time_in/g; s/-play\b/-time_all/g; s/play-requires/time_all-requires/g'
-    sed -n 's/ tp_tests_opening//; s/^tp_tests_begun:/bench_turns:/p' "$top/crates.txt" >> "$work/crates.txt"
+    find "$turns" -type f | xargs sed -i 's/tp_tests_threads/bench_turns/g; s/proofs\.scenes\.play_in/proofs.time_in/g; s/-play\b/-time_all/g; s/play-requires/time_all-requires/g'
+    sed -n 's/ tp_tests_[a-z]*//g; s/^tp_tests_threads:/bench_turns:/p' "$top/crates.txt" >> "$work/crates.txt"
     (cd "$turns" && rt run > "$work/build.log" 2>&1) || true
     [ -x "$turns/out/bench_turns" ] || { tail -20 "$work/build.log"; exit 1; }
     touch "$work/built"

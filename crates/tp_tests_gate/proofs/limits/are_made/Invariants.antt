@@ -1,6 +1,0 @@
-use Rattle.std.proofs.Common.{◌≡◌, [], Some}
-use Rattle.std.specs.Prelude.{All}
-use Rattle.tp_tests_gate.proofs.limits.are_made.Given as goal
-
-abbrev pub invariant-loop-place : goal.invariant-loop-place
-invariant-loop-place g l = All (λ seat. (seat.hand.of ≡ Some l.net.queue) × (seat.slips ≡ [])) l.seats.items

@@ -1,0 +1,112 @@
+//! Turns of two nodes really overlap: one is held after its run, and others go on.
+
+ghost use Rattle.std.specs.Prelude.{◌≡◌, ◌<◌, ◌≤◌, length};
+ghost use Rattle.tp_shared.specs.Named.{Names};
+
+use crate::device::formatted;
+use crate::hold::Hold;
+use crate::opening::opening_of;
+use crate::turns::{QUANTUM, turn_node};
+use std::alloc::{AllocError, Global};
+use std::marker::Brand;
+use std::sync::Wait;
+use std::test::Fail;
+use std::thread::{Threads, join, map_vec};
+use tp_model::Entry;
+use tp_shared::gate::RUN_DONE;
+use tp_shared::{Naming, NoGate, Parts, Shared};
+
+/// The node that is held. None of `OTHERS` is under its lock.
+const HELD: u8 = 1;
+
+const OTHERS: [u8; 11] = [2, 3, 4, 6, 7, 8, 10, 11, 12, 14, 15];
+
+/// How many threads make turns of other nodes.
+const TEAMS: &[usize] = &[1, 3, 15];
+
+/// Whether a node makes a turn.
+fn is_turned<J: Naming, R: Wait>(rt: &R, shared: &Shared<J>, number: u8) -> bool {
+    turn_node(rt, shared, &NoGate, number).is_some()
+}
+
+/// Turns of other nodes, each in a thread of its own, while one is held, which is let go then. Answers whether it was there, and all
+/// of them were made.
+fn turn_others<J: Naming + Send + Sync, R: Threads + Wait + Sync>(
+    rt: &R,
+    numbers: Vec<u8>,
+    shared: &Shared<J>,
+    hold: &Hold,
+) -> bool {
+    let came = hold.wait();
+    let made = map_vec(rt, numbers, &|number| is_turned(rt, shared, number));
+    hold.open();
+    came && made.is_ok_and(|all| all.iter().all(|one| *one))
+}
+
+/// The nodes whose turns `count` threads make.
+fn numbers_of(alloc: Global, count: usize) -> Result<Vec<u8>, AllocError> {
+    let mut numbers = Vec::new(alloc);
+    for place in 0..count {
+        numbers.push(OTHERS[place % OTHERS.len()])?;
+    }
+    Ok(numbers)
+}
+
+/// Whether the journal has `count` runs, and that of the node which was held is the last one.
+fn is_last<J: Naming, R: Wait>(rt: &R, shared: &Shared<J>, count: usize) -> bool {
+    let held = shared.book().lock(rt);
+    let entries = held.book().entries();
+    let last = entries.last().map(|numbered| numbered.entry);
+    let runs = entries
+        .iter()
+        .filter(|numbered| matches!(numbered.entry, Entry::Run { .. }))
+        .count();
+    runs == count
+        && matches!(
+            last,
+            Some(Entry::Run {
+                node: HELD,
+                count: QUANTUM
+            })
+        )
+}
+
+/// Turns of `numbers` while one is held. Answers whether all were made, and the run of the one that was held is the last in the journal.
+fn overlap<J: Naming + Send + Sync, R: Threads + Wait + Sync>(
+    rt: &R,
+    parts: Parts,
+    numbers: Vec<u8>,
+) -> bool
+    requires names { Names J.roll J.first J.start J.node J.mark J.flusher J.sights J.room parts }
+{
+    let count = numbers.len();
+    let (shared, _key) = Shared::<J>::start(parts);
+    let hold = Hold::new(HELD, RUN_DONE);
+    let (lent, gate) = (&shared, &hold);
+    let (held, others) = join(
+        rt,
+        move || turn_node(rt, lent, gate, HELD).is_some(),
+        move || turn_others(rt, numbers, lent, gate),
+    );
+    held && others && hold.was_let_go() && is_last(rt, &shared, count + 1)
+}
+
+/// Makes those turns under new names.
+fn overlap_in<R: Threads + Wait + Sync>(rt: &R, parts: Parts, numbers: Vec<u8>) -> bool {
+    overlap::<Brand, R>(rt, parts, numbers)
+}
+
+/// Makes turns of `count` other nodes on a device that is freshly formatted.
+fn overlaps<R: Threads + Wait + Sync>(rt: &R, alloc: Global, count: usize) -> Result<bool, Fail> {
+    let numbers = numbers_of(alloc, count)?;
+    let (parts, _raiser) = opening_of(alloc, formatted(alloc)?)?.into_parts();
+    Ok(overlap_in(rt, parts, numbers))
+}
+
+#[test]
+fn others_make_turns_while_one_node_is_held(rt: HostRuntime) -> Result<(), Fail> {
+    for count in TEAMS {
+        assert!(rt; overlaps(&rt, rt.alloc(), *count)?);
+    }
+    Ok(())
+}

@@ -1,0 +1,363 @@
+//! A device in memory with its flusher, beside a node, a host, and teams of workers.
+
+ghost use Rattle.std.specs.Prelude.{◌≡◌, ◌<◌, ◌≤◌, [], All, Some};
+ghost use Rattle.tp_shared.specs.Named.{Names};
+ghost use Rattle.tp_tests_threads.specs.Spelt.{IsSpelt};
+ghost use Rattle.tp_work.specs.declared.start.TheConstants.{MAX_SEATS};
+
+use crate::beside::{is_flushed_beside_a_run, is_run_beside_a_copy, is_stored_by_the_next_turn};
+use crate::device::formatted;
+use crate::flushing::flush;
+use crate::hold::Hold;
+use crate::left::{both, is_left, opened};
+use crate::meanwhile::stays_stored;
+use crate::opening::{Opening, begin, opening_of};
+use crate::pace::{EVERY, Pace, Paced};
+use crate::plain::{is_network, look_at_book, replayed};
+use crate::team::work_as_team;
+use crate::teams::{are_all_beside, parted};
+use crate::turns::turn_all;
+use std::alloc::Global;
+use std::marker::Brand;
+use std::sync::Wait;
+use std::test::Fail;
+use std::thread::{Threads, join};
+use tp_disk::{Disk, MemDisk};
+use tp_flush::{FLUSHER, Flusher};
+use tp_model::Entry;
+use tp_ready::Pass;
+use tp_replay::FlatNetwork;
+use tp_shared::gate::{BACKLOG_COPIED, PAGE_COPIED, RUN_DONE};
+use tp_shared::{Naming, Shared};
+use tp_work::{Net, Seat};
+
+/// The node that is held, or that runs while the flusher is held.
+const NODE: u8 = 1;
+
+/// How many turns a team makes beside those: fewer than end at the gate that keeps pace.
+const TURNS: u32 = EVERY - 1;
+
+/// Who is held, until others went on.
+#[derive(Clone, Copy)]
+enum Held {
+    /// A node behind its run, beside a turn of the flusher.
+    Node,
+    /// The flusher behind its copy, beside a run.
+    Copy,
+    /// The flusher behind the first page of a node that has recorded, beside a run of that node, which writes its second page.
+    Page,
+}
+
+impl Held {
+    /// The gate that holds it.
+    fn gate(self) -> Hold {
+        match self {
+            Held::Node => Hold::new(NODE, RUN_DONE),
+            Held::Copy => Hold::new(FLUSHER, BACKLOG_COPIED),
+            Held::Page => Hold::new(FLUSHER, PAGE_COPIED),
+        }
+    }
+}
+
+/// What goes on.
+#[derive(Clone, Copy)]
+enum Scene {
+    /// Someone is held, beside a team.
+    Held(Held),
+    /// A host asks a pass, beside the flusher, whether that many pairs of bytes are stored.
+    Stored(u64),
+    /// A team makes that many turns, beside a host and the flusher.
+    Team(u32),
+}
+
+/// Whether it goes on as it should beside the one that is held.
+fn go_on<J: Naming + Send + Sync, D: Disk + Drop, R: Threads + Wait + Sync>(
+    rt: &R,
+    alloc: Global,
+    held: Held,
+    shared: &Shared<J>,
+    flusher: Flusher<J, D>,
+    gate: &Hold,
+) -> (Flusher<J, D>, bool) {
+    match held {
+        Held::Node => is_flushed_beside_a_run(rt, alloc, shared, flusher, NODE, gate),
+        Held::Copy => is_stored_by_the_next_turn(rt, alloc, shared, flusher, NODE, gate),
+        Held::Page => is_run_beside_a_copy(rt, alloc, shared, flusher, NODE, gate),
+    }
+}
+
+/// A team makes its turns. Answers whether none was refused.
+fn work_all<J: Naming + Send + Sync, R: Threads + Wait + Sync>(
+    rt: &R,
+    net: &Net<J, Paced<'_>>,
+    seats: Vec<Seat<J>>,
+) -> bool
+    requires { All (λ seat. (seat.hand.of ≡ Some net.now.queue) × (seat.slips ≡ [])) seats.items }
+{
+    let Some((one, others)) = parted(net, seats) else {
+        return false;
+    };
+    let worked = work_as_team(rt, net, TURNS, one, others);
+    worked.is_ok_and(|work| !work.is_refused())
+}
+
+/// Waits until someone is held, and has a team make its turns then. Answers whether someone was, and no turn was refused.
+fn work_once_held<J: Naming + Send + Sync, R: Threads + Wait + Sync>(
+    rt: &R,
+    net: &Net<J, Paced<'_>>,
+    seats: Vec<Seat<J>>,
+    gate: &Hold,
+) -> bool
+    requires { All (λ seat. (seat.hand.of ≡ Some net.now.queue) × (seat.slips ≡ [])) seats.items }
+{
+    let came = gate.wait();
+    work_all(rt, net, seats) && came
+}
+
+/// Whether it goes on as it should beside the one that is held, while a team makes turns, too.
+fn go_on_beside<J: Naming + Send + Sync, D: Disk + Drop, R: Threads + Wait + Sync>(
+    rt: &R,
+    alloc: Global,
+    held: Held,
+    net: &Net<J, Paced<'_>>,
+    seats: Vec<Seat<J>>,
+    flusher: Flusher<J, D>,
+) -> (Flusher<J, D>, bool)
+    requires { All (λ seat. (seat.hand.of ≡ Some net.now.queue) × (seat.slips ≡ [])) seats.items }
+{
+    let hold = held.gate();
+    let gate = &hold;
+    let (worked, (flusher, is_so)) = join(
+        rt,
+        move || -> bool
+            requires { All (λ seat. (seat.hand.of ≡ Some net.now.queue) × (seat.slips ≡ [])) seats.items }
+        { work_once_held(rt, net, seats, gate) },
+        move || go_on(rt, alloc, held, net.shared(), flusher, gate),
+    );
+    (flusher, worked && is_so)
+}
+
+/// Whether a pass says of pairs of bytes what it should, while a team makes turns too.
+fn are_stored_beside<J: Naming + Send + Sync, D: Disk + Drop, R: Threads + Wait + Sync>(
+    rt: &R,
+    alloc: Global,
+    net: &Net<J, Paced<'_>>,
+    seats: Vec<Seat<J>>,
+    flusher: Flusher<J, D>,
+    count: u64,
+    pass: Pass,
+) -> (Flusher<J, D>, bool)
+    requires seats { All (λ seat. (seat.hand.of ≡ Some net.now.queue) × (seat.slips ≡ [])) seats.items }
+    requires pass { pass.mark ≡ J.mark }
+{
+    let (worked, (flusher, is_so)) = join(
+        rt,
+        move || -> bool
+            requires { All (λ seat. (seat.hand.of ≡ Some net.now.queue) × (seat.slips ≡ [])) seats.items }
+        { work_all(rt, net, seats) },
+        move || -> (Flusher<J, D>, bool)
+            requires { pass.mark ≡ J.mark }
+        { stays_stored(rt, alloc, net.shared(), flusher, count, pass) },
+    );
+    (flusher, worked && is_so)
+}
+
+/// Whether a scene goes as it should. The first entry has the number `first`.
+fn act<J: Naming + Send + Sync, D: Disk + Drop, R: Threads + Wait + Sync>(
+    rt: &R,
+    alloc: Global,
+    scene: Scene,
+    net: &Net<J, Paced<'_>>,
+    seats: Vec<Seat<J>>,
+    first: u64,
+    flusher: Flusher<J, D>,
+    pass: Pass,
+    pace: &Pace,
+) -> (Flusher<J, D>, bool)
+    requires seats { All (λ seat. (seat.hand.of ≡ Some net.now.queue) × (seat.slips ≡ [])) seats.items }
+    requires first { first ≡ J.first }
+    requires pass { pass.mark ≡ J.mark }
+{
+    match scene {
+        Scene::Held(held) => go_on_beside(rt, alloc, held, net, seats, flusher),
+        Scene::Stored(count) => are_stored_beside(rt, alloc, net, seats, flusher, count, pass),
+        Scene::Team(turns) => {
+            let gate = Paced { pace };
+            let (flusher, are_all) = are_all_beside(
+                rt, alloc, net, seats, turns, first, flusher, &gate,
+            );
+            (flusher, are_all && pace.met() == turns / EVERY)
+        }
+    }
+}
+
+/// The network of what a crash leaves, where it has the areas of one switch and the next number of a journal.
+fn network_left(alloc: Global, disk: MemDisk, next: u64) -> Result<Option<FlatNetwork>, Fail> {
+    let opened = opened(alloc, MemDisk::of_bytes(disk.crash()))?;
+    let is_second = opened.second() && opened.generation() == 2 && opened.base() > 0;
+    let is_so = is_second && opened.next() == next;
+    let (_, network, _) = opened.into_parts();
+    Ok(if is_so { Some(network) } else { None })
+}
+
+/// Whether a network is what a plain replay of a journal gives.
+fn is_replay_of(alloc: Global, network: &mut FlatNetwork, journal: &[Entry]) -> Result<bool, Fail> {
+    let device = formatted(alloc)?;
+    let wanted = replayed(alloc, device.bytes(), journal)?;
+    let parts = network.parts(alloc)?;
+    Ok(is_network(&parts, &wanted))
+}
+
+/// Whether a device holds the areas of one switch, and what a plain replay of a journal gives.
+fn is_replay(alloc: Global, disk: MemDisk, journal: &[Entry]) -> Result<bool, Fail> {
+    let Some(mut network) = network_left(alloc, disk, journal.len() as u64)? else {
+        return Ok(false);
+    };
+    let is_replay = is_replay_of(alloc, &mut network, journal);
+    is_replay
+}
+
+/// Whether a snapshot that runs ends once all made a turn. Adds what the book has journalled then.
+fn ends<J: Naming, R: Wait>(
+    rt: &R,
+    alloc: Global,
+    shared: &Shared<J>,
+    flusher: &mut Flusher<J, MemDisk>,
+    journal: &mut Vec<Entry>,
+) -> bool {
+    let is_turned = turn_all(rt, shared);
+    let is_looked = look_at_book(rt, shared, journal).is_ok();
+    let is_switched = matches!(flush(rt, alloc, shared, flusher), Ok((_, true)));
+    is_turned && is_looked && is_switched
+}
+
+/// Whether a snapshot that runs ends once all made a turn, and the device then holds a plain replay of the journal.
+fn is_switched<J: Naming, R: Wait>(
+    rt: &R,
+    alloc: Global,
+    shared: &Shared<J>,
+    flusher: Flusher<J, MemDisk>,
+) -> Result<bool, Fail> {
+    let mut journal = Vec::new(alloc);
+    let mut flusher = flusher;
+    let has_ended = ends(rt, alloc, shared, &mut flusher, &mut journal);
+    let is_replay = is_replay(alloc, flusher.into_disk(), &journal);
+    let told = both(has_ended, is_replay);
+    told
+}
+
+/// Whether what the flusher leaves behind a scene is the book's journal. Where an image was copied meanwhile, the area with it is gone over
+/// to.
+fn leaves<J: Naming, R: Wait>(
+    rt: &R,
+    alloc: Global,
+    shared: &Shared<J>,
+    flusher: Flusher<J, MemDisk>,
+    scene: Scene,
+) -> Result<bool, Fail> {
+    if matches!(scene, Scene::Held(Held::Page)) {
+        is_switched(rt, alloc, shared, flusher)
+    } else {
+        is_left(rt, alloc, shared, flusher)
+    }
+}
+
+/// Whether a scene goes as it should, and the flusher leaves then what it should.
+fn play<J: Naming + Send + Sync, R: Threads + Wait + Sync>(
+    rt: &R,
+    alloc: Global,
+    opening: Opening<MemDisk>,
+    workers: u8,
+    scene: Scene,
+) -> Result<bool, Fail>
+    requires spelt { IsSpelt opening.opened.value }
+    requires names { Names J.roll J.first J.start J.node J.mark J.flusher J.sights J.room opening.parts }
+    requires workers { (0 < workers) × (workers ≤ MAX_SEATS) }
+{
+    let first = opening.first;
+    let pace = Pace::new();
+    let gate = Paced { pace: &pace };
+    let (net, seats, flusher, pass) = begin::<J, MemDisk, Paced<'_>, R>(
+        rt, alloc, opening, workers, gate,
+    )?;
+    let (flusher, is_so) = act(rt, alloc, scene, &net, seats, first, flusher, pass, &pace);
+    let is_left = leaves(rt, alloc, net.shared(), flusher, scene);
+    let told = both(is_so, is_left);
+    told
+}
+
+/// Plays a scene under new names.
+fn play_in<R: Threads + Wait + Sync>(
+    rt: &R,
+    alloc: Global,
+    opening: Opening<MemDisk>,
+    workers: u8,
+    scene: Scene,
+) -> Result<bool, Fail>
+    requires spelt { IsSpelt opening.opened.value }
+    requires workers { (0 < workers) × (workers ≤ MAX_SEATS) }
+{
+    play::<Brand, R>(rt, alloc, opening, workers, scene)
+}
+
+/// Plays it on a device that is freshly formatted.
+fn plays<R: Threads + Wait + Sync>(
+    rt: &R,
+    alloc: Global,
+    workers: u8,
+    scene: Scene,
+) -> Result<bool, Fail>
+    requires workers { (0 < workers) × (workers ≤ MAX_SEATS) }
+{
+    let opening = opening_of(alloc, formatted(alloc)?)?;
+    play_in(rt, alloc, opening, workers, scene)
+}
+
+/// How many workers there are beside the one that is held.
+const WORKERS: &[u8] = &[1, 2, 16];
+
+/// Plays it with each number of workers.
+fn are_played<R: Threads + Wait + Sync>(rt: &R, alloc: Global, scene: Scene) -> Result<bool, Fail> {
+    for workers in WORKERS {
+        if !plays(rt, alloc, *workers, scene)? {
+            return Ok(false);
+        }
+    }
+    Ok(true)
+}
+
+#[test]
+fn the_flusher_makes_a_turn_beside_a_run(rt: HostRuntime) -> Result<(), Fail> {
+    assert!(rt; are_played(&rt, rt.alloc(), Scene::Held(Held::Node))?);
+    Ok(())
+}
+
+#[test]
+fn a_run_beside_the_flusher_is_stored_by_its_next_turn(rt: HostRuntime) -> Result<(), Fail> {
+    assert!(rt; are_played(&rt, rt.alloc(), Scene::Held(Held::Copy))?);
+    Ok(())
+}
+
+#[test]
+fn a_node_runs_while_its_image_is_copied(rt: HostRuntime) -> Result<(), Fail> {
+    assert!(rt; are_played(&rt, rt.alloc(), Scene::Held(Held::Page))?);
+    Ok(())
+}
+
+#[test]
+fn what_is_stored_stays_stored_for_a_pass(rt: HostRuntime) -> Result<(), Fail> {
+    assert!(rt; are_played(&rt, rt.alloc(), Scene::Stored(40))?);
+    Ok(())
+}
+
+/// How many workers a team has, and how many turns it makes.
+const TEAMS: &[(u8, u32)] = &[(2, 60), (4, 120), (16, 400)];
+
+/// One worker ends early, and the others make the rest.
+#[test]
+fn what_teams_journal_beside_the_flusher_is_all_there_is(rt: HostRuntime) -> Result<(), Fail> {
+    for (workers, turns) in TEAMS {
+        assert!(rt; plays(&rt, rt.alloc(), *workers, Scene::Team(*turns))?);
+    }
+    Ok(())
+}

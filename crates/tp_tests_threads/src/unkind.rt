@@ -1,0 +1,278 @@
+//! A device in memory that is as unkind as the disk model allows.
+
+ghost use Rattle.std.specs.Prelude.{◌≡◌, ◌+◌, ◌≤◌, length, take, drop, OnOk, OnErr};
+ghost use Rattle.tp_model.specs.Disk.{Write, Sync, Read, done};
+ghost use Rattle.tp_model.specs.DiskHistory.{MomentPassed, Fails, unknown};
+ghost use Rattle.tp_tests_threads.specs.Unkind.{no_unkind, unkind_keeps};
+
+use std::alloc::{AllocError, Global};
+use tp_disk::{Counted, DeviceFailed, RawDisk};
+
+/// What then stands in a range that isn't synced: what stood there at the last sync that was done, what was written last, one byte
+/// everywhere, or for each byte one of them, drawn.
+#[derive(Clone, Copy)]
+pub(crate) enum Torn {
+    Old,
+    New,
+    Filled(u8),
+    Drawn(u32),
+}
+
+impl Torn {
+    /// The byte that stands at a place.
+    fn byte(self, place: usize, old: u8, new: u8) -> u8 {
+        match self {
+            Torn::Old => old,
+            Torn::New => new,
+            Torn::Filled(byte) => byte,
+            Torn::Drawn(seed) => {
+                let mixed = (place as u64 ^ u64::from(seed)).wrapping_mul(0x9E37_79B9_7F4A_7C15);
+                match (mixed >> 32) % 5 {
+                    0 => old,
+                    1 => new,
+                    2 => 0x00,
+                    3 => 0xA5,
+                    _ => (mixed >> 56) as u8,
+                }
+            }
+        }
+    }
+}
+
+/// How a call ends: the run stops before it, or within it, or it fails and later calls are made.
+#[derive(Clone, Copy, PartialEq, Eq)]
+pub(crate) enum Ending {
+    Before,
+    Within,
+    Fails,
+}
+
+/// The call of a number ends so. Then the range that was written last is torn in one way, and all others that aren't synced in another.
+#[derive(Clone, Copy)]
+pub(crate) struct Fault {
+    pub(crate) call: u64,
+    pub(crate) ending: Ending,
+    pub(crate) last: Torn,
+    pub(crate) others: Torn,
+}
+
+/// What a call comes to.
+enum Came {
+    Done,
+    Refused,
+    Ends(Fault),
+}
+
+/// A device in memory that doesn't count its failures. When a call ends badly, each range that isn't synced is torn, where a read gives
+/// it too, and no sync makes it good.
+#[derive(Drop)]
+pub(crate) struct RawUnkind {
+    /// How many bytes it has, and the bytes as a read gives them.
+    size: u64,
+    bytes: Vec<u8>,
+    /// What stood at the last sync that was done.
+    synced: Vec<u8>,
+    /// The first place and the length of each range that was written since.
+    ranges: Vec<(usize, usize)>,
+    /// How many calls were made.
+    calls: u64,
+    fault: Option<Fault>,
+    stopped: bool,
+}
+
+/// An unkind device that counts its failures.
+pub(crate) type Unkind = Counted<RawUnkind>;
+
+/// Tears a range.
+fn tear_range(bytes: &mut [u8], synced: &[u8], range: (usize, usize), torn: Torn) {
+    let start = range.0.min(bytes.len()).min(synced.len());
+    let pairs = bytes[start..].iter_mut().zip(&synced[start..]);
+    for (place, (byte, old)) in pairs.enumerate().take(range.1) {
+        *byte = torn.byte(place.wrapping_add(start), *old, *byte);
+    }
+}
+
+/// Puts a piece over bytes.
+fn put(bytes: &mut [u8], at: usize, piece: &[u8]) {
+    let start = at.min(bytes.len());
+    for (byte, new) in bytes[start..].iter_mut().zip(piece) {
+        *byte = *new;
+    }
+}
+
+/// Puts the bytes of a range over others.
+fn put_range(synced: &mut [u8], bytes: &[u8], range: (usize, usize)) {
+    let start = range.0.min(bytes.len());
+    let rest = &bytes[start..];
+    put(synced, start, &rest[..range.1.min(rest.len())]);
+}
+
+impl RawUnkind {
+    /// A device with `bytes`, where a call may end badly.
+    pub(crate) fn new(
+        alloc: Global,
+        bytes: &[u8],
+        fault: Option<Fault>,
+    ) -> Result<Unkind, AllocError> {
+        Ok(Counted::new(RawUnkind {
+            size: bytes.len() as u64,
+            bytes: Vec::from_slice(alloc, bytes)?,
+            synced: Vec::from_slice(alloc, bytes)?,
+            ranges: Vec::new(alloc),
+            calls: 0,
+            fault,
+            stopped: false,
+        }))
+    }
+
+    /// What a crash leaves.
+    pub(crate) fn bytes(&self) -> &[u8] {
+        &self.bytes
+    }
+
+    /// How many calls were made.
+    pub(crate) fn calls(&self) -> u64 {
+        self.calls
+    }
+
+    /// Counts a call, and says what it comes to.
+    fn begin(&mut self) -> Came
+        ensures { self.new.size ≡ self.old.size }
+    {
+        let call = self.calls;
+        self.calls = call.saturating_add(1);
+        if self.stopped {
+            return Came::Refused;
+        }
+        match self.fault {
+            Some(fault) if fault.call == call => {
+                self.stopped = fault.ending != Ending::Fails;
+                Came::Ends(fault)
+            }
+            _ => Came::Done,
+        }
+    }
+
+    /// Tears all that isn't synced.
+    fn tear(&mut self, fault: Fault)
+        ensures { self.new.size ≡ self.old.size }
+    {
+        let RawUnkind {
+            bytes,
+            synced,
+            ranges,
+            ..
+        } = self;
+        let count = ranges.len();
+        for (i, range) in ranges.iter().enumerate() {
+            let is_last = i.wrapping_add(1) == count;
+            let torn = if is_last { fault.last } else { fault.others };
+            tear_range(bytes, synced, *range, torn);
+        }
+    }
+
+    /// Writes bytes, which aren't synced then.
+    fn write(&mut self, at: u64, bytes: &[u8]) -> Result<(), DeviceFailed>
+        ensures { self.new.size ≡ self.old.size }
+    {
+        let at = at as usize;
+        if self.ranges.push((at, bytes.len())).is_err() {
+            return Err(DeviceFailed);
+        }
+        put(&mut self.bytes, at, bytes);
+        Ok(())
+    }
+
+    /// A call that ends badly, once a write has begun.
+    fn end(&mut self, fault: Fault) -> Result<(), DeviceFailed>
+        ensures { self.new.size ≡ self.old.size }
+    {
+        self.tear(fault);
+        Err(DeviceFailed)
+    }
+
+    /// What stands now is synced.
+    fn settle(&mut self)
+        ensures { self.new.size ≡ self.old.size }
+    {
+        let RawUnkind {
+            bytes,
+            synced,
+            ranges,
+            ..
+        } = self;
+        for range in ranges.iter() {
+            put_range(synced, bytes, *range);
+        }
+        ranges.clear();
+    }
+}
+
+impl RawDisk for RawUnkind {
+    ghost size_of = { λ d. d.size };
+
+    ghost keeps = { unkind_keeps };
+
+    ghost state = { λ _. unknown };
+
+    fn size(&self) -> u64 {
+        self.size
+    }
+
+    #[tactic(auto, unfolding(crate::specs::Unkind::unkind_keeps))]
+    fn read(&mut self, at: u64, out: &mut [u8]) -> Result<(), DeviceFailed>
+        ensures size { self.new.size ≡ self.old.size }
+        ensures goes { unkind_keeps → MomentPassed unknown unknown }
+        ensures bytes { unkind_keeps → OnOk result (out.new ≡ take (length out.old) (drop at unknown.now.bytes)) }
+        ensures after { unkind_keeps → OnOk result (unknown.now ≡ done Read unknown.now) }
+        ensures failed { unkind_keeps → OnErr result (Fails Read unknown unknown) }
+    {
+        match self.begin() {
+            Came::Done => {
+                let start = (at as usize).min(self.bytes.len());
+                put(out, 0, &self.bytes[start..]);
+                Ok(())
+            }
+            Came::Refused => Err(DeviceFailed),
+            Came::Ends(fault) => self.end(fault),
+        }
+    }
+
+    #[tactic(auto, unfolding(crate::specs::Unkind::unkind_keeps))]
+    fn write_at(&mut self, at: u64, bytes: &[u8]) -> Result<(), DeviceFailed>
+        ensures size { self.new.size ≡ self.old.size }
+        ensures goes { unkind_keeps → MomentPassed unknown unknown }
+        ensures after { unkind_keeps → OnOk result (unknown.now ≡ done (Write at bytes.now) unknown.now) }
+        ensures failed { unkind_keeps → OnErr result (Fails (Write at bytes.now) unknown unknown) }
+    {
+        match self.begin() {
+            Came::Done => self.write(at, bytes),
+            Came::Refused => Err(DeviceFailed),
+            Came::Ends(fault) => {
+                if fault.ending != Ending::Before {
+                    let _written = self.write(at, bytes);
+                }
+                self.end(fault)
+            }
+        }
+    }
+
+    #[tactic(auto, unfolding(crate::specs::Unkind::unkind_keeps))]
+    fn sync(&mut self) -> Result<(), DeviceFailed>
+        ensures size { self.new.size ≡ self.old.size }
+        ensures goes { unkind_keeps → MomentPassed unknown unknown }
+        ensures after { unkind_keeps → OnOk result (unknown.now ≡ done Sync unknown.now) }
+        ensures failed { unkind_keeps → OnErr result (Fails Sync unknown unknown) }
+    {
+        match self.begin() {
+            Came::Done => {
+                self.settle();
+                Ok(())
+            }
+            Came::Refused => Err(DeviceFailed),
+            Came::Ends(fault) => self.end(fault),
+        }
+    }
+
+    ghost whole = { λ k d. absurd (no_unkind k) };
+}
