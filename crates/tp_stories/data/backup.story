@@ -176,3 +176,20 @@ has out \n  backup
 tpnet --explain backup device copy 2>err
 starts err error: 
 there copy
+
+story untold
+# Where standard output can't be written the copy is made, and that isn't said to be done.
+text net.txt node a 4\nport h\nwire a.0 h\n
+image a.img
+tpnet format device net.txt . 16384
+tpnet show device >shown
+keep device
+shut gone
+tpnet backup device copy --explain 2>err
+shut
+starts err tpnet: DeviceFailed\n
+ends err Standard output can't be written.\n
+tpnet show copy >then
+equal shown then
+there copy.part
+stay

@@ -90,6 +90,9 @@ pub(crate) fn look<R: Files<File = F> + AllocGlobal, F: FileExt + Drop>(
         "reader-makes" => stage.reader_makes(rt.alloc(), words),
         "keep" => keep(rt, stage, words),
         "stay" => stay(rt, stage),
+        "held" => stage.hold(rt.alloc(), words),
+        "looks" => stage.look_on(words),
+        "shut" => stage.shut(words),
         _ => Err(malformed()),
     }
 }

@@ -2,8 +2,10 @@
 #![tactic(auto)]
 
 mod commands;
+mod holding;
 mod looking;
 mod making;
+mod onlooking;
 mod playing;
 mod printed;
 mod stage;

@@ -1,9 +1,12 @@
 //! Where a story is played.
 
+use crate::holding::Holding;
+use crate::onlooking::Looks;
 use crate::staying::Kept;
 use crate::typed::malformed;
 use std::alloc::Global;
 use std::fs::Files;
+use std::io::ErrorKind;
 use std::rt::Env;
 use std::{env, fs, io};
 
@@ -18,8 +21,14 @@ pub(crate) struct Stage {
     pub(crate) streams: Vec<(&'static str, String)>,
     /// The file that the reader of a stream's standard output makes once something has come, where it makes one.
     pub(crate) made: Option<String>,
+    /// What the reader of standard output says, where it takes nothing.
+    pub(crate) refuses: Option<ErrorKind>,
     /// What files were.
     pub(crate) kept: Vec<Kept>,
+    /// Another process that has devices.
+    pub(crate) holding: Holding,
+    /// Who looks at streams.
+    pub(crate) looks: Looks,
 }
 
 impl Stage {
@@ -30,7 +39,10 @@ impl Stage {
             transcript: Vec::new(alloc),
             streams: Vec::new(alloc),
             made: None,
+            refuses: None,
             kept: Vec::new(alloc),
+            holding: Holding::none(alloc),
+            looks: Looks::PLAIN,
         }
     }
 
@@ -78,11 +90,38 @@ impl Stage {
         Ok(())
     }
 
+    /// Says that standard output takes nothing in the commands behind this line, as on a full disk or where its reader has gone; with no
+    /// word it takes all.
+    pub(crate) fn shut(&mut self, word: &str) -> io::Result<()> {
+        self.refuses = match word {
+            "" => None,
+            "full" => Some(ErrorKind::StorageFull),
+            "gone" => Some(ErrorKind::BrokenPipe),
+            _ => return Err(malformed()),
+        };
+        Ok(())
+    }
+
+    /// Says that another process has devices in the commands behind this line; with no word nobody has.
+    pub(crate) fn hold(&mut self, alloc: Global, words: &str) -> io::Result<()> {
+        self.holding = Holding::read(alloc, words)?;
+        Ok(())
+    }
+
+    /// Says who looks at the streams behind this line.
+    pub(crate) fn look_on(&mut self, words: &str) -> io::Result<()> {
+        self.looks = Looks::read(words)?;
+        Ok(())
+    }
+
     /// Ends the story that has begun, and removes its folder.
     pub(crate) fn close<R: Files + Env + AllocGlobal>(&mut self, rt: &R) -> io::Result<()> {
         self.streams.clear();
         self.made = None;
+        self.refuses = None;
         self.kept.clear();
+        self.holding = Holding::none(rt.alloc());
+        self.looks = Looks::PLAIN;
         let Some(folder) = self.folder.take() else {
             return Ok(());
         };

@@ -2,7 +2,6 @@
 
 use crate::file_tests::network;
 use crate::program::tpnet;
-use crate::tests::Shut;
 use std::fs;
 use std::fs::{Files, OpenFile};
 use std::os::unix::fs::FileExt;
@@ -10,10 +9,8 @@ use std::sync::Wait;
 use std::sync::atomic::Ordering;
 use std::test::Fail;
 use std::thread::Threads;
-use tp_program::answer;
 use tp_tests_files::faults::{Faults, FaultyFiles};
 use tp_tests_files::scratch::{Output, Scratch};
-use tp_tests_files::standing::Standing;
 
 const BACKUP: &[&str] = &["backup", "@device", "@copy"];
 
@@ -38,6 +35,15 @@ fn is_kept<R: Files + AllocGlobal>(rt: &R, scratch: &Scratch, device: &[u8]) -> 
     Ok(scratch.read(rt, "device")?.as_slice() == device)
 }
 
+/// Whether a file that was there is as it was.
+fn is_precious<R: Files + AllocGlobal>(
+    rt: &R,
+    scratch: &Scratch,
+    name: &str,
+) -> Result<bool, Fail> {
+    Ok(scratch.read(rt, name)?.as_slice() == b"precious".as_slice())
+}
+
 /// Whether the copy opens to what the device opens to.
 fn is_copied<
     R: Files<File = F> + AllocGlobal + Threads + Wait + Sync,
@@ -53,6 +59,19 @@ fn is_refused(output: &Output) -> bool {
     output.is(1, "", "tpnet: ReadFailed\n") || output.is(1, "", "tpnet: DeviceFailed\n")
 }
 
+/// Whether a backup was done, or refused so that nothing is left of the copy, nor of its file.
+fn leaves_nothing<R: Files + AllocGlobal>(
+    rt: &R,
+    scratch: &Scratch,
+    device: &[u8],
+    output: &Output,
+) -> Result<bool, Fail> {
+    let is_done = output.status == 0;
+    let is_left = is_there(rt, scratch, "copy")?;
+    let is_clean = is_kept(rt, scratch, device)? && !is_there(rt, scratch, "copy.part")?;
+    Ok(is_clean && is_left == is_done && (is_done || is_refused(output)))
+}
+
 /// Each call fails alone: nothing is left of the copy, nor of its file.
 #[test]
 fn each_call_may_fail(rt: HostRuntime) -> Result<(), Fail> {
@@ -61,18 +80,26 @@ fn each_call_may_fail(rt: HostRuntime) -> Result<(), Fail> {
     for number in 0..MOST {
         let faults = Faults::everywhere(number, true);
         let output = tpnet(&FaultyFiles::new(&rt, &faults), &scratch, BACKUP)?;
-        assert!(rt; is_kept(&rt, &scratch, device.as_slice())?);
-        assert!(rt; !is_there(&rt, &scratch, "copy.part")?);
+        assert!(rt; leaves_nothing(&rt, &scratch, device.as_slice(), &output)?);
         if output.status == 0 {
             calls = number;
             break;
         }
-        assert!(rt; is_refused(&output));
-        assert!(rt; !is_there(&rt, &scratch, "copy")?);
     }
-    assert!(rt; calls > 30);
-    assert!(rt; is_copied(&rt, &scratch)?);
+    assert!(rt; calls > 30 && is_copied(&rt, &scratch)?);
     scratch.remove(&rt)
+}
+
+/// Whether what has the copy's name is the copy.
+fn is_the_copy<
+    R: Files<File = F> + AllocGlobal + Threads + Wait + Sync,
+    F: FileExt + OpenFile + Drop + Send,
+>(rt: &R, scratch: &Scratch) -> Result<bool, Fail> {
+    if is_there(rt, scratch, "copy")? {
+        is_copied(rt, scratch)
+    } else {
+        Ok(true)
+    }
 }
 
 /// All calls fail from one on, as where the disk is gone: what has the copy's name is the copy.
@@ -84,16 +111,13 @@ fn each_call_may_be_the_last(rt: HostRuntime) -> Result<(), Fail> {
         cleared(&rt, &scratch)?;
         let faults = Faults::everywhere(number, false);
         let output = tpnet(&FaultyFiles::new(&rt, &faults), &scratch, BACKUP)?;
-        assert!(rt; is_kept(&rt, &scratch, device.as_slice())?);
+        assert!(rt; is_kept(&rt, &scratch, device.as_slice())? && is_the_copy(&rt, &scratch)?);
         if output.status == 0 {
             calls = number;
             break;
         }
         assert!(rt; is_refused(&output));
-        if is_there(&rt, &scratch, "copy")? {
-            assert!(rt; is_copied(&rt, &scratch)?);
-            named = named.saturating_add(1);
-        }
+        named = named.saturating_add(u64::from(is_there(&rt, &scratch, "copy")?));
     }
     // The copy has its name where its other one isn't removed, and where its folder isn't opened or synced.
     assert!(rt; calls > 30 && named == 3);
@@ -114,7 +138,7 @@ fn a_file_that_is_there_stays(rt: HostRuntime) -> Result<(), Fail> {
             let faults = Faults::everywhere(number, true);
             let output = tpnet(&FaultyFiles::new(&rt, &faults), &scratch, BACKUP)?;
             assert!(rt; output.is(1, "", line) || is_refused(&output));
-            assert_eq!(rt; scratch.read(&rt, name)?.as_slice(), b"precious".as_slice());
+            assert!(rt; is_precious(&rt, &scratch, name)?);
         }
         assert!(rt; tpnet(&rt, &scratch, BACKUP)?.is(1, "", line));
         assert!(rt; is_kept(&rt, &scratch, device.as_slice())?);
@@ -135,8 +159,7 @@ fn a_file_that_comes_meanwhile_stays(rt: HostRuntime) -> Result<(), Fail> {
         let faults = Faults::blind();
         let output = tpnet(&FaultyFiles::new(&rt, &faults), &scratch, BACKUP)?;
         assert!(rt; output.is(1, "", line));
-        assert_eq!(rt; scratch.read(&rt, name)?.as_slice(), b"precious".as_slice());
-        assert!(rt; !is_there(&rt, &scratch, other)?);
+        assert!(rt; is_precious(&rt, &scratch, name)? && !is_there(&rt, &scratch, other)?);
         assert!(rt; is_kept(&rt, &scratch, device.as_slice())?);
     }
     scratch.remove(&rt)
@@ -154,35 +177,5 @@ fn how_files_are_opened(rt: HostRuntime) -> Result<(), Fail> {
         assert!(rt; !faults.writable.load(Ordering::SeqCst));
         assert!(rt; is_copied(&rt, &scratch)?);
     }
-    scratch.remove(&rt)
-}
-
-/// Where standard output can't be written the copy is made, and that isn't said to be done.
-#[test]
-fn an_output_that_fails(rt: HostRuntime) -> Result<(), Fail> {
-    let (scratch, device) = network(&rt, "backup_untold")?;
-    let line = scratch.line(rt.alloc(), &["backup", "@device", "@copy", "--explain"])?;
-    let mut err = Vec::new(rt.alloc());
-    let status = answer(&rt, line.as_slice(), &mut Shut, &mut err);
-    assert!(rt; status == 1 && err.as_slice().starts_with(b"tpnet: DeviceFailed\n"));
-    assert!(rt;
-        err.as_slice()
-            .ends_with(b"Standard output can't be written.\n")
-    );
-    assert!(rt; is_copied(&rt, &scratch)? && !is_there(&rt, &scratch, "copy.part")?);
-    assert!(rt; is_kept(&rt, &scratch, device.as_slice())?);
-    scratch.remove(&rt)
-}
-
-/// Where standard output is the device's file nothing is copied, nor printed over it.
-#[test]
-fn an_output_into_the_device(rt: HostRuntime) -> Result<(), Fail> {
-    let (scratch, device) = network(&rt, "backup_into")?;
-    let mut streams = Vec::new(rt.alloc());
-    streams.push(("/dev/stdout", scratch.path(rt.alloc(), "device")?))?;
-    let output = tpnet(&Standing::new(&rt, streams.as_slice()), &scratch, BACKUP)?;
-    assert!(rt; output.status == 2 && output.out.is_empty() && !output.err.is_empty());
-    assert!(rt; !is_there(&rt, &scratch, "copy")?);
-    assert!(rt; is_kept(&rt, &scratch, device.as_slice())?);
     scratch.remove(&rt)
 }

@@ -1,7 +1,7 @@
 //! `tpnet compact` where a call of the device's file fails.
 
+use crate::program::tpnet;
 use crate::run_tests::device;
-use crate::sessions_program::tpnet;
 use std::fs::{Files, OpenFile};
 use std::os::unix::fs::FileExt;
 use std::sync::Wait;

@@ -48,8 +48,7 @@ fn a_format_that_stops_opens_nothing_else(rt: HostRuntime) -> Result<(), Fail> {
             done = number;
             break;
         }
-        assert_eq!(rt; output.err.as_slice(), b"tpnet: DeviceFailed\n".as_slice());
-        assert!(rt; output.out.is_empty());
+        assert!(rt; output.is(1, "", "tpnet: DeviceFailed\n"));
         let is_old = left.as_slice() == old.as_slice();
         let is_new = left.get(533 + 172 + 0x109) == Some(&0x42);
         assert!(rt; number > 0 || is_old);
@@ -78,13 +77,20 @@ fn each_call_of_a_file_may_fail(rt: HostRuntime) -> Result<(), Fail> {
                 calls = number;
                 break;
             }
-            assert_eq!(rt; output.status, 1);
-            assert_eq!(rt; output.err.as_slice(), line.as_bytes());
-            assert!(rt; output.out.is_empty());
+            assert!(rt; output.is(1, "", line));
         }
         assert!(rt; calls >= 6);
     }
     scratch.remove(&rt)
+}
+
+/// Whether the device has these bytes.
+fn is_device<R: Files + AllocGlobal>(
+    rt: &R,
+    scratch: &Scratch,
+    bytes: &[u8],
+) -> Result<bool, Fail> {
+    Ok(scratch.read(rt, "device")?.as_slice() == bytes)
 }
 
 #[test]
@@ -93,19 +99,17 @@ fn short_reads_and_writes_go_on(rt: HostRuntime) -> Result<(), Fail> {
     let shown = tpnet(&rt, &scratch, &["show", "@device"])?;
     let sevens = Faults::short(7);
     let output = tpnet(&FaultyFiles::new(&rt, &sevens), &scratch, FORMAT)?;
-    assert_eq!(rt; output.status, 0);
-    assert_eq!(rt; scratch.read(&rt, "device")?.as_slice(), device.as_slice());
+    assert!(rt; output.status == 0 && is_device(&rt, &scratch, device.as_slice())?);
     let again = tpnet(
         &FaultyFiles::new(&rt, &sevens),
         &scratch,
         &["show", "@device"],
     )?;
-    assert_eq!(rt; again.out.as_slice(), shown.out.as_slice());
+    assert!(rt; again.out.as_slice() == shown.out.as_slice());
     for words in [FORMAT, &["show", "@device"]] {
         let nothing = Faults::short(0);
         let none = tpnet(&FaultyFiles::new(&rt, &nothing), &scratch, words)?;
-        assert_eq!(rt; none.status, 1);
-        assert!(rt; none.out.is_empty());
+        assert!(rt; none.status == 1 && none.out.is_empty());
     }
     scratch.remove(&rt)
 }
@@ -123,7 +127,7 @@ fn how_files_are_opened(rt: HostRuntime) -> Result<(), Fail> {
         let faults = Faults::short(usize::MAX);
         let output = tpnet(&FaultyFiles::new(&rt, &faults), &scratch, FORMAT)?;
         assert!(rt; output.status == 0 && faults.synced.load(Ordering::SeqCst) == folders);
-        assert_eq!(rt; scratch.read(&rt, "device")?.as_slice(), device.as_slice());
+        assert!(rt; is_device(&rt, &scratch, device.as_slice())?);
         fs::remove_file(&rt, scratch.path(rt.alloc(), "device")?.as_str())?;
     }
     scratch.remove(&rt)
