@@ -6,7 +6,7 @@ use Rattle.tp_flush.specs.Known.{Began}
 use Rattle.tp_model.specs.DiskHistory.{State}
 use Rattle.tp_model.specs.Opening.{verdict}
 use Rattle.tp_recover.specs.Reading.{LeavesNothingNew}
-use Rattle.tp_run.specs.Compacted.{Compacted, GrewByOne, StaysUnopened}
+use Rattle.tp_run.specs.Compacted.{CompactAnswer, Compacted, GrewByOne, StaysUnopened}
 use Rattle.tp_run.specs.Ran.{History}
 use Rattle.tp_run.specs.declared.compacting.Compaction.{Compaction}
 use Rattle.tp_run.specs.declared.compacting.CompactFault.{CompactFault}
@@ -22,10 +22,11 @@ pub record PrintsDone (done : Result Compaction CompactFault) (was now : Option 
   pub is : done ≡ Ok given
   pub printed : Appends was now (compaction_line given)
 
--- How a device was compacted that ended with this status, and what was left of it and on standard output.
+-- How a device was compacted that ended with this status, for a reason that the device gives, and what was left of it and on standard output.
 pub record CompactedAs (keeps : Type 0) (history : History) (old new : State) (was now : Option (List ℕ)) (status : ℕ) : Type 0 where
   pub done : Result Compaction CompactFault
   pub kept : keeps → Began history.formatted history.before old.now.bytes → Compacted history.formatted done old new
   pub grown : keeps → IfOk done (GrewByOne (verdict old.now.bytes))
   pub unwritten : keeps → StaysUnopened done → LeavesNothingNew old new
   pub printed : status ≡ 0 → PrintsDone done was now
+  pub answer : keeps → CompactAnswer (verdict old.now.bytes) done

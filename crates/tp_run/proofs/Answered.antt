@@ -1,12 +1,64 @@
--- Which answer a device gives.
-use Rattle.std.proofs.Common.{◌≡◌, Result, Ok, Err}
+-- Which answer a device and a job give.
+use Rattle.std.proofs.Common.{◌≡◌, ◌<◌, ℕ, Bool, true, false, List, length, Option, Some, None, Result, Ok, Err, refl, subst}
+use Rattle.std.specs.Prelude.{IfErr}
 use Rattle.tp_model.specs.declared.opening.OpenFault.{OpenFault}
 use Rattle.tp_model.specs.Journal.{is_full_for_snapshot}
 use Rattle.tp_model.specs.Opening.{Opened}
+use Rattle.tp_run.specs.Answered.{AnswerFor, FaultFor, OpenedFor, OpenedWith}
 use Rattle.tp_run.specs.Compacted.{CompactAnswer, SaysLast}
+use Rattle.tp_run.specs.Failures.{is_failure}
+use Rattle.tp_run.specs.Faults.{ComesBegun}
+use Rattle.tp_run.specs.Input.{rest_at}
+use Rattle.tp_run.specs.Made.{fault_by, job_fault}
+use Rattle.tp_run.specs.Outset.{outset_in}
+use Rattle.tp_run.specs.Prints.{ComesSilent}
 use Rattle.tp_run.specs.declared.compacting.Compaction.{Compaction}
 use Rattle.tp_run.specs.declared.compacting.CompactFault.{CompactFault}
 use Rattle.tp_run.specs.declared.compacting.CompactFault.TheVariants as compact
+use Rattle.tp_run.specs.declared.fault.RunFault.{RunFault}
+use Rattle.tp_run.specs.declared.fault.RunFault.TheVariants.{Opening, Spare, Port, OfferRefused, FlushFailed, OutputFailed, ConfirmRefused, LastFlushFailed, Unaccounted, Memory}
+use Rattle.tp_run.specs.declared.job.Job.{Job}
+
+-- what isn't anything is nothing
+pub none_of : {A : Type 0} (o : Option A) → ((x : A) → o ≡ Some x → ⊥) → o ≡ None
+none_of None never = refl
+none_of (Some x) never = absurd (never x refl)
+
+-- ## What is wrong with a job
+
+-- it is one of two things
+pub wrong_is : (P : RunFault → Type 0) (has_pages has_port : Bool) (fault : RunFault) → fault_by has_pages has_port ≡ Some fault → P Spare → P Port → P fault
+wrong_is P false has_port fault is spare port = let same : Spare ≡ fault = cc in subst P same spare
+wrong_is P true false fault is spare port = let same : Port ≡ fault = cc in subst P same port
+wrong_is P true true fault is spare port = cc
+
+opened_for : (given : Result Opened OpenFault) (job : Job) (opened : Opened) (fault : Option RunFault) → given ≡ Ok opened → job_fault job.spare job.port opened.head.topology ≡ fault → OpenedFor given job fault
+opened_for given job opened fault is wrong = record { opened = opened; is = is; has = wrong }
+
+-- which is told
+pub wrong_told : (given : Result Opened OpenFault) (job : Job) (input : List ℕ) (opened : Opened) (has_pages has_port : Bool) (fault : RunFault) → given ≡ Ok opened
+    → job_fault job.spare job.port opened.head.topology ≡ fault_by has_pages has_port → fault_by has_pages has_port ≡ Some fault → FaultFor given job input fault
+wrong_told given job input opened false has_port fault is wrong by =
+    let same : Spare ≡ fault = cc in subst (FaultFor given job input) same (opened_for given job opened (Some Spare) is wrong)
+wrong_told given job input opened true false fault is wrong by =
+    let same : Port ≡ fault = cc in subst (FaultFor given job input) same (opened_for given job opened (Some Port) is wrong)
+wrong_told given job input opened true true fault is wrong by = cc
+
+-- ## What a run that was begun answers
+
+pub answered : (given : Result Opened OpenFault) (job : Job) (input : List ℕ) (opened : Opened) (r : Result ℕ RunFault) → given ≡ Ok opened → job_fault job.spare job.port opened.head.topology ≡ None
+    → IfErr r ComesBegun → IfErr r (λ fault. fault ≡ OfferRefused → 0 < length (rest_at (outset_in opened job.port) input)) → AnswerFor given job input r
+answered given job input opened (Ok next) is right begun some = opened_for given job opened None is right
+answered given job input opened (Err (Opening unopened)) is right begun some = absurd begun
+answered given job input opened (Err Spare) is right begun some = absurd begun
+answered given job input opened (Err Port) is right begun some = absurd begun
+answered given job input opened (Err OfferRefused) is right begun some = record { opened = opened; is = is; has = (right, some refl) }
+answered given job input opened (Err FlushFailed) is right begun some = opened_for given job opened None is right
+answered given job input opened (Err OutputFailed) is right begun some = opened_for given job opened None is right
+answered given job input opened (Err ConfirmRefused) is right begun some = opened_for given job opened None is right
+answered given job input opened (Err LastFlushFailed) is right begun some = opened_for given job opened None is right
+answered given job input opened (Err Unaccounted) is right begun some = opened_for given job opened None is right
+answered given job input opened (Err Memory) is right begun some = opened_for given job opened None is right
 
 -- ## What a device answers that was compacted
 

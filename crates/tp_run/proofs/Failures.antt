@@ -1,6 +1,6 @@
 -- How many calls of the device have failed.
 use Rattle.std.specs.Prelude.{if◌then◌else◌}
-use Rattle.std.proofs.Common.{◌≡◌, ℕ, ◌+◌, inl, inr, Bool, true, false, Result, Ok, Err, refl, sym, subst, arith}
+use Rattle.std.proofs.Common.{◌≡◌, ℕ, ◌+◌, inl, inr, Bool, true, false, Result, Ok, Err, refl, sym, ap, subst, ◌∙◌, arith}
 use Rattle.tp_model.specs.NodeState.{NodeState}
 use Rattle.tp_model.specs.WriteOrder.{Position, Broken, Resting}
 use Rattle.tp_recover.specs.declared.unopened.Unopened.{Unopened}
@@ -10,7 +10,8 @@ use Rattle.tp_flush.specs.declared.fault.FlushFault.{FlushFault}
 use Rattle.tp_flush.specs.declared.fault.FlushFault.TheVariants.{AreaFull, DeviceFailed, Memory, StoreBroken}
 use Rattle.tp_flush.specs.Ends.{Ended, Rested}
 use Rattle.tp_flush.specs.Flushing.{Flushing, position}
-use Rattle.tp_run.specs.Failures.{CountsFailures, failed_to_open, failures_after}
+use Rattle.tp_run.specs.declared.fault.RunFault.{RunFault}
+use Rattle.tp_run.specs.Failures.{CountsFailures, IsFlushFault, failed_to_open, failures_after, flush_fault_of}
 
 -- ## The flusher's turns
 
@@ -37,6 +38,33 @@ turn_failures (Err AreaFull) old new E = rested old new E.rested
 
 abbrev pub refused_as : (A : Type 0) → FlushFault → Result A FlushFault
 refused_as A fault = Err fault
+
+-- what a run answers then
+refused_by : (A : Type 0) (given : RunFault) (fault : FlushFault) (old new : Flushing) → Ended (refused_as A fault) old new → IsFlushFault given new.world.at (flush_fault_of given fault)
+refused_by A given DeviceFailed old new (inl F) = inl (refl, F.broken)
+refused_by A given DeviceFailed old new (inr F) = inl (refl, F.broken)
+refused_by A given StoreBroken old new E = inl (refl, ap (λ (v : Flushing). v.world.at) E.1 ∙ E.0)
+refused_by A given Memory old new (inl W) = inr (inl refl, W.0.rested.rests)
+refused_by A given Memory old new (inr W) = inr (inl refl, W.rested.rests)
+refused_by A given AreaFull old new E = inr (inr refl, E.rested.rests)
+
+pub flush_refused : {A : Type 0} (r : Result A FlushFault) (given : RunFault) (fault : FlushFault) (old new : Flushing) → r ≡ Err fault → Ended r old new → IsFlushFault given new.world.at (flush_fault_of given fault)
+flush_refused (Ok x) given fault old new is E = cc
+flush_refused {A} (Err other) given fault old new is E =
+    let same : other ≡ fault = cc in subst (λ f. IsFlushFault given new.world.at (flush_fault_of given f)) same (refused_by A given other old new E)
+
+-- one behind the other
+pub failures_then : (a b c : Flushing) → CountsFailures a b → CountsFailures b c → CountsFailures a c
+failures_then a b c F G = record {
+  rests = λ rests. let there = G.rests rests in let here = F.rests there.0 in (here.0, there.1 ∙ here.1);
+  broken = λ broken. elim (G.broken broken) [
+    | inl was ↦ elim (F.broken was.0) [
+      | inl before ↦ inl (before.0, was.1 ∙ before.1)
+      | inr once ↦ inr (once.0, was.1 ∙ once.1)
+    ]
+    | inr once ↦ let here = F.rests once.0 in inr (here.0, once.1 ∙ ap (λ n. n + 1) here.1)
+  ];
+}
 
 -- as many as are told, from where the flusher rests on
 pub counted : (old new : Flushing) (failed : Bool) → old.world.at ≡ Resting → CountsFailures old new → new.world.at ≡ position failed → new.failures ≡ failures_after failed old.failures

@@ -24,6 +24,7 @@ use Rattle.tp_run.specs.declared.fault.RunFault.{RunFault}
 use Rattle.tp_run.specs.declared.job.Job.{Job}
 use Rattle.tp_run.specs.Input.{input_slips}
 use Rattle.tp_run.specs.Outset.{outset_in}
+use Rattle.tp_run.specs.Prints.{ComesSilent}
 use Rattle.tp_run.specs.Ran.{Carried, Ran, Settled}
 use Rattle.tp_run.specs.Shown.{MayPrint}
 
@@ -41,7 +42,7 @@ SlipsAreRecovered =
 pub served_ran : SlipsAreRecovered → (start : Network NodeState) (before : World NodeState) (opened : Opened) (job : Job) (input : List ℕ) (was now : Option (List ℕ)) (old new : Flushing) (result : Result ℕ RunFault)
     → Began start before old.state.now.bytes → verdict old.state.now.bytes ≡ Ok opened → old.world ≡ reopened before old.state.now.bytes (held_of opened) opened.now → Walked old new → IfOk result (λ next. next ≤ new.world.mark)
     → IfOk result (Settled start opened.cut job (outset_in opened job.port) (input_slips (outset_in opened job.port) input) was now new.world.journal)
-    → MayPrint start old new job.port (outset_in opened job.port).confirmed was now → Ran start job input was now result old.state new.state
+    → MayPrint start old new job.port (outset_in opened job.port).confirmed was now result → Ran start job input was now result old.state new.state
 served_ran law start before opened job input was now old new result began reads first W stored settled shown =
     let bytes = old.state.now.bytes in
     let journal = new.world.journal in
@@ -73,8 +74,7 @@ served_ran law start before opened job input was now old new result began reads 
           number = H.number;
           outputs = H.outputs;
           shows = H.shows;
-          count = H.count;
-          appended = H.appended;
+          printed = H.printed;
           there = H.there;
           later = H.later;
           since = H.since;
@@ -83,14 +83,14 @@ served_ran law start before opened job input was now old new result began reads 
     }
 
 -- a device that no call was made of
-pub still_ran : (start : Network NodeState) (job : Job) (input : List ℕ) (was : Option (List ℕ)) (fault : RunFault) (s : State) → Ran start job input was was (Err fault) s s
-still_ran start job input was fault s = record { journal = []; leaves = started s _ (λ left may. inl may); stored = tt; carried = tt; printed = inl refl }
+pub still_ran : (start : Network NodeState) (job : Job) (input : List ℕ) (was : Option (List ℕ)) (fault : RunFault) (s : State) → ComesSilent fault → Ran start job input was was (Err fault) s s
+still_ran start job input was fault s silent = record { journal = []; leaves = started s _ (λ left may. inl may); stored = tt; carried = tt; printed = inl (refl, silent) }
 
 -- a device that was only read
-pub unwritten_ran : (start : Network NodeState) (job : Job) (input : List ℕ) (was : Option (List ℕ)) (fault : RunFault) (old new : State) → LeavesNothingNew old new
+pub unwritten_ran : (start : Network NodeState) (job : Job) (input : List ℕ) (was : Option (List ℕ)) (fault : RunFault) (old new : State) → LeavesNothingNew old new → ComesSilent fault
     → Ran start job input was was (Err fault) old new
-unwritten_ran start job input was fault old new L =
-    record { journal = []; leaves = read_alone start [] old new L; stored = tt; carried = tt; printed = inl refl }
+unwritten_ran start job input was fault old new L silent =
+    record { journal = []; leaves = read_alone start [] old new L; stored = tt; carried = tt; printed = inl (refl, silent) }
 
 -- a device was read, which left its bytes as they are, and was then written
 pub opened_ran : (start : Network NodeState) (job : Job) (input : List ℕ) (was now : Option (List ℕ)) (result : Result ℕ RunFault) (old read new : State) → LeavesNothingNew old read
@@ -122,8 +122,7 @@ opened_ran start job input was now result old read new L same R = record {
       number = p.number;
       outputs = p.outputs;
       shows = p.shows;
-      count = p.count;
-      appended = p.appended;
+      printed = p.printed;
       there = p.there;
       later = let first = L.later in let then = p.later in omega (arith, first, then);
       since = p.since;

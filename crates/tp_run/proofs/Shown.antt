@@ -28,7 +28,8 @@ use Rattle.tp_flush.specs.Flushing.{Flushing, Walked}
 use Rattle.tp_flush.proofs.Kept.{reached_then}
 use Rattle.tp_flush.proofs.Turns.{walked_nowhere, walked_recovers, walked_stays}
 use Rattle.tp_run.specs.declared.fault.RunFault.{RunFault}
-use Rattle.tp_run.specs.Output.{OutputsFront, AreOutputs, AreShownBytes, IsForOutput, Printed, PrintedOf, ShowsAll, confirms}
+use Rattle.tp_run.specs.Output.{AreOutputs, AreShownBytes, IsForOutput, PrintedOf, ShowsAll, confirms}
+use Rattle.tp_run.specs.Prints.{MayBeSilent, PrintsOf, PrintsSo, TellsAllPrinted}
 use Rattle.tp_run.specs.Shown.{AreShownIn, MayPrint, MayShow}
 use Rattle.tp_flush.proofs.Recovers.{recovers_less}
 use Rattle.tp_run.proofs.Slips.{confirms_shown}
@@ -85,16 +86,16 @@ output_like port from One Other was now (Err e) like O = tt
 pub are_outputs : (b : BookValue) (port mark : ℕ) → shown_of b port mark ≡ length (port_in b port).outputs → (number : ℕ) (bytes : List ℕ) → AreShownBytes b port mark number bytes → AreOutputs b port number bytes
 are_outputs b port mark all number bytes A = (A.0, sym (A.1 ∙ all_shown b port mark all))
 
-front_of : {A : Type 0} (was now : Option (List ℕ)) (bytes outputs : List ℕ) (r : Result A RunFault) → bytes ≡ outputs → Printed was now bytes r → OutputsFront was now outputs
-front_of was now bytes outputs (Ok x) same all = (length outputs, subst (Appends was now) (same ∙ sym (take_all (length outputs) outputs (omega arith))) all)
-front_of was now bytes outputs (Err fault) same (inl all) = (length outputs, subst (Appends was now) (same ∙ sym (take_all (length outputs) outputs (omega arith))) all)
-front_of was now bytes outputs (Err fault) same (inr part) = subst (OutputsFront was now) same part.1
-
 pub printed_of : {A : Type 0} (b : BookValue) (port mark confirmed : ℕ) (was now : Option (List ℕ)) (r : Result A RunFault) → (port_in b port).out_base ≡ confirmed
-    → shown_of b port mark ≡ length (port_in b port).outputs → next_in_book b ≤ mark → Printed was now (shown_from b port mark (port_in b port).out_base) r
-    → PrintedOf b port mark confirmed was now
+    → shown_of b port mark ≡ length (port_in b port).outputs → next_in_book b ≤ mark → PrintsSo r was now (shown_from b port mark (port_in b port).out_base)
+    → PrintedOf b port mark confirmed was now r
 printed_of b port mark confirmed was now r base all stored printed =
-    inr (record { base = base; all = all; stored = stored }, front_of was now (shown_from b port mark (port_in b port).out_base) (port_in b port).outputs r (all_shown b port mark all) printed)
+    inr (record { base = base; all = all; stored = stored }, subst (λ bytes. PrintsSo r was now bytes) (all_shown b port mark all) printed)
+
+-- all of it was appended, and the answer behind that says so
+pub prints_on : {A : Type 0} (was now : Option (List ℕ)) (bytes : List ℕ) (r : Result A RunFault) → Appends was now bytes → TellsAllPrinted r → PrintsSo r was now bytes
+prints_on was now bytes r appended told =
+    (length bytes, subst (Appends was now) (sym (take_all (length bytes) bytes (omega arith))) appended, told (length bytes) (length bytes) (omega arith))
 
 -- ## Beside the flusher's journal
 
@@ -121,12 +122,12 @@ pub outputs_shown : (start : Network NodeState) (w : World NodeState) (b : BookV
     → (number : ℕ) (bytes : List ℕ) → AreOutputs b port number bytes → AreShownIn start w port confirmed number bytes
 outputs_shown start w b port mark confirmed A S at number bytes O = subst (AreShownIn start w port confirmed number) O.1 (shows_book start w b port mark confirmed number A S at O.0)
 
-pub may_show : (start : Network NodeState) (w : World NodeState) (b : BookValue) (port mark confirmed : ℕ) (was now : Option (List ℕ)) → IsAheadOf start w b → mark ≡ w.mark
-    → PrintedOf b port mark confirmed was now → MayShow start w.journal w.mark port confirmed was now
-may_show start w b port mark confirmed was now A at (inl same) = inl same
-may_show start w b port mark confirmed was now A at (inr (S, F)) =
+pub may_show : {A : Type 0} (start : Network NodeState) (w : World NodeState) (b : BookValue) (port mark confirmed : ℕ) (was now : Option (List ℕ)) (r : Result A RunFault) → IsAheadOf start w b → mark ≡ w.mark
+    → PrintedOf b port mark confirmed was now r → MayShow start w.journal w.mark port confirmed was now r
+may_show start w b port mark confirmed was now r A at (inl same) = inl same
+may_show start w b port mark confirmed was now r A at (inr (S, F)) =
     let there = shows_book start w b port mark confirmed (next_in_book b) A S at refl in
-    inr (record { number = next_in_book b; few = there.0; outputs = (port_in b port).outputs; shows = there.1; count = F.0; appended = F.1 })
+    inr (record { number = next_in_book b; few = there.0; outputs = (port_in b port).outputs; shows = there.1; printed = F })
 
 -- the outputs that a receipt is for are shown
 pub output_shown : (keeps began : Type 0) (start : Network NodeState) (w : World NodeState) (b : BookValue) (port mark confirmed : ℕ) (was now : Option (List ℕ)) (r : Result Receipted RunFault)
@@ -159,18 +160,39 @@ shows_on start a b R W port confirmed number outputs (few, S) =
 walked_later : (a b : Flushing) → Walked a b → moment a.state ≤ moment b.state
 walked_later a b W = let grew = ap length W.past in let long = length-append a.state.past (map (λ (u : World NodeState). u.disk) W.worlds) in omega (arith, grew, long)
 
+-- a fault, and an answer that isn't one
+abbrev pub fault_of : (A : Type 0) → RunFault → Result A RunFault
+fault_of A fault = Err fault
+
+abbrev pub done_as : {A : Type 0} → A → Result A RunFault
+done_as x = Ok x
+
+-- One answer says of the output what another one does.
+pub record SaysAs {A B : Type 0} (r : Result A RunFault) (s : Result B RunFault) : Type 0 where
+  pub silent : MayBeSilent r → MayBeSilent s
+  pub prints : (count all : ℕ) → PrintsOf r count all → PrintsOf s count all
+
+pub fault_says : (A B : Type 0) (fault : RunFault) → SaysAs (fault_of A fault) (fault_of B fault)
+fault_says A B fault = record { silent = λ silent. silent; prints = λ count all prints. prints }
+
+-- what came behind an output that was printed
+pub done_says : {A B : Type 0} (x : A) (s : Result B RunFault) → TellsAllPrinted s → SaysAs (done_as x) s
+done_says x s told = record { silent = λ none. absurd none; prints = told }
+
+prints_as : {A B : Type 0} (was now : Option (List ℕ)) (outputs : List ℕ) (r : Result A RunFault) (s : Result B RunFault) → SaysAs r s → PrintsSo r was now outputs → PrintsSo s was now outputs
+prints_as was now outputs r s says (count, appended, prints) = (count, appended, says.prints count (length outputs) prints)
+
 -- what was printed at one moment, as it is known at a later one
-pub may_print : (start : Network NodeState) (old at new : Flushing) → Reached start old.world → Walked old at → Walked at new → (port confirmed : ℕ) (was now : Option (List ℕ))
-    → MayShow start at.world.journal at.world.mark port confirmed was now → MayPrint start old new port confirmed was now
-may_print start old at new R W V port confirmed was now (inl same) = inl same
-may_print start old at new R W V port confirmed was now (inr H) =
+pub may_print : {A B : Type 0} (start : Network NodeState) (old at new : Flushing) → Reached start old.world → Walked old at → Walked at new → (port confirmed : ℕ) (was now : Option (List ℕ))
+    → (r : Result A RunFault) (s : Result B RunFault) → SaysAs r s → MayShow start at.world.journal at.world.mark port confirmed was now r → MayPrint start old new port confirmed was now s
+may_print start old at new R W V port confirmed was now r s says (inl (same, silent)) = inl (same, says.silent silent)
+may_print start old at new R W V port confirmed was now r s says (inr H) =
     let reached = walked_reached start old at R W in
     inr (record {
       number = H.number;
       outputs = H.outputs;
       shows = (shows_on start at new reached V port confirmed H.number H.outputs (H.few, H.shows)).1;
-      count = H.count;
-      appended = H.appended;
+      printed = prints_as was now H.outputs r s says H.printed;
       there = at.state;
       later = walked_later old at W;
       since =
@@ -179,23 +201,22 @@ may_print start old at new R W V port confirmed was now (inr H) =
     })
 
 -- nothing came behind it
-pub may_print_last : (start : Network NodeState) (old at : Flushing) → Reached start old.world → Walked old at → (port confirmed : ℕ) (was now : Option (List ℕ))
-    → MayShow start at.world.journal at.world.mark port confirmed was now → MayPrint start old at port confirmed was now
-may_print_last start old at R W = may_print start old at at R W (walked_nowhere at W.now)
+pub may_print_last : {A B : Type 0} (start : Network NodeState) (old at : Flushing) → Reached start old.world → Walked old at → (port confirmed : ℕ) (was now : Option (List ℕ))
+    → (r : Result A RunFault) (s : Result B RunFault) → SaysAs r s → MayShow start at.world.journal at.world.mark port confirmed was now r → MayPrint start old at port confirmed was now s
+may_print_last start old at R W port confirmed was now r s says shown = may_print start old at at R W (walked_nowhere at W.now) port confirmed was now r s says shown
 
 -- and from an earlier one on
-pub may_print_since : (start : Network NodeState) (first old new : Flushing) → Walked first old → (port confirmed : ℕ) (was now : Option (List ℕ))
-    → MayPrint start old new port confirmed was now → MayPrint start first new port confirmed was now
-may_print_since start first old new W port confirmed was now (inl same) = inl same
-may_print_since start first old new W port confirmed was now (inr H) =
+pub may_print_since : {A : Type 0} (start : Network NodeState) (first old new : Flushing) → Walked first old → (port confirmed : ℕ) (was now : Option (List ℕ)) (r : Result A RunFault)
+    → MayPrint start old new port confirmed was now r → MayPrint start first new port confirmed was now r
+may_print_since start first old new W port confirmed was now r (inl same) = inl same
+may_print_since start first old new W port confirmed was now r (inr H) =
     let up = walked_later first old W in
     let later = H.later in
     inr (record {
       number = H.number;
       outputs = H.outputs;
       shows = H.shows;
-      count = H.count;
-      appended = H.appended;
+      printed = H.printed;
       there = H.there;
       later = omega (arith, up, later);
       since = H.since;

@@ -59,12 +59,15 @@ confirms_shown b port mark each =
 next_after : (b : BookValue) (port : ℕ) (bytes : List ℕ) → next_in_book (after_inputs b port bytes) ≡ next_in_book b + length (map (HostIn port) bytes)
 next_after b port bytes = let long = length-append b.state.entries (map (HostIn port) bytes) in omega (arith, long)
 
+pub rest_is : (b : BookValue) (outset : Outset) (input : List ℕ) → StandsIn outset b → rest_of b outset.port input ≡ rest_at outset input
+rest_is b outset input S = ap (λ n. take n (drop (accepted_of (port_in b outset.port)) input)) S.2 ∙ ap (λ n. take outset.room (drop n input)) S.1
+
 input_offered : (b new : BookValue) (outset : Outset) (input : List ℕ) (receipt : Receipted) → StandsIn outset b
     → new ≡ after_inputs b outset.port (rest_of b outset.port input) → receipt.number ≡ next_in_book new → IsFor (map (HostIn outset.port) (rest_of b outset.port input)) receipt
     → IsForInput outset input receipt
 input_offered b new outset input receipt S after number F =
     let bytes = rest_of b outset.port input in
-    let rest : bytes ≡ rest_at outset input = ap (λ n. take n (drop (accepted_of (port_in b outset.port)) input)) S.2 ∙ ap (λ n. take outset.room (drop n input)) S.1 in
+    let rest = rest_is b outset input S in
     let next = ap next_in_book after in
     let many = next_after b outset.port bytes in
     let behind = F.number in

@@ -1,7 +1,7 @@
 -- Which faults come where.
-use Rattle.std.specs.Prelude.{◌≡◌, ◌⊎◌, Result, Err}
+use Rattle.std.specs.Prelude.{Result, Err}
 use Rattle.tp_run.specs.declared.fault.RunFault.{RunFault}
-use Rattle.tp_run.specs.declared.fault.RunFault.TheVariants.{Opening, Spare, Port, OfferRefused, FlushFailed, OutputFailed, ConfirmRefused, LastFlushFailed, Unaccounted, Memory}
+use Rattle.tp_run.specs.declared.fault.RunFault.TheVariants.{Opening, Spare, Port, OfferRefused, FlushFailed, OutputFailed, ConfirmRefused, Unaccounted, Memory}
 
 -- the device isn't written
 abbrev pub IsUnbegun : {A : Type 0} → Result A RunFault → Type 0
@@ -19,32 +19,32 @@ IsSilent (Err OfferRefused) = Unit {0}
 IsSilent (Err FlushFailed) = Unit {0}
 IsSilent _ = ⊥
 
--- a fault of a flush, which answers `given` where the device fails
-abbrev pub IsFlushFault : RunFault → RunFault → Type 0
-IsFlushFault given fault = (fault ≡ given) ⊎ (fault ≡ Memory)
+-- a fault of handing in the input
+abbrev pub IsOfferFault : RunFault → Type 0
+IsOfferFault OfferRefused = Unit {0}
+IsOfferFault Unaccounted = Unit {0}
+IsOfferFault Memory = Unit {0}
+IsOfferFault _ = ⊥
 
--- a fault that comes once the output was begun
+-- a fault of printing and of what comes behind it, but of no call of the device
 abbrev pub IsLate : RunFault → Type 0
-IsLate (Opening unopened) = ⊥
-IsLate Spare = ⊥
-IsLate Port = ⊥
-IsLate OfferRefused = ⊥
-IsLate FlushFailed = ⊥
 IsLate OutputFailed = Unit {0}
 IsLate ConfirmRefused = Unit {0}
-IsLate LastFlushFailed = Unit {0}
 IsLate Unaccounted = Unit {0}
 IsLate Memory = Unit {0}
+IsLate _ = ⊥
+
+-- a fault that comes once the input was handed in
+abbrev pub ComesBehind : RunFault → Type 0
+ComesBehind (Opening unopened) = ⊥
+ComesBehind Spare = ⊥
+ComesBehind Port = ⊥
+ComesBehind OfferRefused = ⊥
+ComesBehind _ = Unit {0}
 
 -- a fault of a run whose device opened, and which can be made as it is asked
 abbrev pub ComesBegun : RunFault → Type 0
 ComesBegun (Opening unopened) = ⊥
 ComesBegun Spare = ⊥
 ComesBegun Port = ⊥
-ComesBegun OfferRefused = Unit {0}
-ComesBegun FlushFailed = Unit {0}
-ComesBegun OutputFailed = Unit {0}
-ComesBegun ConfirmRefused = Unit {0}
-ComesBegun LastFlushFailed = Unit {0}
-ComesBegun Unaccounted = Unit {0}
-ComesBegun Memory = Unit {0}
+ComesBegun _ = Unit {0}

@@ -9,6 +9,7 @@ pub mod Input
 pub mod Made
 pub mod Outset
 pub mod Output
+pub mod Prints
 pub mod Ran
 pub mod Shown
 pub mod Worked

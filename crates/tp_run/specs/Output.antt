@@ -1,5 +1,5 @@
 -- What is left on an output, and what confirms it.
-use Rattle.std.specs.Prelude.{◌≡◌, ◌≤◌, ◌⊎◌, ℕ, ◌+◌, List, [], ◌∷◌, length, Option, take, Result, Ok, Err}
+use Rattle.std.specs.Prelude.{◌≡◌, ◌≤◌, ◌⊎◌, ℕ, ◌+◌, List, [], ◌∷◌, length, Option, Result}
 use Rattle.std.specs.Io.KnownBytes.{Appends}
 use Rattle.tp_model.specs.declared.entry.Entry.{Entry}
 use Rattle.tp_model.specs.declared.entry.Entry.TheVariants.{Confirm}
@@ -8,16 +8,7 @@ use Rattle.tp_book.specs.Host.{port_in, shown_from, shown_of}
 use Rattle.tp_work.specs.Receipts.{IsFor}
 use Rattle.tp_shared.specs.Receipted.{Receipted}
 use Rattle.tp_run.specs.declared.fault.RunFault.{RunFault}
-use Rattle.tp_run.specs.declared.fault.RunFault.TheVariants.{OutputFailed}
-
--- a front of the bytes was appended
-abbrev pub OutputsFront : Option (List ℕ) → Option (List ℕ) → List ℕ → Type 0
-OutputsFront was now bytes = (n : ℕ) × Appends was now (take n bytes)
-
--- all of them were, but where the output can't be written a front of them
-abbrev pub Printed : {A : Type 0} → Option (List ℕ) → Option (List ℕ) → List ℕ → Result A RunFault → Type 0
-Printed was now bytes (Ok x) = Appends was now bytes
-Printed was now bytes (Err fault) = Appends was now bytes ⊎ ((fault ≡ OutputFailed) × OutputsFront was now bytes)
+use Rattle.tp_run.specs.Prints.{MayBeSilent, PrintsSo}
 
 -- the entry that confirms a port's outputs, whose first has the position `from`; none where there is no output
 abbrev pub confirms : ℕ → ℕ → List ℕ → List Entry
@@ -46,6 +37,8 @@ pub record ShowsAll (b : BookValue) (port mark confirmed : ℕ) : Type 0 where
   pub all : shown_of b port mark ≡ length (port_in b port).outputs
   pub stored : next_in_book b ≤ mark
 
--- Nothing was appended; or a mark shows all outputs of a port in a book, and a front of them was.
-abbrev pub PrintedOf : BookValue → ℕ → ℕ → ℕ → Option (List ℕ) → Option (List ℕ) → Type 0
-PrintedOf b port mark confirmed was now = (now ≡ was) ⊎ (ShowsAll b port mark confirmed × OutputsFront was now (port_in b port).outputs)
+-- Nothing was appended, where the answer lets that be; or a mark shows all outputs of a port in a book, and of these as many were as the
+-- answer says.
+abbrev pub PrintedOf : {A : Type 0} → BookValue → ℕ → ℕ → ℕ → Option (List ℕ) → Option (List ℕ) → Result A RunFault → Type 0
+PrintedOf b port mark confirmed was now r =
+    ((now ≡ was) × MayBeSilent r) ⊎ (ShowsAll b port mark confirmed × PrintsSo r was now (port_in b port).outputs)

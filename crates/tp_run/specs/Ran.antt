@@ -22,6 +22,7 @@ use Rattle.tp_run.specs.declared.outset.Outset.{Outset}
 use Rattle.tp_run.specs.Input.{input_slips}
 use Rattle.tp_run.specs.Outset.{outset_in}
 use Rattle.tp_run.specs.Output.{confirms}
+use Rattle.tp_run.specs.Prints.{MayBeSilent, PrintsSo}
 use Rattle.tp_run.specs.Shown.{LeadsToOutputs}
 
 -- the entry that confirms what a run printed, under this number; none where nothing was printed
@@ -63,16 +64,15 @@ pub record Carried (start : Network NodeState) (journal : List Entry) (job : Job
       (input_slips (outset_in opened job.port) input ++ output_slips (outset_in opened job.port) number printed)
 
 -- What was printed, however the run ended: the device opened; where the first `number` entries of the journal lead, the port has some
--- outputs behind those that were confirmed as it was opened, and a front of them was printed, while the device stood somewhere since;
--- and whatever a crash leaves at any moment from then on has each of those entries.
-pub record IsPrinted (start : Network NodeState) (journal : List Entry) (port : ℕ) (was now : Option (List ℕ)) (old new : State) : Type 0 where
+-- outputs behind those that were confirmed as it was opened, and a front of them was printed, while the device stood somewhere since:
+-- fewer where the output can't be written, else all. And whatever a crash leaves at any moment from then on has each of those entries.
+pub record IsPrinted (start : Network NodeState) (journal : List Entry) (port : ℕ) (was now : Option (List ℕ)) (result : Result ℕ RunFault) (old new : State) : Type 0 where
   pub opened : Opened
   pub reads : verdict old.now.bytes ≡ Ok opened
   pub number : ℕ
   pub outputs : List ℕ
   pub shows : LeadsToOutputs start journal number port (outset_in opened port).confirmed outputs
-  pub count : ℕ
-  pub appended : Appends was now (take count outputs)
+  pub printed : PrintsSo result was now outputs
   pub there : State
   pub later : moment old ≤ moment there
   pub since : LeavesOnly there new (RecoversTo t414 device_areas start journal number)
@@ -80,11 +80,11 @@ pub record IsPrinted (start : Network NodeState) (journal : List Entry) (port : 
 -- A crash at any moment of the run leaves what one just before might have left, or what opens to where a prefix of the journal leads,
 -- with all that the device had as it was opened: that is the journal's beginning, and the next number is no less than it was. After a run
 -- that was done, the prefix has each entry below the answered number, and the input and what confirms the output are among them; with
--- those of the workers' turns they are all that the journal has since the opening. However it ended, nothing was printed, or outputs of
--- the port where entries lead that whatever a crash leaves has.
+-- those of the workers' turns they are all that the journal has since the opening. However it ended, nothing was printed, where the answer
+-- lets that be, or as many outputs as it says of the port where entries lead that whatever a crash leaves has.
 pub record Ran (start : Network NodeState) (job : Job) (input : List ℕ) (was now : Option (List ℕ)) (result : Result ℕ RunFault) (old new : State) : Type 0 where
   pub journal : List Entry
   pub leaves : LeavesOnly old new (λ left. MayBe old.now left ⊎ Follows start journal 0 old.now.bytes left)
   pub stored : IfOk result (λ next. (left : List ℕ) → MayBe new.now left → Follows start journal next old.now.bytes left)
   pub carried : IfOk result (λ next. Carried start journal job input was now next old new)
-  pub printed : (now ≡ was) ⊎ IsPrinted start journal job.port was now old new
+  pub printed : ((now ≡ was) × MayBeSilent result) ⊎ IsPrinted start journal job.port was now result old new

@@ -3,7 +3,8 @@
 ghost use Rattle.std.specs.Prelude.{◌≡◌, ◌++◌, flat_map, IfErr, IfOk};
 ghost use Rattle.tp_flush.specs.All.{AreAll};
 ghost use Rattle.tp_flush.specs.Known.{Began};
-ghost use Rattle.tp_run.specs.Faults.{ComesBegun, IsLate};
+ghost use Rattle.tp_run.specs.Faults.{IsLate};
+ghost use Rattle.tp_run.specs.Prints.{TellsAllPrinted};
 
 use crate::fault::RunFault;
 use tp_disk::Disk;
@@ -39,7 +40,7 @@ pub(crate) fn account<J: Naming, D: Disk>(
     ensures all { D.keeps → Began J.formatted J.before flusher.old.opened
         → IfOk result (λ answer. AreAll J.first answer flusher.old.world.journal (flat_map (λ seat. seat.slips) seats.items ++ offered.seat ++ confirmed.seat)) }
     ensures late { IfErr result IsLate }
-    ensures begun { IfErr result ComesBegun }
+    ensures told { TellsAllPrinted result }
 {
     let mut all = slips_of(seats);
     all.absorb(offered.into_seat());

@@ -15,22 +15,23 @@ pub enum RunFault {
     /// The port isn't there.
     #[error("Port")]
     Port,
-    /// There is no room on the device for the entries of the input. None was handed in.
+    /// There is no room on the device for the entries of the input, of which there are some. None was handed in.
     #[error("JournalFull")]
     OfferRefused,
-    /// The device failed while the workers made their turns. Nothing is printed.
+    /// A call of the device failed while the workers made their turns, or behind them. Nothing is printed.
     #[error("DeviceFailed")]
     FlushFailed,
-    /// The output can't be written. A front of what is shown was; nothing is confirmed.
+    /// The output can't be written. A front of what is shown was, but not all of it; nothing is confirmed.
     #[error("DeviceFailed")]
     OutputFailed,
     /// All that is shown is printed, and there is no room on the device for the entry that confirms it.
     #[error("JournalFull")]
     ConfirmRefused,
-    /// All that is shown is printed, and the device failed before that it was confirmed is stored.
+    /// All that is shown is printed, and a call of the device failed before that it was confirmed is stored.
     #[error("DeviceFailed")]
     LastFlushFailed,
-    /// All that is shown is printed, confirmed and stored, and an entry was journalled that no worker made and no receipt is for.
+    /// What lies under the book's lock isn't what this run put there: an entry that no worker made and no receipt is for, or one less. It
+    /// can't come, since no other thread is there.
     #[error("Unaccounted")]
     Unaccounted,
     /// Memory was refused, at whatever step.

@@ -1,9 +1,10 @@
 //! The flusher's thread, and flushes behind it.
 
-ghost use Rattle.std.specs.Prelude.{◌≡◌, ◌≤◌, IfOk, IfErr};
+ghost use Rattle.std.specs.Prelude.{◌≡◌, ◌≤◌, IfOk, IfErr, OnOk};
+ghost use Rattle.tp_model.specs.WriteOrder.{Resting};
 ghost use Rattle.tp_flush.specs.Known.{Began};
 ghost use Rattle.tp_flush.specs.Flushing.{IsSameProcess, Walked};
-ghost use Rattle.tp_run.specs.Faults.{ComesBegun, IsFlushFault};
+ghost use Rattle.tp_run.specs.Failures.{CountsFailures, IsFlushFault, flush_fault_of};
 
 use crate::fault::RunFault;
 use crate::watch::Watch;
@@ -34,6 +35,7 @@ pub(crate) fn flush_meanwhile<J: Naming, D: Disk, R: Wait>(
 ) -> Flusher<J, D>
     ensures walks { D.keeps → Began J.formatted J.before first.opened → Walked first result }
     ensures process { IsSameProcess first result }
+    ensures failures { CountsFailures first result }
 {
     first.known();
     let mut flusher = first;
@@ -51,6 +53,18 @@ pub(crate) fn flush_meanwhile<J: Naming, D: Disk, R: Wait>(
     flusher
 }
 
+/// The fault of a run whose flush was refused: `given` where the device has failed. All that the book has finds room in an area, so the last
+/// one doesn't come.
+fn fault_in(fault: FlushFault, given: RunFault) -> RunFault
+    ensures { result ≡ flush_fault_of given fault }
+{
+    match fault {
+        FlushFault::DeviceFailed | FlushFault::StoreBroken => given,
+        FlushFault::Memory => RunFault::Memory,
+        FlushFault::AreaFull => RunFault::Unaccounted,
+    }
+}
+
 /// A flush. It answers `fault` where the device fails.
 fn flush<J: Naming, D: Disk, R: Wait>(
     rt: &R,
@@ -59,18 +73,15 @@ fn flush<J: Naming, D: Disk, R: Wait>(
     flusher: &mut Flusher<J, D>,
     fault: RunFault,
 ) -> Result<(), RunFault>
-    requires { ComesBegun fault }
     ensures walks { D.keeps → Began J.formatted J.before flusher.old.opened → Walked flusher.old flusher.new }
     ensures process { IsSameProcess flusher.old flusher.new }
-    ensures refused { IfErr result (IsFlushFault fault) }
-    ensures begun { IfErr result ComesBegun }
+    ensures failures { CountsFailures flusher.old flusher.new }
+    ensures rests { OnOk result (flusher.new.world.at ≡ Resting) }
+    ensures refused { IfErr result (IsFlushFault fault flusher.new.world.at) }
 {
     match flusher.turn(rt, alloc, shared) {
         Ok(_) => Ok(()),
-        Err(FlushFault::Memory) => Err(RunFault::Memory),
-        Err(FlushFault::DeviceFailed | FlushFault::StoreBroken | FlushFault::AreaFull) => {
-            Err(fault)
-        }
+        Err(refused) => Err(fault_in(refused, fault)),
     }
 }
 
@@ -84,18 +95,18 @@ pub(crate) fn flush_upto<J: Naming, D: Disk, R: Wait>(
     number: u64,
     fault: RunFault,
 ) -> Result<u64, RunFault>
-    requires { ComesBegun fault }
     ensures walks { D.keeps → Began J.formatted J.before flusher.old.opened → Walked flusher.old flusher.new }
     ensures process { IsSameProcess flusher.old flusher.new }
+    ensures failures { CountsFailures flusher.old flusher.new }
+    ensures rests { OnOk result (flusher.new.world.at ≡ Resting) }
     ensures stored { IfOk result (λ mark. (mark ≡ flusher.new.world.mark) × (number ≤ mark)) }
-    ensures refused { IfErr result (IsFlushFault fault) }
-    ensures begun { IfErr result ComesBegun }
+    ensures refused { IfErr result (IsFlushFault fault flusher.new.world.at) }
 {
     flush(rt, alloc, shared, flusher, fault)?;
     let mark = flusher.mark();
-    // A flush that was done copied all that was journalled before.
+    // A flush that was done copied all that was journalled before, so this doesn't come.
     if mark < number {
-        return Err(fault);
+        return Err(RunFault::Unaccounted);
     }
     Ok(mark)
 }

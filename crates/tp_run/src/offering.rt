@@ -5,8 +5,8 @@ ghost use Rattle.tp_book.specs.Book.{next_in_book};
 ghost use Rattle.tp_book.specs.Host.{after_inputs};
 ghost use Rattle.tp_work.specs.Receipts.{IsFor};
 ghost use Rattle.tp_model.specs.declared.entry.Entry.TheVariants.{HostIn};
-ghost use Rattle.tp_run.specs.Input.{IsForInput, rest_of};
-ghost use Rattle.tp_run.specs.Faults.{ComesBegun};
+ghost use Rattle.tp_run.specs.Input.{IsForInput, rest_at, rest_of};
+ghost use Rattle.tp_run.specs.Faults.{IsOfferFault};
 
 use crate::fault::RunFault;
 use crate::outset::Outset;
@@ -36,7 +36,8 @@ pub(crate) fn offer_rest<J: Naming>(
     ensures book { IfOk result (λ receipt. held.new.book ≡ after_inputs held.old.book port (rest_of held.old.book port input.now)) }
     ensures number { IfOk result (λ receipt. receipt.number ≡ next_in_book held.new.book) }
     ensures receipt { IfOk result (IsFor (map (HostIn port) (rest_of held.old.book port input.now))) }
-    ensures begun { IfErr result ComesBegun }
+    ensures refused { IfErr result IsOfferFault }
+    ensures some { IfErr result (λ fault. fault ≡ RunFault.OfferRefused → 0 < length (rest_of held.old.book port input.now)) }
     ensures err { OnErr result (held.new ≡ held.old) }
 {
     held.known();
@@ -47,7 +48,7 @@ pub(crate) fn offer_rest<J: Naming>(
         Ok(receipt) => Ok(receipt),
         Err(OfferFault::JournalFull) => Err(RunFault::OfferRefused),
         Err(OfferFault::Memory) => Err(RunFault::Memory),
-        Err(OfferFault::StoreBroken) => Err(RunFault::FlushFailed),
+        Err(OfferFault::StoreBroken) => Err(RunFault::Unaccounted),
         Err(OfferFault::Already(_) | OfferFault::Gap(_) | OfferFault::PortFull(_)) => {
             unreachable!()
         }
@@ -63,7 +64,8 @@ pub(crate) fn offer_at<J: Naming>(
 ) -> Result<Receipt<J>, RunFault>
     requires there { outset.port < length held.old.book.state.ports }
     ensures receipt { IfOk result (IsForInput outset input.now) }
-    ensures begun { IfErr result ComesBegun }
+    ensures refused { IfErr result IsOfferFault }
+    ensures some { IfErr result (λ fault. fault ≡ RunFault.OfferRefused → 0 < length (rest_at outset input.now)) }
     ensures err { OnErr result (held.new ≡ held.old) }
 {
     outset.stands_in(held.book())?;

@@ -41,7 +41,7 @@ impl Outset {
     pub(crate) fn stands_in(self, book: &Book) -> Result<(), RunFault>
         requires { self.port < length book.now.state.ports }
         ensures stands { IfOk result (λ done. StandsIn self book.now) }
-        ensures refused { IfErr result (λ fault. fault ≡ RunFault.OfferRefused) }
+        ensures refused { IfErr result (λ fault. fault ≡ RunFault.Unaccounted) }
     {
         if book.next() == self.next
             && book.accepted(self.port) == self.accepted
@@ -49,18 +49,18 @@ impl Outset {
         {
             return Ok(());
         }
-        Err(RunFault::OfferRefused)
+        Err(RunFault::Unaccounted)
     }
 
     /// Tests that a book has confirmed just the outputs of the port that it had confirmed at the opening.
     pub(crate) fn is_confirmed_in(self, book: &Book) -> Result<(), RunFault>
         requires { self.port < length book.now.state.ports }
         ensures confirmed { IfOk result (λ done. (port_in book.now self.port).out_base ≡ self.confirmed) }
-        ensures refused { IfErr result (λ fault. fault ≡ RunFault.OutputFailed) }
+        ensures refused { IfErr result (λ fault. fault ≡ RunFault.Unaccounted) }
     {
         if book.out_base(self.port) == self.confirmed {
             return Ok(());
         }
-        Err(RunFault::OutputFailed)
+        Err(RunFault::Unaccounted)
     }
 }

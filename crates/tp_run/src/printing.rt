@@ -1,13 +1,14 @@
 //! The output that a run prints and confirms.
 
-ghost use Rattle.std.specs.Prelude.{◌≡◌, ◌<◌, ◌≤◌, length, IfOk, IfErr, OnOk, OnErr};
+ghost use Rattle.std.specs.Prelude.{◌≡◌, ◌<◌, ◌≤◌, length, take, IfOk, IfErr, OnOk, OnErr};
 ghost use Rattle.std.specs.Io.KnownBytes.{Appends};
 ghost use Rattle.tp_book.specs.Book.{next_in_book};
 ghost use Rattle.tp_book.specs.Host.{after_confirm, port_in, shown_from, shown_of, shown_upto_of};
 ghost use Rattle.tp_book.specs.Acts.{confirm_entries};
 ghost use Rattle.tp_work.specs.Receipts.{IsFor};
-ghost use Rattle.tp_run.specs.Faults.{ComesBegun, IsLate};
-ghost use Rattle.tp_run.specs.Output.{OutputsFront, AreOutputs, AreShownBytes, IsForOutput, Printed, PrintedOf, ShowsAll};
+ghost use Rattle.tp_run.specs.Faults.{IsLate};
+ghost use Rattle.tp_run.specs.Output.{AreOutputs, AreShownBytes, IsForOutput, PrintedOf, ShowsAll};
+ghost use Rattle.tp_run.specs.Prints.{PrintsSo, TellsAllPrinted};
 
 use crate::fault::RunFault;
 use crate::outset::Outset;
@@ -16,25 +17,37 @@ use tp_book::Book;
 use tp_shared::{Locked, Naming, Receipt};
 use tp_work::{ConfirmFault, confirm};
 
-/// Writes bytes as they are. A front of them stands on the output, whatever is answered.
-pub(crate) fn put<O: Write>(out: &mut O, bytes: &[u8]) -> Result<(), RunFault>
-    ensures written { OnOk result (Appends (O.contents out.old) (O.contents out.new) bytes.now) }
-    ensures refused { IfErr result (λ fault. fault ≡ RunFault.OutputFailed) }
-    ensures front { OutputsFront (O.contents out.old) (O.contents out.new) bytes.now }
+/// Writes bytes as they are, until the output takes no more. Answers how many of them it took.
+fn write_front<O: Write>(out: &mut O, bytes: &[u8]) -> usize
+    ensures few { result ≤ length bytes.now }
+    ensures front { Appends (O.contents out.old) (O.contents out.new) (take result bytes.now) }
 {
     let mut written = 0;
     for _ in 0..u64::MAX {
         if written >= bytes.len() {
-            return Ok(());
+            return written;
         }
         match out.write(&bytes[written..]) {
-            Ok(0) => return Err(RunFault::OutputFailed),
+            Ok(0) => return written,
             Ok(count) => written += count,
             Err(error) if error.kind() == ErrorKind::Interrupted => {}
-            Err(_) => return Err(RunFault::OutputFailed),
+            Err(_) => return written,
         }
     }
-    Err(RunFault::OutputFailed)
+    written
+}
+
+/// Writes bytes as they are. A front of them stands on the output, whatever is answered: where that is a fault, not all of them.
+pub(crate) fn put<O: Write>(out: &mut O, bytes: &[u8]) -> Result<(), RunFault>
+    ensures written { OnOk result (Appends (O.contents out.old) (O.contents out.new) bytes.now) }
+    ensures printed { PrintsSo result (O.contents out.old) (O.contents out.new) bytes.now }
+    ensures refused { IfErr result (λ fault. fault ≡ RunFault.OutputFailed) }
+{
+    let written = write_front(out, bytes);
+    if written < bytes.len() {
+        return Err(RunFault::OutputFailed);
+    }
+    Ok(())
 }
 
 /// Journals, under the book's lock, that the host has all outputs of a port that `mark` shows.
@@ -48,7 +61,7 @@ fn confirm_shown<J: Naming>(
     ensures number { IfOk result (λ receipt. receipt.number ≡ next_in_book held.new.book) }
     ensures receipt { IfOk result (IsFor (confirm_entries held.old.book port (shown_upto_of held.old.book port mark))) }
     ensures late { IfErr result IsLate }
-    ensures begun { IfErr result ComesBegun }
+    ensures told { TellsAllPrinted result }
     ensures err { OnErr result (held.new ≡ held.old) }
 {
     let upto = held.book().shown_upto(port, mark);
@@ -56,7 +69,7 @@ fn confirm_shown<J: Naming>(
         Ok(receipt) => Ok(receipt),
         Err(ConfirmFault::JournalFull) => Err(RunFault::ConfirmRefused),
         Err(ConfirmFault::Memory) => Err(RunFault::Memory),
-        Err(ConfirmFault::StoreBroken) => Err(RunFault::LastFlushFailed),
+        Err(ConfirmFault::StoreBroken) => Err(RunFault::Unaccounted),
         Err(ConfirmFault::NotShown) => unreachable!(),
     }
 }
@@ -70,12 +83,11 @@ pub(crate) fn print_shown<J: Naming, O: Write>(
     out: &mut O,
 ) -> Result<Receipt<J>, RunFault>
     requires there { port < length held.old.book.state.ports }
-    ensures printed { Printed (O.contents out.old) (O.contents out.new) (shown_from held.old.book port mark (port_in held.old.book port).out_base) result }
+    ensures printed { PrintsSo result (O.contents out.old) (O.contents out.new) (shown_from held.old.book port mark (port_in held.old.book port).out_base) }
     ensures book { IfOk result (λ receipt. held.new.book ≡ after_confirm held.old.book port (shown_upto_of held.old.book port mark)) }
     ensures number { IfOk result (λ receipt. receipt.number ≡ next_in_book held.new.book) }
     ensures receipt { IfOk result (IsForOutput port (port_in held.old.book port).out_base (AreShownBytes held.old.book port mark) (O.contents out.old) (O.contents out.new)) }
     ensures late { IfErr result IsLate }
-    ensures begun { IfErr result ComesBegun }
     ensures err { OnErr result (held.new ≡ held.old) }
 {
     let from = held.book().out_base(port);
@@ -88,13 +100,13 @@ fn is_all_shown(book: &Book, port: u8, mark: u64) -> Result<(), RunFault>
     requires { port < length book.now.state.ports }
     ensures all { IfOk result (λ done. shown_of book.now port mark ≡ length (port_in book.now port).outputs) }
     ensures stored { IfOk result (λ done. next_in_book book.now ≤ mark) }
-    ensures refused { IfErr result (λ fault. fault ≡ RunFault.OutputFailed) }
+    ensures refused { IfErr result (λ fault. fault ≡ RunFault.Unaccounted) }
 {
     let shown = book.shown_upto(port, mark) - book.out_base(port);
     if shown == book.outputs(port).len() as u64 && book.next() <= mark {
         return Ok(());
     }
-    Err(RunFault::OutputFailed)
+    Err(RunFault::Unaccounted)
 }
 
 /// Prints and confirms, where the book has confirmed what it had as the device was opened, and `mark` shows all outputs and is above
@@ -108,9 +120,8 @@ pub(crate) fn print_from<J: Naming, O: Write>(
     requires there { outset.port < length held.old.book.state.ports }
     ensures receipt { IfOk result (IsForOutput outset.port outset.confirmed (AreOutputs held.old.book outset.port) (O.contents out.old) (O.contents out.new)) }
     ensures all { IfOk result (λ receipt. ShowsAll held.old.book outset.port mark outset.confirmed) }
-    ensures printed { PrintedOf held.old.book outset.port mark outset.confirmed (O.contents out.old) (O.contents out.new) }
+    ensures printed { PrintedOf held.old.book outset.port mark outset.confirmed (O.contents out.old) (O.contents out.new) result }
     ensures late { IfErr result IsLate }
-    ensures begun { IfErr result ComesBegun }
     ensures err { OnErr result (held.new ≡ held.old) }
 {
     outset.is_confirmed_in(held.book())?;

@@ -1,7 +1,7 @@
 //! A run, from a device to a device.
 
 ghost use Rattle.std.specs.List.{AllByRecursion};
-ghost use Rattle.std.specs.Prelude.{◌≡◌, ◌<◌, ◌≤◌, true, false, Ok, Err, Some, IfErr, IsErr};
+ghost use Rattle.std.specs.Prelude.{◌≡◌, ◌<◌, ◌≤◌, true, false, Ok, Err, Some, length, IfErr, IsErr};
 ghost use Rattle.tp_area.specs.Places.{place_at};
 ghost use Rattle.tp_flush.specs.Known.{Began};
 ghost use Rattle.tp_model.specs.DiskHistory.{IsSynced};
@@ -12,7 +12,10 @@ ghost use Rattle.tp_model.specs.Opening.{verdict};
 ghost use Rattle.tp_model.specs.Spelling.{IsCut};
 ghost use Rattle.tp_model.specs.declared.limits.TheConstants.{MAX_STEPS};
 ghost use Rattle.tp_recover.specs.Reading.{LeavesNothingNew};
+ghost use Rattle.tp_run.specs.Answered.{AnswerFor};
+ghost use Rattle.tp_run.specs.Failures.{failures_after, has_failed};
 ghost use Rattle.tp_run.specs.Faults.{ComesBegun, IsSilent, IsUnbegun};
+ghost use Rattle.tp_run.specs.Input.{rest_at};
 ghost use Rattle.tp_flush.specs.Made.{IsMadeOf};
 ghost use Rattle.tp_run.specs.Outset.{outset_in};
 ghost use Rattle.tp_run.specs.Ran.{History, Ran};
@@ -75,6 +78,8 @@ fn run_parts<J: Naming + Send + Sync, D: Disk + Send + Drop, O: Write, R: Thread
     ensures ran { D.keeps → Began J.formatted J.before (D.state store.disk).now.bytes
         → Ran J.formatted job input.now (O.contents out.old) (O.contents out.new) result.1 (D.state store.disk) (D.state result.0) }
     ensures silent { IsSilent result.1 → O.contents out.new ≡ O.contents out.old }
+    ensures failures { D.failures_of result.0 ≡ failures_after (has_failed result.1) (D.failures_of store.disk) }
+    ensures some { IfErr result.1 (λ fault. fault ≡ RunFault.OfferRefused → 0 < length (rest_at outset input.now)) }
     ensures begun { IfErr result.1 ComesBegun }
 {
     let Ok((net, seats, key)) = Net::<J, NoGate>::start(
@@ -104,7 +109,9 @@ fn run_parts<J: Naming + Send + Sync, D: Disk + Send + Drop, O: Write, R: Thread
 /// leads, with all that the device had. After a run that was done it has each entry below the number that is answered: among them are
 /// those of the input, behind what the device had, and the one that confirms what was printed; all others behind what the device had were
 /// made by turns of the workers. However the call ends, what it printed
-/// are outputs of the port where entries of that journal lead that whatever a crash leaves from then on has.
+/// are outputs of the port where entries of that journal lead that whatever a crash leaves from then on has: all of them, or fewer where the
+/// output can't be written. A fault tells its reason: what opening answers, or what is wrong with the job; and a call of the device has failed
+/// just where that is told.
 pub fn run<D: Disk + Send + Drop, O: Write, R: Threads + Wait + Sync>(
     rt: &R,
     alloc: Global,
@@ -122,6 +129,8 @@ pub fn run<D: Disk + Send + Drop, O: Write, R: Threads + Wait + Sync>(
     ensures unwritten { D.keeps → IsUnbegun result.1 → LeavesNothingNew (D.state disk) (D.state result.0) }
     ensures silent { IsSilent result.1 → O.contents out.new ≡ O.contents out.old }
     ensures unopened { D.keeps → IsErr (verdict (D.state disk).now.bytes) → (unopened : Unopened) × (result.1 ≡ Err (RunFault.Opening unopened)) }
+    ensures answer { D.keeps → AnswerFor (verdict (D.state disk).now.bytes) job input.now result.1 }
+    ensures failures { D.failures_of result.0 ≡ failures_after (has_failed result.1) (D.failures_of disk) }
 {
     let mut disk = disk;
     let opened = match open(alloc, &mut disk) {

@@ -3,12 +3,15 @@
 ghost use Rattle.std.specs.Prelude.{◌≡◌, ◌<◌, ◌≤◌, ◌++◌, [], All, flat_map, length, vec_len, IfErr, IfOk, OnErr, Some};
 ghost use Rattle.tp_shared.specs.Receipted.{AreBelow};
 ghost use Rattle.tp_flush.specs.Known.{Began};
-ghost use Rattle.tp_flush.specs.Flushing.{IsSameProcess, Walked};
+ghost use Rattle.tp_flush.specs.Flushing.{IsSameProcess, Walked, position};
 ghost use Rattle.tp_flush.specs.Settled.{SlipsStand};
 ghost use Rattle.tp_flush.specs.All.{AreAll};
-ghost use Rattle.tp_run.specs.Faults.{ComesBegun, IsLate, IsSilent};
-ghost use Rattle.tp_run.specs.Input.{IsForInput, input_slips};
+ghost use Rattle.tp_model.specs.WriteOrder.{Resting};
+ghost use Rattle.tp_run.specs.Failures.{CountsFailures, failures_after, has_failed};
+ghost use Rattle.tp_run.specs.Faults.{ComesBegun, ComesBehind, IsLate, IsOfferFault, IsSilent};
+ghost use Rattle.tp_run.specs.Input.{IsForInput, input_slips, rest_at};
 ghost use Rattle.tp_run.specs.Output.{IsForOutput};
+ghost use Rattle.tp_run.specs.Prints.{TellsAllPrinted};
 ghost use Rattle.tp_run.specs.Ran.{Settled};
 ghost use Rattle.tp_run.specs.Shown.{AreShownIn, MayPrint, MayShow};
 ghost use Rattle.tp_run.specs.Worked.{Worked};
@@ -40,7 +43,8 @@ fn offer<J: Naming, R: Wait>(
 ) -> Result<Receipt<J>, RunFault>
     requires { outset.port < length J.start.ports }
     ensures receipt { IfOk result (IsForInput outset input.now) }
-    ensures begun { IfErr result ComesBegun }
+    ensures refused { IfErr result IsOfferFault }
+    ensures some { IfErr result (λ fault. fault ≡ RunFault.OfferRefused → 0 < length (rest_at outset input.now)) }
 {
     let mut held = shared.book().lock(rt);
     held.known();
@@ -63,9 +67,8 @@ fn print_settled<J: Naming, D: Disk, O: Write>(
         (λ number bytes. D.keeps → Began J.formatted J.before flusher.old.opened → AreShownIn J.formatted flusher.old.world outset.port outset.confirmed number bytes)
         (O.contents out.old) (O.contents out.new)) }
     ensures shown { D.keeps → Began J.formatted J.before flusher.old.opened
-        → MayShow J.formatted flusher.old.world.journal flusher.old.world.mark outset.port outset.confirmed (O.contents out.old) (O.contents out.new) }
+        → MayShow J.formatted flusher.old.world.journal flusher.old.world.mark outset.port outset.confirmed (O.contents out.old) (O.contents out.new) result }
     ensures late { IfErr result IsLate }
-    ensures begun { IfErr result ComesBegun }
     ensures err { OnErr result (held.new ≡ held.old) }
 {
     flusher.settle_book(held);
@@ -88,9 +91,8 @@ fn print<J: Naming, D: Disk, O: Write, R: Wait>(
         (λ number bytes. D.keeps → Began J.formatted J.before flusher.old.opened → AreShownIn J.formatted flusher.old.world outset.port outset.confirmed number bytes)
         (O.contents out.old) (O.contents out.new)) }
     ensures shown { D.keeps → Began J.formatted J.before flusher.old.opened
-        → MayShow J.formatted flusher.old.world.journal flusher.old.world.mark outset.port outset.confirmed (O.contents out.old) (O.contents out.new) }
+        → MayShow J.formatted flusher.old.world.journal flusher.old.world.mark outset.port outset.confirmed (O.contents out.old) (O.contents out.new) result }
     ensures late { IfErr result IsLate }
-    ensures begun { IfErr result ComesBegun }
 {
     let mut held = shared.book().lock(rt);
     held.known();
@@ -110,6 +112,7 @@ fn work<J: Naming + Send + Sync, D: Disk + Send + Drop, R: Threads + Wait + Sync
     requires seats { All (λ seat. (seat.hand.of ≡ Some net.now.queue) × Worked J.start net.now.quantum seat.slips) seats.items }
     ensures walks { D.keeps → Began J.formatted J.before flusher.opened → Walked flusher result.0 }
     ensures process { IsSameProcess flusher result.0 }
+    ensures failures { CountsFailures flusher result.0 }
     ensures count { vec_len result.1 ≡ vec_len seats }
     ensures seats { All (λ seat. Worked J.start net.now.quantum seat.slips) result.1.items }
 {
@@ -118,7 +121,7 @@ fn work<J: Naming + Send + Sync, D: Disk + Send + Drop, R: Threads + Wait + Sync
     join(
         rt,
         move || -> Flusher<J, D>
-            ensures { (D.keeps → Began J.formatted J.before flusher.opened → Walked flusher result) × IsSameProcess flusher result }
+            ensures { (D.keeps → Began J.formatted J.before flusher.opened → Walked flusher result) × IsSameProcess flusher result × CountsFailures flusher result }
         { flush_meanwhile(rt, alloc, shared, watching, flusher) },
         move || -> Vec<Seat<J>>
             requires { All (λ seat. (seat.hand.of ≡ Some net.now.queue) × Worked J.start net.now.quantum seat.slips) seats.items }
@@ -159,7 +162,7 @@ fn settle<J: Naming, D: Disk, R: Wait>(
     ensures all { D.keeps → Began J.formatted J.before flusher.old.opened
         → IfOk result (λ answer. AreAll J.first answer flusher.old.world.journal (flat_map (λ seat. seat.slips) seats.items ++ offered.seat ++ confirmed.seat)) }
     ensures late { IfErr result IsLate }
-    ensures begun { IfErr result ComesBegun }
+    ensures told { TellsAllPrinted result }
 {
     let mut offered = offered;
     let mut confirmed = confirmed;
@@ -193,9 +196,11 @@ fn finish<J: Naming, D: Disk, O: Write, R: Wait>(
     ensures settled { D.keeps → Began J.formatted J.before flusher.old.opened
         → IfOk result (Settled J.formatted J.start job outset offered.seat (O.contents out.old) (O.contents out.new) flusher.new.world.journal) }
     ensures shown { D.keeps → Began J.formatted J.before flusher.old.opened
-        → MayPrint J.formatted flusher.old flusher.new outset.port outset.confirmed (O.contents out.old) (O.contents out.new) }
+        → MayPrint J.formatted flusher.old flusher.new outset.port outset.confirmed (O.contents out.old) (O.contents out.new) result }
     ensures silent { IsSilent result → O.contents out.new ≡ O.contents out.old }
-    ensures begun { IfErr result ComesBegun }
+    ensures failures { CountsFailures flusher.old flusher.new }
+    ensures ends { flusher.new.world.at ≡ position (has_failed result) }
+    ensures behind { IfErr result ComesBehind }
 {
     flusher.known();
     let number = offered.number();
@@ -239,14 +244,17 @@ pub(crate) fn serve<
     requires quantum { net.now.quantum ≡ job.quantum }
     requires seats { All (λ seat. (seat.hand.of ≡ Some net.now.queue) × (seat.slips ≡ [])) seats.items }
     requires count { vec_len seats ≡ job.workers }
+    requires rests { flusher.world.at ≡ Resting }
     ensures walks { D.keeps → Began J.formatted J.before flusher.opened → Walked flusher result.0 }
     ensures process { IsSameProcess flusher result.0 }
+    ensures failures { result.0.failures ≡ failures_after (has_failed result.1) flusher.failures }
     ensures stored { IfOk result.1 (λ next. next ≤ result.0.world.mark) }
     ensures settled { D.keeps → Began J.formatted J.before flusher.opened
         → IfOk result.1 (Settled J.formatted J.start job outset (input_slips outset input.now) (O.contents out.old) (O.contents out.new) result.0.world.journal) }
     ensures shown { D.keeps → Began J.formatted J.before flusher.opened
-        → MayPrint J.formatted flusher result.0 outset.port outset.confirmed (O.contents out.old) (O.contents out.new) }
+        → MayPrint J.formatted flusher result.0 outset.port outset.confirmed (O.contents out.old) (O.contents out.new) result.1 }
     ensures silent { IsSilent result.1 → O.contents out.new ≡ O.contents out.old }
+    ensures some { IfErr result.1 (λ fault. fault ≡ RunFault.OfferRefused → 0 < length (rest_at outset input.now)) }
     ensures begun { IfErr result.1 ComesBegun }
 {
     flusher.known();

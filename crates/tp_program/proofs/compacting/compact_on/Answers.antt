@@ -14,6 +14,7 @@ returns-clause-done g c = record {
   grown = c.compact-disk.ensures.grown;
   unwritten = c.compact-disk.ensures.unwritten;
   printed = c.report.ensures.printed;
+  answer = c.compact-disk.ensures.answer;
 }
 
 unopened_done : (done : Result Compaction CompactFault) → (unopened : Unopened) × (done ≡ Err (Opening unopened)) → IsErr done × StaysUnopened done

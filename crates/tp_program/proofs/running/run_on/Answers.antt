@@ -1,4 +1,6 @@
 use Rattle.std.proofs.Common.{◌∙◌, sym, subst, ◌≤◌}
+use Rattle.tp_model.specs.Opening.{verdict}
+use Rattle.tp_run.specs.Answered.{AnswerFor}
 use Rattle.tp_run.specs.Ran.{Ran}
 use Rattle.tp_run.specs.declared.job.Job.{Job}
 use Rattle.tp_program.proofs.Statuses.{status_few, status_words, status_unopened}
@@ -17,6 +19,9 @@ returns-clause-ran g c = record {
       c.job_of-job.ensures.value (c.run-disk.ensures.ran keeps began);
   unwritten = c.run-disk.ensures.unwritten;
   silent = c.run-disk.ensures.silent;
+  answer =
+      λ keeps. subst (λ (j : Job). AnswerFor (verdict (g.D.Disk.state c.args.disk).now.bytes) j c.args.input.now c.run-disk.result.1) c.job_of-job.ensures.value
+      (c.run-disk.ensures.answer keeps);
 }
 
 pub returns-clause-words : goal.returns-clause-words

@@ -2,6 +2,8 @@ use Rattle.std.proofs.Common.{refl, sym, subst, ap, ◌∙◌}
 use Rattle.tp_flush.specs.Known.{Began}
 use Rattle.tp_flush.specs.Flushing.{Flushing, IsSameProcess, Walked}
 use Rattle.tp_flush.proofs.Turns.{walked_nowhere, walked_then}
+use Rattle.tp_run.specs.Failures.{CountsFailures}
+use Rattle.tp_run.proofs.Failures.{failures_then, none_failed, turn_failures}
 use Rattle.tp_run.proofs.flushing.flush_meanwhile.Goals as goal
 
 pub loop-init : goal.loop-init
@@ -11,6 +13,7 @@ loop-init g c = record {
     size = ap (λ (v : Flushing). v.size) c.copy_at_most.ensures;
     topology = ap (λ (v : Flushing). v.topology) c.copy_at_most.ensures;
   };
+  failures = subst (λ (v : Flushing). CountsFailures c.args.first v) (sym c.copy_at_most.ensures) (none_failed c.args.first);
   walks = λ k began. subst (λ (v : Flushing). Walked c.args.first v) (sym c.copy_at_most.ensures) (walked_nowhere c.args.first (c.known.ensures.disk k));
 }
 
@@ -20,6 +23,9 @@ loop-preserved g c =
     let Q = c.turn-done.ensures.process in
     record {
       process = record { opened = Q.opened ∙ P.opened; size = Q.size ∙ P.size; topology = Q.topology ∙ P.topology };
+      failures =
+          failures_then c.args.first c.loop.flusher c.turn-done.new.self c.loop.invariant.failures
+          (turn_failures c.turn-done.result c.loop.flusher c.turn-done.new.self c.turn-done.ensures.ended);
       walks = λ k began.
           walked_then c.args.first c.loop.flusher c.turn-done.new.self (c.loop.invariant.walks k began)
           (c.turn-done.ensures.walks k (subst (Began g.J.Naming.formatted g.J.Naming.before) (sym P.opened) began));
@@ -30,3 +36,6 @@ returns-clause-walks g c k began = subst (λ (v : Flushing). Walked c.args.first
 
 pub returns-clause-process : goal.returns-clause-process
 returns-clause-process g c = subst (λ (v : Flushing). IsSameProcess c.args.first v) (sym c.copy_at_most-2.ensures) c.loop.invariant.process
+
+pub returns-clause-failures : goal.returns-clause-failures
+returns-clause-failures g c = subst (λ (v : Flushing). CountsFailures c.args.first v) (sym c.copy_at_most-2.ensures) c.loop.invariant.failures

@@ -1,7 +1,8 @@
-use Rattle.std.proofs.Common.{◌≡◌, ◌≤◌, length, sym, ap, subst, ◌∙◌, IfOk}
+use Rattle.std.proofs.Common.{rules, ◌≡◌, ◌≤◌, length, inl, Err, refl, sym, ap, subst, ◌∙◌, IfOk}
 use Rattle.tp_book.specs.Book.{next_in_book}
 use Rattle.tp_book.specs.Host.{port_in, shown_of}
 use Rattle.tp_run.specs.Output.{AreOutputs, IsForOutput, ShowsAll}
+use Rattle.tp_run.specs.Prints.{ComesSilent, MayBeSilent}
 use Rattle.tp_run.proofs.Shown.{are_outputs, if_made, output_like, printed_of}
 use Rattle.tp_run.proofs.printing.print_from.Goals as goal
 
@@ -25,6 +26,18 @@ returns-clause-all g c =
       all = subst (λ d. shown_of d port c.args.mark ≡ length (port_in d port).outputs) c.book-2.ensures c.in_ok-is_all_shown.ensures.all;
       stored = subst (λ d. next_in_book d ≤ c.args.mark) c.book-2.ensures c.in_ok-is_all_shown.ensures.stored;
     })
+
+pub returns-in_err-is_confirmed_in-clause-printed : goal.returns-in_err-is_confirmed_in-clause-printed
+returns-in_err-is_confirmed_in-clause-printed g c =
+    let fault = c.in_err-is_confirmed_in.field-0.0 in
+    let is : c.from_residual.result ≡ Err fault = search rules in
+    inl (refl, subst (λ r. MayBeSilent r) (sym is) (subst ComesSilent (sym c.in_err-is_confirmed_in.ensures.refused) tt))
+
+pub returns-in_err-is_all_shown-clause-printed : goal.returns-in_err-is_all_shown-clause-printed
+returns-in_err-is_all_shown-clause-printed g c =
+    let fault = c.in_err-is_all_shown.field-0.0 in
+    let is : c.from_residual-in_err-is_all_shown.result ≡ Err fault = search rules in
+    inl (refl, subst (λ r. MayBeSilent r) (sym is) (subst ComesSilent (sym c.in_err-is_all_shown.ensures.refused) tt))
 
 pub returns-clause-printed : goal.returns-clause-printed
 returns-clause-printed g c =

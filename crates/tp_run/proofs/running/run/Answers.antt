@@ -1,8 +1,19 @@
-use Rattle.std.proofs.Common.{◌≡◌, Err, refl, sym, ap, subst, ◌∙◌}
+use Rattle.std.proofs.Common.{◌≡◌, ◌<◌, length, Err, Some, None, false, refl, sym, ap, subst, ◌∙◌}
+use Rattle.std.specs.Prelude.{nat_lt, IfErr}
 use Rattle.tp_model.specs.Disk.{Moment}
+use Rattle.tp_model.specs.Head.{Head}
+use Rattle.tp_model.specs.Topology.{Topology}
 use Rattle.tp_flush.specs.Known.{Began}
-use Rattle.tp_run.specs.declared.fault.RunFault.TheVariants.{Opening, Memory}
+use Rattle.tp_model.specs.Opening.{Opened}
+use Rattle.tp_run.specs.declared.fault.RunFault.TheVariants.{Opening, Memory, OfferRefused}
+use Rattle.tp_run.specs.declared.outset.Outset.{Outset}
+use Rattle.tp_run.specs.Input.{rest_at}
+use Rattle.tp_run.specs.Failures.{failures_after, has_failed, is_failure}
+use Rattle.tp_run.specs.Made.{has_pages, job_fault}
+use Rattle.tp_run.specs.Prints.{ComesSilent}
 use Rattle.tp_run.specs.Ran.{Ran}
+use Rattle.tp_run.proofs.Answered.{answered, none_of, wrong_is, wrong_told}
+use Rattle.tp_run.proofs.Failures.{opening_counted, uncounted}
 use Rattle.tp_run.proofs.Faults.{begun_written}
 use Rattle.tp_run.proofs.Made.{shape_is}
 use Rattle.tp_run.proofs.Runs.{opened_ran, unwritten_ran}
@@ -27,18 +38,19 @@ run_parts-requires-clause-names g c κs within =
 pub returns-in-Err-clause-ran : goal.returns-in-Err-clause-ran
 returns-in-Err-clause-ran g c k began =
     let out = g.O.Write.contents c.args.out.now in
-    unwritten_ran g.history.formatted c.args.job c.args.input.now out (Opening c.in-Err.unopened) (g.D.Disk.state c.args.disk) (g.D.Disk.state c.open.new.disk) (c.open.ensures.leaves k)
+    unwritten_ran g.history.formatted c.args.job c.args.input.now out (Opening c.in-Err.unopened) (g.D.Disk.state c.args.disk) (g.D.Disk.state c.open.new.disk) (c.open.ensures.leaves k) tt
 
 pub returns-in-Some-clause-ran : goal.returns-in-Some-clause-ran
 returns-in-Some-clause-ran g c k began =
     let out = g.O.Write.contents c.args.out.now in
     unwritten_ran g.history.formatted c.args.job c.args.input.now out c.in-Some.fault (g.D.Disk.state c.args.disk) (g.D.Disk.state c.open.new.disk) (c.open.ensures.leaves k)
+    (wrong_is ComesSilent (has_pages c.args.job.spare c.topology.result.now) (nat_lt c.args.job.port c.topology.result.now.ports) c.in-Some.fault (sym c.in-Some.ensures) tt tt)
 
 pub returns-in_default-parts_of-clause-ran : goal.returns-in_default-parts_of-clause-ran
 returns-in_default-parts_of-clause-ran g c k began =
     let out = g.O.Write.contents c.args.out.now in
     subst (λ d. Ran g.history.formatted c.args.job c.args.input.now out out (Err Memory) (g.D.Disk.state c.args.disk) (g.D.Disk.state d)) (sym (c.into_disk.ensures ∙ c.store-store.ensures.disk))
-    (unwritten_ran g.history.formatted c.args.job c.args.input.now out Memory (g.D.Disk.state c.args.disk) (g.D.Disk.state c.open.new.disk) (c.open.ensures.leaves k))
+    (unwritten_ran g.history.formatted c.args.job c.args.input.now out Memory (g.D.Disk.state c.args.disk) (g.D.Disk.state c.open.new.disk) (c.open.ensures.leaves k) tt)
 
 pub returns-clause-ran : goal.returns-clause-ran
 returns-clause-ran g c k began =
@@ -56,3 +68,49 @@ returns-clause-ran g c k began =
 
 pub returns-clause-unwritten : goal.returns-clause-unwritten
 returns-clause-unwritten g c k unbegun = absurd (begun_written c.run_parts.result.1 c.run_parts.ensures.begun unbegun)
+
+-- ## Which fault
+
+pub returns-in-Err-clause-answer : goal.returns-in-Err-clause-answer
+returns-in-Err-clause-answer g c k = c.in-Err.ensures.is k
+
+pub returns-in-Some-clause-answer : goal.returns-in-Some-clause-answer
+returns-in-Some-clause-answer g c k =
+    let job = c.args.job in
+    let said = subst (λ (t : Topology). Some c.in-Some.fault ≡ job_fault job.spare job.port t) (c.topology.ensures.value ∙ ap (λ (h : Head). h.topology) c.head.ensures) c.in-Some.ensures in
+    wrong_told _ job c.args.input.now c.in-Ok.opened (has_pages job.spare c.in-Ok.opened.head.topology) (nat_lt job.port c.in-Ok.opened.head.topology.ports) c.in-Some.fault (c.in-Ok.ensures.is k) refl (sym said)
+
+pub returns-in_default-parts_of-clause-answer : goal.returns-in_default-parts_of-clause-answer
+returns-in_default-parts_of-clause-answer g c k =
+    let job = c.args.job in
+    let right = sym c.job_fault.ensures ∙ none_of c.job_fault.result c.in_default.not-Some in
+    let has = subst (λ (t : Topology). job_fault job.spare job.port t ≡ None) (c.topology.ensures.value ∙ ap (λ (h : Head). h.topology) c.head.ensures) right in
+    record { opened = c.in-Ok.opened; is = c.in-Ok.ensures.is k; has = has }
+
+pub returns-clause-answer : goal.returns-clause-answer
+returns-clause-answer g c k =
+    let job = c.args.job in
+    let opened = c.in-Ok.opened in
+    let right = sym c.job_fault.ensures ∙ none_of c.job_fault.result c.in_default.not-Some in
+    let has = subst (λ (t : Topology). job_fault job.spare job.port t ≡ None) (c.topology.ensures.value ∙ ap (λ (h : Head). h.topology) c.head.ensures) right in
+    let some = subst (λ (u : Outset). IfErr c.run_parts.result.1 (λ fault. fault ≡ OfferRefused → 0 < length (rest_at u c.args.input.now))) c.in-Ok-parts_of.ensures.outset c.run_parts.ensures.some in
+    answered _ job c.args.input.now opened c.run_parts.result.1 (c.in-Ok.ensures.is k) has c.run_parts.ensures.begun some
+
+-- ## How many calls of the device have failed
+
+pub returns-in-Err-clause-failures : goal.returns-in-Err-clause-failures
+returns-in-Err-clause-failures g c = opening_counted Opened c.in-Err.unopened (g.D.Disk.failures_of c.args.disk) (g.D.Disk.failures_of c.open.new.disk) c.in-Err.ensures.counts.failures
+
+pub returns-in-Some-clause-failures : goal.returns-in-Some-clause-failures
+returns-in-Some-clause-failures g c =
+    uncounted _ _ (is_failure c.in-Some.fault)
+    (wrong_is (λ fault. is_failure fault ≡ false) (has_pages c.args.job.spare c.topology.result.now) (nat_lt c.args.job.port c.topology.result.now.ports) c.in-Some.fault (sym c.in-Some.ensures) refl refl)
+    c.in-Ok.ensures.counts.failures
+
+pub returns-in_default-parts_of-clause-failures : goal.returns-in_default-parts_of-clause-failures
+returns-in_default-parts_of-clause-failures g c = uncounted _ _ false refl (ap g.D.Disk.failures_of (c.into_disk.ensures ∙ c.store-store.ensures.disk) ∙ c.in-Ok.ensures.counts.failures)
+
+pub returns-clause-failures : goal.returns-clause-failures
+returns-clause-failures g c =
+    subst (λ n. g.D.Disk.failures_of c.run_parts.result.0 ≡ failures_after (has_failed c.run_parts.result.1) n)
+    (ap g.D.Disk.failures_of c.store-store.ensures.disk ∙ c.in-Ok.ensures.counts.failures) c.run_parts.ensures.failures

@@ -1,8 +1,8 @@
-use Rattle.std.proofs.Common.{◌≡◌, Ok, Err, ap, sym, subst, ◌∙◌}
+use Rattle.std.proofs.Common.{◌≡◌, Ok, Err, false, refl, ap, sym, subst, ◌∙◌}
 use Rattle.std.specs.Prelude.{IfOk}
 use Rattle.tp_model.specs.DiskHistory.{State}
 use Rattle.tp_model.specs.Opening.{held_of, verdict}
-use Rattle.tp_model.specs.Runs.{reopened}
+use Rattle.tp_model.specs.Runs.{World, reopened}
 use Rattle.tp_flush.specs.Known.{Began}
 use Rattle.tp_run.specs.declared.fault.RunFault.TheVariants.{Memory}
 use Rattle.tp_model.specs.NodeState.{NodeState}
@@ -12,6 +12,8 @@ use Rattle.tp_run.specs.Outset.{outset_in}
 use Rattle.tp_run.specs.declared.outset.Outset.{Outset}
 use Rattle.tp_run.specs.Ran.{Ran, Settled}
 use Rattle.tp_run.specs.Shown.{MayPrint}
+use Rattle.tp_run.specs.Failures.{failures_after, has_failed}
+use Rattle.tp_run.proofs.Failures.{uncounted}
 use Rattle.tp_run.proofs.Runs.{served_ran, still_ran}
 use Rattle.tp_run.proofs.running.run_parts.Goals as goal
 
@@ -25,7 +27,7 @@ pub returns-in_default-clause-ran : goal.returns-in_default-clause-ran
 returns-in_default-clause-ran g c k began =
     let out = g.O.Write.contents c.args.out.now in
     subst (λ d. Ran g.J.Naming.formatted c.args.job c.args.input.now out out (Err Memory) (g.D.Disk.state c.args.store.disk) (g.D.Disk.state d)) (sym c.into_disk.ensures)
-    (still_ran g.J.Naming.formatted c.args.job c.args.input.now out Memory (g.D.Disk.state c.args.store.disk))
+    (still_ran g.J.Naming.formatted c.args.job c.args.input.now out Memory (g.D.Disk.state c.args.store.disk) tt)
 
 pub returns-clause-ran : goal.returns-clause-ran
 returns-clause-ran g c k began =
@@ -48,10 +50,22 @@ returns-clause-ran g c k began =
     let settled =
     subst (λ (s : Network NodeState). IfOk done (Settled start s job (outset_in opened job.port) (input_slips (outset_in opened job.port) input) was now new.world.journal)) c.requires.network
     (subst (λ u. IfOk done (Settled start g.J.Naming.start job u (input_slips u input) was now new.world.journal)) c.requires.outset (c.serve-flusher.ensures.settled k first)) in
-    let shown = subst (λ (u : Outset). MayPrint start old new u.port u.confirmed was now) c.requires.outset (c.serve-flusher.ensures.shown k first) in
+    let shown = subst (λ (u : Outset). MayPrint start old new u.port u.confirmed was now done) c.requires.outset (c.serve-flusher.ensures.shown k first) in
     let ran : Ran start job input was now done old.state new.state =
     served_ran c.stored_slips_are_recovered.ensures start before opened job input was now old new done there reads world (c.serve-flusher.ensures.walks k first) c.serve-flusher.ensures.stored settled shown in
     subst (λ s. Ran start job input was now done (g.D.Disk.state c.args.store.disk) s) (sym c.into_disk-2.ensures.state) (subst (λ s. Ran start job input was now done s new.state) c.over-flusher.ensures.device.0 ran)
 
 pub serve-flusher-requires-clause-first : goal.serve-flusher-requires-clause-first
 serve-flusher-requires-clause-first g c κs within = ap (λ (u : Outset). u.next) c.requires.outset ∙ sym c.requires.stands.first ∙ c.requires.names.first_is
+
+-- ## How many calls of the device have failed
+
+pub serve-flusher-requires-clause-rests : goal.serve-flusher-requires-clause-rests
+serve-flusher-requires-clause-rests g c κs within = ap (λ (w : World NodeState). w.at) c.over-flusher.ensures.world
+
+pub returns-in_default-clause-failures : goal.returns-in_default-clause-failures
+returns-in_default-clause-failures g c = uncounted _ _ false refl (ap g.D.Disk.failures_of c.into_disk.ensures)
+
+pub returns-clause-failures : goal.returns-clause-failures
+returns-clause-failures g c =
+    c.into_disk-2.ensures.failures ∙ subst (λ n. c.serve-flusher.result.0.failures ≡ failures_after (has_failed c.serve-flusher.result.1) n) c.over-flusher.ensures.device.2 c.serve-flusher.ensures.failures

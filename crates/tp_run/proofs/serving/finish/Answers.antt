@@ -1,16 +1,22 @@
-use Rattle.std.proofs.Common.{◌≡◌, ◌≤◌, ◌++◌, sym, ap, subst, ◌∙◌, arith, IfOk}
-use Rattle.std.specs.Prelude.{flat_map}
+use Rattle.std.proofs.Common.{◌≡◌, ◌≤◌, ℕ, ◌++◌, inl, Ok, Err, rules, refl, sym, ap, subst, ◌∙◌, arith, IfOk}
+use Rattle.std.specs.Prelude.{flat_map, IfErr}
 use Rattle.std.proofs.lemmas.Result.{IfOk-weaker}
 use Rattle.tp_flush.specs.Known.{Began}
-use Rattle.tp_flush.specs.Flushing.{Flushing, Walked}
+use Rattle.tp_flush.specs.Flushing.{Flushing, Walked, position}
+use Rattle.tp_shared.specs.Receipted.{Receipted}
 use Rattle.tp_flush.proofs.Turns.{walked_then}
+use Rattle.tp_run.specs.declared.fault.RunFault.TheVariants.{FlushFailed, LastFlushFailed}
+use Rattle.tp_run.specs.Failures.{CountsFailures, has_failed}
+use Rattle.tp_run.specs.Faults.{ComesBehind, IsSilent}
+use Rattle.tp_run.specs.Prints.{MayBeSilent}
 use Rattle.tp_run.specs.Ran.{Settled}
 use Rattle.tp_run.specs.Shown.{MayPrint}
-use Rattle.tp_run.proofs.Shown.{may_print, may_print_last, shows_on, walked_reached}
+use Rattle.tp_run.proofs.Shown.{done_as, done_says, fault_of, fault_says, may_print, may_print_last, shows_on, walked_reached}
 use Rattle.tp_flush.specs.All.{AreAll}
 use Rattle.tp_work.specs.declared.seat.Seat.{Seat}
 use Rattle.tp_run.proofs.Gathered.{accounted_for, all_settled}
-use Rattle.tp_run.proofs.Faults.{late_said}
+use Rattle.tp_run.proofs.Failures.{failures_then}
+use Rattle.tp_run.proofs.Faults.{flush_behind, flush_ends, flush_prints, flush_silent, last_said, late_behind, late_behind_of, late_said, late_unfailed, late_unfailed_of}
 use Rattle.tp_run.proofs.Slips.{both_settled}
 use Rattle.tp_run.proofs.serving.finish.Goals as goal
 
@@ -34,15 +40,24 @@ returns-clause-walks g c k began =
 
 -- ## What is printed
 
+pub returns-in_err-mark-clause-shown : goal.returns-in_err-mark-clause-shown
+returns-in_err-mark-clause-shown g c k began =
+    let fault = c.in_err-mark.field-0.0 in
+    let is : c.from_residual.result ≡ Err fault = search rules in
+    inl (refl, subst MayBeSilent (sym is) (flush_silent fault c.flush_upto.new.flusher.world.at c.in_err-mark.ensures.refused))
+
 pub returns-in_err-confirmed-clause-shown : goal.returns-in_err-confirmed-clause-shown
 returns-in_err-confirmed-clause-shown g c k began =
     let start = g.J.Naming.formatted in
     let there = subst (Began start g.J.Naming.before) (sym c.flush_upto.ensures.process.opened) began in
     let was = g.O.Write.contents c.args.out.now in
     let now = g.O.Write.contents c.print.new.out in
-    subst (λ (f : Flushing). MayPrint start c.args.flusher.now f c.args.outset.port c.args.outset.confirmed was now) (sym c.print.ensures.same)
+    let fault = c.in_err-confirmed.field-0.0 in
+    let is : c.from_residual-in_err-confirmed.result ≡ Err fault = search rules in
+    subst (MayPrint start c.args.flusher.now c.print.new.flusher c.args.outset.port c.args.outset.confirmed was now) (sym is)
+    (subst (λ (f : Flushing). MayPrint start c.args.flusher.now f c.args.outset.port c.args.outset.confirmed was now (fault_of ℕ fault)) (sym c.print.ensures.same)
     (may_print_last start c.args.flusher.now c.flush_upto.new.flusher (c.known.ensures.reached k began) (c.flush_upto.ensures.walks k began) c.args.outset.port c.args.outset.confirmed was now
-    (c.print.ensures.shown k there))
+    (fault_of Receipted fault) (fault_of ℕ fault) (fault_says Receipted ℕ fault) (c.in_err-confirmed.ensures.shown k there)))
 
 pub returns-in_err-_mark-clause-shown : goal.returns-in_err-_mark-clause-shown
 returns-in_err-_mark-clause-shown g c k began =
@@ -50,8 +65,12 @@ returns-in_err-_mark-clause-shown g c k began =
     let there = subst (Began start g.J.Naming.before) (sym c.flush_upto.ensures.process.opened) began in
     let later = subst (λ (f : Flushing). Began start g.J.Naming.before f.opened) (sym c.print.ensures.same) there in
     let walked = subst (λ (f : Flushing). Walked f c.flush_upto-2.new.flusher) c.print.ensures.same (c.flush_upto-2.ensures.walks k later) in
-    may_print start c.args.flusher.now c.flush_upto.new.flusher c.flush_upto-2.new.flusher (c.known.ensures.reached k began) (c.flush_upto.ensures.walks k began) walked c.args.outset.port
-    c.args.outset.confirmed (g.O.Write.contents c.args.out.now) (g.O.Write.contents c.print.new.out) (c.print.ensures.shown k there)
+    let fault = c.in_err-_mark.field-0.0 in
+    let is : c.from_residual-in_err-_mark.result ≡ Err fault = search rules in
+    subst (MayPrint start c.args.flusher.now c.flush_upto-2.new.flusher c.args.outset.port c.args.outset.confirmed (g.O.Write.contents c.args.out.now) (g.O.Write.contents c.print.new.out)) (sym is)
+    (may_print start c.args.flusher.now c.flush_upto.new.flusher c.flush_upto-2.new.flusher (c.known.ensures.reached k began) (c.flush_upto.ensures.walks k began) walked c.args.outset.port
+    c.args.outset.confirmed (g.O.Write.contents c.args.out.now) (g.O.Write.contents c.print.new.out) (done_as c.in_ok-confirmed.confirmed) (fault_of ℕ fault)
+    (done_says c.in_ok-confirmed.confirmed (fault_of ℕ fault) (flush_prints fault c.flush_upto-2.new.flusher.world.at c.in_err-_mark.ensures.refused)) (c.in_ok-confirmed.ensures.shown k there))
 
 pub returns-clause-shown : goal.returns-clause-shown
 returns-clause-shown g c k began =
@@ -61,9 +80,10 @@ returns-clause-shown g c k began =
     let walked = subst (λ (f : Flushing). Walked f c.flush_upto-2.new.flusher) c.print.ensures.same (c.flush_upto-2.ensures.walks k later) in
     let was = g.O.Write.contents c.args.out.now in
     let now = g.O.Write.contents c.print.new.out in
-    subst (λ (f : Flushing). MayPrint start c.args.flusher.now f c.args.outset.port c.args.outset.confirmed was now) (sym c.settle.ensures.same)
+    subst (λ (f : Flushing). MayPrint start c.args.flusher.now f c.args.outset.port c.args.outset.confirmed was now c.settle.result) (sym c.settle.ensures.same)
     (may_print start c.args.flusher.now c.flush_upto.new.flusher c.flush_upto-2.new.flusher (c.known.ensures.reached k began) (c.flush_upto.ensures.walks k began) walked c.args.outset.port
-    c.args.outset.confirmed was now (c.print.ensures.shown k there))
+    c.args.outset.confirmed was now (done_as c.in_ok-confirmed.confirmed) c.settle.result (done_says c.in_ok-confirmed.confirmed c.settle.result c.settle.ensures.told)
+    (c.in_ok-confirmed.ensures.shown k there))
 
 -- ## What is settled
 
@@ -109,5 +129,73 @@ returns-clause-stored g c =
     subst (λ (f : Flushing). IfOk c.settle.result (λ answer. answer ≤ f.world.mark)) (sym c.settle.ensures.same)
     (IfOk-weaker c.settle.result (λ answer. answer ≡ next) (λ answer. answer ≤ two.world.mark) (λ answer is. subst (λ n. n ≤ two.world.mark) (sym is) low) c.settle.ensures.next)
 
+pub returns-in_err-_mark-clause-silent : goal.returns-in_err-_mark-clause-silent
+returns-in_err-_mark-clause-silent g c silent =
+    let fault = c.in_err-_mark.field-0.0 in
+    let is : c.from_residual-in_err-_mark.result ≡ Err fault = search rules in
+    absurd (last_said fault c.flush_upto-2.new.flusher.world.at c.in_err-_mark.ensures.refused (subst IsSilent is silent))
+
 pub returns-clause-silent : goal.returns-clause-silent
 returns-clause-silent g c silent = absurd (late_said c.settle.result c.settle.ensures.late silent)
+
+-- ## How many calls of the device have failed
+
+pub returns-in_err-confirmed-clause-failures : goal.returns-in_err-confirmed-clause-failures
+returns-in_err-confirmed-clause-failures g c = subst (λ (f : Flushing). CountsFailures c.args.flusher.now f) (sym c.print.ensures.same) c.flush_upto.ensures.failures
+
+pub returns-in_err-_mark-clause-failures : goal.returns-in_err-_mark-clause-failures
+returns-in_err-_mark-clause-failures g c =
+    failures_then c.args.flusher.now c.print.new.flusher c.flush_upto-2.new.flusher (subst (λ (f : Flushing). CountsFailures c.args.flusher.now f) (sym c.print.ensures.same) c.flush_upto.ensures.failures)
+    c.flush_upto-2.ensures.failures
+
+pub returns-clause-failures : goal.returns-clause-failures
+returns-clause-failures g c =
+    subst (λ (f : Flushing). CountsFailures c.args.flusher.now f) (sym c.settle.ensures.same)
+    (failures_then c.args.flusher.now c.print.new.flusher c.flush_upto-2.new.flusher (subst (λ (f : Flushing). CountsFailures c.args.flusher.now f) (sym c.print.ensures.same) c.flush_upto.ensures.failures)
+    c.flush_upto-2.ensures.failures)
+
+pub returns-in_err-mark-clause-ends : goal.returns-in_err-mark-clause-ends
+returns-in_err-mark-clause-ends g c =
+    let fault = c.in_err-mark.field-0.0 in
+    let is : c.from_residual.result ≡ Err fault = search rules in
+    subst (λ r. c.flush_upto.new.flusher.world.at ≡ position (has_failed r)) (sym is) (flush_ends FlushFailed fault c.flush_upto.new.flusher.world.at refl c.in_err-mark.ensures.refused)
+
+pub returns-in_err-confirmed-clause-ends : goal.returns-in_err-confirmed-clause-ends
+returns-in_err-confirmed-clause-ends g c =
+    let fault = c.in_err-confirmed.field-0.0 in
+    let is : c.from_residual-in_err-confirmed.result ≡ Err fault = search rules in
+    subst (λ r. c.print.new.flusher.world.at ≡ position (has_failed r)) (sym is)
+    (ap (λ (f : Flushing). f.world.at) c.print.ensures.same ∙ c.in_ok-mark.ensures.rests ∙ ap position (sym (late_unfailed fault c.in_err-confirmed.ensures.late)))
+
+pub returns-in_err-_mark-clause-ends : goal.returns-in_err-_mark-clause-ends
+returns-in_err-_mark-clause-ends g c =
+    let fault = c.in_err-_mark.field-0.0 in
+    let is : c.from_residual-in_err-_mark.result ≡ Err fault = search rules in
+    subst (λ r. c.flush_upto-2.new.flusher.world.at ≡ position (has_failed r)) (sym is) (flush_ends LastFlushFailed fault c.flush_upto-2.new.flusher.world.at refl c.in_err-_mark.ensures.refused)
+
+pub returns-clause-ends : goal.returns-clause-ends
+returns-clause-ends g c =
+    ap (λ (f : Flushing). f.world.at) c.settle.ensures.same ∙ c.in_ok-_mark.ensures.rests ∙ ap position (sym (late_unfailed_of c.settle.result c.settle.ensures.late))
+
+-- ## Which faults come here
+
+pub returns-in_err-mark-clause-behind : goal.returns-in_err-mark-clause-behind
+returns-in_err-mark-clause-behind g c =
+    let fault = c.in_err-mark.field-0.0 in
+    let is : c.from_residual.result ≡ Err fault = search rules in
+    subst (λ r. IfErr r ComesBehind) (sym is) (flush_behind FlushFailed fault c.flush_upto.new.flusher.world.at tt c.in_err-mark.ensures.refused)
+
+pub returns-in_err-confirmed-clause-behind : goal.returns-in_err-confirmed-clause-behind
+returns-in_err-confirmed-clause-behind g c =
+    let fault = c.in_err-confirmed.field-0.0 in
+    let is : c.from_residual-in_err-confirmed.result ≡ Err fault = search rules in
+    subst (λ r. IfErr r ComesBehind) (sym is) (late_behind fault c.in_err-confirmed.ensures.late)
+
+pub returns-in_err-_mark-clause-behind : goal.returns-in_err-_mark-clause-behind
+returns-in_err-_mark-clause-behind g c =
+    let fault = c.in_err-_mark.field-0.0 in
+    let is : c.from_residual-in_err-_mark.result ≡ Err fault = search rules in
+    subst (λ r. IfErr r ComesBehind) (sym is) (flush_behind LastFlushFailed fault c.flush_upto-2.new.flusher.world.at tt c.in_err-_mark.ensures.refused)
+
+pub returns-clause-behind : goal.returns-clause-behind
+returns-clause-behind g c = late_behind_of c.settle.result c.settle.ensures.late

@@ -1,10 +1,14 @@
-use Rattle.std.proofs.Common.{sym, subst, IfOk}
+use Rattle.std.proofs.Common.{◌≡◌, ◌<◌, inl, refl, length, sym, ap, subst, ◌∙◌, IfOk}
 use Rattle.std.specs.Prelude.{All}
 use Rattle.tp_work.specs.declared.seat.Seat.{Seat}
 use Rattle.tp_flush.specs.Known.{Began}
 use Rattle.tp_flush.proofs.Turns.{walked_nowhere, walked_then}
+use Rattle.tp_run.specs.Failures.{is_failure, has_failed}
+use Rattle.tp_run.specs.Input.{rest_at}
 use Rattle.tp_run.specs.Ran.{Settled}
 use Rattle.tp_run.specs.Worked.{Worked, idle}
+use Rattle.tp_run.proofs.Failures.{counted, failures_then, uncounted}
+use Rattle.tp_run.proofs.Faults.{behind_begun_of, behind_unrefused_of, offer_begun, offer_silent, offer_unfailed}
 use Rattle.tp_run.proofs.Shown.{may_print_since}
 use Rattle.tp_run.proofs.serving.serve.Goals as goal
 
@@ -26,7 +30,7 @@ returns-clause-settled g c k began =
 pub returns-clause-shown : goal.returns-clause-shown
 returns-clause-shown g c k began =
     may_print_since g.J.Naming.formatted c.args.flusher c.work-flusher.result.0 c.finish-done.new.flusher (c.work-flusher.ensures.walks k began) c.args.outset.port c.args.outset.confirmed
-    (g.O.Write.contents c.args.out.now) (g.O.Write.contents c.finish-done.new.out)
+    (g.O.Write.contents c.args.out.now) (g.O.Write.contents c.finish-done.new.out) c.finish-done.result
     (c.finish-done.ensures.shown k (subst (Began g.J.Naming.formatted g.J.Naming.before) (sym c.work-flusher.ensures.process.opened) began))
 
 -- ## Who made what
@@ -39,3 +43,25 @@ work-flusher-requires-clause-seats g c κs within k d below =
 pub finish-done-requires-clause-seats : goal.finish-done-requires-clause-seats
 finish-done-requires-clause-seats g c =
     subst (λ quantum. All (λ (seat : Seat g.row.J.Denot). Worked g.J.Naming.start quantum seat.slips) c.work-flusher.result.1.items) c.requires.quantum c.work-flusher.ensures.seats
+
+-- ## Which faults come here, and how many calls of the device have failed
+
+pub returns-in-Err-clause-shown : goal.returns-in-Err-clause-shown
+returns-in-Err-clause-shown g c k began = inl (refl, offer_silent c.in-Err.fault c.in-Err.ensures.refused)
+
+pub returns-in-Err-clause-failures : goal.returns-in-Err-clause-failures
+returns-in-Err-clause-failures g c = uncounted _ _ (is_failure c.in-Err.fault) (offer_unfailed c.in-Err.fault c.in-Err.ensures.refused) refl
+
+pub returns-clause-failures : goal.returns-clause-failures
+returns-clause-failures g c =
+    counted c.args.flusher c.finish-done.new.flusher (has_failed c.finish-done.result) c.requires.rests
+    (failures_then c.args.flusher c.work-flusher.result.0 c.finish-done.new.flusher c.work-flusher.ensures.failures c.finish-done.ensures.failures) c.finish-done.ensures.ends
+
+pub returns-in-Err-clause-begun : goal.returns-in-Err-clause-begun
+returns-in-Err-clause-begun g c = offer_begun c.in-Err.fault c.in-Err.ensures.refused
+
+pub returns-clause-begun : goal.returns-clause-begun
+returns-clause-begun g c = behind_begun_of c.finish-done.result c.finish-done.ensures.behind
+
+pub returns-clause-some : goal.returns-clause-some
+returns-clause-some g c = behind_unrefused_of c.finish-done.result (0 < length (rest_at c.args.outset c.args.input.now)) c.finish-done.ensures.behind
