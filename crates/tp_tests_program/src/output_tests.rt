@@ -23,22 +23,13 @@ const INTO: &[(&[&str], &str)] = &[
 fn is_refused<
     R: Files<File = F> + AllocGlobal + Threads + Wait + Sync,
     F: FileExt + OpenFile + Drop + Send,
->(rt: &R, scratch: &Scratch, words: &[&str], file: &str) -> Result<bool, Fail> {
-    let mut streams = Vec::new(rt.alloc());
-    streams.push(("/dev/stdout", scratch.path(rt.alloc(), "device")?))?;
-    let files = Standing::new(rt, streams.as_slice());
-    let line = scratch.line(rt.alloc(), words)?;
-    let made = scratch.path(rt.alloc(), file)?;
-    let (mut out, mut err) = (Vec::new(rt.alloc()), Vec::new(rt.alloc()));
-    let status = answer_locking(
-        &files,
-        Busy,
-        &mut OneLook,
-        line.as_slice(),
-        &mut out,
-        &mut err,
-    );
-    let is_made = fs::symlink_metadata(rt, made.as_str()).is_ok();
+>(files: &R, scratch: &Scratch, words: &[&str], file: &str) -> Result<bool, Fail> {
+    let line = scratch.line(files.alloc(), words)?;
+    let made = scratch.path(files.alloc(), file)?;
+    let (mut out, mut err) = (Vec::new(files.alloc()), Vec::new(files.alloc()));
+    let words = line.as_slice();
+    let status = answer_locking(files, Busy, &mut OneLook, words, &mut out, &mut err);
+    let is_made = fs::symlink_metadata(files, made.as_str()).is_ok();
     Ok(status == 2 && out.is_empty() && !err.is_empty() && !is_made)
 }
 
@@ -46,8 +37,11 @@ fn is_refused<
 fn an_output_into_the_device(rt: HostRuntime) -> Result<(), Fail> {
     let scratch = device(&rt, "into", letter(rt.alloc())?.as_slice(), "16384")?;
     let before = scratch.read(&rt, "device")?;
+    let mut streams = Vec::new(rt.alloc());
+    streams.push(("/dev/stdout", scratch.path(rt.alloc(), "device")?))?;
+    let files = Standing::new(&rt, streams.as_slice());
     for (words, file) in INTO {
-        assert!(rt; is_refused(&rt, &scratch, words, *file)?);
+        assert!(rt; is_refused(&files, &scratch, words, *file)?);
     }
     assert!(rt; scratch.read(&rt, "device")?.as_slice() == before.as_slice());
     scratch.remove(&rt)

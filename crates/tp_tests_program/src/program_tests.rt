@@ -106,7 +106,11 @@ fn is_run(run: &Run, wanted: &Wanted) -> bool {
 }
 
 /// Whether options ask for that run.
-fn asks_run(alloc: Global, options: &[&str], wanted: &Wanted) -> Result<bool, Fail> {
+fn asks_run(
+    alloc: Global,
+    options: &'static [&'static str],
+    wanted: &Wanted,
+) -> Result<bool, Fail> {
     let mut words = Vec::from_slice(alloc, &["run"])?;
     words.extend_from_slice(options)?;
     let line = line_of(alloc, words.as_slice())?;
