@@ -30,7 +30,7 @@ use Rattle.tp_flush.proofs.Turns.{walked_nowhere, walked_recovers, walked_stays}
 use Rattle.tp_run.specs.declared.fault.RunFault.{RunFault}
 use Rattle.tp_run.specs.Output.{AreOutputs, AreShownBytes, IsForOutput, PrintedOf, ShowsAll, confirms}
 use Rattle.tp_run.specs.Prints.{MayBeSilent, PrintsOf, PrintsSo, TellsAllPrinted}
-use Rattle.tp_run.specs.Shown.{AreShownIn, MayPrint, MayShow}
+use Rattle.tp_run.specs.Shown.{AreShownIn, AreStored, MayPrint, MayShow}
 use Rattle.tp_flush.proofs.Recovers.{recovers_less}
 use Rattle.tp_run.proofs.Slips.{confirms_shown}
 
@@ -121,6 +121,13 @@ shows_book start w b port mark confirmed number A S at is =
 pub outputs_shown : (start : Network NodeState) (w : World NodeState) (b : BookValue) (port mark confirmed : ℕ) → IsAheadOf start w b → ShowsAll b port mark confirmed → mark ≡ w.mark
     → (number : ℕ) (bytes : List ℕ) → AreOutputs b port number bytes → AreShownIn start w port confirmed number bytes
 outputs_shown start w b port mark confirmed A S at number bytes O = subst (AreShownIn start w port confirmed number) O.1 (shows_book start w b port mark confirmed number A S at O.0)
+
+-- so what a mark shows of it is stored
+pub stored_outputs : (start : Network NodeState) (w : World NodeState) (b : BookValue) (port mark confirmed : ℕ) → IsAheadOf start w b → ShowsAll b port mark confirmed → mark ≡ w.mark
+    → AreStored start w port confirmed (shown_from b port mark (port_in b port).out_base)
+stored_outputs start w b port mark confirmed A S at =
+    let number = next_in_book b in
+    (number, subst (AreShownIn start w port confirmed number) (sym (all_shown b port mark S.all)) (shows_book start w b port mark confirmed number A S at refl))
 
 pub may_show : {A : Type 0} (start : Network NodeState) (w : World NodeState) (b : BookValue) (port mark confirmed : ℕ) (was now : Option (List ℕ)) (r : Result A RunFault) → IsAheadOf start w b → mark ≡ w.mark
     → PrintedOf b port mark confirmed was now r → MayShow start w.journal w.mark port confirmed was now r

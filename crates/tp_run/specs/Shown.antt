@@ -28,6 +28,10 @@ pub record LeadsToOutputs (start : Network NodeState) (journal : List Entry) (nu
 abbrev pub AreShownIn : Network NodeState → World NodeState → ℕ → ℕ → ℕ → List ℕ → Type 0
 AreShownIn start w port confirmed number outputs = (number ≤ w.mark) × LeadsToOutputs start w.journal number port confirmed outputs
 
+-- Bytes are a port's outputs behind those confirmed, where entries of a world lead that are below its mark.
+abbrev pub AreStored : Network NodeState → World NodeState → ℕ → ℕ → List ℕ → Type 0
+AreStored start w port confirmed bytes = (number : ℕ) × AreShownIn start w port confirmed number bytes
+
 -- What was appended to an output is a front of a port's outputs behind those confirmed, as many as the answer says, where the first
 -- entries of the journal lead; there are at most `least` of those entries.
 pub record HasShown {A : Type 0} (start : Network NodeState) (journal : List Entry) (least port confirmed : ℕ) (was now : Option (List ℕ)) (r : Result A RunFault) : Type 0 where

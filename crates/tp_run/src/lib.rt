@@ -10,6 +10,7 @@ mod job;
 mod laws;
 mod offering;
 mod opening;
+mod outlet;
 mod outset;
 mod printing;
 mod running;

@@ -1,54 +1,25 @@
 //! The output that a run prints and confirms.
 
-ghost use Rattle.std.specs.Prelude.{◌≡◌, ◌<◌, ◌≤◌, length, take, IfOk, IfErr, OnOk, OnErr};
-ghost use Rattle.std.specs.Io.KnownBytes.{Appends};
+ghost use Rattle.std.specs.Prelude.{◌≡◌, ◌<◌, ◌≤◌, length, IfOk, IfErr, OnErr};
 ghost use Rattle.tp_book.specs.Book.{next_in_book};
 ghost use Rattle.tp_book.specs.Host.{after_confirm, port_in, shown_from, shown_of, shown_upto_of};
 ghost use Rattle.tp_book.specs.Acts.{confirm_entries};
+ghost use Rattle.tp_flush.specs.Ahead.{IsAheadOf};
+ghost use Rattle.tp_flush.specs.Known.{Began};
 ghost use Rattle.tp_work.specs.Receipts.{IsFor};
 ghost use Rattle.tp_run.specs.Faults.{IsLate};
 ghost use Rattle.tp_run.specs.Output.{AreOutputs, AreShownBytes, IsForOutput, PrintedOf, ShowsAll};
 ghost use Rattle.tp_run.specs.Prints.{PrintsSo, TellsAllPrinted};
+ghost use Rattle.tp_run.specs.Shown.{AreStored};
 
 use crate::fault::RunFault;
+use crate::outlet::Outlet;
 use crate::outset::Outset;
-use std::io::{ErrorKind, Write};
 use tp_book::Book;
+use tp_disk::Disk;
+use tp_flush::Flusher;
 use tp_shared::{Locked, Naming, Receipt};
 use tp_work::{ConfirmFault, confirm};
-
-/// Writes bytes as they are, until the output takes no more. Answers how many of them it took.
-fn write_front<O: Write>(out: &mut O, bytes: &[u8]) -> usize
-    ensures few { result ≤ length bytes.now }
-    ensures front { Appends (O.contents out.old) (O.contents out.new) (take result bytes.now) }
-{
-    let mut written = 0;
-    for _ in 0..u64::MAX {
-        if written >= bytes.len() {
-            return written;
-        }
-        match out.write(&bytes[written..]) {
-            Ok(0) => return written,
-            Ok(count) => written += count,
-            Err(error) if error.kind() == ErrorKind::Interrupted => {}
-            Err(_) => return written,
-        }
-    }
-    written
-}
-
-/// Writes bytes as they are. A front of them stands on the output, whatever is answered: where that is a fault, not all of them.
-pub(crate) fn put<O: Write>(out: &mut O, bytes: &[u8]) -> Result<(), RunFault>
-    ensures written { OnOk result (Appends (O.contents out.old) (O.contents out.new) bytes.now) }
-    ensures printed { PrintsSo result (O.contents out.old) (O.contents out.new) bytes.now }
-    ensures refused { IfErr result (λ fault. fault ≡ RunFault.OutputFailed) }
-{
-    let written = write_front(out, bytes);
-    if written < bytes.len() {
-        return Err(RunFault::OutputFailed);
-    }
-    Ok(())
-}
 
 /// Journals, under the book's lock, that the host has all outputs of a port that `mark` shows.
 fn confirm_shown<J: Naming>(
@@ -76,23 +47,26 @@ fn confirm_shown<J: Naming>(
 
 /// Prints, under the book's lock, the outputs of a port that `mark` shows and that aren't confirmed, and confirms them. The receipt
 /// has the number of the next entry. Where the output can't be written, nothing is confirmed.
-pub(crate) fn print_shown<J: Naming, O: Write>(
+fn print_shown<J: Naming, D: Disk, O: Outlet>(
     held: &mut Locked<J>,
-    port: u8,
+    flusher: &Flusher<J, D>,
+    outset: Outset,
     mark: u64,
     out: &mut O,
 ) -> Result<Receipt<J>, RunFault>
-    requires there { port < length held.old.book.state.ports }
-    ensures printed { PrintsSo result (O.contents out.old) (O.contents out.new) (shown_from held.old.book port mark (port_in held.old.book port).out_base) }
-    ensures book { IfOk result (λ receipt. held.new.book ≡ after_confirm held.old.book port (shown_upto_of held.old.book port mark)) }
+    requires there { outset.port < length held.old.book.state.ports }
+    requires stored { D.keeps → Began J.formatted J.before flusher.now.opened
+        → AreStored J.formatted flusher.now.world outset.port outset.confirmed (shown_from held.old.book outset.port mark (port_in held.old.book outset.port).out_base) }
+    ensures printed { PrintsSo result (O.taken out.old) (O.taken out.new) (shown_from held.old.book outset.port mark (port_in held.old.book outset.port).out_base) }
+    ensures book { IfOk result (λ receipt. held.new.book ≡ after_confirm held.old.book outset.port (shown_upto_of held.old.book outset.port mark)) }
     ensures number { IfOk result (λ receipt. receipt.number ≡ next_in_book held.new.book) }
-    ensures receipt { IfOk result (IsForOutput port (port_in held.old.book port).out_base (AreShownBytes held.old.book port mark) (O.contents out.old) (O.contents out.new)) }
+    ensures receipt { IfOk result (IsForOutput outset.port (port_in held.old.book outset.port).out_base (AreShownBytes held.old.book outset.port mark) (O.taken out.old) (O.taken out.new)) }
     ensures late { IfErr result IsLate }
     ensures err { OnErr result (held.new ≡ held.old) }
 {
-    let from = held.book().out_base(port);
-    put(out, held.book().shown(port, mark, from))?;
-    confirm_shown(held, port, mark)
+    let from = held.book().out_base(outset.port);
+    out.print(flusher, outset, held.book().shown(outset.port, mark, from))?;
+    confirm_shown(held, outset.port, mark)
 }
 
 /// Tests that `mark` shows all outputs of a port, and is above all entries of the book.
@@ -111,20 +85,23 @@ fn is_all_shown(book: &Book, port: u8, mark: u64) -> Result<(), RunFault>
 
 /// Prints and confirms, where the book has confirmed what it had as the device was opened, and `mark` shows all outputs and is above
 /// all entries; else it prints nothing. Behind a flush, with no other thread there, both are so.
-pub(crate) fn print_from<J: Naming, O: Write>(
+pub(crate) fn print_from<J: Naming, D: Disk, O: Outlet>(
     held: &mut Locked<J>,
+    flusher: &Flusher<J, D>,
     outset: Outset,
     mark: u64,
     out: &mut O,
 ) -> Result<Receipt<J>, RunFault>
     requires there { outset.port < length held.old.book.state.ports }
-    ensures receipt { IfOk result (IsForOutput outset.port outset.confirmed (AreOutputs held.old.book outset.port) (O.contents out.old) (O.contents out.new)) }
+    requires ahead { D.keeps → Began J.formatted J.before flusher.now.opened → IsAheadOf J.formatted flusher.now.world held.old.book }
+    requires mark { mark ≡ flusher.now.world.mark }
+    ensures receipt { IfOk result (IsForOutput outset.port outset.confirmed (AreOutputs held.old.book outset.port) (O.taken out.old) (O.taken out.new)) }
     ensures all { IfOk result (λ receipt. ShowsAll held.old.book outset.port mark outset.confirmed) }
-    ensures printed { PrintedOf held.old.book outset.port mark outset.confirmed (O.contents out.old) (O.contents out.new) result }
+    ensures printed { PrintedOf held.old.book outset.port mark outset.confirmed (O.taken out.old) (O.taken out.new) result }
     ensures late { IfErr result IsLate }
     ensures err { OnErr result (held.new ≡ held.old) }
 {
     outset.is_confirmed_in(held.book())?;
     is_all_shown(held.book(), outset.port, mark)?;
-    print_shown(held, outset.port, mark, out)
+    print_shown(held, flusher, outset, mark, out)
 }

@@ -27,6 +27,7 @@ use crate::beginning::every_of;
 use crate::fault::RunFault;
 use crate::job::Job;
 use crate::opening::{job_fault, parts_of};
+use crate::outlet::Outlet;
 use crate::outset::Outset;
 use crate::serving::serve;
 use std::alloc::Global;
@@ -45,7 +46,7 @@ use tp_shared::{Naming, NoGate, Parts};
 use tp_work::Net;
 
 /// A run over the store of a device that was opened, with the parts that were made of it.
-fn run_parts<J: Naming + Send + Sync, D: Disk + Send + Drop, O: Write, R: Threads + Wait + Sync>(
+fn run_parts<J: Naming + Send + Sync, D: Disk + Send + Drop, O: Outlet, R: Threads + Wait + Sync>(
     rt: &R,
     alloc: Global,
     job: Job,
@@ -76,8 +77,8 @@ fn run_parts<J: Naming + Send + Sync, D: Disk + Send + Drop, O: Write, R: Thread
     requires synced { D.keeps → IsSynced (D.state store.disk) }
     ensures size { D.size_of result.0 ≡ D.size_of store.disk }
     ensures ran { D.keeps → Began J.formatted J.before (D.state store.disk).now.bytes
-        → Ran J.formatted job input.now (O.contents out.old) (O.contents out.new) result.1 (D.state store.disk) (D.state result.0) }
-    ensures silent { IsSilent result.1 → O.contents out.new ≡ O.contents out.old }
+        → Ran J.formatted job input.now (O.taken out.old) (O.taken out.new) result.1 (D.state store.disk) (D.state result.0) }
+    ensures silent { IsSilent result.1 → O.taken out.new ≡ O.taken out.old }
     ensures failures { D.failures_of result.0 ≡ failures_after (has_failed result.1) (D.failures_of store.disk) }
     ensures some { IfErr result.1 (λ fault. fault ≡ RunFault.OfferRefused → 0 < length (rest_at outset input.now)) }
     ensures begun { IfErr result.1 ComesBegun }

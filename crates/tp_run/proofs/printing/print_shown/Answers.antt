@@ -2,39 +2,40 @@ use Rattle.std.proofs.Common.{◌≡◌, Err, length, rules, sym, ap, subst, ◌
 use Rattle.tp_book.specs.Calls.{marks_of}
 use Rattle.tp_book.specs.Host.{port_in, shown_from}
 use Rattle.tp_run.specs.Prints.{PrintsSo}
+use Rattle.tp_run.specs.Shown.{AreStored}
 use Rattle.tp_run.proofs.Shown.{fault_of, printed_is, prints_on}
 use Rattle.tp_shared.specs.Receipted.{Receipted}
 use Rattle.tp_run.proofs.printing.print_shown.Goals as goal
 
 -- the outputs that were to be printed
-pub returns-in_err-put-clause-printed : goal.returns-in_err-put-clause-printed
-returns-in_err-put-clause-printed g c =
+pub returns-in_err-print-clause-printed : goal.returns-in_err-print-clause-printed
+returns-in_err-print-clause-printed g c =
     let b = c.args.held.now.book in
-    let port = c.args.port in
+    let port = c.args.outset.port in
     let shown : c.shown.result.now ≡ shown_from b port c.args.mark (port_in b port).out_base =
     c.shown.ensures.value ∙ ap (λ d. shown_from d port c.args.mark c.out_base-from.result) c.book-2.ensures
     ∙ ap (shown_from b port c.args.mark) (c.out_base-from.ensures ∙ ap (λ d. (port_in d port).out_base) c.book.ensures) in
-    let fault = c.in_err-put.field-0.0 in
+    let fault = c.in_err-print.field-0.0 in
     let is : c.from_residual.result ≡ Err fault = search rules in
-    let was = g.O.Write.contents c.args.out.now in
-    let now = g.O.Write.contents c.put.new.out in
-    subst (λ r. PrintsSo r was now (shown_from b port c.args.mark (port_in b port).out_base)) (sym is) (subst (PrintsSo (fault_of Receipted fault) was now) shown c.in_err-put.ensures.printed)
+    let was = g.O.Outlet.taken c.args.out.now in
+    let now = g.O.Outlet.taken c.print.new.self in
+    subst (λ r. PrintsSo r was now (shown_from b port c.args.mark (port_in b port).out_base)) (sym is) (subst (PrintsSo (fault_of Receipted fault) was now) shown c.in_err-print.ensures.printed)
 
 pub returns-clause-printed : goal.returns-clause-printed
 returns-clause-printed g c =
     let b = c.args.held.now.book in
-    let port = c.args.port in
+    let port = c.args.outset.port in
     let shown : c.shown.result.now ≡ shown_from b port c.args.mark (port_in b port).out_base =
     c.shown.ensures.value ∙ ap (λ d. shown_from d port c.args.mark c.out_base-from.result) c.book-2.ensures
     ∙ ap (shown_from b port c.args.mark) (c.out_base-from.ensures ∙ ap (λ d. (port_in d port).out_base) c.book.ensures) in
-    let was = g.O.Write.contents c.args.out.now in
-    let now = g.O.Write.contents c.put.new.out in
-    subst (PrintsSo c.confirm_shown.result was now) shown (prints_on was now c.shown.result.now c.confirm_shown.result c.in_ok-put.ensures.written c.confirm_shown.ensures.told)
+    let was = g.O.Outlet.taken c.args.out.now in
+    let now = g.O.Outlet.taken c.print.new.self in
+    subst (PrintsSo c.confirm_shown.result was now) shown (prints_on was now c.shown.result.now c.confirm_shown.result c.in_ok-print.ensures.written c.confirm_shown.ensures.told)
 
 pub returns-clause-receipt : goal.returns-clause-receipt
 returns-clause-receipt g c =
     let b = c.args.held.now.book in
-    let port = c.args.port in
+    let port = c.args.outset.port in
     let mark = c.args.mark in
     let from = (port_in b port).out_base in
     let each = subst (λ d. length (marks_of d port) ≡ length (port_in d port).outputs) c.book-2.ensures c.shown.ensures.exactly.each in
@@ -42,5 +43,15 @@ returns-clause-receipt g c =
     c.shown.ensures.value ∙ ap (λ d. shown_from d port mark c.out_base-from.result) c.book-2.ensures
     ∙ ap (shown_from b port mark) (c.out_base-from.ensures ∙ ap (λ d. (port_in d port).out_base) c.book.ensures) in
     let E = c.confirm_shown.ensures in
-    printed_is b c.confirm_shown.new.held.book port mark (g.O.Write.contents c.args.out.now) (g.O.Write.contents c.put.new.out) c.shown.result.now c.confirm_shown.result each shown
-    c.in_ok-put.ensures.written E.book E.number E.receipt
+    printed_is b c.confirm_shown.new.held.book port mark (g.O.Outlet.taken c.args.out.now) (g.O.Outlet.taken c.print.new.self) c.shown.result.now c.confirm_shown.result each shown
+    c.in_ok-print.ensures.written E.book E.number E.receipt
+
+pub print-requires : goal.print-requires
+print-requires g c =
+    let b = c.args.held.now.book in
+    let port = c.args.outset.port in
+    let mark = c.args.mark in
+    let shown : c.shown.result.now ≡ shown_from b port mark (port_in b port).out_base =
+    c.shown.ensures.value ∙ ap (λ d. shown_from d port mark c.out_base-from.result) c.book-2.ensures
+    ∙ ap (shown_from b port mark) (c.out_base-from.ensures ∙ ap (λ d. (port_in d port).out_base) c.book.ensures) in
+    λ k began. subst (AreStored g.J.Naming.formatted c.args.flusher.now.world port c.args.outset.confirmed) (sym shown) (c.requires.stored k began)

@@ -25,7 +25,7 @@ over-flusher-requires-clause-first g c = sym c.requires.names.first_is ∙ c.req
 
 pub returns-in_default-clause-ran : goal.returns-in_default-clause-ran
 returns-in_default-clause-ran g c k began =
-    let out = g.O.Write.contents c.args.out.now in
+    let out = g.O.Outlet.taken c.args.out.now in
     subst (λ d. Ran g.J.Naming.formatted c.args.job c.args.input.now out out (Err Memory) (g.D.Disk.state c.args.store.disk) (g.D.Disk.state d)) (sym c.into_disk.ensures)
     (still_ran g.J.Naming.formatted c.args.job c.args.input.now out Memory (g.D.Disk.state c.args.store.disk) tt)
 
@@ -34,8 +34,8 @@ returns-clause-ran g c k began =
     let start = g.J.Naming.formatted in
     let job = c.args.job in
     let input = c.args.input.now in
-    let was = g.O.Write.contents c.args.out.now in
-    let now = g.O.Write.contents c.serve-flusher.new.out in
+    let was = g.O.Outlet.taken c.args.out.now in
+    let now = g.O.Outlet.taken c.serve-flusher.new.out in
     let opened = c.args.opened.value in
     let old = c.over-flusher.result in
     let new = c.serve-flusher.result.0 in

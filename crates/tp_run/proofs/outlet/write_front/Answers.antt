@@ -2,8 +2,8 @@ use Rattle.std.proofs.Common.{rules, ℕ, List, take, sym, subst}
 use Rattle.std.proofs.lemmas.List.{take_rest}
 use Rattle.std.specs.Io.KnownBytes.{Appends}
 use Rattle.tp_stream_files.proofs.Fronts.{more_appended, kept_appended}
-use Rattle.tp_run.proofs.printing.write_front.Goals.{in-Ok, in-Err}
-use Rattle.tp_run.proofs.printing.write_front.Goals as goal
+use Rattle.tp_run.proofs.outlet.write_front.Goals.{in-Ok, in-Err}
+use Rattle.tp_run.proofs.outlet.write_front.Goals as goal
 
 pub loop-preserved : goal.loop-preserved
 loop-preserved g c = elim c.match-write.branch [

@@ -1,6 +1,6 @@
 use Rattle.std.proofs.Common.{◌≤◌, length, take}
 use Rattle.std.specs.Io.KnownBytes.{Appends}
-use Rattle.tp_run.proofs.printing.write_front.Given as goal
+use Rattle.tp_run.proofs.outlet.write_front.Given as goal
 
 -- a front of the bytes was appended so far
 abbrev pub invariant-loop : goal.invariant-loop
