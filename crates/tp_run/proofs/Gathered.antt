@@ -1,21 +1,22 @@
 -- What workers and receipts have, together.
-use Rattle.std.proofs.Common.{◌≡◌, ℕ, List, [], ◌∷◌, ◌++◌, map, length, refl, sym, ap, subst, ◌∙◌, arith, zero, suc, ◌<◌, append_assoc, Result, Ok, Err}
+use Rattle.std.proofs.Common.{◌≡◌, ℕ, ◌+◌, List, [], ◌∷◌, ◌++◌, map, length, refl, sym, ap, subst, ◌∙◌, arith, zero, suc, ◌<◌, append_assoc, Result, Ok, Err}
 use Rattle.std.specs.Prelude.{All, flat_map, IfOk}
 use Rattle.std.specs.List.{AllByRecursion}
 use Rattle.std.proofs.lemmas.List.{length-map}
 use Rattle.tp_model.specs.declared.entry.Entry.{Entry}
 use Rattle.tp_model.specs.NodeState.{NodeState}
 use Rattle.tp_model.specs.Network.{Network}
+use Rattle.tp_ready.specs.Numbers.{Numbers}
 use Rattle.tp_flush.specs.All.{AreAll}
 use Rattle.tp_run.specs.declared.job.Job.{Job}
 use Rattle.tp_run.specs.Accounted.{Accounted}
-use Rattle.tp_run.specs.Worked.{Worked, idle}
+use Rattle.tp_run.specs.Worked.{Work, Worked}
 
 -- ## Lists of slips
 
-gathered : {S X : Type 0} (slips : S → List X) (seats : List S) → flat_map (λ (xs : List X). xs) (map slips seats) ≡ flat_map slips seats
-gathered slips [] = refl
-gathered slips (seat ∷ seats) = ap (λ xs. slips seat ++ xs) (gathered slips seats)
+gathered : {S : Type 0} (works : S → Work) (seats : List S) → flat_map (λ (work : Work). work.slips) (map works seats) ≡ flat_map (λ seat. (works seat).slips) seats
+gathered works [] = refl
+gathered works (seat ∷ seats) = ap (λ xs. (works seat).slips ++ xs) (gathered works seats)
 
 each_mapped : {S X : Type 0} (P : X → Type 0) (f : S → X) (seats : List S) → All (λ seat. P (f seat)) seats → AllByRecursion P (map f seats)
 each_mapped P f [] all = tt
@@ -24,14 +25,19 @@ each_mapped P f (seat ∷ seats) all =
 
 -- ## All of them
 
-pub accounted_for : {S : Type 0} (network : Network NodeState) (job : Job) (journal : List Entry) (first next : ℕ) (slips : S → List (ℕ × Entry)) (seats : List S) (offered confirmed : List (ℕ × Entry))
-    → length seats ≡ job.workers → All (λ seat. Worked network job.quantum (slips seat)) seats → AreAll first next journal (flat_map slips seats ++ offered ++ confirmed)
-    → Accounted network job journal first next (offered ++ confirmed)
-accounted_for network job journal first next slips seats offered confirmed many worked all = record {
-  workers = map slips seats;
-  count = length-map seats slips ∙ many;
-  worked = each_mapped (Worked network job.quantum) slips seats worked;
-  all = subst (AreAll first next journal) (append_assoc (flat_map slips seats) offered confirmed ∙ ap (λ xs. xs ++ (offered ++ confirmed)) (sym (gathered slips seats))) all;
+pub accounted_for : {S : Type 0} (network : Network NodeState) (job : Job) (queue : Numbers) (journal : List Entry) (first next : ℕ) (works : S → Work) (seats : List S) (offered confirmed : List (ℕ × Entry))
+    → queue.count ≡ length network.nodes + 1 → queue.hands ≡ job.workers → length seats ≡ job.workers → All (λ seat. Worked network job.quantum queue (works seat)) seats
+    → AreAll first next journal (flat_map (λ seat. (works seat).slips) seats ++ offered ++ confirmed) → Accounted network job journal first next (offered ++ confirmed)
+accounted_for network job queue journal first next works seats offered confirmed numbers hands many worked all = record {
+  queue = queue;
+  numbers = numbers;
+  hands = hands;
+  workers = map works seats;
+  count = length-map seats works ∙ many;
+  worked = each_mapped (Worked network job.quantum queue) works seats worked;
+  all =
+      subst (AreAll first next journal)
+      (append_assoc (flat_map (λ seat. (works seat).slips) seats) offered confirmed ∙ ap (λ xs. xs ++ (offered ++ confirmed)) (sym (gathered works seats))) all;
 }
 
 -- an answer that is known, and what comes of it

@@ -1,6 +1,6 @@
 //! What a run does with a network in threads, and its flusher.
 
-ghost use Rattle.std.specs.Prelude.{◌≡◌, ◌<◌, ◌≤◌, ◌++◌, [], All, flat_map, length, vec_len, IfErr, IfOk, OnErr, Some};
+ghost use Rattle.std.specs.Prelude.{◌≡◌, ◌<◌, ◌≤◌, ◌+◌, ◌++◌, [], All, flat_map, length, vec_len, IfErr, IfOk, OnErr, Some};
 ghost use Rattle.tp_shared.specs.Receipted.{AreBelow};
 ghost use Rattle.tp_flush.specs.Known.{Began};
 ghost use Rattle.tp_flush.specs.Flushing.{IsSameProcess, Walked, position};
@@ -14,7 +14,8 @@ ghost use Rattle.tp_run.specs.Output.{IsForOutput};
 ghost use Rattle.tp_run.specs.Prints.{TellsAllPrinted};
 ghost use Rattle.tp_run.specs.Ran.{Settled};
 ghost use Rattle.tp_run.specs.Shown.{AreShownIn, MayPrint, MayShow};
-ghost use Rattle.tp_run.specs.Worked.{Worked};
+ghost use Rattle.tp_ready.specs.Past.{IsNew};
+ghost use Rattle.tp_run.specs.Worked.{HasWorked};
 
 use crate::accounting::account;
 use crate::fault::RunFault;
@@ -109,12 +110,12 @@ fn work<J: Naming + Send + Sync, D: Disk + Send + Drop, R: Threads + Wait + Sync
     watch: Watch,
     flusher: Flusher<J, D>,
 ) -> (Flusher<J, D>, Vec<Seat<J>>)
-    requires seats { All (λ seat. (seat.hand.of ≡ Some net.now.queue) × Worked J.start net.now.quantum seat.slips) seats.items }
+    requires seats { All (λ seat. (seat.hand.of ≡ Some net.now.queue) × HasWorked J.start net.now.quantum net.now.queue seat.hand.past seat.slips) seats.items }
     ensures walks { D.keeps → Began J.formatted J.before flusher.opened → Walked flusher result.0 }
     ensures process { IsSameProcess flusher result.0 }
     ensures failures { CountsFailures flusher result.0 }
     ensures count { vec_len result.1 ≡ vec_len seats }
-    ensures seats { All (λ seat. Worked J.start net.now.quantum seat.slips) result.1.items }
+    ensures seats { All (λ seat. HasWorked J.start net.now.quantum net.now.queue seat.hand.past seat.slips) result.1.items }
 {
     let watching = &watch;
     let shared = net.shared();
@@ -124,8 +125,8 @@ fn work<J: Naming + Send + Sync, D: Disk + Send + Drop, R: Threads + Wait + Sync
             ensures { (D.keeps → Began J.formatted J.before flusher.opened → Walked flusher result) × IsSameProcess flusher result × CountsFailures flusher result }
         { flush_meanwhile(rt, alloc, shared, watching, flusher) },
         move || -> Vec<Seat<J>>
-            requires { All (λ seat. (seat.hand.of ≡ Some net.now.queue) × Worked J.start net.now.quantum seat.slips) seats.items }
-            ensures { (vec_len result ≡ vec_len seats) × All (λ seat. Worked J.start net.entry.now.quantum seat.slips) result.items }
+            requires { All (λ seat. (seat.hand.of ≡ Some net.now.queue) × HasWorked J.start net.now.quantum net.now.queue seat.hand.past seat.slips) seats.items }
+            ensures { (vec_len result ≡ vec_len seats) × All (λ seat. HasWorked J.start net.entry.now.quantum net.entry.now.queue seat.hand.past seat.slips) result.items }
         {
             let mut seats = seats;
             work_all(rt, alloc, net, watching, seats.as_mut_slice());
@@ -178,7 +179,7 @@ fn settle<J: Naming, D: Disk, R: Wait>(
 fn finish<J: Naming, D: Disk, O: Outlet, R: Wait>(
     rt: &R,
     alloc: Global,
-    shared: &Shared<J>,
+    net: &Net<J, NoGate>,
     job: Job,
     outset: Outset,
     offered: Receipt<J>,
@@ -188,7 +189,8 @@ fn finish<J: Naming, D: Disk, O: Outlet, R: Wait>(
 ) -> Result<u64, RunFault>
     requires there { outset.port < length J.start.ports }
     requires first { outset.next ≡ J.first }
-    requires seats { All (λ seat. Worked J.start job.quantum seat.slips) seats.items }
+    requires queue { (net.now.queue.count ≡ length J.start.nodes + 1) × (net.now.queue.hands ≡ job.workers) }
+    requires seats { All (λ seat. HasWorked J.start job.quantum net.now.queue seat.hand.past seat.slips) seats.items }
     requires count { vec_len seats ≡ job.workers }
     ensures walks { D.keeps → Began J.formatted J.before flusher.old.opened → Walked flusher.old flusher.new }
     ensures process { IsSameProcess flusher.old flusher.new }
@@ -203,6 +205,7 @@ fn finish<J: Naming, D: Disk, O: Outlet, R: Wait>(
     ensures behind { IfErr result ComesBehind }
 {
     flusher.known();
+    let shared = net.shared();
     let number = offered.number();
     let mark = flush_upto(rt, alloc, shared, flusher, number, RunFault::FlushFailed)?;
     let confirmed = print(rt, shared, flusher, outset, mark, out)?;
@@ -243,6 +246,8 @@ pub(crate) fn serve<
     requires first { outset.next ≡ J.first }
     requires quantum { net.now.quantum ≡ job.quantum }
     requires seats { All (λ seat. (seat.hand.of ≡ Some net.now.queue) × (seat.slips ≡ [])) seats.items }
+    requires new { All (λ seat. IsNew seat.hand.past) seats.items }
+    requires queue { (net.now.queue.count ≡ length J.start.nodes + 1) × (net.now.queue.hands ≡ job.workers) }
     requires count { vec_len seats ≡ job.workers }
     requires rests { flusher.world.at ≡ Resting }
     ensures walks { D.keeps → Began J.formatted J.before flusher.opened → Walked flusher result.0 }
@@ -268,7 +273,7 @@ pub(crate) fn serve<
     let done = finish(
         rt,
         alloc,
-        shared,
+        net,
         job,
         outset,
         offered,

@@ -1,7 +1,7 @@
 //! Workers.
 
 ghost use Rattle.std.specs.Prelude.{◌≡◌, ◌≤◌, All, Some, length};
-ghost use Rattle.tp_run.specs.Worked.{Worked};
+ghost use Rattle.tp_run.specs.Worked.{HasWorked};
 
 use crate::beginning::{begin_where_due, missing_in};
 use crate::watch::Watch;
@@ -34,7 +34,8 @@ fn begin<J: Naming, R: Wait>(rt: &R, alloc: Global, shared: &Shared<J>, watch: &
     watch.set_due(made, missing_in(&held, watch.every()));
 }
 
-/// Makes turns until none is left. A refused turn counts. It never waits for the flusher. `seat` has the slips of just these turns.
+/// Makes turns until none is left. A refused turn counts. It never waits for the flusher. `seat` has the slips of just these turns, and its
+/// hand has put each number back that it took.
 fn work<J: Naming, R: Wait>(
     rt: &R,
     alloc: Global,
@@ -43,8 +44,8 @@ fn work<J: Naming, R: Wait>(
     seat: &mut Seat<J>,
 )
     requires hand { seat.old.hand.of ≡ Some net.now.queue }
-    requires worked { Worked J.start net.now.quantum seat.old.slips }
-    ensures worked { Worked J.start net.now.quantum seat.new.slips }
+    requires worked { HasWorked J.start net.now.quantum net.now.queue seat.old.hand.past seat.old.slips }
+    ensures worked { HasWorked J.start net.now.quantum net.now.queue seat.new.hand.past seat.new.slips }
 {
     for _ in 0..u32::MAX {
         if !watch.draw() {
@@ -69,9 +70,9 @@ pub(crate) fn work_all<J: Naming + Send + Sync, R: Threads + Wait + Sync>(
     watch: &Watch,
     seats: &mut [Seat<J>],
 )
-    requires seats { All (λ seat. (seat.hand.of ≡ Some net.now.queue) × Worked J.start net.now.quantum seat.slips) seats.old }
+    requires seats { All (λ seat. (seat.hand.of ≡ Some net.now.queue) × HasWorked J.start net.now.quantum net.now.queue seat.hand.past seat.slips) seats.old }
     ensures count { length seats.new ≡ length seats.old }
-    ensures seats { All (λ seat. Worked J.start net.now.quantum seat.slips) seats.new }
+    ensures seats { All (λ seat. HasWorked J.start net.now.quantum net.now.queue seat.hand.past seat.slips) seats.new }
 {
     let threads = seats.len().max(1);
     thread::for_each_mut(
@@ -79,8 +80,8 @@ pub(crate) fn work_all<J: Naming + Send + Sync, R: Threads + Wait + Sync>(
         seats,
         threads,
         &|_, seat: &mut Seat<J>|
-            requires { (seat.now.hand.of ≡ Some net.now.queue) × Worked J.start net.now.quantum seat.now.slips }
-            ensures { Worked J.start net.entry.now.quantum seat.exit.now.slips }
+            requires { (seat.now.hand.of ≡ Some net.now.queue) × HasWorked J.start net.now.quantum net.now.queue seat.now.hand.past seat.now.slips }
+            ensures { HasWorked J.start net.entry.now.quantum net.entry.now.queue seat.exit.now.hand.past seat.exit.now.slips }
         { work(rt, alloc, net, watch, seat) },
     );
     watch.end();

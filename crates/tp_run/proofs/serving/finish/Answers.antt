@@ -113,8 +113,8 @@ returns-clause-settled g c k began =
     subst (λ (f : Flushing). IfOk c.settle.result (Settled start g.J.Naming.start c.args.job c.args.outset c.args.offered.seat was now f.world.journal)) (sym S.same)
     (all_settled c.settle.result next _ _ S.next (S.all k last)
     (λ all. both_settled start g.J.Naming.start c.args.job c.args.outset _ was now two.world.journal next c.args.offered c.in_ok-confirmed.confirmed O shows first second S.below.0 S.below.1 stand.0 stand.1
-    (accounted_for g.J.Naming.start c.args.job two.world.journal c.args.outset.next next (λ (seat : Seat g.row.J.Denot). seat.slips) c.args.seats.items c.args.offered.seat c.in_ok-confirmed.confirmed.seat
-    (sym c.args.seats.ok.0 ∙ c.requires.count) c.requires.seats (subst (λ n. AreAll n next two.world.journal (flat_map (λ (seat : Seat g.row.J.Denot). seat.slips) c.args.seats.items ++ c.args.offered.seat ++ c.in_ok-confirmed.confirmed.seat)) (sym c.requires.first) all))))
+    (accounted_for g.J.Naming.start c.args.job c.args.net.now.queue two.world.journal c.args.outset.next next (λ (seat : Seat g.row.J.Denot). record { past = seat.hand.past; slips = seat.slips }) c.args.seats.items c.args.offered.seat
+    c.in_ok-confirmed.confirmed.seat c.requires.queue.0 c.requires.queue.1 (sym c.args.seats.ok.0 ∙ c.requires.count) c.requires.seats (subst (λ n. AreAll n next two.world.journal (flat_map (λ (seat : Seat g.row.J.Denot). seat.slips) c.args.seats.items ++ c.args.offered.seat ++ c.in_ok-confirmed.confirmed.seat)) (sym c.requires.first) all))))
 
 -- ## How it ended
 

@@ -6,7 +6,7 @@ use Rattle.tp_flush.proofs.Turns.{walked_nowhere, walked_then}
 use Rattle.tp_run.specs.Failures.{is_failure, has_failed}
 use Rattle.tp_run.specs.Input.{rest_at}
 use Rattle.tp_run.specs.Ran.{Settled}
-use Rattle.tp_run.specs.Worked.{Worked, idle}
+use Rattle.tp_run.specs.Worked.{HasWorked, idle}
 use Rattle.tp_run.proofs.Failures.{counted, failures_then, uncounted}
 use Rattle.tp_run.proofs.Faults.{behind_begun_of, behind_unrefused_of, offer_begun, offer_silent, offer_unfailed}
 use Rattle.tp_run.proofs.Shown.{may_print_since}
@@ -38,11 +38,11 @@ returns-clause-shown g c k began =
 pub work-flusher-requires-clause-seats : goal.work-flusher-requires-clause-seats
 work-flusher-requires-clause-seats g c κs within k d below =
     let seat = c.requires.seats k d below in
-    (seat.0, subst (Worked g.J.Naming.start c.args.net.now.quantum) (sym seat.1) idle)
+    (seat.0, idle _ (c.requires.new k d below) seat.1)
 
 pub finish-done-requires-clause-seats : goal.finish-done-requires-clause-seats
 finish-done-requires-clause-seats g c =
-    subst (λ quantum. All (λ (seat : Seat g.row.J.Denot). Worked g.J.Naming.start quantum seat.slips) c.work-flusher.result.1.items) c.requires.quantum c.work-flusher.ensures.seats
+    subst (λ quantum. All (λ (seat : Seat g.row.J.Denot). HasWorked g.J.Naming.start quantum c.args.net.now.queue seat.hand.past seat.slips) c.work-flusher.result.1.items) c.requires.quantum c.work-flusher.ensures.seats
 
 -- ## Which faults come here, and how many calls of the device have failed
 
