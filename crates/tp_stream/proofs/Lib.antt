@@ -1,3 +1,4 @@
+pub mod Confirms
 pub mod Fitted
 pub mod Kept
 pub mod Looks

@@ -1,8 +1,9 @@
 -- Room that is kept in the journal.
-use Rattle.std.specs.Prelude.{◌≡◌, ◌<◌, ℕ, ◌+◌, ◌-◌, ◌*◌, max, min, Bool, ◌&&◌, nat_lt, length, Option, Some, None, IfSome}
+use Rattle.std.specs.Prelude.{◌≡◌, ◌⊎◌, ◌<◌, ℕ, ◌+◌, ◌-◌, ◌*◌, max, min, Bool, ◌&&◌, nat_lt, length, Option, Some, None, IfSome}
 use Rattle.tp_model.specs.declared.limits.TheConstants.{MAX_HELD, NUMBER_LIMIT}
 use Rattle.tp_model.specs.Journal.{reserve}
 use Rattle.tp_book.specs.Book.{BookValue, next_in_book, outputs_of, reserved}
+use Rattle.tp_book.specs.Host.{after_confirm}
 use Rattle.tp_area.specs.Capacity.{half_capacity, left_behind, takes}
 use Rattle.tp_area.specs.declared.journal.JournalRoom.{JournalRoom}
 use Rattle.tp_turn.specs.declared.take.TheConstants.{TAKES, TURN_ENTRIES}
@@ -20,6 +21,10 @@ pub record UnreservedBook (journal : JournalRoom) (b : BookValue) : Type 0 where
   pub bound : b.room ≡ Some journal.bytes
   pub beside : journal.kept ≡ reserve (length b.state.lines)
   pub rests : reserved b ≡ 0
+
+-- Nothing has changed, or outputs of one port were confirmed.
+abbrev pub IsConfirmed : BookValue → BookValue → Type 0
+IsConfirmed old new = (new ≡ old) ⊎ ((port : ℕ) × (upto : ℕ) × (new ≡ after_confirm old port upto))
 
 -- Each port has room for one more byte of output.
 abbrev pub HavePlace : BookValue → Type 0

@@ -53,3 +53,20 @@ CameBegun (OutputFailed port) = Unit {0}
 CameBegun FlushFailed = Unit {0}
 CameBegun JournalFull = Unit {0}
 CameBegun Memory = Unit {0}
+
+-- A fault says something else than that the journal is full.
+abbrev pub OtherThanFull : StreamFault → Type 0
+OtherThanFull (Opening unopened) = Unit {0}
+OtherThanFull Spare = Unit {0}
+OtherThanFull (Port port) = Unit {0}
+OtherThanFull (Unnamed port) = Unit {0}
+OtherThanFull (Short port has from) = Unit {0}
+OtherThanFull (Long port has upto) = Unit {0}
+OtherThanFull (Gone port have confirmed) = Unit {0}
+OtherThanFull (NotShown port have shown) = Unit {0}
+OtherThanFull (ShortInput port has accepted) = Unit {0}
+OtherThanFull (InputFailed port) = Unit {0}
+OtherThanFull (OutputFailed port) = Unit {0}
+OtherThanFull FlushFailed = Unit {0}
+OtherThanFull JournalFull = ⊥
+OtherThanFull Memory = Unit {0}

@@ -1,14 +1,15 @@
 //! Steps of a port's output: put at its positions, made safe, and then confirmed.
 
-ghost use Rattle.std.specs.Prelude.{◌≡◌, ◌<◌, ◌≤◌, ◌+◌, length, IfOk, OnOk, IfErr, OnErr};
+ghost use Rattle.std.specs.Prelude.{◌≡◌, ◌<◌, ◌≤◌, ◌+◌, false, length, IfOk, OnOk, IfErr, OnErr};
 ghost use Rattle.tp_book.specs.Host.{after_confirm, port_in, shown_from, shown_upto_of};
 ghost use Rattle.tp_book.specs.Acts.{confirm_entries};
+ghost use Rattle.tp_book.specs.Refusals.{is_journal_full};
 ghost use Rattle.tp_work.specs.Receipts.{IsFor};
 ghost use Rattle.tp_stream_files.specs.Held.{HasPut, KeepsFront};
 ghost use Rattle.tp_stream_files.specs.Outputs.{WasPutSafely, given_of};
 ghost use Rattle.tp_stream.specs.Standing.{MayBegin, Refuses, from_of, put_out, port_standing};
-ghost use Rattle.tp_stream.specs.Streamed.{CameBegun};
-ghost use Rattle.tp_stream.specs.Outcomes.{IsStepFault, step_fault_of};
+ghost use Rattle.tp_stream.specs.Streamed.{CameBegun, OtherThanFull};
+ghost use Rattle.tp_stream.specs.Outcomes.{ConfirmsOtherwise, IsStepFault, StepsOtherwise, step_fault_of};
 ghost use Rattle.tp_stream.specs.Steps.{AreLeft, IsSetOut, PutsShown};
 
 use crate::fault::StreamFault;
@@ -39,7 +40,8 @@ fn step_fault(fault: SinkFault, port: u8) -> StepFault
 
 /// The fault of a confirmation that was refused.
 fn fault_of(fault: ConfirmFault) -> StreamFault
-    ensures { CameBegun result }
+    ensures begun { CameBegun result }
+    ensures full { ConfirmsOtherwise fault → OtherThanFull result }
 {
     match fault {
         ConfirmFault::JournalFull | ConfirmFault::NotShown => StreamFault::JournalFull,
@@ -123,6 +125,7 @@ fn put_shown<J: Naming, D: Disk, S: Sink>(
     ensures puts { PutsShown book.now flusher.now.world.mark output.old output.new }
     ensures failed { OnErr result (output.new ≡ record output.old { held = output.new.held }) }
     ensures begun { IfErr result IsStepFault }
+    ensures other { IfErr result StepsOtherwise }
 {
     output.known();
     let mark = flusher.mark();
@@ -150,6 +153,8 @@ fn confirm_put<J: Naming, D: Disk, S: Sink>(
     ensures confirmed { OnOk result (output.new ≡ record output.old { confirmed = output.old.next }) }
     ensures err { OnErr result ((held.new ≡ held.old) × (output.new ≡ output.old)) }
     ensures begun { IfErr result CameBegun }
+    ensures room { output.old.next ≤ shown_upto_of held.old.book output.old.port flusher.now.world.mark
+        → is_journal_full held.old.book 1 ≡ false → IfErr result OtherThanFull }
 {
     match confirm(held, output.port(), flusher.mark(), output.put()) {
         Ok(receipt) => {
@@ -180,6 +185,7 @@ pub(crate) fn step<J: Naming, D: Disk, S: Sink>(
     ensures puts { PutsShown held.old.book flusher.now.world.mark output.old output.new }
     ensures left { AreLeft held.old.book held.new.book }
     ensures begun { IfErr result IsStepFault }
+    ensures room { is_journal_full held.old.book 1 ≡ false → IfErr result StepsOtherwise }
 {
     match put_shown(output, held.book(), flusher) {
         Ok(()) => match confirm_put(output, held, flusher) {

@@ -1,13 +1,14 @@
 //! Steps of all streams of a network.
 
 ghost use Rattle.std.specs.Prelude.{◌≡◌, ◌<◌, ◌-◌, length, true, false, Ok, IfErr, OnErr};
+ghost use Rattle.tp_area.specs.declared.journal.JournalRoom.{JournalRoom};
 ghost use Rattle.tp_book.specs.Refusals.{is_journal_full};
 ghost use Rattle.tp_flush.specs.Known.{Began};
 ghost use Rattle.tp_stream.specs.Offered.{Offered};
 ghost use Rattle.tp_stream.specs.Put.{EachWith};
-ghost use Rattle.tp_stream.specs.Rooms.{UnreservedBook, free_of, has_room_for};
+ghost use Rattle.tp_stream.specs.Rooms.{IsConfirmed, UnreservedBook, free_of, has_room_for};
 ghost use Rattle.tp_stream.specs.Steps.{AllStepped, AreLeft, PutsLeft, PutsShown};
-ghost use Rattle.tp_stream.specs.Streamed.{CameBegun};
+ghost use Rattle.tp_stream.specs.Streamed.{CameBegun, OtherThanFull};
 
 use crate::fault::StreamFault;
 use crate::output::StepFault;
@@ -77,6 +78,8 @@ fn step_output<J: Naming, D: Disk, S: Sink>(
     ensures left { AreLeft held.old.book held.new.book }
     ensures puts { PutsShown held.old.book flusher.now.world.mark output.old output.new }
     ensures begun { IfErr result CameBegun }
+    ensures book { IsConfirmed held.old.book held.new.book }
+    ensures room { is_journal_full held.old.book 1 ≡ false → IfErr result OtherThanFull }
 {
     let before = output.put();
     if usize::from(output.port()) >= held.book().ports() {
@@ -90,7 +93,7 @@ fn step_output<J: Naming, D: Disk, S: Sink>(
 }
 
 /// A step of each output, under one hold of the book's lock, also behind one whose taker has gone. What is put is shown by the flusher's
-/// mark of what confirms have left of the book.
+/// mark of what confirms have left of the book. Where the journal has room for a confirm an output, none is refused for want of it.
 fn step_all<J: Naming, D: Disk, S: Sink>(
     held: &mut Locked<J>,
     flusher: &Flusher<J, D>,
@@ -98,6 +101,7 @@ fn step_all<J: Naming, D: Disk, S: Sink>(
 ) -> Result<Pumped, StreamFault>
     ensures puts { EachWith (PutsLeft held.old.book flusher.now.world.mark) outputs.old outputs.new }
     ensures begun { IfErr result CameBegun }
+    ensures room { (journal : JournalRoom) → UnreservedBook journal held.old.book → has_room_for journal held.old.book (length outputs.old) ≡ true → IfErr result OtherThanFull }
 {
     let mut pumped = Pumped::Nothing;
     for output in outputs.iter_mut() {
@@ -118,6 +122,7 @@ fn step_settled<J: Naming, D: Disk, S: Sink>(
     ensures put { D.keeps → Began J.formatted J.before flusher.old.opened
         → AllStepped J.formatted flusher.old flusher.old outputs.old outputs.new }
     ensures begun { IfErr result CameBegun }
+    ensures room { (journal : JournalRoom) → UnreservedBook journal held.old.book → has_room_for journal held.old.book (length outputs.old) ≡ true → IfErr result OtherThanFull }
 {
     flusher.known();
     flusher.settle_book(held);

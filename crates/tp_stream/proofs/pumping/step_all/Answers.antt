@@ -1,10 +1,13 @@
-use Rattle.std.proofs.Common.{◌+◌, ◌<◌, ◌≤◌, length, refl, arith}
+use Rattle.std.proofs.Common.{◌≡◌, ◌+◌, ◌-◌, ◌<◌, ◌≤◌, true, length, refl, subst, ◌∙◌, arith}
+use Rattle.std.proofs.lemmas.List.{length-set}
+use Rattle.tp_stream.specs.Rooms.{has_room_for}
 use Rattle.tp_stream.specs.Steps.{PutsLeft}
+use Rattle.tp_stream.proofs.Kept.{room_for_one, room_then}
 use Rattle.tp_stream.proofs.Puts.{all_left, each_any, each_more, left_nothing, left_then, puts_left}
 use Rattle.tp_stream.proofs.pumping.step_all.Goals as goal
 
 pub loop-output-init : goal.loop-output-init
-loop-output-init g c = record { left = all_left c.args.held.now.book; puts = refl }
+loop-output-init g c = record { left = all_left c.args.held.now.book; puts = refl; many = refl; room = λ journal L there. (L, let none : length c.args.outputs.now ≡ length c.args.outputs.now - 0 = omega arith in subst (λ n. has_room_for journal c.args.held.now.book n ≡ true) none there) }
 
 pub loop-output-preserved : goal.loop-output-preserved
 loop-output-preserved g c =
@@ -18,7 +21,23 @@ loop-output-preserved g c =
       puts =
           each_more (PutsLeft b mark) c.loop-output.output-index c.args.outputs.now c.loop-output.outputs c.output-item.result c.step_output.new.output within I.puts
           (puts_left b c.loop-output.held.book mark _ c.step_output.new.output I.left E.puts);
+      many = length-set c.loop-output.outputs c.loop-output.output-index c.step_output.new.output ∙ I.many;
+      room = λ journal L there.
+          let many = I.many in
+          let R = I.room journal L there in
+          let one : length c.args.outputs.now - c.loop-output.output-index ≡ length c.args.outputs.now - (c.loop-output.output-index + 1) + 1 = omega (arith, within, many) in
+          room_then journal c.loop-output.held.book c.step_output.new.held.book (length c.args.outputs.now - (c.loop-output.output-index + 1)) E.book R.0
+          (subst (λ n. has_room_for journal c.loop-output.held.book n ≡ true) one R.1);
     }
+
+pub returns-in_err-step_output-clause-room : goal.returns-in_err-step_output-clause-room
+returns-in_err-step_output-clause-room g c journal L there =
+    let I = c.loop-output.invariant in
+    let within : c.loop-output.output-index < length c.loop-output.outputs = omega arith in
+    let many = I.many in
+    let R = I.room journal L there in
+    c.step_output.ensures.room
+    (room_for_one journal c.loop-output.held.book (length c.args.outputs.now - c.loop-output.output-index) (omega (arith, within, many)) R.0 R.1)
 
 pub returns-in_err-step_output-clause-puts : goal.returns-in_err-step_output-clause-puts
 returns-in_err-step_output-clause-puts g c =

@@ -1,4 +1,7 @@
--- What is left of the book, and what was put of the outputs so far; the others are as they were.
+-- What is left of the book, what was put of the outputs so far, and what room there is for the others, which are as they were.
+use Rattle.std.proofs.Common.{◌≡◌, ◌-◌, true, length}
+use Rattle.tp_area.specs.declared.journal.JournalRoom.{JournalRoom}
+use Rattle.tp_stream.specs.Rooms.{UnreservedBook, has_room_for}
 use Rattle.tp_stream.specs.Steps.{AreLeft, PutsLeft}
 use Rattle.tp_stream.proofs.Puts.{EachTo}
 use Rattle.tp_stream.proofs.pumping.step_all.Given as goal
@@ -7,4 +10,8 @@ abbrev pub invariant-loop-output : goal.invariant-loop-output
 invariant-loop-output g l = record {
   left : AreLeft l.fn.held.book l.held.book;
   puts : EachTo (PutsLeft l.fn.held.book l.flusher.world.mark) l.output-index l.fn.outputs l.outputs;
+  many : length l.outputs ≡ length l.fn.outputs;
+  room :
+      (journal : JournalRoom) → UnreservedBook journal l.fn.held.book → has_room_for journal l.fn.held.book (length l.fn.outputs) ≡ true
+      → UnreservedBook journal l.held.book × (has_room_for journal l.held.book (length l.fn.outputs - l.output-index) ≡ true);
 }

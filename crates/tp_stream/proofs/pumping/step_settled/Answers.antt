@@ -1,9 +1,10 @@
-use Rattle.std.proofs.Common.{◌≡◌, ◌≤◌, sym, ap, subst, ◌∙◌, arith}
+use Rattle.std.proofs.Common.{◌≡◌, ◌≤◌, true, length, sym, ap, subst, ◌∙◌, arith}
 use Rattle.tp_book.specs.Book.{next_in_book}
 use Rattle.tp_shared.specs.Seals.{Stage}
 use Rattle.tp_flush.specs.Ahead.{IsAheadOf}
 use Rattle.tp_flush.specs.Flushing.{Flushing}
 use Rattle.tp_flush.proofs.Turns.{walked_nowhere}
+use Rattle.tp_stream.specs.Rooms.{UnreservedBook, has_room_for}
 use Rattle.tp_stream.proofs.Puts.{book_stands}
 use Rattle.tp_stream.proofs.Stepping.{stepped_under}
 use Rattle.tp_stream.proofs.pumping.step_settled.Goals as goal
@@ -20,3 +21,8 @@ returns-clause-put g c k began =
     let stored : next_in_book b ≤ f.world.mark = let test = c.if-mark-next.false in omega (arith, mark, next, test) in
     stepped_under start f b c.settle_book.new.self.world.mark (walked_nowhere f (c.known.ensures.disk k)) (book_stands start f.world b ahead stored) c.args.outputs.now c.step_all.new.outputs
     c.step_all.ensures.puts
+
+pub returns-clause-room : goal.returns-clause-room
+returns-clause-room g c journal L there =
+    let same : c.settle_book.new.held.book ≡ c.args.held.now.book = ap (λ (stage : Stage). stage.book) c.settle_book.ensures.same.1 in
+    c.step_all.ensures.room journal (subst (UnreservedBook journal) (sym same) L) (subst (λ b. has_room_for journal b (length c.args.outputs.now) ≡ true) (sym same) there)

@@ -1,0 +1,13 @@
+use Rattle.std.proofs.Common.{◌≡◌, sym, ap, ◌∙◌, arith}
+use Rattle.tp_book.specs.Host.{shown_upto_of}
+use Rattle.tp_stream.proofs.output.step.Goals as goal
+
+pub returns-in-Err-confirm_put-clause-room : goal.returns-in-Err-confirm_put-clause-room
+returns-in-Err-confirm_put-clause-room g c room =
+    let b = c.args.held.now.book in
+    let mark = c.args.flusher.now.world.mark in
+    let old = c.args.output.now in
+    let now = c.put_shown.new.output in
+    let port : now.port ≡ old.port = c.in-Ok.ensures.put.port in
+    let shown = c.in-Ok.ensures.shown ∙ ap (λ p. shown_upto_of b p mark) (sym port) in
+    c.in-Err-confirm_put.ensures.room (omega (arith, shown)) room
