@@ -14,7 +14,7 @@ use Rattle.tp_stream_files.specs.Inputs.{GivenInput}
 use Rattle.tp_stream_files.specs.Outputs.{Given, OutputValue, given_of}
 use Rattle.tp_stream_files.specs.declared.ending.Ended.{Ended}
 use Rattle.tp_stream.specs.declared.fault.StreamFault.{StreamFault}
-use Rattle.tp_stream.specs.declared.fault.StreamFault.TheVariants.{Opening, Spare, Port as Absent, Unnamed, Short, Long, Gone, NotShown, ShortInput, InputFailed, OutputFailed, FlushFailed, JournalFull, Memory}
+use Rattle.tp_stream.specs.declared.fault.StreamFault.TheVariants.{Opening, Spare, Port as Absent, Unnamed, Short, Long, Gone, NotShown, ShortInput, InputFailed, OutputFailed, FlushFailed, NotStored, JournalFull, Memory}
 use Rattle.tp_stream.specs.declared.standing.Standing.{Standing}
 use Rattle.tp_stream.specs.declared.task.Task.{Task}
 use Rattle.tp_stream.specs.Fitting.{Fits, SaysFit, SaysUnfit, Unfit, else_past, first_past}
@@ -35,6 +35,7 @@ unfit task t outputs inputs (ShortInput port has accepted) is = absurd is
 unfit task t outputs inputs (InputFailed port) is = absurd is
 unfit task t outputs inputs (OutputFailed port) is = absurd is
 unfit task t outputs inputs FlushFailed is = absurd is
+unfit task t outputs inputs NotStored is = absurd is
 unfit task t outputs inputs JournalFull is = absurd is
 unfit task t outputs inputs Memory is = absurd is
 
@@ -53,6 +54,7 @@ begun_fits task t outputs inputs (Err (ShortInput port has accepted)) fits begun
 begun_fits task t outputs inputs (Err (InputFailed port)) fits begun = fits
 begun_fits task t outputs inputs (Err (OutputFailed port)) fits begun = fits
 begun_fits task t outputs inputs (Err FlushFailed) fits begun = fits
+begun_fits task t outputs inputs (Err NotStored) fits begun = fits
 begun_fits task t outputs inputs (Err JournalFull) fits begun = fits
 begun_fits task t outputs inputs (Err Memory) fits begun = fits
 
@@ -150,6 +152,7 @@ not_begun_fits task t outputs f xs ports stands accepted_at (ShortInput port has
 not_begun_fits task t outputs f xs ports stands accepted_at (InputFailed port) many fits either = fits
 not_begun_fits task t outputs f xs ports stands accepted_at (OutputFailed port) many fits either = fits
 not_begun_fits task t outputs f xs ports stands accepted_at FlushFailed many fits either = fits
+not_begun_fits task t outputs f xs ports stands accepted_at NotStored many fits either = fits
 not_begun_fits task t outputs f xs ports stands accepted_at JournalFull many fits either = fits
 not_begun_fits task t outputs f xs ports stands accepted_at Memory many fits either = fits
 

@@ -18,7 +18,7 @@ use Rattle.tp_stream_files.specs.Held.{HasPut}
 use Rattle.tp_stream_files.specs.Outputs.{Given, OutputValue, given_of}
 use Rattle.tp_stream_files.specs.declared.ending.Ended.{Ended}
 use Rattle.tp_stream.specs.declared.fault.StreamFault.{StreamFault}
-use Rattle.tp_stream.specs.declared.fault.StreamFault.TheVariants.{Opening, Spare, Port, Unnamed, Short, Long, Gone, NotShown, ShortInput, InputFailed, OutputFailed, FlushFailed, JournalFull, Memory}
+use Rattle.tp_stream.specs.declared.fault.StreamFault.TheVariants.{Opening, Spare, Port, Unnamed, Short, Long, Gone, NotShown, ShortInput, InputFailed, OutputFailed, FlushFailed, NotStored, JournalFull, Memory}
 use Rattle.tp_stream.specs.declared.standing.Standing.{Standing}
 use Rattle.tp_stream.specs.Put.{ArePut, EachWith, Got, PutPiece, ServedInto, StreamedInto, bytes_put}
 use Rattle.tp_stream.specs.Standing.{from_of, stands_opened}
@@ -116,5 +116,6 @@ begun_written (Err (ShortInput port has accepted)) begun unbegun = begun
 begun_written (Err (InputFailed port)) begun unbegun = unbegun
 begun_written (Err (OutputFailed port)) begun unbegun = unbegun
 begun_written (Err FlushFailed) begun unbegun = unbegun
+begun_written (Err NotStored) begun unbegun = unbegun
 begun_written (Err JournalFull) begun unbegun = unbegun
 begun_written (Err Memory) begun unbegun = unbegun

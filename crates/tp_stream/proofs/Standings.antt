@@ -17,7 +17,7 @@ use Rattle.tp_book.specs.Host.{accepted_of, port_in}
 use Rattle.tp_book.specs.Opened.{now_of, opened_book}
 use Rattle.tp_stream_files.specs.declared.ending.Ended.{Ended}
 use Rattle.tp_stream.specs.declared.fault.StreamFault.{StreamFault}
-use Rattle.tp_stream.specs.declared.fault.StreamFault.TheVariants.{Opening, Spare, Port as Absent, Unnamed, Short, Long, Gone, NotShown, ShortInput, InputFailed, OutputFailed, FlushFailed, JournalFull, Memory}
+use Rattle.tp_stream.specs.declared.fault.StreamFault.TheVariants.{Opening, Spare, Port as Absent, Unnamed, Short, Long, Gone, NotShown, ShortInput, InputFailed, OutputFailed, FlushFailed, NotStored, JournalFull, Memory}
 use Rattle.tp_stream.specs.declared.standing.Standing.{Standing}
 use Rattle.tp_stream_files.specs.Inputs.{GivenInput, HasAtLeast}
 use Rattle.tp_stream_files.specs.Outputs.{Given, OutputValue, given_of}
@@ -93,6 +93,7 @@ said (ShortInput port has accepted_at) P p = tt
 said (InputFailed port) P p = tt
 said (OutputFailed port) P p = tt
 said FlushFailed P p = tt
+said NotStored P p = tt
 said JournalFull P p = tt
 said Memory P p = tt
 
@@ -110,6 +111,7 @@ no_output (ShortInput port has accepted_at) P none = tt
 no_output (InputFailed port) P none = tt
 no_output (OutputFailed port) P none = tt
 no_output FlushFailed P none = tt
+no_output NotStored P none = tt
 no_output JournalFull P none = tt
 no_output Memory P none = tt
 
@@ -127,6 +129,7 @@ begun_says (ShortInput port has accepted_at) begun = absurd begun
 begun_says (InputFailed port) begun = tt
 begun_says (OutputFailed port) begun = tt
 begun_says FlushFailed begun = tt
+begun_says NotStored begun = tt
 begun_says JournalFull begun = tt
 begun_says Memory begun = tt
 
@@ -157,6 +160,7 @@ said_input (ShortInput port has accepted_at) P p = p
 said_input (InputFailed port) P p = tt
 said_input (OutputFailed port) P p = tt
 said_input FlushFailed P p = tt
+said_input NotStored P p = tt
 said_input JournalFull P p = tt
 said_input Memory P p = tt
 
@@ -174,6 +178,7 @@ no_input (ShortInput port has accepted_at) P none = absurd none
 no_input (InputFailed port) P none = tt
 no_input (OutputFailed port) P none = tt
 no_input FlushFailed P none = tt
+no_input NotStored P none = tt
 no_input JournalFull P none = tt
 no_input Memory P none = tt
 
@@ -191,6 +196,7 @@ begun_input (ShortInput port has accepted_at) begun = absurd begun
 begun_input (InputFailed port) begun = tt
 begun_input (OutputFailed port) begun = tt
 begun_input FlushFailed begun = tt
+begun_input NotStored begun = tt
 begun_input JournalFull begun = tt
 begun_input Memory begun = tt
 
@@ -212,6 +218,7 @@ output_refused s g (ShortInput port has accepted_at) P why = absurd why
 output_refused s g (InputFailed port) P why = tt
 output_refused s g (OutputFailed port) P why = tt
 output_refused s g FlushFailed P why = tt
+output_refused s g NotStored P why = tt
 output_refused s g JournalFull P why = tt
 output_refused s g Memory P why = tt
 
@@ -229,6 +236,7 @@ input_refused n g (ShortInput port has accepted_at) P why = tt
 input_refused n g (InputFailed port) P why = tt
 input_refused n g (OutputFailed port) P why = tt
 input_refused n g FlushFailed P why = tt
+input_refused n g NotStored P why = tt
 input_refused n g JournalFull P why = tt
 input_refused n g Memory P why = tt
 

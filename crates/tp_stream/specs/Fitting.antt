@@ -7,7 +7,7 @@ use Rattle.tp_stream_files.specs.Outputs.{OutputValue}
 use Rattle.tp_stream_files.specs.declared.ending.Ended.{Ended}
 use Rattle.tp_stream.specs.declared.task.Task.{Task}
 use Rattle.tp_stream.specs.declared.fault.StreamFault.{StreamFault}
-use Rattle.tp_stream.specs.declared.fault.StreamFault.TheVariants.{Opening, Spare, Port as Absent, Unnamed, Short, Long, Gone, NotShown, ShortInput, InputFailed, OutputFailed, FlushFailed, JournalFull, Memory}
+use Rattle.tp_stream.specs.declared.fault.StreamFault.TheVariants.{Opening, Spare, Port as Absent, Unnamed, Short, Long, Gone, NotShown, ShortInput, InputFailed, OutputFailed, FlushFailed, NotStored, JournalFull, Memory}
 
 -- one of the nodes has fewer pages than `spare`
 abbrev pub lacks_pages : ℕ → Topology → Bool
@@ -70,6 +70,7 @@ Unfit task t outputs inputs (ShortInput port has accepted) = ⊥
 Unfit task t outputs inputs (InputFailed port) = ⊥
 Unfit task t outputs inputs (OutputFailed port) = ⊥
 Unfit task t outputs inputs FlushFailed = ⊥
+Unfit task t outputs inputs NotStored = ⊥
 Unfit task t outputs inputs JournalFull = ⊥
 Unfit task t outputs inputs Memory = ⊥
 
@@ -87,6 +88,7 @@ SaysUnfit task t outputs inputs (ShortInput port has accepted) = Fits task t out
 SaysUnfit task t outputs inputs (InputFailed port) = Fits task t outputs inputs
 SaysUnfit task t outputs inputs (OutputFailed port) = Fits task t outputs inputs
 SaysUnfit task t outputs inputs FlushFailed = Fits task t outputs inputs
+SaysUnfit task t outputs inputs NotStored = Fits task t outputs inputs
 SaysUnfit task t outputs inputs JournalFull = Fits task t outputs inputs
 SaysUnfit task t outputs inputs Memory = Fits task t outputs inputs
 

@@ -9,7 +9,7 @@ use Rattle.tp_stream_files.specs.declared.sink.SinkFault.{SinkFault}
 use Rattle.tp_stream_files.specs.declared.sink.SinkFault.TheVariants.{Failed, Gone}
 use Rattle.tp_stream.specs.declared.output.StepFault.{StepFault}
 use Rattle.tp_stream.specs.declared.output.StepFault.TheVariants.{Gone as TakerGone, Fault}
-use Rattle.tp_stream.specs.Streamed.{CameBegun, OtherThanFull}
+use Rattle.tp_stream.specs.Streamed.{CameBetween, OtherThanFull}
 use Rattle.tp_work.specs.declared.host_fault.ConfirmFault.{ConfirmFault}
 use Rattle.tp_work.specs.declared.host_fault.ConfirmFault.TheVariants.{JournalFull, NotShown, StoreBroken, Memory}
 
@@ -18,10 +18,10 @@ abbrev pub step_fault_of : ℕ → SinkFault → StepFault
 step_fault_of port Failed = Fault (OutputFailed port)
 step_fault_of port Gone = TakerGone
 
--- Whoever takes the output has gone, or it is a fault of a stream that was begun.
+-- Whoever takes the output has gone, or it is a fault of no call of the device.
 abbrev pub IsStepFault : StepFault → Type 0
 IsStepFault TakerGone = Unit {0}
-IsStepFault (Fault fault) = CameBegun fault
+IsStepFault (Fault fault) = CameBetween fault
 
 -- Whoever takes the output has gone, or it is another fault than that the journal is full.
 abbrev pub StepsOtherwise : StepFault → Type 0

@@ -7,7 +7,7 @@ use Rattle.tp_book.specs.Ports.{fresh_value}
 use Rattle.tp_book.specs.Book.{BookValue}
 use Rattle.tp_book.specs.Host.{accepted_of, port_in, shown_upto_of}
 use Rattle.tp_stream.specs.declared.fault.StreamFault.{StreamFault}
-use Rattle.tp_stream.specs.declared.fault.StreamFault.TheVariants.{Opening, Spare, Port as Absent, Unnamed, Short, Long, Gone, NotShown, ShortInput, InputFailed, OutputFailed, FlushFailed, JournalFull, Memory}
+use Rattle.tp_stream.specs.declared.fault.StreamFault.TheVariants.{Opening, Spare, Port as Absent, Unnamed, Short, Long, Gone, NotShown, ShortInput, InputFailed, OutputFailed, FlushFailed, NotStored, JournalFull, Memory}
 use Rattle.tp_stream.specs.declared.standing.Standing.{Standing}
 use Rattle.tp_stream_files.specs.Held.{HasAtMost, HasLength, HasReach, Reaches}
 use Rattle.tp_stream_files.specs.Inputs.{GivenInput, HasAtLeast, IsLength}
@@ -56,6 +56,7 @@ Refuses s g (Long port has upto) = (port ≡ g.port) × (upto ≡ s.upto) × IsR
 Refuses s g (InputFailed port) = ⊥
 Refuses s g (OutputFailed port) = ⊥
 Refuses s g FlushFailed = ⊥
+Refuses s g NotStored = ⊥
 Refuses s g JournalFull = ⊥
 Refuses s g Memory = ⊥
 
@@ -98,6 +99,7 @@ RefusesInput n g (ShortInput port has accepted_at) = (port ≡ g.port) × (accep
 RefusesInput n g (InputFailed port) = ⊥
 RefusesInput n g (OutputFailed port) = ⊥
 RefusesInput n g FlushFailed = ⊥
+RefusesInput n g NotStored = ⊥
 RefusesInput n g JournalFull = ⊥
 RefusesInput n g Memory = ⊥
 
@@ -135,6 +137,7 @@ OfInput (ShortInput port has accepted_at) P = P
 OfInput (InputFailed port) P = Unit {0}
 OfInput (OutputFailed port) P = Unit {0}
 OfInput FlushFailed P = Unit {0}
+OfInput NotStored P = Unit {0}
 OfInput JournalFull P = Unit {0}
 OfInput Memory P = Unit {0}
 
@@ -152,5 +155,6 @@ OfOutput (ShortInput port has accepted_at) P = Unit {0}
 OfOutput (InputFailed port) P = Unit {0}
 OfOutput (OutputFailed port) P = Unit {0}
 OfOutput FlushFailed P = Unit {0}
+OfOutput NotStored P = Unit {0}
 OfOutput JournalFull P = Unit {0}
 OfOutput Memory P = Unit {0}

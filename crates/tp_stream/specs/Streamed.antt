@@ -8,7 +8,7 @@ use Rattle.tp_model.specs.DiskHistory.{State, LeavesOnly}
 use Rattle.tp_flush.specs.Follows.{Follows}
 use Rattle.tp_stream_files.specs.declared.ending.Ended.{Ended}
 use Rattle.tp_stream.specs.declared.fault.StreamFault.{StreamFault}
-use Rattle.tp_stream.specs.declared.fault.StreamFault.TheVariants.{Opening, Spare, Port, Unnamed, Short, Long, Gone, NotShown, ShortInput, InputFailed, OutputFailed, FlushFailed, JournalFull, Memory}
+use Rattle.tp_stream.specs.declared.fault.StreamFault.TheVariants.{Opening, Spare, Port, Unnamed, Short, Long, Gone, NotShown, ShortInput, InputFailed, OutputFailed, FlushFailed, NotStored, JournalFull, Memory}
 
 -- A crash at any moment of the stream leaves what one just before might have left, or what opens to where a prefix of the journal leads,
 -- with all that the device had as it was opened: that is the journal's beginning, and the next number is no less than it was. After a
@@ -34,6 +34,7 @@ StaysUnstreamed (Err (ShortInput port has accepted)) = Unit {0}
 StaysUnstreamed (Err (InputFailed port)) = ⊥
 StaysUnstreamed (Err (OutputFailed port)) = ⊥
 StaysUnstreamed (Err FlushFailed) = ⊥
+StaysUnstreamed (Err NotStored) = ⊥
 StaysUnstreamed (Err JournalFull) = ⊥
 StaysUnstreamed (Err Memory) = ⊥
 
@@ -51,22 +52,20 @@ CameBegun (ShortInput port has accepted) = ⊥
 CameBegun (InputFailed port) = Unit {0}
 CameBegun (OutputFailed port) = Unit {0}
 CameBegun FlushFailed = Unit {0}
+CameBegun NotStored = Unit {0}
 CameBegun JournalFull = Unit {0}
 CameBegun Memory = Unit {0}
 
+-- a fault of what comes between two flushes: of no call of the device
+abbrev pub CameBetween : StreamFault → Type 0
+CameBetween (InputFailed port) = Unit {0}
+CameBetween (OutputFailed port) = Unit {0}
+CameBetween NotStored = Unit {0}
+CameBetween JournalFull = Unit {0}
+CameBetween Memory = Unit {0}
+CameBetween _ = ⊥
+
 -- A fault says something else than that the journal is full.
 abbrev pub OtherThanFull : StreamFault → Type 0
-OtherThanFull (Opening unopened) = Unit {0}
-OtherThanFull Spare = Unit {0}
-OtherThanFull (Port port) = Unit {0}
-OtherThanFull (Unnamed port) = Unit {0}
-OtherThanFull (Short port has from) = Unit {0}
-OtherThanFull (Long port has upto) = Unit {0}
-OtherThanFull (Gone port have confirmed) = Unit {0}
-OtherThanFull (NotShown port have shown) = Unit {0}
-OtherThanFull (ShortInput port has accepted) = Unit {0}
-OtherThanFull (InputFailed port) = Unit {0}
-OtherThanFull (OutputFailed port) = Unit {0}
-OtherThanFull FlushFailed = Unit {0}
 OtherThanFull JournalFull = ⊥
-OtherThanFull Memory = Unit {0}
+OtherThanFull _ = Unit {0}

@@ -39,9 +39,13 @@ pub enum StreamFault {
     /// The output of a port can't be put, or not be made safe. It isn't confirmed.
     #[error("DeviceFailed")]
     OutputFailed(u8),
-    /// The device failed.
+    /// A call of the device failed in a flush. None was made since.
     #[error("DeviceFailed")]
     FlushFailed,
+    /// The book or the area takes no entries, or the book has some that a flush hasn't stored, though no call of the device failed in a
+    /// flush. As one thread makes all turns and flushes none of that comes, which no clause says.
+    #[error("DeviceFailed")]
+    NotStored,
     /// There is no room on the device, and no checkpoint frees any.
     #[error("JournalFull")]
     JournalFull,

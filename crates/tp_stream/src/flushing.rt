@@ -1,8 +1,10 @@
 //! Flushes of a stream.
 
-ghost use Rattle.std.specs.Prelude.{◌≡◌, ◌≤◌, length, IfOk, IfErr};
+ghost use Rattle.std.specs.Prelude.{◌≡◌, ◌≤◌, false, length, IfOk, IfErr};
+ghost use Rattle.tp_model.specs.WriteOrder.{Resting};
 ghost use Rattle.tp_flush.specs.Known.{Began};
 ghost use Rattle.tp_flush.specs.Flushing.{IsSameProcess, Walked};
+ghost use Rattle.tp_stream.specs.Failures.{FailedWhere, answer_failed, flushing_fault};
 ghost use Rattle.tp_stream.specs.Streamed.{CameBegun};
 
 use crate::fault::StreamFault;
@@ -11,6 +13,18 @@ use std::sync::Wait;
 use tp_disk::Disk;
 use tp_flush::{FlushFault, Flusher};
 use tp_shared::{Locked, Naming, Shared};
+
+/// The fault of a flusher's turn.
+fn fault_in(fault: FlushFault) -> StreamFault
+    ensures value { result ≡ flushing_fault fault }
+    ensures begun { CameBegun result }
+{
+    match fault {
+        FlushFault::DeviceFailed | FlushFault::StoreBroken => StreamFault::FlushFailed,
+        FlushFault::Memory => StreamFault::Memory,
+        FlushFault::AreaFull => StreamFault::NotStored,
+    }
+}
 
 /// A flush. Answers the mark.
 pub(crate) fn flush<J: Naming, D: Disk, R: Wait>(
@@ -22,14 +36,12 @@ pub(crate) fn flush<J: Naming, D: Disk, R: Wait>(
     ensures walks { D.keeps → Began J.formatted J.before flusher.old.opened → Walked flusher.old flusher.new }
     ensures process { IsSameProcess flusher.old flusher.new }
     ensures mark { IfOk result (λ mark. mark ≡ flusher.new.world.mark) }
+    ensures failures { flusher.old.world.at ≡ Resting → FailedWhere (answer_failed result) flusher.old flusher.new }
     ensures begun { IfErr result CameBegun }
 {
     match flusher.turn(rt, alloc, shared) {
         Ok(flushed) => Ok(flushed.mark),
-        Err(FlushFault::Memory) => Err(StreamFault::Memory),
-        Err(FlushFault::DeviceFailed | FlushFault::StoreBroken | FlushFault::AreaFull) => {
-            Err(StreamFault::FlushFailed)
-        }
+        Err(fault) => Err(fault_in(fault)),
     }
 }
 
@@ -41,12 +53,13 @@ fn last_under<J: Naming, D: Disk>(
     ensures same { flusher.new ≡ flusher.old }
     ensures stored { IfOk result (λ next. next ≤ flusher.old.world.mark) }
     ensures last { D.keeps → Began J.formatted J.before flusher.old.opened → IfOk result (λ next. next ≡ length flusher.old.world.journal) }
+    ensures unfailed { answer_failed result ≡ false }
     ensures begun { IfErr result CameBegun }
 {
     flusher.settle_book(held);
     let (next, mark) = (held.book().next(), flusher.mark());
     if mark < next {
-        return Err(StreamFault::FlushFailed);
+        return Err(StreamFault::NotStored);
     }
     Ok(next)
 }
@@ -60,6 +73,7 @@ fn last_of<J: Naming, D: Disk, R: Wait>(
     ensures same { flusher.new ≡ flusher.old }
     ensures stored { IfOk result (λ next. next ≤ flusher.old.world.mark) }
     ensures last { D.keeps → Began J.formatted J.before flusher.old.opened → IfOk result (λ next. next ≡ length flusher.old.world.journal) }
+    ensures unfailed { answer_failed result ≡ false }
     ensures begun { IfErr result CameBegun }
 {
     let mut held = shared.book().lock(rt);
@@ -77,6 +91,7 @@ pub(crate) fn finish<J: Naming, D: Disk, R: Wait>(
     ensures process { IsSameProcess flusher.old flusher.new }
     ensures stored { IfOk result (λ next. next ≤ flusher.new.world.mark) }
     ensures last { D.keeps → Began J.formatted J.before flusher.old.opened → IfOk result (λ next. next ≡ length flusher.new.world.journal) }
+    ensures failures { flusher.old.world.at ≡ Resting → FailedWhere (answer_failed result) flusher.old flusher.new }
     ensures begun { IfErr result CameBegun }
 {
     let _mark = flush(rt, alloc, shared, flusher)?;

@@ -3,7 +3,7 @@
 ghost use Rattle.std.specs.Prelude.{◌≡◌, ◌⊎◌, ◌<◌, ◌==◌, length, true, false, Ok, Some, IfErr, OnErr};
 ghost use Rattle.tp_book.specs.Host.{accepted_of, after_inputs, port_in, room_of};
 ghost use Rattle.tp_stream.specs.Offered.{Offered};
-ghost use Rattle.tp_stream.specs.Streamed.{CameBegun};
+ghost use Rattle.tp_stream.specs.Streamed.{CameBetween};
 
 use crate::fault::StreamFault;
 use tp_shared::{Locked, Naming};
@@ -23,12 +23,12 @@ fn offer_bytes<J: Naming>(
     ensures taken { result ≡ Ok true → held.new.book ≡ after_inputs held.old.book port bytes.now }
     ensures refused { result ≡ Ok false → held.new ≡ held.old }
     ensures err { OnErr result (held.new ≡ held.old) }
-    ensures begun { IfErr result CameBegun }
+    ensures begun { IfErr result CameBetween }
 {
     match offer(held, port, at, bytes) {
         Ok(_) => Ok(true),
         Err(OfferFault::Memory) => Err(StreamFault::Memory),
-        Err(OfferFault::StoreBroken) => Err(StreamFault::FlushFailed),
+        Err(OfferFault::StoreBroken) => Err(StreamFault::NotStored),
         Err(
             OfferFault::JournalFull
             | OfferFault::PortFull(_)
@@ -53,7 +53,7 @@ pub(crate) fn step<J: Naming, I: Source>(
     ensures ended { (input.new.ended ≡ input.old.ended) ⊎ (input.new.ended ≡ Some (accepted_of (port_in held.old.book input.old.port))) }
     ensures same { (input.new.port ≡ input.old.port) × (I.input input.new.source ≡ I.input input.old.source) }
     ensures err { OnErr result (held.new ≡ held.old) }
-    ensures begun { IfErr result CameBegun }
+    ensures begun { IfErr result CameBetween }
 {
     let port = input.port();
     let at = held.book().accepted(port);

@@ -8,7 +8,7 @@ ghost use Rattle.tp_work.specs.Receipts.{IsFor};
 ghost use Rattle.tp_stream_files.specs.Held.{HasPut, KeepsFront};
 ghost use Rattle.tp_stream_files.specs.Outputs.{WasPutSafely, given_of};
 ghost use Rattle.tp_stream.specs.Standing.{MayBegin, Refuses, from_of, put_out, port_standing};
-ghost use Rattle.tp_stream.specs.Streamed.{CameBegun, OtherThanFull};
+ghost use Rattle.tp_stream.specs.Streamed.{CameBetween, OtherThanFull};
 ghost use Rattle.tp_stream.specs.Outcomes.{ConfirmsOtherwise, IsStepFault, StepsOtherwise, step_fault_of};
 ghost use Rattle.tp_stream.specs.Steps.{AreLeft, IsSetOut, PutsShown};
 
@@ -40,12 +40,12 @@ fn step_fault(fault: SinkFault, port: u8) -> StepFault
 
 /// The fault of a confirmation that was refused.
 fn fault_of(fault: ConfirmFault) -> StreamFault
-    ensures begun { CameBegun result }
+    ensures begun { CameBetween result }
     ensures full { ConfirmsOtherwise fault → OtherThanFull result }
 {
     match fault {
         ConfirmFault::JournalFull | ConfirmFault::NotShown => StreamFault::JournalFull,
-        ConfirmFault::StoreBroken => StreamFault::FlushFailed,
+        ConfirmFault::StoreBroken => StreamFault::NotStored,
         ConfirmFault::Memory => StreamFault::Memory,
     }
 }
@@ -152,7 +152,7 @@ fn confirm_put<J: Naming, D: Disk, S: Sink>(
     ensures receipt { IfOk result (IsFor (confirm_entries held.old.book output.old.port output.old.next)) }
     ensures confirmed { OnOk result (output.new ≡ record output.old { confirmed = output.old.next }) }
     ensures err { OnErr result ((held.new ≡ held.old) × (output.new ≡ output.old)) }
-    ensures begun { IfErr result CameBegun }
+    ensures begun { IfErr result CameBetween }
     ensures room { output.old.next ≤ shown_upto_of held.old.book output.old.port flusher.now.world.mark
         → is_journal_full held.old.book 1 ≡ false → IfErr result OtherThanFull }
 {

@@ -8,7 +8,7 @@ ghost use Rattle.tp_stream.specs.Offered.{Offered};
 ghost use Rattle.tp_stream.specs.Put.{EachWith};
 ghost use Rattle.tp_stream.specs.Rooms.{IsConfirmed, UnreservedBook, free_of, has_room_for};
 ghost use Rattle.tp_stream.specs.Steps.{AllStepped, AreLeft, PutsLeft, PutsShown};
-ghost use Rattle.tp_stream.specs.Streamed.{CameBegun, OtherThanFull};
+ghost use Rattle.tp_stream.specs.Streamed.{CameBetween, OtherThanFull};
 
 use crate::fault::StreamFault;
 use crate::output::StepFault;
@@ -77,7 +77,7 @@ fn step_output<J: Naming, D: Disk, S: Sink>(
 ) -> Result<Pumped, StreamFault>
     ensures left { AreLeft held.old.book held.new.book }
     ensures puts { PutsShown held.old.book flusher.now.world.mark output.old output.new }
-    ensures begun { IfErr result CameBegun }
+    ensures begun { IfErr result CameBetween }
     ensures book { IsConfirmed held.old.book held.new.book }
     ensures room { is_journal_full held.old.book 1 ≡ false → IfErr result OtherThanFull }
 {
@@ -100,7 +100,7 @@ fn step_all<J: Naming, D: Disk, S: Sink>(
     outputs: &mut [Output<S>],
 ) -> Result<Pumped, StreamFault>
     ensures puts { EachWith (PutsLeft held.old.book flusher.now.world.mark) outputs.old outputs.new }
-    ensures begun { IfErr result CameBegun }
+    ensures begun { IfErr result CameBetween }
     ensures room { (journal : JournalRoom) → UnreservedBook journal held.old.book → has_room_for journal held.old.book (length outputs.old) ≡ true → IfErr result OtherThanFull }
 {
     let mut pumped = Pumped::Nothing;
@@ -121,7 +121,7 @@ fn step_settled<J: Naming, D: Disk, S: Sink>(
     ensures same { flusher.new ≡ flusher.old }
     ensures put { D.keeps → Began J.formatted J.before flusher.old.opened
         → AllStepped J.formatted flusher.old flusher.old outputs.old outputs.new }
-    ensures begun { IfErr result CameBegun }
+    ensures begun { IfErr result CameBetween }
     ensures room { (journal : JournalRoom) → UnreservedBook journal held.old.book → has_room_for journal held.old.book (length outputs.old) ≡ true → IfErr result OtherThanFull }
 {
     flusher.known();
@@ -143,7 +143,7 @@ fn step_outputs<J: Naming, D: Disk, S: Sink, R: Wait>(
     ensures same { flusher.new ≡ flusher.old }
     ensures put { D.keeps → Began J.formatted J.before flusher.old.opened
         → AllStepped J.formatted flusher.old flusher.old outputs.old outputs.new }
-    ensures begun { IfErr result CameBegun }
+    ensures begun { IfErr result CameBetween }
 {
     let mut held = shared.book().lock(rt);
     step_settled(&mut held, flusher, outputs)
@@ -162,7 +162,7 @@ fn step_held<J: Naming, I: Source>(
     ensures taken { result ≡ Ok true → Offered (I.input input.old.source) input.old.port (free_of pace.rooms.journal held.old.book - pace.need) held.old.book held.new.book }
     ensures refused { result ≡ Ok false → held.new ≡ held.old }
     ensures err { OnErr result (held.new ≡ held.old) }
-    ensures begun { IfErr result CameBegun }
+    ensures begun { IfErr result CameBetween }
 {
     let at = held.book().accepted(input.port());
     if !may_wait && input.would_wait(at, 0) {
@@ -182,7 +182,7 @@ fn step_input<J: Naming, I: Source, R: Wait>(
     may_wait: bool,
     input: &mut Input<I>,
 ) -> Result<bool, StreamFault>
-    ensures { IfErr result CameBegun }
+    ensures { IfErr result CameBetween }
 {
     let mut held = shared.book().lock(rt);
     held.known();
@@ -244,7 +244,7 @@ fn step_inputs<J: Naming, I: Source, R: Wait>(
     may_wait: bool,
     inputs: &mut [Input<I>],
 ) -> Result<Pumped, StreamFault>
-    ensures { IfErr result CameBegun }
+    ensures { IfErr result CameBetween }
 {
     let mut piece = [0u8; MAX_HELD];
     let mut has_moved = false;
@@ -269,7 +269,7 @@ pub(crate) fn pump<J: Naming, D: Disk, S: Sink, I: Source, R: Wait>(
     ensures same { flusher.new ≡ flusher.old }
     ensures put { D.keeps → Began J.formatted J.before flusher.old.opened
         → AllStepped J.formatted flusher.old flusher.old streams.old.outputs.items streams.new.outputs.items }
-    ensures begun { IfErr result CameBegun }
+    ensures begun { IfErr result CameBetween }
 {
     let put = step_outputs(rt, shared, flusher, &mut streams.outputs)?;
     if put == Pumped::Gone {

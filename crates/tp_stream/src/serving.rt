@@ -2,14 +2,16 @@
 
 ghost use Rattle.std.specs.List.{list_all};
 ghost use Rattle.std.specs.Prelude.{◌≡◌, ◌≤◌, length, Some, IfOk, IfSome, IfErr, OnOk};
+ghost use Rattle.tp_model.specs.WriteOrder.{Resting};
 ghost use Rattle.tp_flush.specs.Known.{Began};
 ghost use Rattle.tp_flush.specs.Flushing.{IsSameProcess, Walked};
 ghost use Rattle.tp_stream_files.specs.Inputs.{is_over};
+ghost use Rattle.tp_stream.specs.Failures.{FailedWhere, answer_failed};
 ghost use Rattle.tp_stream.specs.Looks.{HaveLooked, LooksOnce};
 ghost use Rattle.tp_stream.specs.Over.{LeavesNoInput};
 ghost use Rattle.tp_stream.specs.Quiet.{HaveRested, IsWhyEnded};
 ghost use Rattle.tp_stream.specs.Steps.{AllStepped};
-ghost use Rattle.tp_stream.specs.Streamed.{CameBegun};
+ghost use Rattle.tp_stream.specs.Streamed.{CameBegun, CameBetween};
 ghost use Rattle.tp_stream.specs.Told.{ToldLater};
 
 use crate::endings::{are_over, ending, is_asked, may_wait};
@@ -51,7 +53,7 @@ fn make_turns<J: Naming, I: Source, R: Wait>(
 ) -> Result<(), StreamFault>
     requires { HaveRested J.start going.old.turns.whose going.old.turns.idle }
     ensures rested { OnOk result (HaveRested J.start going.new.turns.whose going.new.turns.idle) }
-    ensures begun { IfErr result CameBegun }
+    ensures begun { IfErr result CameBetween }
 {
     let Going { turns, seat } = going;
     let lacks_input = pumped == Pumped::Nothing && turns.is_quiet(shared.nodes()) && !over;
@@ -91,7 +93,7 @@ fn go_on<J: Naming, D: Disk, S: Sink, I: Source, P: Stop, R: Wait>(
     ensures looks { IfOk result (LooksOnce pace.task going.old.turns.made going.new.turns.made (P.answers stop.old) (P.answers stop.new)) }
     ensures over { IfOk result (λ ended. IfSome ended (λ why. going.new ≡ going.old)) }
     ensures rested { OnOk result (HaveRested J.start going.new.turns.whose going.new.turns.idle) }
-    ensures begun { IfErr result CameBegun }
+    ensures begun { IfErr result CameBetween }
 {
     if !can_confirm(rt, shared, pace) && going.turns.may_settle() {
         settle(rt, alloc, shared, &mut going.seat, &mut going.turns)?;
@@ -141,6 +143,7 @@ fn cycle<J: Naming, D: Disk, S: Sink, I: Source, L: Listener, P: Stop, R: Wait>(
     ensures told { ToldLater (length J.start.nodes) (L.told listener.old) (L.told listener.new) }
     ensures over { IfOk result (λ ended. IfSome ended (λ why. going.new ≡ going.old)) }
     ensures rested { OnOk result (HaveRested J.start going.new.turns.whose going.new.turns.idle) }
+    ensures failures { flusher.old.world.at ≡ Resting → FailedWhere (answer_failed result) flusher.old flusher.new }
     ensures begun { IfErr result CameBegun }
 {
     flush(rt, alloc, shared, flusher)?;
@@ -168,6 +171,7 @@ fn cycles<J: Naming, D: Disk, S: Sink, I: Source, L: Listener, P: Stop, R: Wait>
     ensures inputs { IfOk result.1 (λ ended. IfSome ended (LeavesNoInput (list_all (λ i. is_over i.ended i.is_blocked) streams.new.inputs.items))) }
     ensures told { ToldLater (length J.start.nodes) (L.told listener.old) (L.told listener.new) }
     ensures looks { IfOk result.1 (HaveLooked pace.task (P.answers stop.old) (P.answers stop.new)) }
+    ensures failures { first.world.at ≡ Resting → FailedWhere (answer_failed result.1) first result.0 }
     ensures begun { IfErr result.1 CameBegun }
 {
     first.known();
@@ -220,6 +224,7 @@ pub(crate) fn serve<J: Naming, D: Disk, S: Sink, I: Source, L: Listener, P: Stop
     ensures looks { IfOk result.1 (λ ended. HaveLooked pace.task (P.answers stop.old) (P.answers stop.new) (Some ended.why)) }
     ensures stored { IfOk result.1 (λ ended. ended.next ≤ result.0.world.mark) }
     ensures last { D.keeps → Began J.formatted J.before flusher.opened → IfOk result.1 (λ ended. ended.next ≡ length result.0.world.journal) }
+    ensures failures { flusher.world.at ≡ Resting → FailedWhere (answer_failed result.1) flusher result.0 }
     ensures begun { IfErr result.1 CameBegun }
 {
     let (mut there, last, rests) = cycles(
@@ -228,7 +233,7 @@ pub(crate) fn serve<J: Naming, D: Disk, S: Sink, I: Source, L: Listener, P: Stop
     let why = match last {
         Ok(Some(why)) => why,
         // The loop goes on as long as nothing is answered.
-        Ok(None) => return (there, Err(StreamFault::FlushFailed)),
+        Ok(None) => return (there, Err(StreamFault::NotStored)),
         Err(fault) => return (there, Err(fault)),
     };
     match finish(rt, alloc, shared, &mut there) {

@@ -2,6 +2,7 @@ use Rattle.std.proofs.Common.{length, sym, subst, ◌≡◌, ◌≤◌}
 use Rattle.std.specs.Prelude.{IfOk}
 use Rattle.tp_flush.specs.Known.{Began}
 use Rattle.tp_flush.specs.Flushing.{Flushing, IsSameProcess, Walked}
+use Rattle.tp_stream.proofs.Failures.{failed_still}
 use Rattle.tp_stream.proofs.flushing.finish.Goals as goal
 
 pub returns-clause-walks : goal.returns-clause-walks
@@ -17,3 +18,7 @@ pub returns-clause-last : goal.returns-clause-last
 returns-clause-last g c k began =
     subst (λ (f : Flushing). IfOk c.last_of.result (λ next. next ≡ length f.world.journal)) (sym c.last_of.ensures.same)
     (c.last_of.ensures.last k (subst (Began g.J.Naming.formatted g.J.Naming.before) (sym c.flush.ensures.process.opened) began))
+
+pub returns-clause-failures : goal.returns-clause-failures
+returns-clause-failures g c rests =
+    failed_still _ c.args.flusher.now c.flush.new.flusher c.last_of.new.flusher c.last_of.ensures.same c.last_of.ensures.unfailed (c.flush.ensures.failures rests)

@@ -3,6 +3,7 @@ use Rattle.tp_flush.specs.Known.{Began}
 use Rattle.tp_flush.specs.Flushing.{Flushing, IsSameProcess, Walked}
 use Rattle.tp_flush.proofs.Turns.{walked_nowhere}
 use Rattle.tp_stream.specs.Steps.{AllStepped}
+use Rattle.tp_stream.proofs.Failures.{between_begun, between_unfailed, failed_still}
 use Rattle.tp_stream.proofs.Notices.{later_none, later_progress}
 use Rattle.tp_stream.proofs.Stepping.{all_since}
 use Rattle.tp_stream.proofs.serving.cycle.Goals as goal
@@ -32,3 +33,10 @@ returns-in_err-flush-clause-told g c = later_none (length g.J.Naming.start.nodes
 pub returns-clause-told : goal.returns-clause-told
 returns-clause-told g c =
     later_progress (length g.J.Naming.start.nodes) c.args.pace.task.tells c.args.pace.rooms.journal c.flush.new.flusher c.args.going.now.turns.made _ _ _ c.tell.ensures
+
+pub returns-clause-failures : goal.returns-clause-failures
+returns-clause-failures g c rests =
+    failed_still _ c.args.flusher.now c.flush.new.flusher c.go_on.new.flusher c.go_on.ensures.same (between_unfailed c.go_on.result c.go_on.ensures.begun) (c.flush.ensures.failures rests)
+
+pub returns-clause-begun : goal.returns-clause-begun
+returns-clause-begun g c = between_begun c.go_on.result c.go_on.ensures.begun

@@ -1,6 +1,8 @@
-use Rattle.std.proofs.Common.{Ok, length, refl, sym, ap, subst, ◌∙◌, arith}
+use Rattle.std.proofs.Common.{◌≡◌, Ok, None, length, refl, sym, ap, subst, ◌∙◌, arith}
 use Rattle.tp_flush.specs.Known.{Began}
 use Rattle.tp_flush.proofs.Turns.{walked_nowhere, walked_then}
+use Rattle.tp_stream.specs.Failures.{FailedWhere, answer_failed}
+use Rattle.tp_stream.proofs.Failures.{failed_then, none_failed}
 use Rattle.tp_stream.proofs.Looks.{looks_then, none_looked}
 use Rattle.tp_stream.proofs.Notices.{later_none, later_then}
 use Rattle.tp_stream.proofs.Quiets.{none_rested}
@@ -17,6 +19,7 @@ loop-init g c = record {
   told = later_none (length g.J.Naming.start.nodes) (g.L.Listener.told c.args.listener.now);
   looks = none_looked c.args.pace.task (g.P.Stop.answers c.args.stop.now);
   rested = none_rested g.J.Naming.start c.new.result.whose c.new.result.idle (omega arith) c.new.ensures.idle;
+  failures = λ rests. none_failed c.args.first rests;
   begun = tt;
 }
 
@@ -24,6 +27,7 @@ pub loop-preserved : goal.loop-preserved
 loop-preserved g c =
     let P = c.loop.invariant.process in
     let Q = c.cycle-last.ensures.process in
+    let going : c.loop.last ≡ Ok None = c.in-Ok-None.is ∙ ap Ok (rw c.in-Ok-None.is at c.in-Ok-None.field-0-is) in
     record {
       process = record { opened = Q.opened ∙ P.opened; size = Q.size ∙ P.size; topology = Q.topology ∙ P.topology };
       walks = λ k began.
@@ -38,8 +42,11 @@ loop-preserved g c =
       told = later_then (length g.J.Naming.start.nodes) _ _ _ c.loop.invariant.told c.cycle-last.ensures.told;
       looks =
           looks_then g.J.Naming.start c.args.pace.task c.loop.going.turns.made c.cycle-last.new.going.turns.made (g.P.Stop.answers c.args.stop.now)
-          (g.P.Stop.answers c.loop.stop) (g.P.Stop.answers c.cycle-last.new.stop) c.loop.last c.cycle-last.result (c.in-Ok-None.is ∙ ap Ok (rw c.in-Ok-None.is at c.in-Ok-None.field-0-is)) c.loop.invariant.looks c.cycle-last.ensures.why
+          (g.P.Stop.answers c.loop.stop) (g.P.Stop.answers c.cycle-last.new.stop) c.loop.last c.cycle-last.result going c.loop.invariant.looks c.cycle-last.ensures.why
           c.cycle-last.ensures.looks;
       rested = c.cycle-last.ensures.rested;
+      failures = λ rests.
+          let F = subst (λ last. FailedWhere (answer_failed last) c.args.first c.loop.flusher) going (c.loop.invariant.failures rests) in
+          failed_then (answer_failed c.cycle-last.result) c.args.first c.loop.flusher c.cycle-last.new.flusher F (c.cycle-last.ensures.failures F.at);
       begun = c.cycle-last.ensures.begun;
     }

@@ -1,8 +1,10 @@
 use Rattle.std.specs.List.{list_all}
-use Rattle.std.specs.Prelude.{IfErr, IfOk, IfSome, OnOk, length}
+use Rattle.std.specs.Prelude.{◌≡◌, IfErr, IfOk, IfSome, OnOk, length}
+use Rattle.tp_model.specs.WriteOrder.{Resting}
 use Rattle.tp_flush.specs.Known.{Began}
 use Rattle.tp_flush.specs.Flushing.{IsSameProcess, Walked}
 use Rattle.tp_stream_files.specs.Inputs.{is_over}
+use Rattle.tp_stream.specs.Failures.{FailedWhere, answer_failed}
 use Rattle.tp_stream.specs.Looks.{HaveLooked}
 use Rattle.tp_stream.specs.Over.{LeavesNoInput}
 use Rattle.tp_stream.specs.Quiet.{HaveRested, IsWhyEnded}
@@ -23,5 +25,6 @@ invariant-loop g l = record {
   told : ToldLater (length g.J.Naming.start.nodes) (g.L.Listener.told l.fn.listener) (g.L.Listener.told l.listener);
   looks : IfOk l.last (HaveLooked l.pace.task (g.P.Stop.answers l.fn.stop) (g.P.Stop.answers l.stop));
   rested : OnOk l.last (HaveRested g.J.Naming.start l.going.turns.whose l.going.turns.idle);
+  failures : l.fn.first.world.at ≡ Resting → FailedWhere (answer_failed l.last) l.fn.first l.flusher;
   begun : IfErr l.last CameBegun;
 }

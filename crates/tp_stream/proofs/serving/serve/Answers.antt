@@ -1,6 +1,7 @@
 use Rattle.std.proofs.Common.{length, sym, subst}
 use Rattle.tp_flush.specs.Known.{Began}
 use Rattle.tp_flush.proofs.Turns.{walked_then}
+use Rattle.tp_stream.proofs.Failures.{failed_then}
 use Rattle.tp_stream.proofs.Notices.{later_then}
 use Rattle.tp_stream.proofs.Stepping.{all_until}
 use Rattle.tp_stream.proofs.serving.serve.Goals as goal
@@ -33,3 +34,13 @@ returns-in-Ok-clause-last g c k began =
 
 pub returns-in-Ok-clause-told : goal.returns-in-Ok-clause-told
 returns-in-Ok-clause-told g c = later_then (length g.J.Naming.start.nodes) _ _ _ c.cycles-there.ensures.told c.tell_stopped.ensures
+
+pub returns-in-Ok-clause-failures : goal.returns-in-Ok-clause-failures
+returns-in-Ok-clause-failures g c rests =
+    let F = c.cycles-there.ensures.failures rests in
+    failed_then _ c.args.flusher c.cycles-there.result.0 c.finish.new.flusher F (c.finish.ensures.failures F.at)
+
+pub returns-in-Err-finish-clause-failures : goal.returns-in-Err-finish-clause-failures
+returns-in-Err-finish-clause-failures g c rests =
+    let F = c.cycles-there.ensures.failures rests in
+    failed_then _ c.args.flusher c.cycles-there.result.0 c.finish.new.flusher F (c.finish.ensures.failures F.at)

@@ -3,7 +3,10 @@ use Rattle.std.specs.Prelude.{IfOk}
 use Rattle.tp_model.specs.Disk.{Moment}
 use Rattle.tp_model.specs.Topology.{node_count}
 use Rattle.tp_flush.specs.Known.{Began}
+use Rattle.tp_model.specs.Opening.{Opened}
+use Rattle.tp_stream_files.specs.declared.ending.Ended.{Ended}
 use Rattle.tp_stream.specs.declared.fault.StreamFault.TheVariants.{Opening}
+use Rattle.tp_stream.specs.Failures.{answer_failed, calls_failed, fault_failed}
 use Rattle.tp_stream.specs.Fitting.{Fits, SaysFit, SaysUnfit}
 use Rattle.tp_stream.specs.Quiet.{LeavesNothingToDo}
 use Rattle.tp_stream.specs.Put.{ServedInto, StreamedInto}
@@ -12,6 +15,7 @@ use Rattle.tp_stream_files.specs.Inputs.{given_input}
 use Rattle.tp_stream_files.specs.Outputs.{given_of}
 use Rattle.tp_stream.specs.Standing.{AllHaveAccepted, AllMayBegin, IsFirstRefused, IsFirstShort, OfInput, OfOutput, accepted_opened, stands_opened}
 use Rattle.tp_stream.specs.Told.{ToldFirst, ToldLater, input_begins, output_begins}
+use Rattle.tp_stream.proofs.Failures.{begun_answers, neither_answers, neither_failed, not_begun_neither, opening_counted, uncounted, unfit_neither}
 use Rattle.tp_stream.proofs.Fitted.{begun_fits, not_begun_fits, opened_ports, unfit}
 use Rattle.tp_stream.proofs.Notices.{first_later}
 use Rattle.tp_stream.proofs.Runs.{begun_written, into, unput, unwritten}
@@ -186,3 +190,41 @@ returns-clause-fits g c k other is =
     let same = c.topology.ensures.value ∙ ap (λ h. h.topology) c.head.ensures in
     subst (λ o. SaysFit c.args.task o.head.topology outputs inputs done) (same_opened _ _ _ (c.in-Ok.ensures.is k) is)
     (begun_fits c.args.task _ outputs inputs done (subst (λ t. Fits c.args.task t outputs inputs) same c.in_default.ensures.fits) c.stream_parts.ensures.begun)
+
+-- ## Which fault
+
+pub returns-in-Err-clause-answer : goal.returns-in-Err-clause-answer
+returns-in-Err-clause-answer g c k = c.in-Err.ensures.is k
+
+pub returns-in-Some-clause-answer : goal.returns-in-Some-clause-answer
+returns-in-Some-clause-answer g c k =
+    neither_answers Ended _ c.in-Some.fault (c.in-Ok.opened, c.in-Ok.ensures.is k) (unfit_neither _ _ _ _ c.in-Some.fault c.in-Some.ensures.unfit)
+
+pub returns-in-Err-parts_of-clause-answer : goal.returns-in-Err-parts_of-clause-answer
+returns-in-Err-parts_of-clause-answer g c k =
+    let fault = c.in-Err-parts_of.fault in
+    neither_answers Ended _ fault (c.in-Ok.opened, c.in-Ok.ensures.is k) (not_begun_neither _ _ _ _ _ fault c.in-Err-parts_of.ensures.refused)
+
+pub returns-clause-answer : goal.returns-clause-answer
+returns-clause-answer g c k = begun_answers _ c.stream_parts.result.1 (c.in-Ok.opened, c.in-Ok.ensures.is k) c.stream_parts.ensures.begun
+
+-- ## How many calls have failed
+
+pub returns-in-Err-clause-failures : goal.returns-in-Err-clause-failures
+returns-in-Err-clause-failures g c = opening_counted Opened c.in-Err.unopened (g.D.Disk.failures_of c.args.disk) (g.D.Disk.failures_of c.open.new.disk) c.in-Err.ensures.counts.failures
+
+pub returns-in-Some-clause-failures : goal.returns-in-Some-clause-failures
+returns-in-Some-clause-failures g c =
+    let fault = c.in-Some.fault in
+    uncounted _ _ (fault_failed fault) (neither_failed fault (unfit_neither _ _ _ _ fault c.in-Some.ensures.unfit)) c.in-Ok.ensures.counts.failures
+
+pub returns-in-Err-parts_of-clause-failures : goal.returns-in-Err-parts_of-clause-failures
+returns-in-Err-parts_of-clause-failures g c =
+    let fault = c.in-Err-parts_of.fault in
+    uncounted _ _ (fault_failed fault) (neither_failed fault (not_begun_neither _ _ _ _ _ fault c.in-Err-parts_of.ensures.refused))
+    (ap g.D.Disk.failures_of (c.into_disk.ensures ∙ c.store-store.ensures.disk) ∙ c.in-Ok.ensures.counts.failures)
+
+pub returns-clause-failures : goal.returns-clause-failures
+returns-clause-failures g c =
+    subst (λ n. g.D.Disk.failures_of c.stream_parts.result.0 ≡ calls_failed (answer_failed c.stream_parts.result.1) n)
+    (ap g.D.Disk.failures_of c.store-store.ensures.disk ∙ c.in-Ok.ensures.counts.failures) c.stream_parts.ensures.failures

@@ -1,10 +1,12 @@
 use Rattle.std.proofs.Common.{◌≡◌, Ok, Some, sym, ap, subst, ◌∙◌}
+use Rattle.tp_model.specs.NodeState.{NodeState}
 use Rattle.std.specs.Prelude.{IfOk}
 use Rattle.tp_model.specs.DiskHistory.{State}
 use Rattle.tp_model.specs.Opening.{held_of, verdict}
-use Rattle.tp_model.specs.Runs.{reopened}
+use Rattle.tp_model.specs.Runs.{World, reopened}
 use Rattle.tp_model.specs.Topology.{node_count}
 use Rattle.tp_flush.specs.Known.{Began}
+use Rattle.tp_stream.specs.Failures.{answer_failed, calls_failed}
 use Rattle.tp_stream.specs.Looks.{HaveLooked}
 use Rattle.tp_stream.specs.Put.{ServedInto}
 use Rattle.tp_stream.specs.Quiet.{IsWhyEnded, LeavesNothingToDo}
@@ -60,3 +62,9 @@ returns-clause-quiet g c =
     subst (λ t. IfOk done (λ ended. LeavesNothingToDo t ended.why)) (sym c.requires.topology)
     (all_left start o.head.topology c.pace_of-pace.result.task done (nodes_of o b start c.requires.stands.book c.requires.cut N.count_is)
     (ports_of o b start c.requires.stands.ports N.ports_are) (wires_of o b start c.requires.stands.book c.requires.cut N.wires_are) c.serve-flusher.ensures.why)
+
+pub returns-clause-failures : goal.returns-clause-failures
+returns-clause-failures g c =
+    let done = c.serve-flusher.result.1 in
+    let F = c.serve-flusher.ensures.failures (ap (λ (w : World NodeState). w.at) c.over-flusher.ensures.world) in
+    c.into_disk.ensures.failures ∙ F.calls ∙ ap (λ n. calls_failed (answer_failed done) n) c.over-flusher.ensures.device.2
