@@ -1,4 +1,5 @@
 pub mod Confirms
+pub mod FailedEnds
 pub mod Failures
 pub mod Fitted
 pub mod Kept

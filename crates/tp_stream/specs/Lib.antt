@@ -1,4 +1,5 @@
 pub mod Endings
+pub mod FailedEnds
 pub mod Failures
 pub mod Fitting
 pub mod Looks

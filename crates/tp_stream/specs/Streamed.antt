@@ -65,6 +65,13 @@ CameBetween JournalFull = Unit {0}
 CameBetween Memory = Unit {0}
 CameBetween _ = ⊥
 
+-- a fault of turns: of no call of the device, and of no end
+abbrev pub CameOfTurns : StreamFault → Type 0
+CameOfTurns NotStored = Unit {0}
+CameOfTurns JournalFull = Unit {0}
+CameOfTurns Memory = Unit {0}
+CameOfTurns _ = ⊥
+
 -- A fault says something else than that the journal is full.
 abbrev pub OtherThanFull : StreamFault → Type 0
 OtherThanFull JournalFull = ⊥

@@ -2,8 +2,9 @@
 
 ghost use Rattle.std.specs.Prelude.{◌≡◌, ◌⊎◌, ◌<◌, ◌==◌, length, true, false, Ok, Some, IfErr, OnErr};
 ghost use Rattle.tp_book.specs.Host.{accepted_of, after_inputs, port_in, room_of};
+ghost use Rattle.tp_stream.specs.FailedEnds.{NamesInput};
 ghost use Rattle.tp_stream.specs.Offered.{Offered};
-ghost use Rattle.tp_stream.specs.Streamed.{CameBetween};
+ghost use Rattle.tp_stream.specs.Streamed.{CameBetween, CameOfTurns};
 
 use crate::fault::StreamFault;
 use tp_shared::{Locked, Naming};
@@ -23,7 +24,7 @@ fn offer_bytes<J: Naming>(
     ensures taken { result ≡ Ok true → held.new.book ≡ after_inputs held.old.book port bytes.now }
     ensures refused { result ≡ Ok false → held.new ≡ held.old }
     ensures err { OnErr result (held.new ≡ held.old) }
-    ensures begun { IfErr result CameBetween }
+    ensures begun { IfErr result CameOfTurns }
 {
     match offer(held, port, at, bytes) {
         Ok(_) => Ok(true),
@@ -54,6 +55,7 @@ pub(crate) fn step<J: Naming, I: Source>(
     ensures same { (input.new.port ≡ input.old.port) × (I.input input.new.source ≡ I.input input.old.source) }
     ensures err { OnErr result (held.new ≡ held.old) }
     ensures begun { IfErr result CameBetween }
+    ensures names { IfErr result (NamesInput input.new.port) }
 {
     let port = input.port();
     let at = held.book().accepted(port);

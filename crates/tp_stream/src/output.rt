@@ -1,12 +1,13 @@
 //! Steps of a port's output: put at its positions, made safe, and then confirmed.
 
-ghost use Rattle.std.specs.Prelude.{◌≡◌, ◌<◌, ◌≤◌, ◌+◌, false, length, IfOk, OnOk, IfErr, OnErr};
+ghost use Rattle.std.specs.Prelude.{◌≡◌, ◌<◌, ◌≤◌, ◌+◌, ℕ, false, length, IfOk, OnOk, IfErr, OnErr};
 ghost use Rattle.tp_book.specs.Host.{after_confirm, port_in, shown_from, shown_upto_of};
 ghost use Rattle.tp_book.specs.Acts.{confirm_entries};
 ghost use Rattle.tp_book.specs.Refusals.{is_journal_full};
 ghost use Rattle.tp_work.specs.Receipts.{IsFor};
 ghost use Rattle.tp_stream_files.specs.Held.{HasPut, KeepsFront};
 ghost use Rattle.tp_stream_files.specs.Outputs.{WasPutSafely, given_of};
+ghost use Rattle.tp_stream.specs.FailedEnds.{NamesOutput, StepNames};
 ghost use Rattle.tp_stream.specs.Standing.{MayBegin, Refuses, from_of, put_out, port_standing};
 ghost use Rattle.tp_stream.specs.Streamed.{CameBetween, OtherThanFull};
 ghost use Rattle.tp_stream.specs.Outcomes.{ConfirmsOtherwise, IsStepFault, StepsOtherwise, step_fault_of};
@@ -30,7 +31,8 @@ pub(crate) enum StepFault {
 
 /// Why the step of the output of `port` isn't done, where its sink answered `fault`.
 fn step_fault(fault: SinkFault, port: u8) -> StepFault
-    ensures { result ≡ step_fault_of port fault }
+    ensures value { result ≡ step_fault_of port fault }
+    ensures names { StepNames port result }
 {
     match fault {
         SinkFault::Failed => StepFault::Fault(StreamFault::OutputFailed(port)),
@@ -41,6 +43,7 @@ fn step_fault(fault: SinkFault, port: u8) -> StepFault
 /// The fault of a confirmation that was refused.
 fn fault_of(fault: ConfirmFault) -> StreamFault
     ensures begun { CameBetween result }
+    ensures names { (port : ℕ) → NamesOutput port result }
     ensures full { ConfirmsOtherwise fault → OtherThanFull result }
 {
     match fault {
@@ -125,6 +128,7 @@ fn put_shown<J: Naming, D: Disk, S: Sink>(
     ensures puts { PutsShown book.now flusher.now.world.mark output.old output.new }
     ensures failed { OnErr result (output.new ≡ record output.old { held = output.new.held }) }
     ensures begun { IfErr result IsStepFault }
+    ensures names { IfErr result (StepNames output.old.port) }
     ensures other { IfErr result StepsOtherwise }
 {
     output.known();
@@ -153,6 +157,7 @@ fn confirm_put<J: Naming, D: Disk, S: Sink>(
     ensures confirmed { OnOk result (output.new ≡ record output.old { confirmed = output.old.next }) }
     ensures err { OnErr result ((held.new ≡ held.old) × (output.new ≡ output.old)) }
     ensures begun { IfErr result CameBetween }
+    ensures names { (port : ℕ) → IfErr result (NamesOutput port) }
     ensures room { output.old.next ≤ shown_upto_of held.old.book output.old.port flusher.now.world.mark
         → is_journal_full held.old.book 1 ≡ false → IfErr result OtherThanFull }
 {
@@ -185,6 +190,7 @@ pub(crate) fn step<J: Naming, D: Disk, S: Sink>(
     ensures puts { PutsShown held.old.book flusher.now.world.mark output.old output.new }
     ensures left { AreLeft held.old.book held.new.book }
     ensures begun { IfErr result IsStepFault }
+    ensures names { IfErr result (StepNames output.old.port) }
     ensures room { is_journal_full held.old.book 1 ≡ false → IfErr result StepsOtherwise }
 {
     match put_shown(output, held.book(), flusher) {

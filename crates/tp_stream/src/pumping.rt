@@ -1,12 +1,14 @@
 //! Steps of all streams of a network.
 
-ghost use Rattle.std.specs.Prelude.{◌≡◌, ◌<◌, ◌-◌, length, true, false, Ok, IfErr, OnErr};
+ghost use Rattle.std.specs.Prelude.{◌≡◌, ◌<◌, ◌-◌, ℕ, List, length, map, true, false, Ok, IfErr, OnErr};
 ghost use Rattle.tp_area.specs.declared.journal.JournalRoom.{JournalRoom};
 ghost use Rattle.tp_book.specs.Refusals.{is_journal_full};
 ghost use Rattle.tp_flush.specs.Known.{Began};
+ghost use Rattle.tp_stream.specs.FailedEnds.{NamesEnd, NamesInput, NamesOutput};
 ghost use Rattle.tp_stream.specs.Offered.{Offered};
 ghost use Rattle.tp_stream.specs.Put.{EachWith};
 ghost use Rattle.tp_stream.specs.Rooms.{IsConfirmed, UnreservedBook, free_of, has_room_for};
+ghost use Rattle.tp_stream_files.specs.Outputs.{OutputValue};
 ghost use Rattle.tp_stream.specs.Steps.{AllStepped, AreLeft, PutsLeft, PutsShown};
 ghost use Rattle.tp_stream.specs.Streamed.{CameBetween, OtherThanFull};
 
@@ -78,6 +80,7 @@ fn step_output<J: Naming, D: Disk, S: Sink>(
     ensures left { AreLeft held.old.book held.new.book }
     ensures puts { PutsShown held.old.book flusher.now.world.mark output.old output.new }
     ensures begun { IfErr result CameBetween }
+    ensures names { IfErr result (NamesOutput output.new.port) }
     ensures book { IsConfirmed held.old.book held.new.book }
     ensures room { is_journal_full held.old.book 1 ≡ false → IfErr result OtherThanFull }
 {
@@ -101,6 +104,7 @@ fn step_all<J: Naming, D: Disk, S: Sink>(
 ) -> Result<Pumped, StreamFault>
     ensures puts { EachWith (PutsLeft held.old.book flusher.now.world.mark) outputs.old outputs.new }
     ensures begun { IfErr result CameBetween }
+    ensures ends { (inputs : List ℕ) → IfErr result (NamesEnd outputs.new inputs) }
     ensures room { (journal : JournalRoom) → UnreservedBook journal held.old.book → has_room_for journal held.old.book (length outputs.old) ≡ true → IfErr result OtherThanFull }
 {
     let mut pumped = Pumped::Nothing;
@@ -122,6 +126,7 @@ fn step_settled<J: Naming, D: Disk, S: Sink>(
     ensures put { D.keeps → Began J.formatted J.before flusher.old.opened
         → AllStepped J.formatted flusher.old flusher.old outputs.old outputs.new }
     ensures begun { IfErr result CameBetween }
+    ensures ends { (inputs : List ℕ) → IfErr result (NamesEnd outputs.new inputs) }
     ensures room { (journal : JournalRoom) → UnreservedBook journal held.old.book → has_room_for journal held.old.book (length outputs.old) ≡ true → IfErr result OtherThanFull }
 {
     flusher.known();
@@ -144,6 +149,7 @@ fn step_outputs<J: Naming, D: Disk, S: Sink, R: Wait>(
     ensures put { D.keeps → Began J.formatted J.before flusher.old.opened
         → AllStepped J.formatted flusher.old flusher.old outputs.old outputs.new }
     ensures begun { IfErr result CameBetween }
+    ensures ends { (inputs : List ℕ) → IfErr result (NamesEnd outputs.new inputs) }
 {
     let mut held = shared.book().lock(rt);
     step_settled(&mut held, flusher, outputs)
@@ -163,6 +169,7 @@ fn step_held<J: Naming, I: Source>(
     ensures refused { result ≡ Ok false → held.new ≡ held.old }
     ensures err { OnErr result (held.new ≡ held.old) }
     ensures begun { IfErr result CameBetween }
+    ensures names { IfErr result (NamesInput input.new.port) }
 {
     let at = held.book().accepted(input.port());
     if !may_wait && input.would_wait(at, 0) {
@@ -182,7 +189,8 @@ fn step_input<J: Naming, I: Source, R: Wait>(
     may_wait: bool,
     input: &mut Input<I>,
 ) -> Result<bool, StreamFault>
-    ensures { IfErr result CameBetween }
+    ensures begun { IfErr result CameBetween }
+    ensures names { IfErr result (NamesInput input.new.port) }
 {
     let mut held = shared.book().lock(rt);
     held.known();
@@ -244,7 +252,8 @@ fn step_inputs<J: Naming, I: Source, R: Wait>(
     may_wait: bool,
     inputs: &mut [Input<I>],
 ) -> Result<Pumped, StreamFault>
-    ensures { IfErr result CameBetween }
+    ensures begun { IfErr result CameBetween }
+    ensures ends { (outputs : List OutputValue) → IfErr result (NamesEnd outputs (map (λ i. i.port) inputs.new)) }
 {
     let mut piece = [0u8; MAX_HELD];
     let mut has_moved = false;
@@ -270,6 +279,7 @@ pub(crate) fn pump<J: Naming, D: Disk, S: Sink, I: Source, R: Wait>(
     ensures put { D.keeps → Began J.formatted J.before flusher.old.opened
         → AllStepped J.formatted flusher.old flusher.old streams.old.outputs.items streams.new.outputs.items }
     ensures begun { IfErr result CameBetween }
+    ensures ends { IfErr result (NamesEnd streams.new.outputs.items (map (λ i. i.port) streams.new.inputs.items)) }
 {
     let put = step_outputs(rt, shared, flusher, &mut streams.outputs)?;
     if put == Pumped::Gone {

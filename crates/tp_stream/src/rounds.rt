@@ -6,7 +6,7 @@ ghost use Rattle.tp_book.specs.Marked.{after_begin};
 ghost use Rattle.tp_flush.specs.Due.{is_due};
 ghost use Rattle.tp_stream.specs.Quiet.{HadNothing, HasNoStep, HaveRested, HostRests, IsStill, NodeRests};
 ghost use Rattle.tp_stream.specs.Rooms.{HavePlace, has_room_for};
-ghost use Rattle.tp_stream.specs.Streamed.{CameBetween};
+ghost use Rattle.tp_stream.specs.Streamed.{CameOfTurns};
 
 use crate::fault::StreamFault;
 use crate::pace::Pace;
@@ -156,7 +156,7 @@ fn one_turn<J: Naming, R: Wait>(
     requires still { seen.is_running ≡ false → IsStill J.start }
     requires room { seen.has_room ≡ true }
     ensures rested { OnOk result (HaveRested J.start turns.new.whose turns.new.idle) }
-    ensures begun { IfErr result CameBetween }
+    ensures begun { IfErr result CameOfTurns }
 {
     let nodes = shared.nodes();
     match make_turn(rt, shared, seat, turns.whose, pace.task.quantum) {
@@ -190,7 +190,7 @@ pub(crate) fn round<J: Naming, R: Wait>(
 ) -> Result<(), StreamFault>
     requires { turns.old.whose ≤ length J.start.nodes }
     ensures rested { OnOk result (HaveRested J.start turns.new.whose turns.new.idle) }
-    ensures begun { IfErr result CameBetween }
+    ensures begun { IfErr result CameOfTurns }
 {
     let nodes = shared.nodes();
     turns.begin();

@@ -1,17 +1,18 @@
 //! What a stream does with a network, and its flusher.
 
 ghost use Rattle.std.specs.List.{list_all};
-ghost use Rattle.std.specs.Prelude.{◌≡◌, ◌≤◌, length, Some, IfOk, IfSome, IfErr, OnOk};
+ghost use Rattle.std.specs.Prelude.{◌≡◌, ◌≤◌, length, map, Some, IfOk, IfSome, IfErr, OnOk};
 ghost use Rattle.tp_model.specs.WriteOrder.{Resting};
 ghost use Rattle.tp_flush.specs.Known.{Began};
 ghost use Rattle.tp_flush.specs.Flushing.{IsSameProcess, Walked};
 ghost use Rattle.tp_stream_files.specs.Inputs.{is_over};
+ghost use Rattle.tp_stream.specs.FailedEnds.{NamesEnd};
 ghost use Rattle.tp_stream.specs.Failures.{FailedWhere, answer_failed};
 ghost use Rattle.tp_stream.specs.Looks.{HaveLooked, LooksOnce};
 ghost use Rattle.tp_stream.specs.Over.{LeavesNoInput};
 ghost use Rattle.tp_stream.specs.Quiet.{HaveRested, IsWhyEnded};
 ghost use Rattle.tp_stream.specs.Steps.{AllStepped};
-ghost use Rattle.tp_stream.specs.Streamed.{CameBegun, CameBetween};
+ghost use Rattle.tp_stream.specs.Streamed.{CameBegun, CameBetween, CameOfTurns};
 ghost use Rattle.tp_stream.specs.Told.{ToldLater};
 
 use crate::endings::{are_over, ending, is_asked, may_wait};
@@ -53,7 +54,7 @@ fn make_turns<J: Naming, I: Source, R: Wait>(
 ) -> Result<(), StreamFault>
     requires { HaveRested J.start going.old.turns.whose going.old.turns.idle }
     ensures rested { OnOk result (HaveRested J.start going.new.turns.whose going.new.turns.idle) }
-    ensures begun { IfErr result CameBetween }
+    ensures begun { IfErr result CameOfTurns }
 {
     let Going { turns, seat } = going;
     let lacks_input = pumped == Pumped::Nothing && turns.is_quiet(shared.nodes()) && !over;
@@ -93,6 +94,7 @@ fn go_on<J: Naming, D: Disk, S: Sink, I: Source, P: Stop, R: Wait>(
     ensures looks { IfOk result (LooksOnce pace.task going.old.turns.made going.new.turns.made (P.answers stop.old) (P.answers stop.new)) }
     ensures over { IfOk result (λ ended. IfSome ended (λ why. going.new ≡ going.old)) }
     ensures rested { OnOk result (HaveRested J.start going.new.turns.whose going.new.turns.idle) }
+    ensures ends { IfErr result (NamesEnd streams.new.outputs.items (map (λ i. i.port) streams.new.inputs.items)) }
     ensures begun { IfErr result CameBetween }
 {
     if !can_confirm(rt, shared, pace) && going.turns.may_settle() {
@@ -144,6 +146,7 @@ fn cycle<J: Naming, D: Disk, S: Sink, I: Source, L: Listener, P: Stop, R: Wait>(
     ensures over { IfOk result (λ ended. IfSome ended (λ why. going.new ≡ going.old)) }
     ensures rested { OnOk result (HaveRested J.start going.new.turns.whose going.new.turns.idle) }
     ensures failures { flusher.old.world.at ≡ Resting → FailedWhere (answer_failed result) flusher.old flusher.new }
+    ensures ends { IfErr result (NamesEnd streams.new.outputs.items (map (λ i. i.port) streams.new.inputs.items)) }
     ensures begun { IfErr result CameBegun }
 {
     flush(rt, alloc, shared, flusher)?;
@@ -172,6 +175,7 @@ fn cycles<J: Naming, D: Disk, S: Sink, I: Source, L: Listener, P: Stop, R: Wait>
     ensures told { ToldLater (length J.start.nodes) (L.told listener.old) (L.told listener.new) }
     ensures looks { IfOk result.1 (HaveLooked pace.task (P.answers stop.old) (P.answers stop.new)) }
     ensures failures { first.world.at ≡ Resting → FailedWhere (answer_failed result.1) first result.0 }
+    ensures ends { IfErr result.1 (NamesEnd streams.new.outputs.items (map (λ i. i.port) streams.new.inputs.items)) }
     ensures begun { IfErr result.1 CameBegun }
 {
     first.known();
@@ -225,6 +229,7 @@ pub(crate) fn serve<J: Naming, D: Disk, S: Sink, I: Source, L: Listener, P: Stop
     ensures stored { IfOk result.1 (λ ended. ended.next ≤ result.0.world.mark) }
     ensures last { D.keeps → Began J.formatted J.before flusher.opened → IfOk result.1 (λ ended. ended.next ≡ length result.0.world.journal) }
     ensures failures { flusher.world.at ≡ Resting → FailedWhere (answer_failed result.1) flusher result.0 }
+    ensures ends { IfErr result.1 (NamesEnd streams.new.outputs.items (map (λ i. i.port) streams.new.inputs.items)) }
     ensures begun { IfErr result.1 CameBegun }
 {
     let (mut there, last, rests) = cycles(

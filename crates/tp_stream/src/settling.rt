@@ -1,7 +1,7 @@
 //! Turns that bring a snapshot to its end where the journal has no room for others.
 
 ghost use Rattle.std.specs.Prelude.{◌≡◌, OnOk, IfErr};
-ghost use Rattle.tp_stream.specs.Streamed.{CameBetween};
+ghost use Rattle.tp_stream.specs.Streamed.{CameOfTurns};
 
 use crate::fault::StreamFault;
 use crate::rounds::{begin_where_due, make_turn};
@@ -27,7 +27,7 @@ fn settle_once<J: Naming, R: Wait>(
     shared: &Shared<J>,
     seat: &mut Seat<J>,
 ) -> Result<(), StreamFault>
-    ensures { IfErr result CameBetween }
+    ensures { IfErr result CameOfTurns }
 {
     for whose in 0..=shared.nodes() {
         match make_turn(rt, shared, seat, whose, 0) {
@@ -49,7 +49,7 @@ pub(crate) fn settle<J: Naming, R: Wait>(
     ensures whose { turns.new.whose ≡ turns.old.whose }
     ensures idle { OnOk result (turns.new.idle ≡ 0) }
     ensures made { turns.new.made ≡ turns.old.made }
-    ensures begun { IfErr result CameBetween }
+    ensures begun { IfErr result CameOfTurns }
 {
     if !turns.may_settle() {
         return Err(StreamFault::JournalFull);

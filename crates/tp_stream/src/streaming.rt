@@ -19,6 +19,7 @@ ghost use Rattle.tp_flush.specs.History.{History};
 ghost use Rattle.tp_shared.specs.Named.{Names};
 ghost use Rattle.tp_stream_files.specs.Inputs.{given_input, is_over};
 ghost use Rattle.tp_stream_files.specs.Outputs.{given_of};
+ghost use Rattle.tp_stream.specs.FailedEnds.{NamesEnd};
 ghost use Rattle.tp_stream.specs.Failures.{StreamAnswer, answer_failed, calls_failed};
 ghost use Rattle.tp_stream.specs.Fitting.{SaysFit};
 ghost use Rattle.tp_stream.specs.Put.{ServedInto, StreamedInto};
@@ -108,6 +109,7 @@ fn stream_parts<J: Naming, D: Disk + Drop, S: Sink, I: Source, L: Listener, P: S
     ensures quiet { IfOk result.1 (λ ended. LeavesNothingToDo topology ended.why) }
     ensures told { ToldLater (node_count topology) (L.told listener.old) (L.told listener.new) }
     ensures failures { D.failures_of result.0 ≡ calls_failed (answer_failed result.1) (D.failures_of store.disk) }
+    ensures ends { IfErr result.1 (NamesEnd streams.new.outputs.items (map (λ i. i.port) streams.new.inputs.items)) }
     ensures begun { IfErr result.1 CameBegun }
 {
     let (shared, key) = Shared::<J>::start(parts);
@@ -126,7 +128,8 @@ fn stream_parts<J: Naming, D: Disk + Drop, S: Sink, I: Source, L: Listener, P: S
 /// of the journal. What a sink got, however the stream ends, are outputs of its port where entries of that journal lead that whatever a
 /// crash leaves from then on has. That all that was put is safe, and no more is confirmed, is said by `Output`, of each moment. It ends as
 /// stopped just where the last look whether it is asked to stop has answered yes, and no look before that has. A fault of the opening is
-/// what that answers, and that a call of the device failed, as it was opened or in a flush, is answered just where one has.
+/// what that answers, and that a call of the device failed, as it was opened or in a flush, is answered just where one has; one of an end
+/// names a port that has such an end.
 pub fn stream<D: Disk + Drop, S: Sink, I: Source, L: Listener, P: Stop, R: Wait>(
     rt: &R,
     alloc: Global,
@@ -147,6 +150,7 @@ pub fn stream<D: Disk + Drop, S: Sink, I: Source, L: Listener, P: Stop, R: Wait>
     ensures unopened { D.keeps → IsErr (verdict (D.state disk).now.bytes) → (unopened : Unopened) × (result.1 ≡ Err (StreamFault.Opening unopened)) }
     ensures answer { D.keeps → StreamAnswer (verdict (D.state disk).now.bytes) result.1 }
     ensures failures { D.failures_of result.0 ≡ calls_failed (answer_failed result.1) (D.failures_of disk) }
+    ensures ends { IfErr result.1 (NamesEnd streams.new.outputs.items (map (λ i. i.port) streams.new.inputs.items)) }
     ensures begun { D.keeps → (opened : OpenedValue) → verdict (D.state disk).now.bytes ≡ Ok opened
         → OnOk result.1 (AllMayBegin (stands_opened opened) (map given_of streams.old.outputs.items)) }
     ensures refused { D.keeps → (opened : OpenedValue) → verdict (D.state disk).now.bytes ≡ Ok opened

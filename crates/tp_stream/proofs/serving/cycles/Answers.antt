@@ -20,6 +20,7 @@ loop-init g c = record {
   looks = none_looked c.args.pace.task (g.P.Stop.answers c.args.stop.now);
   rested = none_rested g.J.Naming.start c.new.result.whose c.new.result.idle (omega arith) c.new.ensures.idle;
   failures = λ rests. none_failed c.args.first rests;
+  ends = tt;
   begun = tt;
 }
 
@@ -48,5 +49,6 @@ loop-preserved g c =
       failures = λ rests.
           let F = subst (λ last. FailedWhere (answer_failed last) c.args.first c.loop.flusher) going (c.loop.invariant.failures rests) in
           failed_then (answer_failed c.cycle-last.result) c.args.first c.loop.flusher c.cycle-last.new.flusher F (c.cycle-last.ensures.failures F.at);
+      ends = c.cycle-last.ensures.ends;
       begun = c.cycle-last.ensures.begun;
     }

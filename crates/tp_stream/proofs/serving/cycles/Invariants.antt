@@ -1,9 +1,10 @@
 use Rattle.std.specs.List.{list_all}
-use Rattle.std.specs.Prelude.{◌≡◌, IfErr, IfOk, IfSome, OnOk, length}
+use Rattle.std.specs.Prelude.{◌≡◌, IfErr, IfOk, IfSome, OnOk, length, map}
 use Rattle.tp_model.specs.WriteOrder.{Resting}
 use Rattle.tp_flush.specs.Known.{Began}
 use Rattle.tp_flush.specs.Flushing.{IsSameProcess, Walked}
 use Rattle.tp_stream_files.specs.Inputs.{is_over}
+use Rattle.tp_stream.specs.FailedEnds.{NamesEnd}
 use Rattle.tp_stream.specs.Failures.{FailedWhere, answer_failed}
 use Rattle.tp_stream.specs.Looks.{HaveLooked}
 use Rattle.tp_stream.specs.Over.{LeavesNoInput}
@@ -26,5 +27,6 @@ invariant-loop g l = record {
   looks : IfOk l.last (HaveLooked l.pace.task (g.P.Stop.answers l.fn.stop) (g.P.Stop.answers l.stop));
   rested : OnOk l.last (HaveRested g.J.Naming.start l.going.turns.whose l.going.turns.idle);
   failures : l.fn.first.world.at ≡ Resting → FailedWhere (answer_failed l.last) l.fn.first l.flusher;
+  ends : IfErr l.last (NamesEnd l.streams.outputs.items (map (λ i. i.port) l.streams.inputs.items));
   begun : IfErr l.last CameBegun;
 }
