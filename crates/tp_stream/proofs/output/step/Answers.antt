@@ -9,5 +9,9 @@ returns-in-Err-confirm_put-clause-room g c room =
     let old = c.args.output.now in
     let now = c.put_shown.new.output in
     let port : now.port ≡ old.port = c.in-Ok.ensures.put.port in
-    let shown = c.in-Ok.ensures.shown ∙ ap (λ p. shown_upto_of b p mark) (sym port) in
+    let shown : now.next ≡ shown_upto_of b now.port mark =
+    c.in-Ok.ensures.shown ∙ ap (λ book. shown_upto_of book old.port mark) c.book.ensures ∙ ap (λ p. shown_upto_of b p mark) (sym port) in
     c.in-Err-confirm_put.ensures.room (omega (arith, shown)) room
+
+pub returns-in-Err-confirm_put-clause-names : goal.returns-in-Err-confirm_put-clause-names
+returns-in-Err-confirm_put-clause-names g c = c.in-Err-confirm_put.ensures.names c.args.output.now.port

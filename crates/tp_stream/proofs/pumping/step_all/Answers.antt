@@ -2,6 +2,7 @@ use Rattle.std.proofs.Common.{◌≡◌, ◌+◌, ◌-◌, ◌<◌, ◌≤◌, t
 use Rattle.std.proofs.lemmas.List.{length-set}
 use Rattle.tp_stream.specs.Rooms.{has_room_for}
 use Rattle.tp_stream.specs.Steps.{PutsLeft}
+use Rattle.tp_stream.proofs.FailedEnds.{names_output}
 use Rattle.tp_stream.proofs.Kept.{room_for_one, room_then}
 use Rattle.tp_stream.proofs.Puts.{all_left, each_any, each_more, left_nothing, left_then, puts_left}
 use Rattle.tp_stream.proofs.pumping.step_all.Goals as goal
@@ -53,3 +54,8 @@ pub returns-clause-puts : goal.returns-clause-puts
 returns-clause-puts g c =
     each_any (PutsLeft c.args.held.now.book c.args.flusher.now.world.mark) (left_nothing c.args.held.now.book c.args.flusher.now.world.mark) c.loop-output.output-index c.args.outputs.now
     c.loop-output.outputs c.loop-output.invariant.puts
+
+pub returns-in_err-step_output-clause-ends : goal.returns-in_err-step_output-clause-ends
+returns-in_err-step_output-clause-ends g c inputs =
+    let within : c.loop-output.output-index < length c.loop-output.outputs = omega arith in
+    names_output c.loop-output.outputs c.loop-output.output-index c.step_output.new.output inputs _ within c.in_err-step_output.ensures.names

@@ -1,6 +1,7 @@
 use Rattle.std.proofs.Common.{ap, ◌∙◌}
 use Rattle.std.specs.List.{list_all}
 use Rattle.tp_stream_files.specs.Inputs.{is_over}
+use Rattle.tp_stream.proofs.FailedEnds.{turns_between, turns_name}
 use Rattle.tp_stream.proofs.Quiets.{ended_why, leaves_no_input}
 use Rattle.tp_stream.proofs.serving.go_on.Goals as goal
 
@@ -13,3 +14,17 @@ pub returns-in-Some-clause-inputs : goal.returns-in-Some-clause-inputs
 returns-in-Some-clause-inputs g c =
     leaves_no_input c.args.pace.task c.args.going.now.turns c.nodes-2.result c.is_asked-asked.result c.in_ok-pumped.pumped c.are_over-over.result _ c.in-Some.why
     (c.are_over-over.ensures ∙ ap (λ inputs. list_all (λ i. is_over i.ended i.is_blocked) inputs) c.deref.ensures.value) c.in-Some.ensures.why
+
+-- ## Which fault
+
+pub returns-in_err-settle-clause-begun : goal.returns-in_err-settle-clause-begun
+returns-in_err-settle-clause-begun g c = turns_between _ c.in_err-settle.ensures.begun
+
+pub returns-in_err-settle-clause-ends : goal.returns-in_err-settle-clause-ends
+returns-in_err-settle-clause-ends g c = turns_name _ _ _ c.in_err-settle.ensures.begun
+
+pub returns-in_err-make_turns-clause-begun : goal.returns-in_err-make_turns-clause-begun
+returns-in_err-make_turns-clause-begun g c = turns_between _ c.in_err-make_turns.ensures.begun
+
+pub returns-in_err-make_turns-clause-ends : goal.returns-in_err-make_turns-clause-ends
+returns-in_err-make_turns-clause-ends g c = turns_name _ _ _ c.in_err-make_turns.ensures.begun
