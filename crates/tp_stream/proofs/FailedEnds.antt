@@ -8,7 +8,7 @@ use Rattle.tp_stream_files.specs.Outputs.{OutputValue}
 use Rattle.tp_stream.specs.declared.fault.StreamFault.{StreamFault}
 use Rattle.tp_stream.specs.declared.fault.StreamFault.TheVariants.{Opening, Spare, Port as Absent, Unnamed, Short, Long, Gone, NotShown, ShortInput, InputFailed, OutputFailed, FlushFailed, NotStored, JournalFull, Memory}
 use Rattle.tp_stream.specs.FailedEnds.{NamesEnd, NamesInput, NamesOutput}
-use Rattle.tp_stream.specs.Streamed.{CameBetween, CameOfTurns}
+use Rattle.tp_stream.specs.Streamed.{CameBetween, CameOfFlush, CameOfTurns}
 
 -- where one at a place is put that passes a test, one passes it
 any_set : {A : Type 0} (test : A → Bool) (xs : List A) (i : ℕ) (x : A) → i < length xs → test x ≡ true → list_any test (set xs i x) ≡ true
@@ -124,3 +124,21 @@ turns_input port Memory came = tt
 pub of_turns_input : {A : Type 0} (r : Result A StreamFault) (port : ℕ) → IfErr r CameOfTurns → IfErr r (NamesInput port)
 of_turns_input (Ok x) port came = tt
 of_turns_input (Err fault) port came = turns_input port fault came
+
+-- a fault of a flush names none
+pub flush_names : (outputs : List OutputValue) (inputs : List ℕ) (fault : StreamFault) → CameOfFlush fault → NamesEnd outputs inputs fault
+flush_names outputs inputs (Opening unopened) came = tt
+flush_names outputs inputs Spare came = tt
+flush_names outputs inputs (Absent port) came = tt
+flush_names outputs inputs (Unnamed port) came = tt
+flush_names outputs inputs (Short port has from) came = tt
+flush_names outputs inputs (Long port has upto) came = tt
+flush_names outputs inputs (Gone port have confirmed) came = tt
+flush_names outputs inputs (NotShown port have shown) came = tt
+flush_names outputs inputs (ShortInput port has accepted) came = tt
+flush_names outputs inputs (InputFailed port) came = absurd came
+flush_names outputs inputs (OutputFailed port) came = absurd came
+flush_names outputs inputs FlushFailed came = tt
+flush_names outputs inputs NotStored came = tt
+flush_names outputs inputs JournalFull came = tt
+flush_names outputs inputs Memory came = tt

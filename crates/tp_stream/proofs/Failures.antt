@@ -22,7 +22,7 @@ use Rattle.tp_stream.specs.declared.task.Task.{Task}
 use Rattle.tp_stream.specs.Failures.{FailedWhere, HasOpened, StreamAnswer, answer_failed, calls_failed, fault_failed, flushing_fault, opening_failed}
 use Rattle.tp_stream.specs.Fitting.{Unfit}
 use Rattle.tp_stream.specs.Standing.{IsFirstRefused, IsFirstShort, IsNotBegun, Refuses, RefusesInput}
-use Rattle.tp_stream.specs.Streamed.{CameBegun, CameBetween}
+use Rattle.tp_stream.specs.Streamed.{CameBegun, CameBetween, CameOfFlush}
 
 -- ## The flusher's turns
 
@@ -74,6 +74,28 @@ failed_then failed old mid new F G =
     record { at = G.at; calls = G.calls ∙ ap (λ n. calls_failed failed n) none }
 
 -- ## Faults
+
+-- what is answered so is that fault
+pub if_err : {A : Type 0} (r : Result A StreamFault) (fault : StreamFault) (P : StreamFault → Type 0) → r ≡ Err fault → P fault → IfErr r P
+if_err (Ok x) fault P is holds = tt
+if_err (Err other) fault P is holds = let same : fault ≡ other = cc in subst P same holds
+
+pub flush_begun : (fault : StreamFault) → CameOfFlush fault → CameBegun fault
+flush_begun (Opening unopened) came = absurd came
+flush_begun Spare came = absurd came
+flush_begun (Absent port) came = absurd came
+flush_begun (Unnamed port) came = absurd came
+flush_begun (Short port has from) came = absurd came
+flush_begun (Long port has upto) came = absurd came
+flush_begun (Gone port have confirmed) came = absurd came
+flush_begun (NotShown port have shown) came = absurd came
+flush_begun (ShortInput port has accepted) came = absurd came
+flush_begun (InputFailed port) came = absurd came
+flush_begun (OutputFailed port) came = absurd came
+flush_begun FlushFailed came = tt
+flush_begun NotStored came = tt
+flush_begun JournalFull came = absurd came
+flush_begun Memory came = tt
 
 between_fault : (fault : StreamFault) → CameBetween fault → fault_failed fault ≡ false
 between_fault (Opening unopened) came = absurd came

@@ -56,6 +56,13 @@ CameBegun NotStored = Unit {0}
 CameBegun JournalFull = Unit {0}
 CameBegun Memory = Unit {0}
 
+-- a fault of a flush: of no end
+abbrev pub CameOfFlush : StreamFault → Type 0
+CameOfFlush FlushFailed = Unit {0}
+CameOfFlush NotStored = Unit {0}
+CameOfFlush Memory = Unit {0}
+CameOfFlush _ = ⊥
+
 -- a fault of what comes between two flushes: of no call of the device
 abbrev pub CameBetween : StreamFault → Type 0
 CameBetween (InputFailed port) = Unit {0}

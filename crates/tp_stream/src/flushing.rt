@@ -5,7 +5,7 @@ ghost use Rattle.tp_model.specs.WriteOrder.{Resting};
 ghost use Rattle.tp_flush.specs.Known.{Began};
 ghost use Rattle.tp_flush.specs.Flushing.{IsSameProcess, Walked};
 ghost use Rattle.tp_stream.specs.Failures.{FailedWhere, answer_failed, flushing_fault};
-ghost use Rattle.tp_stream.specs.Streamed.{CameBegun};
+ghost use Rattle.tp_stream.specs.Streamed.{CameOfFlush};
 
 use crate::fault::StreamFault;
 use std::alloc::Global;
@@ -17,7 +17,7 @@ use tp_shared::{Locked, Naming, Shared};
 /// The fault of a flusher's turn.
 fn fault_in(fault: FlushFault) -> StreamFault
     ensures value { result ≡ flushing_fault fault }
-    ensures begun { CameBegun result }
+    ensures begun { CameOfFlush result }
 {
     match fault {
         FlushFault::DeviceFailed | FlushFault::StoreBroken => StreamFault::FlushFailed,
@@ -37,7 +37,7 @@ pub(crate) fn flush<J: Naming, D: Disk, R: Wait>(
     ensures process { IsSameProcess flusher.old flusher.new }
     ensures mark { IfOk result (λ mark. mark ≡ flusher.new.world.mark) }
     ensures failures { flusher.old.world.at ≡ Resting → FailedWhere (answer_failed result) flusher.old flusher.new }
-    ensures begun { IfErr result CameBegun }
+    ensures begun { IfErr result CameOfFlush }
 {
     match flusher.turn(rt, alloc, shared) {
         Ok(flushed) => Ok(flushed.mark),
@@ -54,7 +54,7 @@ fn last_under<J: Naming, D: Disk>(
     ensures stored { IfOk result (λ next. next ≤ flusher.old.world.mark) }
     ensures last { D.keeps → Began J.formatted J.before flusher.old.opened → IfOk result (λ next. next ≡ length flusher.old.world.journal) }
     ensures unfailed { answer_failed result ≡ false }
-    ensures begun { IfErr result CameBegun }
+    ensures begun { IfErr result CameOfFlush }
 {
     flusher.settle_book(held);
     let (next, mark) = (held.book().next(), flusher.mark());
@@ -74,7 +74,7 @@ fn last_of<J: Naming, D: Disk, R: Wait>(
     ensures stored { IfOk result (λ next. next ≤ flusher.old.world.mark) }
     ensures last { D.keeps → Began J.formatted J.before flusher.old.opened → IfOk result (λ next. next ≡ length flusher.old.world.journal) }
     ensures unfailed { answer_failed result ≡ false }
-    ensures begun { IfErr result CameBegun }
+    ensures begun { IfErr result CameOfFlush }
 {
     let mut held = shared.book().lock(rt);
     last_under(&mut held, flusher)
@@ -92,7 +92,7 @@ pub(crate) fn finish<J: Naming, D: Disk, R: Wait>(
     ensures stored { IfOk result (λ next. next ≤ flusher.new.world.mark) }
     ensures last { D.keeps → Began J.formatted J.before flusher.old.opened → IfOk result (λ next. next ≡ length flusher.new.world.journal) }
     ensures failures { flusher.old.world.at ≡ Resting → FailedWhere (answer_failed result) flusher.old flusher.new }
-    ensures begun { IfErr result CameBegun }
+    ensures begun { IfErr result CameOfFlush }
 {
     let _mark = flush(rt, alloc, shared, flusher)?;
     last_of(rt, shared, flusher)

@@ -21,4 +21,4 @@ returns-clause-last g c k began =
 
 pub returns-clause-failures : goal.returns-clause-failures
 returns-clause-failures g c rests =
-    failed_still _ c.args.flusher.now c.flush.new.flusher c.last_of.new.flusher c.last_of.ensures.same c.last_of.ensures.unfailed (c.flush.ensures.failures rests)
+    failed_still _ c.args.flusher.now c.flush.new.flusher c.last_of.new.flusher c.last_of.ensures.same c.last_of.ensures.unfailed (c.in_ok-_mark.ensures.failures rests)

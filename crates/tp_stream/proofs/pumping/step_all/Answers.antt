@@ -1,8 +1,10 @@
-use Rattle.std.proofs.Common.{◌≡◌, ◌+◌, ◌-◌, ◌<◌, ◌≤◌, true, length, refl, subst, ◌∙◌, arith}
+use Rattle.std.proofs.Common.{◌≡◌, ◌+◌, ◌-◌, ◌<◌, ◌≤◌, true, length, Err, refl, subst, ◌∙◌, arith}
 use Rattle.std.proofs.lemmas.List.{length-set}
 use Rattle.tp_stream.specs.Rooms.{has_room_for}
 use Rattle.tp_stream.specs.Steps.{PutsLeft}
+use Rattle.tp_stream.specs.Streamed.{OtherThanFull}
 use Rattle.tp_stream.proofs.FailedEnds.{names_output}
+use Rattle.tp_stream.proofs.Failures.{if_err}
 use Rattle.tp_stream.proofs.Kept.{room_for_one, room_then}
 use Rattle.tp_stream.proofs.Puts.{all_left, each_any, each_more, left_nothing, left_then, puts_left}
 use Rattle.tp_stream.proofs.pumping.step_all.Goals as goal
@@ -37,8 +39,11 @@ returns-in_err-step_output-clause-room g c journal L there =
     let within : c.loop-output.output-index < length c.loop-output.outputs = omega arith in
     let many = I.many in
     let R = I.room journal L there in
-    c.step_output.ensures.room
-    (room_for_one journal c.loop-output.held.book (length c.args.outputs.now - c.loop-output.output-index) (omega (arith, within, many)) R.0 R.1)
+    let fault = c.in_err-step_output.field-0.0 in
+    let is : c.from_residual.result ≡ Err fault = search rules in
+    if_err c.from_residual.result fault OtherThanFull is
+    (c.in_err-step_output.ensures.room
+    (room_for_one journal c.loop-output.held.book (length c.args.outputs.now - c.loop-output.output-index) (omega (arith, within, many)) R.0 R.1))
 
 pub returns-in_err-step_output-clause-puts : goal.returns-in_err-step_output-clause-puts
 returns-in_err-step_output-clause-puts g c =
@@ -58,4 +63,7 @@ returns-clause-puts g c =
 pub returns-in_err-step_output-clause-ends : goal.returns-in_err-step_output-clause-ends
 returns-in_err-step_output-clause-ends g c inputs =
     let within : c.loop-output.output-index < length c.loop-output.outputs = omega arith in
-    names_output c.loop-output.outputs c.loop-output.output-index c.step_output.new.output inputs _ within c.in_err-step_output.ensures.names
+    let fault = c.in_err-step_output.field-0.0 in
+    let is : c.from_residual.result ≡ Err fault = search rules in
+    if_err c.from_residual.result fault _ is
+    (names_output c.loop-output.outputs c.loop-output.output-index c.step_output.new.output inputs fault within c.in_err-step_output.ensures.names)

@@ -1,7 +1,9 @@
-use Rattle.std.proofs.Common.{ap, ◌∙◌}
+use Rattle.std.proofs.Common.{◌≡◌, Err, ap, ◌∙◌}
 use Rattle.std.specs.List.{list_all}
 use Rattle.tp_stream_files.specs.Inputs.{is_over}
+use Rattle.tp_stream.specs.Streamed.{CameBetween}
 use Rattle.tp_stream.proofs.FailedEnds.{turns_between, turns_name}
+use Rattle.tp_stream.proofs.Failures.{if_err}
 use Rattle.tp_stream.proofs.Quiets.{ended_why, leaves_no_input}
 use Rattle.tp_stream.proofs.serving.go_on.Goals as goal
 
@@ -18,13 +20,25 @@ returns-in-Some-clause-inputs g c =
 -- ## Which fault
 
 pub returns-in_err-settle-clause-begun : goal.returns-in_err-settle-clause-begun
-returns-in_err-settle-clause-begun g c = turns_between _ c.in_err-settle.ensures.begun
+returns-in_err-settle-clause-begun g c =
+    let fault = c.in_err-settle.field-0.0 in
+    let is : c.from_residual.result ≡ Err fault = search rules in
+    if_err c.from_residual.result fault CameBetween is (turns_between fault c.in_err-settle.ensures.begun)
 
 pub returns-in_err-settle-clause-ends : goal.returns-in_err-settle-clause-ends
-returns-in_err-settle-clause-ends g c = turns_name _ _ _ c.in_err-settle.ensures.begun
+returns-in_err-settle-clause-ends g c =
+    let fault = c.in_err-settle.field-0.0 in
+    let is : c.from_residual.result ≡ Err fault = search rules in
+    if_err c.from_residual.result fault _ is (turns_name _ _ fault c.in_err-settle.ensures.begun)
 
 pub returns-in_err-make_turns-clause-begun : goal.returns-in_err-make_turns-clause-begun
-returns-in_err-make_turns-clause-begun g c = turns_between _ c.in_err-make_turns.ensures.begun
+returns-in_err-make_turns-clause-begun g c =
+    let fault = c.in_err-make_turns.field-0.0 in
+    let is : c.from_residual-in_err-make_turns.result ≡ Err fault = search rules in
+    if_err c.from_residual-in_err-make_turns.result fault CameBetween is (turns_between fault c.in_err-make_turns.ensures.begun)
 
 pub returns-in_err-make_turns-clause-ends : goal.returns-in_err-make_turns-clause-ends
-returns-in_err-make_turns-clause-ends g c = turns_name _ _ _ c.in_err-make_turns.ensures.begun
+returns-in_err-make_turns-clause-ends g c =
+    let fault = c.in_err-make_turns.field-0.0 in
+    let is : c.from_residual-in_err-make_turns.result ≡ Err fault = search rules in
+    if_err c.from_residual-in_err-make_turns.result fault _ is (turns_name _ _ fault c.in_err-make_turns.ensures.begun)

@@ -1,7 +1,9 @@
 use Rattle.std.proofs.Common.{length, sym, subst}
 use Rattle.tp_flush.specs.Known.{Began}
 use Rattle.tp_flush.proofs.Turns.{walked_then}
-use Rattle.tp_stream.proofs.Failures.{failed_then}
+use Rattle.tp_stream.specs.Failures.{FailedWhere, answer_failed}
+use Rattle.tp_stream.proofs.FailedEnds.{flush_names}
+use Rattle.tp_stream.proofs.Failures.{failed_then, flush_begun}
 use Rattle.tp_stream.proofs.Notices.{later_then}
 use Rattle.tp_stream.proofs.Stepping.{all_until}
 use Rattle.tp_stream.proofs.serving.serve.Goals as goal
@@ -37,10 +39,16 @@ returns-in-Ok-clause-told g c = later_then (length g.J.Naming.start.nodes) _ _ _
 
 pub returns-in-Ok-clause-failures : goal.returns-in-Ok-clause-failures
 returns-in-Ok-clause-failures g c rests =
-    let F = c.cycles-there.ensures.failures rests in
-    failed_then _ c.args.flusher c.cycles-there.result.0 c.finish.new.flusher F (c.finish.ensures.failures F.at)
+    let F = subst (λ last. FailedWhere (answer_failed last) c.args.flusher c.cycles-there.result.0) c.in-Ok-Some.is (c.cycles-there.ensures.failures rests) in
+    failed_then _ c.args.flusher c.cycles-there.result.0 c.finish.new.flusher F (c.in-Ok.ensures.failures F.at)
 
 pub returns-in-Err-finish-clause-failures : goal.returns-in-Err-finish-clause-failures
 returns-in-Err-finish-clause-failures g c rests =
-    let F = c.cycles-there.ensures.failures rests in
-    failed_then _ c.args.flusher c.cycles-there.result.0 c.finish.new.flusher F (c.finish.ensures.failures F.at)
+    let F = subst (λ last. FailedWhere (answer_failed last) c.args.flusher c.cycles-there.result.0) c.in-Ok-Some.is (c.cycles-there.ensures.failures rests) in
+    failed_then _ c.args.flusher c.cycles-there.result.0 c.finish.new.flusher F (c.in-Err-finish.ensures.failures F.at)
+
+pub returns-in-Err-finish-clause-begun : goal.returns-in-Err-finish-clause-begun
+returns-in-Err-finish-clause-begun g c = flush_begun c.in-Err-finish.fault c.in-Err-finish.ensures.begun
+
+pub returns-in-Err-finish-clause-ends : goal.returns-in-Err-finish-clause-ends
+returns-in-Err-finish-clause-ends g c = flush_names _ _ c.in-Err-finish.fault c.in-Err-finish.ensures.begun
