@@ -9,6 +9,7 @@ use Rattle.tp_stream.specs.declared.fault.StreamFault.{StreamFault}
 use Rattle.tp_stream.specs.declared.fault.StreamFault.TheVariants.{Opening, Spare, Port as Absent, Unnamed, Short, Long, Gone, NotShown, ShortInput, InputFailed, OutputFailed, FlushFailed, NotStored, JournalFull, Memory}
 use Rattle.tp_stream.specs.FailedEnds.{NamesEnd, NamesInput, NamesOutput}
 use Rattle.tp_stream.specs.Streamed.{CameBetween, CameOfFlush, CameOfTurns}
+use Rattle.tp_stream.proofs.Failures.{SaysNeither}
 
 -- where one at a place is put that passes a test, one passes it
 any_set : {A : Type 0} (test : A → Bool) (xs : List A) (i : ℕ) (x : A) → i < length xs → test x ≡ true → list_any test (set xs i x) ≡ true
@@ -142,3 +143,21 @@ flush_names outputs inputs FlushFailed came = tt
 flush_names outputs inputs NotStored came = tt
 flush_names outputs inputs JournalFull came = tt
 flush_names outputs inputs Memory came = tt
+
+-- nor does one before a stream is begun
+pub neither_names : (outputs : List OutputValue) (inputs : List ℕ) (fault : StreamFault) → SaysNeither fault → NamesEnd outputs inputs fault
+neither_names outputs inputs (Opening unopened) neither = tt
+neither_names outputs inputs Spare neither = tt
+neither_names outputs inputs (Absent port) neither = tt
+neither_names outputs inputs (Unnamed port) neither = tt
+neither_names outputs inputs (Short port has from) neither = tt
+neither_names outputs inputs (Long port has upto) neither = tt
+neither_names outputs inputs (Gone port have confirmed) neither = tt
+neither_names outputs inputs (NotShown port have shown) neither = tt
+neither_names outputs inputs (ShortInput port has accepted) neither = tt
+neither_names outputs inputs (InputFailed port) neither = absurd neither
+neither_names outputs inputs (OutputFailed port) neither = absurd neither
+neither_names outputs inputs FlushFailed neither = tt
+neither_names outputs inputs NotStored neither = tt
+neither_names outputs inputs JournalFull neither = tt
+neither_names outputs inputs Memory neither = tt

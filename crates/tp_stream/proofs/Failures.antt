@@ -158,9 +158,11 @@ answered_as A fault = Err fault
 
 -- ## Faults before a stream is begun
 
--- a fault of a device that opened, of no call of it
+-- a fault of a device that opened, of no call of it, and of no end
 abbrev pub SaysNeither : StreamFault → Type 0
 SaysNeither (Opening unopened) = ⊥
+SaysNeither (InputFailed port) = ⊥
+SaysNeither (OutputFailed port) = ⊥
 SaysNeither FlushFailed = ⊥
 SaysNeither _ = Unit {0}
 
@@ -227,8 +229,8 @@ unfit_neither task t outputs inputs (Long port has upto) unfit = tt
 unfit_neither task t outputs inputs (Gone port have confirmed) unfit = tt
 unfit_neither task t outputs inputs (NotShown port have shown) unfit = tt
 unfit_neither task t outputs inputs (ShortInput port has accepted) unfit = tt
-unfit_neither task t outputs inputs (InputFailed port) unfit = tt
-unfit_neither task t outputs inputs (OutputFailed port) unfit = tt
+unfit_neither task t outputs inputs (InputFailed port) unfit = unfit
+unfit_neither task t outputs inputs (OutputFailed port) unfit = unfit
 unfit_neither task t outputs inputs FlushFailed unfit = unfit
 unfit_neither task t outputs inputs NotStored unfit = tt
 unfit_neither task t outputs inputs JournalFull unfit = tt
@@ -244,8 +246,8 @@ output_neither s g (Long port has upto) why = tt
 output_neither s g (Gone port have confirmed) why = tt
 output_neither s g (NotShown port have shown) why = tt
 output_neither s g (ShortInput port has accepted) why = tt
-output_neither s g (InputFailed port) why = tt
-output_neither s g (OutputFailed port) why = tt
+output_neither s g (InputFailed port) why = why
+output_neither s g (OutputFailed port) why = why
 output_neither s g FlushFailed why = why
 output_neither s g NotStored why = tt
 output_neither s g JournalFull why = tt
@@ -261,8 +263,8 @@ input_neither n g (Long port has upto) why = tt
 input_neither n g (Gone port have confirmed) why = tt
 input_neither n g (NotShown port have shown) why = tt
 input_neither n g (ShortInput port has accepted) why = tt
-input_neither n g (InputFailed port) why = tt
-input_neither n g (OutputFailed port) why = tt
+input_neither n g (InputFailed port) why = why
+input_neither n g (OutputFailed port) why = why
 input_neither n g FlushFailed why = why
 input_neither n g NotStored why = tt
 input_neither n g JournalFull why = tt

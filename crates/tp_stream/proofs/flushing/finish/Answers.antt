@@ -1,7 +1,8 @@
-use Rattle.std.proofs.Common.{length, sym, subst, ◌≡◌, ◌≤◌}
+use Rattle.std.proofs.Common.{length, Err, sym, subst, ◌≡◌, ◌≤◌}
 use Rattle.std.specs.Prelude.{IfOk}
 use Rattle.tp_flush.specs.Known.{Began}
 use Rattle.tp_flush.specs.Flushing.{Flushing, IsSameProcess, Walked}
+use Rattle.tp_stream.specs.Failures.{FailedWhere, answer_failed}
 use Rattle.tp_stream.proofs.Failures.{failed_still}
 use Rattle.tp_stream.proofs.flushing.finish.Goals as goal
 
@@ -22,3 +23,8 @@ returns-clause-last g c k began =
 pub returns-clause-failures : goal.returns-clause-failures
 returns-clause-failures g c rests =
     failed_still _ c.args.flusher.now c.flush.new.flusher c.last_of.new.flusher c.last_of.ensures.same c.last_of.ensures.unfailed (c.in_ok-_mark.ensures.failures rests)
+
+pub returns-in_err-_mark-clause-failures : goal.returns-in_err-_mark-clause-failures
+returns-in_err-_mark-clause-failures g c rests =
+    let is : c.from_residual.result ≡ Err c.in_err-_mark.field-0.0 = search rules in
+    subst (λ r. FailedWhere (answer_failed r) c.args.flusher.now c.flush.new.flusher) (sym is) (c.in_err-_mark.ensures.failures rests)

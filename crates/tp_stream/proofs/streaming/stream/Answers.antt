@@ -15,6 +15,7 @@ use Rattle.tp_stream_files.specs.Inputs.{given_input}
 use Rattle.tp_stream_files.specs.Outputs.{given_of}
 use Rattle.tp_stream.specs.Standing.{AllHaveAccepted, AllMayBegin, IsFirstRefused, IsFirstShort, OfInput, OfOutput, accepted_opened, stands_opened}
 use Rattle.tp_stream.specs.Told.{ToldFirst, ToldLater, input_begins, output_begins}
+use Rattle.tp_stream.proofs.FailedEnds.{neither_names}
 use Rattle.tp_stream.proofs.Failures.{begun_answers, neither_answers, neither_failed, not_begun_neither, opening_counted, uncounted, unfit_neither}
 use Rattle.tp_stream.proofs.Fitted.{begun_fits, not_begun_fits, opened_ports, unfit}
 use Rattle.tp_stream.proofs.Notices.{first_later}
@@ -228,3 +229,13 @@ pub returns-clause-failures : goal.returns-clause-failures
 returns-clause-failures g c =
     subst (λ n. g.D.Disk.failures_of c.stream_parts.result.0 ≡ calls_failed (answer_failed c.stream_parts.result.1) n)
     (ap g.D.Disk.failures_of c.store-store.ensures.disk ∙ c.in-Ok.ensures.counts.failures) c.stream_parts.ensures.failures
+
+-- ## Which end
+
+pub returns-in-Some-clause-ends : goal.returns-in-Some-clause-ends
+returns-in-Some-clause-ends g c = neither_names _ _ c.in-Some.fault (unfit_neither _ _ _ _ c.in-Some.fault c.in-Some.ensures.unfit)
+
+pub returns-in-Err-parts_of-clause-ends : goal.returns-in-Err-parts_of-clause-ends
+returns-in-Err-parts_of-clause-ends g c =
+    let fault = c.in-Err-parts_of.fault in
+    neither_names _ _ fault (not_begun_neither _ _ _ _ _ fault c.in-Err-parts_of.ensures.refused)
