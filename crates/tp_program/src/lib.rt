@@ -46,6 +46,6 @@ pub use tp_views::{
 pub use tp_words::{
     ArgFault, Asked, Backup, BackupAsked, EndsFault, JournalPart, NewDevice, Run, StopAsked,
     StopRequest, StreamArgFault, StreamAsked, StreamRun, View, is_backup, is_stop, is_stream,
-    read_args, read_backup_args, read_stop_args, read_stream_args, wants_input,
+    read_args, read_backup_args, read_stop_args, read_stream_args,
 };
 pub use watching::{OneLook, Watch};

@@ -11,7 +11,7 @@ use std::os::unix::fs::FileExt;
 use std::sync::Wait;
 use std::thread::Threads;
 use std::{fs, io};
-use tp_program::{answer, answer_stream, is_stream, wants_input};
+use tp_program::{answer, answer_stream, is_stream};
 use tp_stream_files::{Onlooker, Plain, Times};
 use tp_tests_files::standing::Standing;
 
@@ -134,7 +134,7 @@ fn stream<R: Files<File = F> + AllocGlobal + Wait, F: FileExt + OpenFile + Drop>
     input: &[u8],
 ) -> Done {
     let files = Standing::new(rt, stage.streams.as_slice());
-    let mut feed = Plain::new(if wants_input(words) { input } else { &[] });
+    let mut feed = Plain::new(input);
     let mut err = Vec::new(rt.alloc());
     let mut out = Reader {
         rt,

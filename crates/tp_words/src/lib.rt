@@ -26,7 +26,7 @@ pub use backup_args::{Backup, BackupAsked, is_backup, read_backup_args};
 pub use numbers::has_word;
 pub use stop_args::{StopAsked, StopRequest, is_stop, read_stop_args};
 pub use stream_args::{
-    StreamArgFault, StreamAsked, StreamRun, is_stream, read_stream_args, wants_input,
+    StreamArgFault, StreamAsked, StreamRun, is_stream, read_stream_args,
 };
 pub use stream_ends::{EndsFault, FileOption};
 pub use views::{JournalPart, View};

@@ -108,23 +108,6 @@ pub fn is_stream(words: &[String]) -> bool {
     is_run && has_word(words, "--stream")
 }
 
-/// Whether a word, behind the one before it, says that a port's input comes from standard input.
-fn is_standard_input(before: &str, word: &str) -> bool {
-    word.ends_with("=-") && (before == "--in" || word.starts_with("--in="))
-}
-
-/// Whether the words of a stream say that a port's input comes from standard input.
-pub fn wants_input(words: &[String]) -> bool {
-    let mut before = "";
-    for word in words {
-        if is_standard_input(before, word.as_str()) {
-            return true;
-        }
-        before = word.as_str();
-    }
-    false
-}
-
 /// The numbers of a stream that were found among the words.
 fn numbers_of(
     alloc: Global,
