@@ -43,9 +43,12 @@ fn writes(mem: &mut FlatMemory, call: Write<'_>) -> Option<bool> {
     }
 }
 
-/// Calls one after another, whether each writes, and a word that is then in memory: a call writes all or nothing, a block
-/// behind the first word and in front of the others, which are written in order.
-const WRITES: &[(Write<'static>, bool, u32, u32)] = &[
+/// A call, whether it writes, and a word that is then in memory, by its address.
+type Row<'a> = (Write<'a>, bool, u32, u32);
+
+/// Calls one after another: a call writes all or nothing, a block behind the first word and in front of the others, which are written
+/// in order.
+const WRITES: &[Row<'static>] = &[
     (
         Write::Word(0x8000_0102, 0x4433_2211),
         true,
@@ -112,14 +115,32 @@ const WRITES: &[(Write<'static>, bool, u32, u32)] = &[
     (Write::Words(&[]), true, 0x8000_0350, 9),
 ];
 
+/// Whether a call writes as it ought to.
+fn is_row(mem: &mut FlatMemory, row: &Row<'_>) -> bool {
+    let (call, wrote, address, word) = *row;
+    writes(mem, call) == Some(wrote) && mem.read_word(address) == Some(word)
+}
+
+/// The first of `WRITES` that doesn't, one after another.
+fn other_write(mem: &mut FlatMemory) -> Option<usize> {
+    for (i, row) in WRITES.iter().enumerate() {
+        if !is_row(mem, row) {
+            return Some(i);
+        }
+    }
+    None
+}
+
+/// That one, where all four pages are zeros at first.
+fn wrong_write(alloc: Global) -> Result<Option<usize>, Fail> {
+    let mut mem = four_pages(alloc)?;
+    Ok(other_write(&mut mem))
+}
+
 #[test]
 fn writing(rt: HostRuntime) -> Result<(), Fail> {
-    let mut mem = four_pages(rt.alloc())?;
-    for (i, row) in WRITES.iter().enumerate() {
-        let (call, wrote, address, word) = *row;
-        let told = writes(&mut mem, call) == Some(wrote) && mem.read_word(address) == Some(word);
-        assert!(rt; told, "write {i}");
-    }
+    let wrong = wrong_write(rt.alloc())?;
+    assert!(rt; wrong.is_none(), "write {}", wrong.unwrap_or(0));
     Ok(())
 }
 

@@ -46,19 +46,33 @@ fn happens(bench: &mut Bench, event: Event<'_>) -> Result<bool, Fail> {
     }
 }
 
-fn play(rt: &impl Abort, alloc: Global, story: &Story<'_>) -> Result<(), Fail> {
-    let mut bench = Bench::new(alloc, story.code, story.given)?;
-    for (i, event) in story.events.iter().enumerate() {
-        let told = happens(&mut bench, *event)?;
-        assert!(rt; told, "{}: event {i}", story.name);
+/// The first of the events that isn't as told, one after another.
+fn first_other(bench: &mut Bench, events: &[Event<'_>]) -> Result<Option<usize>, Fail> {
+    for (i, event) in events.iter().enumerate() {
+        if !happens(bench, *event)? {
+            return Ok(Some(i));
+        }
     }
-    Ok(())
+    Ok(None)
+}
+
+/// The first event of a story that isn't as told.
+fn wrong_event(alloc: Global, story: &Story<'_>) -> Result<Option<usize>, Fail> {
+    let mut bench = Bench::new(alloc, story.code, story.given)?;
+    let wrong = first_other(&mut bench, story.events);
+    wrong
 }
 
 /// Plays each story.
 pub fn play_all(rt: &impl Abort, alloc: Global, stories: &[Story<'_>]) -> Result<(), Fail> {
     for story in stories {
-        play(rt, alloc, story)?;
+        let wrong = wrong_event(alloc, story)?;
+        assert!(rt;
+            wrong.is_none(),
+            "{}: event {}",
+            story.name,
+            wrong.unwrap_or(0)
+        );
     }
     Ok(())
 }

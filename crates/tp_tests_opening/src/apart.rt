@@ -2,13 +2,14 @@
 
 use crate::checkpointed::Known;
 use crate::devices::{LETTER, Letter, MORE, append, disk_of, fresh, held_in, is_same, store_of};
-use crate::filled_areas::each_filled;
+use crate::filled_areas::add_filled;
 use crate::opened_books::grown;
 use crate::stories::{after_a_group, beyond_the_groups, over_old_groups};
 use std::alloc::{AllocError, Global};
 use std::process::Abort;
 use std::test::Fail;
 use std::thread::Threads;
+use tp_disk::MemDisk;
 use tp_gate::NoGate;
 use tp_model::OpenFault;
 use tp_model::OpenFault::Damaged;
@@ -264,6 +265,13 @@ pub(crate) fn is_said_by_two<R: Threads + Sync>(
     Ok(tells(rt, alloc, bytes, says)? && say_same(rt, alloc, bytes, 2)?)
 }
 
+/// Puts pieces over the bytes of a device.
+pub(crate) fn place_all(bytes: &mut [u8], pieces: &[(usize, &[u8])]) {
+    for (at, piece) in pieces {
+        place(bytes, *at, piece);
+    }
+}
+
 /// A device with pieces over its bytes.
 pub(crate) fn with_pieces(
     alloc: Global,
@@ -271,10 +279,21 @@ pub(crate) fn with_pieces(
     pieces: &[(usize, &[u8])],
 ) -> Result<Vec<u8>, AllocError> {
     let mut bytes = Vec::from_slice(alloc, device)?;
-    for (at, piece) in pieces {
-        place(&mut bytes, *at, piece);
-    }
+    place_all(&mut bytes, pieces);
     Ok(bytes)
+}
+
+/// Whether a device with pieces over its bytes says what they do, opened in one thread and by any number of workers.
+pub(crate) fn says<R: Threads + Sync>(
+    rt: &R,
+    alloc: Global,
+    device: &[u8],
+    pieces: &[(usize, &[u8])],
+    says: Result<u64, OpenFault>,
+) -> Result<bool, Fail> {
+    let bytes = with_pieces(alloc, device, pieces)?;
+    let told = is_said(rt, alloc, &bytes, says);
+    told
 }
 
 /// Plays a table over a device.
@@ -285,8 +304,7 @@ pub(crate) fn play<R: Threads + Sync + Abort>(
     contents: &[Content<'_>],
 ) -> Result<(), Fail> {
     for (i, content) in contents.iter().enumerate() {
-        let bytes = with_pieces(alloc, device, content.pieces)?;
-        let told = is_said(rt, alloc, &bytes, content.says)?;
+        let told = says(rt, alloc, device, content.pieces, content.says)?;
         assert!(rt; told, "content {i}");
     }
     Ok(())
@@ -306,16 +324,19 @@ fn two_nodes_each_by_itself(rt: HostRuntime) -> Result<(), Fail> {
     play(&rt, alloc, &device, TWO)
 }
 
+/// Whether the pair opens where both pieces meet at a gate.
+fn meet<R: Threads + Sync>(rt: &R, alloc: Global, gate: &Meeting) -> Result<bool, Fail> {
+    let mut disk = MemDisk::of_bytes(pair(alloc)?);
+    Ok(open_parallel(alloc, &mut disk, 2, gate, rt).is_ok())
+}
+
 /// The pieces of both nodes meet at the gate as they begin, and no other one comes there. In one thread the first would look for the
 /// second in vain.
 #[test]
 fn both_pieces_meet_at_the_gate(rt: HostRuntime) -> Result<(), Fail> {
-    let alloc = rt.alloc();
     let gate = Meeting::new(2);
-    let mut disk = disk_of(alloc, &pair(alloc)?)?;
-    let told = open_parallel(alloc, &mut disk, 2, &gate, &rt).is_ok();
-    assert!(rt; told);
-    assert_eq!(rt; gate.counts(), [2, 2, 1, 1]);
+    let told = meet(&rt, rt.alloc(), &gate)?;
+    assert!(rt; told && gate.counts() == [2, 2, 1, 1]);
     Ok(())
 }
 
@@ -354,20 +375,30 @@ fn add_ends(devices: &mut Vec<Vec<u8>>, known: Known) -> Result<(), AllocError> 
     Ok(())
 }
 
-/// The devices of the other tables here: with groups, filled, and with checkpoints.
-#[test]
-fn devices_of_other_tables(rt: HostRuntime) -> Result<(), Fail> {
-    let alloc = rt.alloc();
-    let mut devices = each_filled(alloc)?;
+/// Adds the devices of the other tables here: with groups, filled, and with checkpoints.
+fn add_devices(alloc: Global, devices: &mut Vec<Vec<u8>>) -> Result<(), Fail> {
+    add_filled(alloc, devices)?;
     devices.push(fresh(alloc, AREA)?)?;
     devices.push(appended(alloc)?)?;
-    let known = after_a_group(alloc)?;
-    add_ends(&mut devices, known)?;
-    let known = beyond_the_groups(alloc)?;
-    add_ends(&mut devices, known)?;
-    let known = over_old_groups(alloc)?;
-    add_ends(&mut devices, known)?;
-    let told = are_said_by_both(&rt, alloc, &devices)?;
+    add_ends(devices, after_a_group(alloc)?)?;
+    add_ends(devices, beyond_the_groups(alloc)?)?;
+    add_ends(devices, over_old_groups(alloc)?)?;
+    Ok(())
+}
+
+/// Whether both calls agree on each of those devices.
+fn are_all_said<R: Threads + Sync>(rt: &R, alloc: Global) -> Result<bool, Fail> {
+    let mut devices = Vec::new(alloc);
+    let told = match add_devices(alloc, &mut devices) {
+        Ok(()) => are_said_by_both(rt, alloc, &devices),
+        Err(fault) => Err(fault),
+    };
+    told
+}
+
+#[test]
+fn devices_of_other_tables(rt: HostRuntime) -> Result<(), Fail> {
+    let told = are_all_said(&rt, rt.alloc())?;
     assert!(rt; told);
     Ok(())
 }

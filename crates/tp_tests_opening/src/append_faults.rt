@@ -6,6 +6,7 @@ use crate::devices::{
 };
 use crate::faults::{Case, ENDINGS, Ending, Torn};
 use std::alloc::{AllocError, Global};
+use std::process::Abort;
 use std::test::Fail;
 use tp_area::{Store, StoreFault};
 use tp_disk::{Disk, MemDisk};
@@ -180,16 +181,57 @@ fn is_whole_at(alloc: Global, known: &Known, call: usize) -> Result<bool, Fail> 
     Ok(true)
 }
 
+/// What is looked at for each of several calls, or numbers of groups.
+#[derive(Clone, Copy)]
+enum Looked {
+    Whole,
+    Stored,
+    Broken,
+}
+
+/// Whether it is as it ought to be at a call, or with a number of groups.
+fn is_so(alloc: Global, known: &Known, looked: Looked, at: usize) -> Result<bool, Fail> {
+    match looked {
+        Looked::Whole => is_whole_at(alloc, known, at),
+        Looked::Stored => is_stored(alloc, known, at),
+        Looked::Broken => is_broken_at(alloc, known, at),
+    }
+}
+
+/// The first of the numbers below `count` at which it isn't.
+fn first_wrong(
+    alloc: Global,
+    known: &Known,
+    looked: Looked,
+    count: usize,
+) -> Result<Option<usize>, Fail> {
+    for at in 0..count {
+        if !is_so(alloc, known, looked, at)? {
+            return Ok(Some(at));
+        }
+    }
+    Ok(None)
+}
+
+/// That number, over devices that are made for it.
+fn wrong_of(alloc: Global, looked: Looked, count: usize) -> Result<Option<usize>, Fail> {
+    let known = Known::new(alloc)?;
+    let wrong = first_wrong(alloc, &known, looked, count);
+    wrong
+}
+
+/// Looks at devices with both groups, for each number below `count`.
+fn look<R: AllocGlobal + Abort>(rt: &R, looked: Looked, count: usize) -> Result<(), Fail> {
+    let wrong = wrong_of(rt.alloc(), looked, count)?;
+    assert!(rt; wrong.is_none(), "number {}", wrong.unwrap_or(0));
+    Ok(())
+}
+
 /// A run appends both groups, and one call ends so; where that is a sync, what was written last may be torn as well. Then the
 /// device opens.
 #[test]
 fn a_group_is_there_or_it_is_not(rt: HostRuntime) -> Result<(), Fail> {
-    let known = Known::new(rt.alloc())?;
-    for call in 0..8 {
-        let told = is_whole_at(rt.alloc(), &known, call)?;
-        assert!(rt; told, "call {call}");
-    }
-    Ok(())
+    look(&rt, Looked::Whole, 8)
 }
 
 /// The next number and the outputs, without a group, with one and with both.
@@ -207,12 +249,7 @@ fn is_stored(alloc: Global, known: &Known, groups: usize) -> Result<bool, Fail> 
 
 #[test]
 fn what_is_stored_is_what_is_replayed(rt: HostRuntime) -> Result<(), Fail> {
-    let known = Known::new(rt.alloc())?;
-    for groups in 0..3 {
-        let told = is_stored(rt.alloc(), &known, groups)?;
-        assert!(rt; told, "{groups} groups");
-    }
-    Ok(())
+    look(&rt, Looked::Stored, 3)
 }
 
 /// Whether a store says that it is broken, whatever is appended, and makes no call of its device once one has failed: each would
@@ -287,10 +324,5 @@ fn is_broken_at(alloc: Global, known: &Known, call: usize) -> Result<bool, Fail>
 
 #[test]
 fn a_broken_store_makes_no_call(rt: HostRuntime) -> Result<(), Fail> {
-    let known = Known::new(rt.alloc())?;
-    for call in 0..4 {
-        let told = is_broken_at(rt.alloc(), &known, call)?;
-        assert!(rt; told, "call {call}");
-    }
-    Ok(())
+    look(&rt, Looked::Broken, 4)
 }

@@ -2,24 +2,42 @@
 
 use crate::checkpoints::{Calls, Look, Step, Story};
 use crate::copies::{Pieces, switch};
-use crate::devices::{Held, Letter, append, fresh, replayed, store_of};
+use crate::devices::{Held, append, fresh, replayed, store_of};
 use std::alloc::Global;
 use std::test::Fail;
 use tp_area::{Store, StoreFault};
 use tp_disk::MemDisk;
 use tp_model::Entry;
 use tp_net::Topology;
-use tp_tests_fixtures::AREA;
+use tp_tests_fixtures::{AREA, ONE_NODE};
 
 /// A device in front of the checkpoint and behind it, with what a plain replay of the entries gives; and what is put.
 #[derive(Drop)]
 pub(crate) struct Known {
     pub(crate) calls: Calls,
     pub(crate) looks: [Look; 2],
+    pub(crate) put: Put,
+    pub(crate) ends: Ends,
+    pub(crate) held: Replayed,
+}
+
+/// The network, and what is put of it.
+#[derive(Drop)]
+pub(crate) struct Put {
     pub(crate) topology: Topology,
     pub(crate) pieces: Pieces,
+}
+
+/// The device in front of the checkpoint, and behind it.
+#[derive(Drop)]
+pub(crate) struct Ends {
     pub(crate) start: Vec<u8>,
     pub(crate) end: Vec<u8>,
+}
+
+/// What plain replays of the entries before and after a checkpoint give.
+#[derive(Drop)]
+pub(crate) struct Replayed {
     pub(crate) before: Held,
     pub(crate) after: Held,
 }
@@ -70,62 +88,58 @@ fn has_bytes(device: &[u8], bytes: &[(usize, u8)]) -> bool {
     bytes.iter().all(|(at, byte)| device.get(*at) == Some(byte))
 }
 
-/// What plain replays of the entries before and after a checkpoint give, over the device with `first`.
-fn held_of(alloc: Global, first: &[u8], story: &Story<'_>) -> Result<(Held, Held), Fail> {
+/// What plain replays of a story's entries give, over the device with `first`.
+fn held_of(alloc: Global, first: &[u8], story: &Story<'_>) -> Result<Replayed, Fail> {
     let before = replayed(alloc, first, &[story.before])?;
     let after = replayed(alloc, first, &[story.after])?;
-    Ok((before, after))
+    Ok(Replayed { before, after })
+}
+
+/// What is put of a story over that device.
+fn put_of(alloc: Global, first: &[u8], story: &Story<'_>) -> Result<Put, Fail> {
+    let pieces = Pieces::of(alloc, first, &story.last)?;
+    let topology = Topology::read(alloc, ONE_NODE)?;
+    Ok(Put { topology, pieces })
 }
 
 /// Takes the steps, and makes the checkpoint. Answers what the device has in front of it.
 fn switched(
     alloc: Global,
     store: &mut Store<MemDisk>,
-    topology: &Topology,
-    pieces: &Pieces,
+    put: &Put,
     first: &[u8],
     steps: &[Step<'_>],
 ) -> Result<Vec<u8>, Fail> {
-    grow(alloc, store, topology, first, steps)?;
+    grow(alloc, store, &put.topology, first, steps)?;
     let start = Vec::from_slice(alloc, store.disk.bytes())?;
-    switch(store, topology, pieces)?;
+    switch(store, &put.topology, &put.pieces)?;
     Ok(start)
 }
 
 /// What the device has in front of the checkpoint and behind it.
-fn ends_of(
-    alloc: Global,
-    topology: &Topology,
-    pieces: &Pieces,
-    first: &[u8],
-    story: &Story<'_>,
-) -> Result<(Vec<u8>, Vec<u8>), Fail> {
+fn ends_of(alloc: Global, put: &Put, first: &[u8], story: &Story<'_>) -> Result<Ends, Fail> {
     let mut store = store_of(alloc, first)?;
-    let start = switched(alloc, &mut store, topology, pieces, first, story.steps);
+    let start = switched(alloc, &mut store, put, first, story.steps);
     let end = store.into_disk().crash();
     let start = start?;
     if !has_bytes(&end, story.bytes) {
         return Err(Fail::new("other bytes"));
     }
-    Ok((start, end))
+    Ok(Ends { start, end })
 }
 
 impl Known {
     /// What is known of a story over the device with `first`, with which it begins.
     fn over(alloc: Global, first: &[u8], story: &Story<'_>) -> Result<Known, Fail> {
-        let topology = Letter::new(alloc)?.topology;
-        let pieces = Pieces::of(alloc, first, &story.last)?;
-        let (start, end) = ends_of(alloc, &topology, &pieces, first, story)?;
-        let (before, after) = held_of(alloc, first, story)?;
+        let put = put_of(alloc, first, story)?;
+        let ends = ends_of(alloc, &put, first, story)?;
+        let held = held_of(alloc, first, story)?;
         Ok(Known {
             calls: story.calls,
             looks: story.looks,
-            topology,
-            pieces,
-            start,
-            end,
-            before,
-            after,
+            put,
+            ends,
+            held,
         })
     }
 
@@ -141,6 +155,7 @@ impl Known {
 
     /// The device in front of the checkpoint, and behind it.
     pub(crate) fn into_ends(self) -> (Vec<u8>, Vec<u8>) {
-        (self.start, self.end)
+        let Ends { start, end } = self.ends;
+        (start, end)
     }
 }

@@ -184,15 +184,19 @@ fn fills(alloc: Global, filling: &Filling<'_>) -> Result<bool, Fail> {
     told
 }
 
-/// Each device that the groups of a filling fill.
-pub(crate) fn each_filled(alloc: Global) -> Result<Vec<Vec<u8>>, Fail> {
-    let mut devices = Vec::new(alloc);
+/// The device that the groups of a filling fill.
+fn filled_device(alloc: Global, filling: &Filling<'_>) -> Result<Vec<u8>, Fail> {
+    let first = fresh(alloc, filling.area)?;
+    let (_, bytes) = filled(alloc, &first, filling)?;
+    Ok(bytes)
+}
+
+/// Adds each device that the groups of a filling fill.
+pub(crate) fn add_filled(alloc: Global, devices: &mut Vec<Vec<u8>>) -> Result<(), Fail> {
     for filling in FILLINGS {
-        let first = fresh(alloc, filling.area)?;
-        let (_, bytes) = filled(alloc, &first, filling)?;
-        devices.push(bytes)?;
+        devices.push(filled_device(alloc, filling)?)?;
     }
-    Ok(devices)
+    Ok(())
 }
 
 #[test]

@@ -191,18 +191,28 @@ fn is_none_torn(alloc: Global, made: &Made) -> Result<bool, Fail> {
     Ok(true)
 }
 
+/// That count, of a device of one node.
+fn one_says_otherwise(alloc: Global) -> Result<Option<usize>, Fail> {
+    let whole = fresh(alloc, AREA)?;
+    let otherwise = says_otherwise(alloc, &ONE, &whole);
+    otherwise
+}
+
+/// That count, of one with a wide head.
+fn wide_says_otherwise(alloc: Global) -> Result<Option<usize>, Fail> {
+    let whole = seventeen(alloc)?;
+    let otherwise = says_otherwise(alloc, &WIDE, &whole);
+    otherwise
+}
+
 /// Where the run stops within the head's write, what of it is written says what the device is. Written whole, it is formatted;
 /// the format isn't done either way.
 #[test]
 fn a_format_that_stops_in_its_head(rt: HostRuntime) -> Result<(), Fail> {
     let alloc = rt.alloc();
-    let whole = fresh(alloc, AREA)?;
     assert!(rt; is_none_torn(alloc, &ONE)? && is_none_torn(alloc, &WIDE)?);
-    let otherwise = says_otherwise(alloc, &ONE, &whole)?;
-    assert_eq!(rt; otherwise, None);
-    let whole = seventeen(alloc)?;
-    let otherwise = says_otherwise(alloc, &WIDE, &whole)?;
-    assert_eq!(rt; otherwise, None);
+    let otherwise = (one_says_otherwise(alloc)?, wide_says_otherwise(alloc)?);
+    assert_eq!(rt; otherwise, (None, None));
     Ok(())
 }
 
@@ -231,7 +241,7 @@ fn is_torn(alloc: Global, whole: &[u8], fault: PlannedFault) -> Result<bool, Fai
 }
 
 /// Whether that is so where the last sync isn't reached, where it fails, and where the run stops within it.
-fn are_torn(alloc: Global, whole: &[u8]) -> Result<bool, Fail> {
+fn are_torn_from(alloc: Global, whole: &[u8]) -> Result<bool, Fail> {
     let before = is_torn(alloc, whole, PlannedFault::StopsBefore)?;
     let torn = Vec::new(alloc);
     let fails = is_torn(alloc, whole, PlannedFault::Fails { torn })?;
@@ -240,12 +250,17 @@ fn are_torn(alloc: Global, whole: &[u8]) -> Result<bool, Fail> {
     Ok(before && fails && within)
 }
 
+/// Whether that is so of a device of one node.
+fn are_torn(alloc: Global) -> Result<bool, Fail> {
+    let whole = fresh(alloc, AREA)?;
+    let told = are_torn_from(alloc, &whole);
+    told
+}
+
 /// Where the last sync fails or isn't reached the format isn't done, and the head may be torn.
 #[test]
 fn a_format_that_stops_behind_its_head(rt: HostRuntime) -> Result<(), Fail> {
-    let alloc = rt.alloc();
-    let whole = fresh(alloc, AREA)?;
-    let told = are_torn(alloc, &whole)?;
+    let told = are_torn(rt.alloc())?;
     assert!(rt; told);
     Ok(())
 }

@@ -1,16 +1,13 @@
 //! Areas of both forms: what says an area's form, and which entries each may hold.
 
-use crate::apart::{Content, is_said, play, with_pieces};
-use crate::devices::{LETTER, fresh, held_in, is_network, replayed};
+use crate::apart::{Content, place_all, play, says};
+use crate::devices::{Held, LETTER, fresh, is_network, replayed, what_is_held};
 use crate::opened_books::grown;
 use std::alloc::Global;
-use std::process::Abort;
 use std::test::Fail;
 use std::thread::Threads;
-use tp_disk::MemDisk;
 use tp_model::OpenFault::Damaged;
 use tp_model::{Entry, OpenFault};
-use tp_recover::open;
 use tp_tests_fixtures::{AREA, KEPT};
 
 /// The device of one node with a group of four entries. The base of its first area's cut stands at 525, in six bytes, and the area's form
@@ -145,11 +142,14 @@ const SECOND: &[Content<'static>] = &[
 
 #[test]
 fn an_area_has_a_form(rt: HostRuntime) -> Result<(), Fail> {
-    let alloc = rt.alloc();
-    let first = grown(alloc)?;
-    play(&rt, alloc, &first, FIRST)?;
-    let second = KEPT[5].bytes(alloc)?;
-    play(&rt, alloc, &second, SECOND)
+    let first = grown(rt.alloc())?;
+    play(&rt, rt.alloc(), &first, FIRST)
+}
+
+#[test]
+fn a_second_area_has_a_form(rt: HostRuntime) -> Result<(), Fail> {
+    let second = KEPT[5].bytes(rt.alloc())?;
+    play(&rt, rt.alloc(), &second, SECOND)
 }
 
 /// A turn: the node takes the acknowledge and makes 16 steps.
@@ -200,38 +200,44 @@ const TURNS: &[([u8; 16], Result<u64, OpenFault>)] = &[
     ([5, 64, 16, 0, 0, 0, 0, 0, 2, 0, 0, 0, 0, 0, 2, 0], NONE),
 ];
 
-/// Whether a device says this where these bytes stand in place of the turn.
-fn is_row<R: Threads + Sync>(
+/// The first row that an area with turns doesn't say; and that one without any doesn't say to be damaged.
+fn other_row<R: Threads + Sync>(
     rt: &R,
     alloc: Global,
     device: &[u8],
-    row: &[u8; 16],
-    says: Result<u64, OpenFault>,
-) -> Result<bool, Fail> {
-    let bytes = with_pieces(alloc, device, &[(13_081, row.as_slice())])?;
-    is_said(rt, alloc, &bytes, says)
+    has_turns: bool,
+) -> Result<Option<usize>, Fail> {
+    for (i, (row, wanted)) in TURNS.iter().enumerate() {
+        let wanted = if has_turns { *wanted } else { NONE };
+        if !says(rt, alloc, device, &[(13_081, row.as_slice())], wanted)? {
+            return Ok(Some(i));
+        }
+    }
+    Ok(None)
 }
 
-/// Plays the table over an area of each form.
-fn play_rows<R: Threads + Sync + Abort>(
-    rt: &R,
-    alloc: Global,
-    turns: &[u8],
-    plain: &[u8],
-) -> Result<(), Fail> {
-    for (i, (row, says)) in TURNS.iter().enumerate() {
-        let told = is_row(rt, alloc, turns, row, *says)? && is_row(rt, alloc, plain, row, NONE)?;
-        assert!(rt; told, "row {i}");
-    }
-    Ok(())
+/// That row of an area with turns, with the turn in place of the last two entries.
+fn other_row_with<R: Threads + Sync>(rt: &R, alloc: Global) -> Result<Option<usize>, Fail> {
+    let mut device = grown(alloc)?;
+    place_all(&mut device, A_TURN);
+    let other = other_row(rt, alloc, &device, true);
+    other
+}
+
+/// That row of an area without turns.
+fn other_row_without<R: Threads + Sync>(rt: &R, alloc: Global) -> Result<Option<usize>, Fail> {
+    let mut device = KEPT[1].bytes(alloc)?;
+    place_all(&mut device, A_TURN);
+    let other = other_row(rt, alloc, &device, false);
+    other
 }
 
 #[test]
 fn one_form_has_turns(rt: HostRuntime) -> Result<(), Fail> {
-    let alloc = rt.alloc();
-    let turns = with_pieces(alloc, &grown(alloc)?, A_TURN)?;
-    let plain = with_pieces(alloc, &KEPT[1].bytes(alloc)?, A_TURN)?;
-    play_rows(&rt, alloc, &turns, &plain)
+    let turns = other_row_with(&rt, rt.alloc())?;
+    let plain = other_row_without(&rt, rt.alloc())?;
+    assert_eq!(rt; (turns, plain), (None, None));
+    Ok(())
 }
 
 /// Whether a device with pieces has this next number, and the network to which `entries` lead.
@@ -241,10 +247,24 @@ fn leads(
     next: u64,
     entries: &[&[Entry]],
 ) -> Result<bool, Fail> {
-    let mut disk = MemDisk::of_bytes(with_pieces(alloc, &grown(alloc)?, pieces)?);
-    let held = held_in(alloc, open(alloc, &mut disk)?)?;
-    let wanted = replayed(alloc, &fresh(alloc, AREA)?, entries)?;
+    let mut device = grown(alloc)?;
+    place_all(&mut device, pieces);
+    let told = leads_from(alloc, &device, next, entries);
+    told
+}
+
+/// Whether a device has this next number, and the network to which `entries` lead on one that was just formatted.
+fn leads_from(alloc: Global, device: &[u8], next: u64, entries: &[&[Entry]]) -> Result<bool, Fail> {
+    let held = what_is_held(alloc, device)?;
+    let wanted = replayed_from_fresh(alloc, entries)?;
     Ok(held.next == next && is_network(&held.net, &wanted.net))
+}
+
+/// What entries lead to on a device that was just formatted.
+fn replayed_from_fresh(alloc: Global, entries: &[&[Entry]]) -> Result<Held, Fail> {
+    let first = fresh(alloc, AREA)?;
+    let held = replayed(alloc, &first, entries);
+    held
 }
 
 /// The turn leads where its take and its run lead; with a run behind it; and without steps, with that run.

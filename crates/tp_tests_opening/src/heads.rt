@@ -1,6 +1,6 @@
 //! Heads of both versions: which networks have which, and what is no narrow head.
 
-use crate::apart::{Content, is_said, play, with_pieces};
+use crate::apart::{Content, is_said, play, says};
 use crate::devices::Letter;
 use crate::opened_books::grown;
 use std::alloc::{AllocError, Global};
@@ -35,12 +35,13 @@ const ROWS: &[Row] = &[
     (64, 4, 307_118, true),
 ];
 
-/// Adds a line for each node.
+/// Adds a line for each node, and one for the port.
 fn add_nodes(text: &mut String, nodes: u16, last: u16) -> Result<(), fmt::Error> {
     for node in 0..nodes {
         let pages = if node + 1 < nodes { 4 } else { last };
         write!(text, "node n{node} {pages}\n")?;
     }
+    write!(text, "port h\n")?;
     Ok(())
 }
 
@@ -52,18 +53,33 @@ fn image(alloc: Global, pages: u16) -> Result<Vec<u8>, AllocError> {
     Ok(image)
 }
 
-/// The network of a row.
-fn network(alloc: Global, row: &Row) -> Result<Letter, Fail> {
-    let (nodes, last, _, _) = *row;
+/// The topology of a row.
+fn topology(alloc: Global, nodes: u16, last: u16) -> Result<Topology, Fail> {
     let mut text = String::new(alloc);
     add_nodes(&mut text, nodes, last)?;
-    text.push_str("port h\n")?;
-    let mut images = Vec::new(alloc);
+    Ok(Topology::read(alloc, text.as_bytes())?)
+}
+
+/// Adds an image for each node.
+fn add_images(
+    alloc: Global,
+    images: &mut Vec<Vec<u8>>,
+    nodes: u16,
+    last: u16,
+) -> Result<(), AllocError> {
     for _ in 1..nodes {
         images.push(idle(alloc)?)?;
     }
     images.push(image(alloc, last)?)?;
-    let topology = Topology::read(alloc, text.as_bytes())?;
+    Ok(())
+}
+
+/// The network of a row.
+fn network(alloc: Global, row: &Row) -> Result<Letter, Fail> {
+    let (nodes, last, _, _) = *row;
+    let mut images = Vec::new(alloc);
+    add_images(alloc, &mut images, nodes, last)?;
+    let topology = topology(alloc, nodes, last)?;
     Ok(Letter { topology, images })
 }
 
@@ -111,6 +127,47 @@ const fn says_with_other(is_wide: bool) -> Result<u64, OpenFault> {
     if is_wide { Err(Damaged(0)) } else { Ok(0) }
 }
 
+/// Whether a device with a head of the other version says what it ought to.
+fn says_other<R: Threads + Sync>(
+    rt: &R,
+    alloc: Global,
+    device: &[u8],
+    is_wide: bool,
+) -> Result<bool, Fail> {
+    let other = other_head(alloc, device, is_wide)?;
+    let told = is_said(rt, alloc, &other, says_with_other(is_wide));
+    told
+}
+
+/// Whether a device has a head of this version, and opens with it; and with one of the other version, where that can say it.
+fn is_device<R: Threads + Sync>(
+    rt: &R,
+    alloc: Global,
+    device: &[u8],
+    head: usize,
+    version: u8,
+) -> Result<bool, Fail> {
+    Ok(
+        is_of_version(device, head, version)
+            && is_said(rt, alloc, device, Ok(0))?
+            && says_other(rt, alloc, device, version == 2)?,
+    )
+}
+
+/// Whether a network's device, whose areas have `least` bytes, does.
+fn opens<R: Threads + Sync>(
+    rt: &R,
+    alloc: Global,
+    letter: &Letter,
+    head: usize,
+    version: u8,
+    least: u64,
+) -> Result<bool, Fail> {
+    let device = letter.device_behind(alloc, head, least)?;
+    let told = is_device(rt, alloc, &device, head, version);
+    told
+}
+
 /// Whether a network is formatted with its head, and opens with it; and with one of the other version, where that can say it.
 fn has_its_head<R: Threads + Sync>(rt: &R, alloc: Global, row: &Row) -> Result<bool, Fail> {
     let (_, _, least, is_wide) = *row;
@@ -120,14 +177,7 @@ fn has_its_head<R: Threads + Sync>(rt: &R, alloc: Global, row: &Row) -> Result<b
         (NARROW_HEAD_BYTES, 1)
     };
     let letter = network(alloc, row)?;
-    let device = letter.device_behind(alloc, head, least)?;
-    let other = other_head(alloc, &device, is_wide)?;
-    Ok(
-        is_of_version(&device, head, version)
-            && are_full(alloc, &letter, head, least)?
-            && is_said(rt, alloc, &device, Ok(0))?
-            && is_said(rt, alloc, &other, says_with_other(is_wide))?,
-    )
+    Ok(are_full(alloc, &letter, head, least)? && opens(rt, alloc, &letter, head, version, least)?)
 }
 
 #[test]
@@ -211,13 +261,19 @@ fn heads_are_changed(rt: HostRuntime) -> Result<(), Fail> {
 /// The wide head of the network of one node, whose link leads to its port.
 const ONE_WIDE: &[(usize, &[u8])] = &[(7, &[2]), (56, &[0]), (152, &[0, 0x80])];
 
+/// The device of one node with a wide head.
+fn moved(alloc: Global) -> Result<Vec<u8>, Fail> {
+    let narrow = grown(alloc)?;
+    Ok(other_head(alloc, &narrow, false)?)
+}
+
 /// A wide head says a narrow network, too: the device of one node opens with one as it does with its own.
 #[test]
 fn a_wide_head_of_a_small_network(rt: HostRuntime) -> Result<(), Fail> {
-    let alloc = rt.alloc();
-    let narrow = grown(alloc)?;
-    let moved = other_head(alloc, &narrow, false)?;
-    let wide = with_pieces(alloc, &moved, ONE_WIDE)?;
-    assert!(rt; is_said(&rt, alloc, &wide, Ok(4))?);
+    let moved = moved(rt.alloc())?;
+    let told = says(&rt, rt.alloc(), &moved, ONE_WIDE, Ok(4));
+    drop(moved);
+    let told = told?;
+    assert!(rt; told);
     Ok(())
 }

@@ -3,7 +3,7 @@
 
 use crate::apart::is_said;
 use crate::checkpoints::Look;
-use crate::devices::{LETTER, append, holds, is_network, replayed, store_of, what_is_held};
+use crate::devices::{Held, LETTER, append, holds, is_network, replayed, store_of, what_is_held};
 use crate::switch_faults::look_at;
 use std::alloc::{AllocError, Global};
 use std::test::Fail;
@@ -19,6 +19,20 @@ const BEHIND: [Entry; 3] = [
     Entry::Run { node: 0, count: 16 },
 ];
 
+/// What entries lead to on the device that was kept as it was formatted.
+fn led_to(alloc: Global, entries: &[&[Entry]]) -> Result<Held, Fail> {
+    let formatted = KEPT[0].bytes(alloc)?;
+    let held = replayed(alloc, &formatted, entries);
+    held
+}
+
+/// Whether a device holds what entries lead to.
+fn holds_what(alloc: Global, bytes: &[u8], entries: &[&[Entry]]) -> Result<bool, Fail> {
+    let wanted = led_to(alloc, entries)?;
+    let told = holds(alloc, bytes, &wanted);
+    told
+}
+
 /// The entries of a kept device before the number `next`, and `more` behind them.
 fn entries_of(alloc: Global, next: u64, more: &[Entry]) -> Result<Vec<Entry>, AllocError> {
     let (letter, behind) = (LETTER, BEHIND);
@@ -29,12 +43,11 @@ fn entries_of(alloc: Global, next: u64, more: &[Entry]) -> Result<Vec<Entry>, Al
     Ok(all)
 }
 
-/// Whether a device holds what a plain replay of these entries gives.
+/// Whether a device holds what these entries lead to.
 fn is_replayed(alloc: Global, bytes: &[u8], next: u64, more: &[Entry]) -> Result<bool, Fail> {
     let entries = entries_of(alloc, next, more)?;
-    let formatted = KEPT[0].bytes(alloc)?;
-    let wanted = replayed(alloc, &formatted, &[entries.as_slice()])?;
-    holds(alloc, bytes, &wanted)
+    let told = holds_what(alloc, bytes, &[entries.as_slice()]);
+    told
 }
 
 /// What opening says of a device, by what is written beside it, where its area is of this form.
@@ -50,31 +63,63 @@ fn look_of(kept: &Kept, form: Form) -> Look {
     )
 }
 
-/// Whether a kept device opens to what is written beside it, in an area without turns, and to a plain replay of its entries.
+/// Whether a device opens to what is written beside it, in an area of this form.
+fn is_kept<R: Threads + Sync>(
+    rt: &R,
+    alloc: Global,
+    bytes: &[u8],
+    kept: &Kept,
+    form: Form,
+) -> Result<bool, Fail> {
+    Ok(look_at(alloc, bytes)? == look_of(kept, form) && is_said(rt, alloc, bytes, Ok(kept.next))?)
+}
+
+/// Whether it does in an area without turns, and to a plain replay of its entries.
+fn is_plain<R: Threads + Sync>(
+    rt: &R,
+    alloc: Global,
+    bytes: &[u8],
+    kept: &Kept,
+) -> Result<bool, Fail> {
+    Ok(is_kept(rt, alloc, bytes, kept, Plain)? && is_replayed(alloc, bytes, kept.next, &[])?)
+}
+
+/// Whether a kept device does.
 fn opens<R: Threads + Sync>(rt: &R, alloc: Global, kept: &Kept) -> Result<bool, Fail> {
     let bytes = kept.bytes(alloc)?;
+    let told = is_plain(rt, alloc, &bytes, kept);
+    told
+}
+
+/// A further entry.
+const MORE: Entry = Entry::HostIn {
+    port: 0,
+    byte: 0x78,
+};
+
+/// What a kept device is with a further group.
+fn grown(alloc: Global, kept: &Kept) -> Result<Vec<u8>, Fail> {
+    let mut store = store_of(alloc, &kept.bytes(alloc)?)?;
+    let done = append(&mut store, &[MORE]);
+    let bytes = store.into_disk().crash();
+    done?;
+    Ok(bytes)
+}
+
+/// Whether a device with a further group opens to a plain replay, in the area that was open, without turns.
+fn is_grown(alloc: Global, bytes: &[u8], kept: &Kept) -> Result<bool, Fail> {
+    let look = look_at(alloc, bytes)?;
     Ok(
-        look_at(alloc, &bytes)? == look_of(kept, Plain)
-            && is_said(rt, alloc, &bytes, Ok(kept.next))?
-            && is_replayed(alloc, &bytes, kept.next, &[])?,
+        (look.0, look.1, look.5) == (kept.second, kept.generation, Plain)
+            && is_replayed(alloc, bytes, kept.next, &[MORE])?,
     )
 }
 
 /// Whether a kept device takes a further group in that area, and then opens to a plain replay.
 fn goes_on(alloc: Global, kept: &Kept) -> Result<bool, Fail> {
-    let more = [Entry::HostIn {
-        port: 0,
-        byte: 0x78,
-    }];
-    let mut store = store_of(alloc, &kept.bytes(alloc)?)?;
-    let is_done = append(&mut store, &more).is_ok();
-    let bytes = store.into_disk().crash();
-    let look = look_at(alloc, &bytes)?;
-    Ok(
-        is_done
-            && (look.0, look.1, look.5) == (kept.second, kept.generation, Plain)
-            && is_replayed(alloc, &bytes, kept.next, &more)?,
-    )
+    let bytes = grown(alloc, kept)?;
+    let told = is_grown(alloc, &bytes, kept);
+    told
 }
 
 #[test]
@@ -100,7 +145,25 @@ const APART: [Entry; 4] = [
     Entry::Run { node: 0, count: 16 },
 ];
 
-/// Whether a device with turns opens to what is written beside it, and to where `apart` leads.
+/// Whether a device has the network to which entries lead.
+fn has_network(alloc: Global, bytes: &[u8], entries: &[&[Entry]]) -> Result<bool, Fail> {
+    let held = what_is_held(alloc, bytes)?;
+    let wanted = led_to(alloc, entries)?;
+    Ok(is_network(&held.net, &wanted.net))
+}
+
+/// Whether a device opens to what is written beside it, and to where `apart` leads.
+fn is_with_turns<R: Threads + Sync>(
+    rt: &R,
+    alloc: Global,
+    bytes: &[u8],
+    kept: &Kept,
+    apart: &[&[Entry]],
+) -> Result<bool, Fail> {
+    Ok(is_kept(rt, alloc, bytes, kept, Turns)? && has_network(alloc, bytes, apart)?)
+}
+
+/// Whether a device with turns does.
 fn opens_with_turns<R: Threads + Sync>(
     rt: &R,
     alloc: Global,
@@ -108,13 +171,8 @@ fn opens_with_turns<R: Threads + Sync>(
     apart: &[&[Entry]],
 ) -> Result<bool, Fail> {
     let bytes = kept.bytes(alloc)?;
-    let held = what_is_held(alloc, &bytes)?;
-    let wanted = replayed(alloc, &KEPT[0].bytes(alloc)?, apart)?;
-    Ok(
-        look_at(alloc, &bytes)? == look_of(kept, Turns)
-            && is_said(rt, alloc, &bytes, Ok(kept.next))?
-            && is_network(&held.net, &wanted.net),
-    )
+    let told = is_with_turns(rt, alloc, &bytes, kept, apart);
+    told
 }
 
 #[test]

@@ -37,3 +37,5 @@ mod stories;
 mod switch_faults;
 #[cfg(test)]
 mod wide;
+#[cfg(test)]
+mod writable;

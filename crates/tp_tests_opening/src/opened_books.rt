@@ -80,11 +80,16 @@ fn is_fresh(alloc: Global, state: &NetState) -> Result<bool, Fail> {
     )
 }
 
+/// Whether that is so of a device.
+fn opens_fresh(alloc: Global) -> Result<bool, Fail> {
+    let state = state_of(alloc, fresh(alloc, AREA)?)?;
+    let told = is_fresh(alloc, &state);
+    told
+}
+
 #[test]
 fn a_fresh_device_has_nothing_kept(rt: HostRuntime) -> Result<(), Fail> {
-    let alloc = rt.alloc();
-    let state = state_of(alloc, fresh(alloc, AREA)?)?;
-    let told = is_fresh(alloc, &state)?;
+    let told = opens_fresh(rt.alloc())?;
     assert!(rt; told);
     Ok(())
 }
@@ -102,19 +107,40 @@ fn says(book: &Book) -> (usize, usize, u64, u64, usize)
     )
 }
 
+/// Whether the book takes 105 bytes, one after another.
+fn takes_all(book: &mut Book) -> bool
+    requires { IsUsable book.old }
+    ensures { IsUsable book.new }
+{
+    for number in 0..105u64 {
+        if hand_in(book, b"x") != Ok(number + 1) {
+            return false;
+        }
+    }
+    true
+}
+
+/// Whether it is empty at first, takes those, and is full then.
+fn fills(book: &mut Book) -> bool
+    requires { IsUsable book.old }
+{
+    says(book) == (1, 1, 0, 0, 4096)
+        && takes_all(book)
+        && hand_in(book, b"x") == Err(Refusal::JournalFull)
+        && hand_in(book, b"") == Ok(105)
+        && says(book) == (1, 1, 105, 105, 4096 - 105)
+}
+
+/// Whether the book of a fresh device does.
+fn is_filled(alloc: Global) -> Result<bool, Fail> {
+    let mut book = book_of(alloc, fresh(alloc, AREA)?)?;
+    Ok(fills(&mut book))
+}
+
 /// Five lines keep 480 bytes for a snapshot, and each entry takes at most 32: so 105 find room in 3,862, and no 106th.
 #[test]
 fn the_journal_of_a_device_fills(rt: HostRuntime) -> Result<(), Fail> {
-    let alloc = rt.alloc();
-    let mut book = book_of(alloc, fresh(alloc, AREA)?)?;
-    assert!(rt; says(&book) == (1, 1, 0, 0, 4096));
-    for number in 0..105u64 {
-        let told = hand_in(&mut book, b"x") == Ok(number + 1);
-        assert!(rt; told);
-    }
-    let told = hand_in(&mut book, b"x") == Err(Refusal::JournalFull)
-        && hand_in(&mut book, b"") == Ok(105)
-        && says(&book) == (1, 1, 105, 105, 4096 - 105);
+    let told = is_filled(rt.alloc())?;
     assert!(rt; told);
     Ok(())
 }
@@ -136,12 +162,22 @@ fn goes_on(book: &mut Book) -> bool
         && hand_in(book, b"x") == Ok(5)
 }
 
+/// How many entries the state of that device keeps.
+fn kept_in_state(alloc: Global) -> Result<usize, Fail> {
+    let state = state_of(alloc, grown(alloc)?)?;
+    Ok(state.kept.len())
+}
+
+/// Whether its book does so.
+fn book_goes_on(alloc: Global) -> Result<bool, Fail> {
+    let mut book = book_of(alloc, grown(alloc)?)?;
+    Ok(goes_on(&mut book))
+}
+
 #[test]
 fn kept_entries_are_in_the_book(rt: HostRuntime) -> Result<(), Fail> {
-    let alloc = rt.alloc();
-    let state = state_of(alloc, grown(alloc)?)?;
-    let mut book = book_of(alloc, grown(alloc)?)?;
-    let told = state.kept.len() == 4 && goes_on(&mut book);
-    assert!(rt; told);
+    let kept = kept_in_state(rt.alloc())?;
+    let told = book_goes_on(rt.alloc())?;
+    assert!(rt; kept == 4 && told);
     Ok(())
 }

@@ -8,7 +8,6 @@ ghost use Rattle.tp_tests_store.specs.Lone.{IsUsable};
 use crate::devices::fresh;
 use crate::opened_books::book_of;
 use std::alloc::Global;
-use std::process::Abort;
 use std::test::Fail;
 use tp_book::Refusal::{JournalFull, NothingToTake, SnapshotRunning};
 use tp_book::{Book, Refusal};
@@ -17,7 +16,7 @@ use tp_tests_fixtures::{AREA, GROUPS, place};
 use tp_tests_store::calls::hand_in;
 
 /// A call on the book. A take that was made ready is given back.
-#[derive(Clone, Copy, Debug)]
+#[derive(Clone, Copy)]
 enum Call {
     HandIn,
     ReadyTake(u16),
@@ -247,21 +246,39 @@ fn make(alloc: Global, book: &mut Book, call: Call) -> Option<Result<(), Refusal
     }
 }
 
-fn play<R: AllocGlobal + Abort>(rt: &R, alloc: Global, story: &Story<'_>) -> Result<(), Fail> {
+/// Whether a call answers as it ought to, and the next number is that one then.
+fn is_row(alloc: Global, book: &mut Book, row: &Row) -> bool
+    requires { IsUsable book.old }
+    ensures { IsUsable book.new }
+{
+    let (call, answer, next) = *row;
+    make(alloc, book, call) == answer && book.next() == next
+}
+
+/// The first of `rows` that isn't so, one made after another.
+fn first_other(alloc: Global, book: &mut Book, rows: &[Row]) -> Option<usize>
+    requires { IsUsable book.old }
+{
+    for (i, row) in rows.iter().enumerate() {
+        if !is_row(alloc, book, row) {
+            return Some(i);
+        }
+    }
+    None
+}
+
+/// The first call of a story that doesn't answer so.
+fn wrong_call(alloc: Global, story: &Story<'_>) -> Result<Option<usize>, Fail> {
     let (entries, took, rows) = *story;
     let mut book = book_of(alloc, device(alloc, entries, took)?)?;
-    for row in rows {
-        let (call, answer, next) = *row;
-        let told = make(alloc, &mut book, call) == answer && book.next() == next;
-        assert!(rt; told, "{entries} entries, {call:?}");
-    }
-    Ok(())
+    Ok(first_other(alloc, &mut book, rows))
 }
 
 #[test]
 fn takes_of_a_snapshot_use_what_is_kept(rt: HostRuntime) -> Result<(), Fail> {
-    for story in STORIES {
-        play(&rt, rt.alloc(), story)?;
+    for (i, story) in STORIES.iter().enumerate() {
+        let wrong = wrong_call(rt.alloc(), story)?;
+        assert!(rt; wrong.is_none(), "story {i}, call {}", wrong.unwrap_or(0));
     }
     Ok(())
 }

@@ -4,7 +4,7 @@ use crate::checkpointed::Known;
 use crate::checkpoints::{Calls, Step, Story};
 use crate::copies::Cut;
 use crate::devices::{CALLS_OF_OPEN, LETTER};
-use std::alloc::{AllocError, Global};
+use std::alloc::Global;
 use std::test::Fail;
 use tp_model::Form::{Plain, Turns};
 use tp_model::Received::{JustAck, JustData, Nothing};
@@ -30,17 +30,10 @@ const MIXED: [Entry; 5] = [HANDED, HANDED, GO, HANDED, GO];
 
 const FORTY: [Entry; 40] = [GO; 40];
 
-/// The entries `first`, and `more` behind them.
-fn joined(alloc: Global, first: &[Entry], more: &[Entry]) -> Result<Vec<Entry>, AllocError> {
-    let mut all = Vec::from_slice(alloc, first)?;
-    all.extend_from_slice(more)?;
-    Ok(all)
-}
-
 /// The tail has the entry that was made after the node recorded, which stood in the open area.
 pub(crate) fn after_a_group(alloc: Global) -> Result<Known, Fail> {
     let (letter, round) = (LETTER, [ROUND]);
-    let made = joined(alloc, &letter, &round)?;
+    let made = [letter[0], letter[1], letter[2], letter[3], ROUND];
     let story = Story {
         first: None,
         steps: &[Step::Group(&letter), Step::Group(&round)],
@@ -66,9 +59,23 @@ pub(crate) fn after_a_group(alloc: Global) -> Result<Known, Fail> {
 /// The node records when the next number is 9, the cut is whole at 12, and the tail reaches 12.
 pub(crate) fn beyond_the_groups(alloc: Global) -> Result<Known, Fail> {
     let (letter, mixed) = (LETTER, MIXED);
-    let cut = joined(alloc, &letter, &[HANDED, GO, GO])?;
-    let before = joined(alloc, &letter, &mixed)?;
-    let after = joined(alloc, &before, &[TAKEN, GO, HANDED])?;
+    let (run, sent, acknowledged, round) = (letter[0], letter[1], letter[2], letter[3]);
+    let cut = [run, sent, acknowledged, round, HANDED, GO, GO];
+    let after = [
+        run,
+        sent,
+        acknowledged,
+        round,
+        HANDED,
+        HANDED,
+        GO,
+        HANDED,
+        GO,
+        TAKEN,
+        GO,
+        HANDED,
+    ];
+    let before = after.get(..9).unwrap_or(&[]);
     let story = Story {
         first: None,
         steps: &[Step::Group(&letter), Step::Group(&mixed)],
@@ -83,7 +90,7 @@ pub(crate) fn beyond_the_groups(alloc: Global) -> Result<Known, Fail> {
             behind: 12_617,
         },
         looks: [(false, 1, 0, 9, 9, Turns), (true, 2, 7, 5, 12, Turns)],
-        before: &before,
+        before,
         after: &after,
         bytes: &[(512, 0xA5), (16_896, 0xA5)],
     };
@@ -91,12 +98,21 @@ pub(crate) fn beyond_the_groups(alloc: Global) -> Result<Known, Fail> {
     known
 }
 
+/// Puts the entries of the first turns in front.
+fn put_letter(entries: &mut [Entry]) {
+    let letter = LETTER;
+    for (place, entry) in entries.iter_mut().zip(&letter) {
+        *place = *entry;
+    }
+}
+
 /// The second area has forty groups of its own when the first one is opened again, and then the second one once more: the
 /// tail's only group is written over the first of them, and the others stand behind its closed gate.
 pub(crate) fn over_old_groups(alloc: Global) -> Result<Known, Fail> {
     let (letter, forty, go) = (LETTER, FORTY, [GO]);
-    let cut = joined(alloc, &letter, &forty)?;
-    let made = joined(alloc, &cut, &go)?;
+    let (mut cut, mut made) = ([GO; 44], [GO; 45]);
+    put_letter(&mut cut);
+    put_letter(&mut made);
     let story = Story {
         first: None,
         steps: &[
@@ -199,10 +215,21 @@ pub(crate) fn with_turns(alloc: Global) -> Result<Known, Fail> {
         count: 5,
     };
     let mixed = MIXED;
-    let made = joined(alloc, letter.get(..2).unwrap_or(&[]), &[acknowledged])?;
-    let cut = joined(alloc, &made, &[HANDED, GO, GO])?;
-    let before = joined(alloc, &made, &mixed)?;
-    let after = joined(alloc, &before, &[handed, HANDED])?;
+    let made = [letter[0], letter[1], acknowledged];
+    let cut = [letter[0], letter[1], acknowledged, HANDED, GO, GO];
+    let after = [
+        letter[0],
+        letter[1],
+        acknowledged,
+        HANDED,
+        HANDED,
+        GO,
+        HANDED,
+        GO,
+        handed,
+        HANDED,
+    ];
+    let before = after.get(..8).unwrap_or(&[]);
     let story = Story {
         first: None,
         steps: &[Step::Group(&made), Step::Group(&mixed)],
@@ -217,7 +244,7 @@ pub(crate) fn with_turns(alloc: Global) -> Result<Known, Fail> {
             behind: 12_601,
         },
         looks: [(false, 1, 0, 8, 8, Turns), (true, 2, 6, 4, 10, Turns)],
-        before: &before,
+        before,
         after: &after,
         bytes: &[(531, 2), (13_081, 5), (16_915, 2), (29_465, 5)],
     };

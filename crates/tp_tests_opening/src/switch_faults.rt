@@ -22,7 +22,10 @@ impl Known {
         let range = self.calls.range(case.call);
         let fault = case.fault(self.torn(alloc, case.torn, range)?);
         let call = self.calls.opening.saturating_add(case.call as u64);
-        let (_, store) = open_store(alloc, disk_of(alloc, &self.start)?.with_fault(call, fault))?;
+        let (_, store) = open_store(
+            alloc,
+            disk_of(alloc, &self.ends.start)?.with_fault(call, fault),
+        )?;
         Ok(store)
     }
 
@@ -36,8 +39,8 @@ impl Known {
         let bytes = match torn {
             Torn::Filled(byte) => return Vec::from_elem(alloc, byte, range.1),
             Torn::Old if range.0 == SECOND => return Vec::from_elem(alloc, 0x00, 1),
-            Torn::Old => &self.start,
-            Torn::New => &self.end,
+            Torn::Old => &self.ends.start,
+            Torn::New => &self.ends.end,
         };
         let rest = bytes.get(range.0..).unwrap_or(&[]);
         Vec::from_slice(alloc, rest.get(..range.1).unwrap_or(&[]))
@@ -73,7 +76,7 @@ fn is_broken(store: &mut Store<MemDisk>) -> bool {
 
 /// Whether a checkpoint with a fault is told as failed.
 fn is_told(known: &Known, store: &mut Store<MemDisk>, case: Case) -> bool {
-    match switch(store, &known.topology, &known.pieces) {
+    match switch(store, &known.put.topology, &known.put.pieces) {
         Ok(()) => case.call == known.calls.count(),
         Err(fault) => fault == StoreFault::DeviceFailed && is_broken(store),
     }
@@ -94,9 +97,9 @@ fn opens(alloc: Global, known: &Known, case: Case, bytes: &mut [u8]) -> Result<b
     }
     let calls = known.calls.count();
     if case.call >= calls || case.opens(calls.saturating_sub(2)) {
-        is_as(alloc, bytes, known.looks[1], &known.after)
+        is_as(alloc, bytes, known.looks[1], &known.held.after)
     } else {
-        is_as(alloc, bytes, known.looks[0], &known.before)
+        is_as(alloc, bytes, known.looks[0], &known.held.before)
     }
 }
 

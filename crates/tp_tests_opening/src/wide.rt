@@ -1,10 +1,11 @@
 //! The device of seventeen nodes, which has a wide head: all its bytes, what changes of them say, and a turn in its journal.
 
-use crate::apart::{Content, is_said, play, with_pieces};
-use crate::devices::{Letter, is_network, replayed, what_is_held};
+use crate::apart::{Content, is_said, place_all, play};
+use crate::devices::{Held, Letter, is_network, replayed, what_is_held};
 use crate::opened_books::book_with;
 use std::alloc::{AllocError, Global};
 use std::test::Fail;
+use std::thread::Threads;
 use tp_book::Refusal;
 use tp_disk::MemDisk;
 use tp_model::OpenFault::{BadVersion, Damaged, NoOpenArea, NotFormatted};
@@ -233,45 +234,103 @@ fn place_images(bytes: &mut [u8], image: &[u8]) {
 
 /// The device of seventeen nodes, made by hand.
 fn by_hand(alloc: Global) -> Result<Vec<u8>, AllocError> {
+    let letter = letter(alloc)?;
     let mut bytes = Vec::from_elem(alloc, 0u8, SIZE)?;
-    place_images(&mut bytes, &letter(alloc)?);
-    with_pieces(alloc, &bytes, BYTES)
+    place_images(&mut bytes, &letter);
+    place_all(&mut bytes, BYTES);
+    Ok(bytes)
+}
+
+/// Whether a device has those bytes.
+fn is_by_hand(alloc: Global, device: &[u8]) -> Result<bool, AllocError> {
+    let bytes = by_hand(alloc)?;
+    Ok(device == bytes.as_slice())
+}
+
+/// The first row of `LENGTHS` that the device doesn't say.
+fn other_length<R: Threads + Sync>(
+    rt: &R,
+    alloc: Global,
+    device: &[u8],
+) -> Result<Option<usize>, Fail> {
+    for (i, (len, says)) in LENGTHS.iter().enumerate() {
+        if !is_said(rt, alloc, device.get(..*len).unwrap_or(&[]), *says)? {
+            return Ok(Some(i));
+        }
+    }
+    Ok(None)
+}
+
+/// Whether the device of seventeen nodes has the bytes that were made by hand, and says what each part of it does.
+fn has_its_bytes<R: Threads + Sync>(rt: &R, alloc: Global, device: &[u8]) -> Result<bool, Fail> {
+    Ok(is_by_hand(alloc, device)? && other_length(rt, alloc, device)?.is_none())
+}
+
+/// Whether it does, as it is formatted.
+fn formatted_has_its_bytes<R: Threads + Sync>(rt: &R, alloc: Global) -> Result<bool, Fail> {
+    let device = seventeen(alloc)?;
+    let told = has_its_bytes(rt, alloc, &device);
+    told
 }
 
 #[test]
 fn wide_heads_have_their_bytes(rt: HostRuntime) -> Result<(), Fail> {
-    let alloc = rt.alloc();
-    let device = seventeen(alloc)?;
-    assert!(rt; device == by_hand(alloc)?);
-    for (len, says) in LENGTHS {
-        let short = device.get(..*len).unwrap_or(&[]);
-        assert!(rt; is_said(&rt, alloc, short, *says)?, "{len} bytes");
-    }
+    let told = formatted_has_its_bytes(&rt, rt.alloc())?;
+    assert!(rt; told);
     Ok(())
+}
+
+/// What the device with that group holds.
+fn held_with_turn(alloc: Global) -> Result<Held, Fail> {
+    let mut device = seventeen(alloc)?;
+    place_all(&mut device, A_TURN);
+    let held = what_is_held(alloc, &device);
+    held
+}
+
+/// What the device holds after these entries.
+fn held_apart(alloc: Global) -> Result<Held, Fail> {
+    let device = seventeen(alloc)?;
+    let apart = APART;
+    let held = replayed(alloc, &device, &[&apart]);
+    held
+}
+
+/// Whether both have one network.
+fn turns(alloc: Global) -> Result<bool, Fail> {
+    let held = held_with_turn(alloc)?;
+    let wanted = held_apart(alloc)?;
+    Ok(held.next == 3 && is_network(&held.net, &wanted.net))
 }
 
 /// A turn of a node above 15 leads where its take and its run lead.
 #[test]
 fn the_last_node_turns(rt: HostRuntime) -> Result<(), Fail> {
-    let alloc = rt.alloc();
-    let device = seventeen(alloc)?;
-    let held = what_is_held(alloc, &with_pieces(alloc, &device, A_TURN)?)?;
-    let apart = APART;
-    let wanted = replayed(alloc, &device, &[&apart])?;
-    assert!(rt; held.next == 3 && is_network(&held.net, &wanted.net));
+    let told = turns(rt.alloc())?;
+    assert!(rt; told);
     Ok(())
+}
+
+/// How many bytes the groups of the device may fill.
+fn room_of(alloc: Global) -> Result<u64, Fail> {
+    let mut disk = MemDisk::of_bytes(seventeen(alloc)?);
+    let opened = open(alloc, &mut disk)?;
+    Ok(opened.journal_room())
+}
+
+/// Whether a book with room for `room` bytes takes one byte, and no second one.
+fn takes_one(alloc: Global, room: u64) -> Result<bool, Fail> {
+    let mut book = book_with(alloc, seventeen(alloc)?, room)?;
+    let one = hand_in(&mut book, b"x") == Ok(1);
+    let other = hand_in(&mut book, b"x") == Err(Refusal::JournalFull);
+    Ok(one && other)
 }
 
 /// One entry that anyone may make has room in the least area, and no second one.
 #[test]
 fn the_least_area_has_room_for_one_entry(rt: HostRuntime) -> Result<(), Fail> {
-    let alloc = rt.alloc();
-    let bytes = seventeen(alloc)?;
-    let mut disk = MemDisk::of_bytes(Vec::from_slice(alloc, &bytes)?);
-    let room = open(alloc, &mut disk)?.journal_room();
-    let mut book = book_with(alloc, bytes, room)?;
-    let one = hand_in(&mut book, b"x") == Ok(1);
-    let other = hand_in(&mut book, b"x") == Err(Refusal::JournalFull);
-    assert!(rt; room == 6_656 && one && other);
+    let room = room_of(rt.alloc())?;
+    let told = takes_one(rt.alloc(), room)?;
+    assert!(rt; room == 6_656 && told);
     Ok(())
 }

@@ -1,0 +1,6 @@
+use Rattle.tp_tests_store.specs.Lone.{IsUsable}
+use Rattle.tp_tests_opening.proofs.opened_books.takes_all.Given as goal
+
+-- the book can be used
+abbrev pub invariant-loop-number : goal.invariant-loop-number
+invariant-loop-number l = IsUsable l.book
