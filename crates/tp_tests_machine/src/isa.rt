@@ -174,10 +174,10 @@ const NOT_READ: &[(&[u8], DecodeFault)] = &[
 
 #[test]
 fn reads_no_instruction(rt: HostRuntime) {
-    for row in NOT_READ {
+    for (i, row) in NOT_READ.iter().enumerate() {
         let (bytes, fault) = *row;
         let told = decode(bytes) == Err(fault);
-        assert!(rt; told, "{fault:?}");
+        assert!(rt; told, "row {i}");
     }
 }
 
@@ -236,9 +236,9 @@ fn is_written(alloc: Global, row: &(Fun, i32, &[u8])) -> Result<bool, Fail> {
 
 #[test]
 fn writes(rt: HostRuntime) -> Result<(), Fail> {
-    for row in WRITTEN {
+    for (i, row) in WRITTEN.iter().enumerate() {
         let told = is_written(rt.alloc(), row)?;
-        assert!(rt; told, "{row:?}");
+        assert!(rt; told, "row {i}");
     }
     Ok(())
 }

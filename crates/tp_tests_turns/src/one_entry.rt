@@ -222,7 +222,8 @@ fn a_turn_leads_where_its_takes_and_its_run_lead(rt: HostRuntime) -> Result<(), 
         (two_nodes, &heard, &hearing),
         (one_node, &own, &own_turns),
     ];
-    assert_eq!(rt; first_apart(rt.alloc(), &leads)?, None);
+    let apart = first_apart(rt.alloc(), &leads)?;
+    assert!(rt; apart.is_none(), "row {}", apart.unwrap_or(0));
     Ok(())
 }
 
@@ -256,7 +257,8 @@ fn a_turn_takes_what_stood_on_its_lines_before_it(rt: HostRuntime) -> Result<(),
         // the acknowledge that the byte's take sends wasn't on its line before the turn
         (one_node, turn(0, BYTE_AND_ITS_ACKNOWLEDGE, 0)),
     ];
-    assert_eq!(rt; first_possible(rt.alloc(), &refused)?, None);
+    let possible = first_possible(rt.alloc(), &refused)?;
+    assert!(rt; possible.is_none(), "row {}", possible.unwrap_or(0));
     Ok(())
 }
 

@@ -184,7 +184,12 @@ fn each_order_of_open_turns_comes_to_a_right_cut(rt: HostRuntime) -> Result<(), 
             case,
             images: &images,
         };
-        assert_eq!(rt; play_all(rt.alloc(), &turns)?, Some(case.orders));
+        let played = play_all(rt.alloc(), &turns)?;
+        assert!(rt;
+            played == Some(case.orders),
+            "{} orders",
+            played.unwrap_or(0)
+        );
     }
     Ok(())
 }

@@ -10,7 +10,7 @@ use tp_book::tokens_of;
 use tp_model::{Entry, Received, Token};
 
 /// An act of a node, of the host, or of who keeps the book.
-#[derive(Clone, Copy, Debug, PartialEq, Eq)]
+#[derive(Clone, Copy, PartialEq, Eq)]
 pub(crate) enum OpenAct {
     /// A node records where it is asked to, lines are closed at Markers in front, and its turn is opened.
     Open(u8),

@@ -9,7 +9,7 @@ use tp_model::{Entry, Token, WireEnd};
 pub(crate) const HOST: usize = 2;
 
 /// An entry: who made it, and whether that process hadn't recorded yet.
-#[derive(Clone, Copy, Debug)]
+#[derive(Clone, Copy)]
 pub(crate) struct Made {
     pub(crate) entry: Entry,
     pub(crate) process: usize,

@@ -37,7 +37,7 @@ const LETTER_ACKNOWLEDGED: Entry = Entry::Turn {
 };
 
 /// What is done: a node's whole turn of at most that many steps, the host's turn, or a snapshot begins.
-#[derive(Clone, Copy, Debug, PartialEq, Eq)]
+#[derive(Clone, Copy, PartialEq, Eq)]
 enum Step {
     Node(u8, u16),
     Host,
@@ -173,7 +173,7 @@ fn a_marker_behind_what_is_taken_waits_for_the_next_turn(rt: HostRuntime) -> Res
     };
     let mut disk = letter_device(rt.alloc())?;
     let tokens = taken_in_on(rt.alloc(), &mut disk, 0, &told)?;
-    assert_eq!(rt; tokens, Some(1));
+    assert!(rt; tokens == Some(1));
     Ok(())
 }
 
@@ -198,7 +198,7 @@ fn a_marker_in_front_is_closed(rt: HostRuntime) -> Result<(), Fail> {
     let tasks: [&[Task]; 2] = [&[Task::Once(0)], &[]];
     let mut disk = tasks_device(rt.alloc(), TWO, &tasks)?;
     let tokens = taken_in_on(rt.alloc(), &mut disk, 4, &told)?;
-    assert_eq!(rt; tokens, Some(0));
+    assert!(rt; tokens == Some(0));
     Ok(())
 }
 
@@ -291,8 +291,8 @@ fn a_full_journal_has_room_for_what_a_snapshot_needs(rt: HostRuntime) -> Result<
     };
     assert!(rt;
         before > 1000 && asked == before && Some(behind) == before.checked_add(1),
-        "{numbers:?}"
+        "{before} {asked} {behind}"
     );
-    assert_eq!(rt; last, Some(wanted));
+    assert!(rt; last == Some(wanted));
     Ok(())
 }
