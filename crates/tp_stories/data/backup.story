@@ -176,3 +176,102 @@ has out \n  backup
 tpnet --explain backup device copy 2>err
 starts err error: 
 there copy
+
+story calls_fail
+# Each call of a backup fails alone, whatever the file is: nothing is left of the copy, nor of its file, and the device stays as it is.
+text net.txt node a 4\nport h\nwire a.0 h\n
+image a.img
+tpnet format device net.txt . 16384
+tpnet show device >shown
+keep device
+faults all alone
+each
+faulty backup device copy
+there copy
+there copy.part
+stay
+end
+tpnet show copy >then
+equal shown then
+
+story disk_gone
+# All calls fail from one on, as where the disk is gone: what has the copy's name opens to what the device does. The copy has its name where
+# its other one isn't removed, and where its folder isn't opened or isn't synced.
+text net.txt node a 4\nport h\nwire a.0 h\n
+image a.img
+tpnet format device net.txt . 16384
+tpnet show device >shown
+keep device
+faults all on
+each
+remove copy
+remove copy.part
+faulty backup device copy
+stay
+there copy
+tpnet show copy >then 2>err
+equal shown then
+end counting
+
+story there_meanwhile
+# What is there stays as it is, whichever call fails, and so does what comes to stand there behind the look.
+text net.txt node a 4\nport h\nwire a.0 h\n
+image a.img
+tpnet format device net.txt . 16384
+text copy precious
+keep device copy copy.part
+faults all alone
+each 10
+faulty backup device copy
+stay
+end
+faults blind
+faulty backup device copy
+stay
+there copy.part
+remove copy
+text copy.part precious
+keep device copy.part
+faults all alone
+each 10
+faulty backup device copy
+stay
+end
+faults blind
+faulty backup device copy
+stay
+there copy
+
+story opened
+# The device is opened to be read alone, and the folder of the copy is synced. Reads and writes that come in parts make no other copy.
+text net.txt node a 4\nport h\nwire a.0 h\n
+image a.img
+tpnet format device net.txt . 16384
+tpnet show device >shown
+faulty backup device copy
+calls
+tpnet show copy >then
+equal shown then
+remove copy
+faults short 7
+faulty backup device copy
+calls
+tpnet show copy >then
+equal shown then
+
+story untold
+# Where standard output can't be written the copy is made, and that isn't said to be done.
+text net.txt node a 4\nport h\nwire a.0 h\n
+image a.img
+tpnet format device net.txt . 16384
+tpnet show device >shown
+keep device
+shut gone
+tpnet backup device copy --explain 2>err
+shut
+starts err tpnet: DeviceFailed\n
+ends err Standard output can't be written.\n
+tpnet show copy >then
+equal shown then
+there copy.part
+stay

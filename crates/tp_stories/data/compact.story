@@ -140,3 +140,20 @@ starts node node 2 pages 4 halt 3 LongPrefix\nIptr 80000100
 tpnet node device 3
 tpnet run device --turns 5 --workers 1 --explain
 tpnet compact device
+
+story calls_fail
+# Whichever call of the file fails while a device is compacted whose journal is full, with all behind it, nothing is lost and it can be compacted
+# again.
+text net.txt node a 4\nport h\nwire a.0 h\n
+image a.img
+tpnet format device net.txt . 13130
+tpnet run device --turns 6 --workers 1 --quantum 16 --every 4294967295
+copy device full
+faults device on
+each
+copy full device
+faulty compact device >out
+tpnet recover device
+tpnet compact device >out
+ends out  next 4 room 4\n
+end

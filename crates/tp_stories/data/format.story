@@ -299,3 +299,74 @@ tpnet format --new --area 16K one net.txt . 16384 2>err
 tpnet format --new --area 16K --area 16K one net.txt . 2>err
 tpnet format --new one net.txt . 2>err
 equal one three
+
+story stops
+# A format over a device stops at each call, as a crash does: it opens to the network that was there, as long as nothing was written, or to the new
+# one, whose letter is another one: all behind the head is written and synced before the head is. Its first byte and that letter are shown.
+text net.txt node a 4\nport h\nwire a.0 h\n
+image a.img
+tpnet format device net.txt . 16384
+copy device old
+set a.img 437 42
+faults device on
+each
+copy old device
+faulty format device net.txt . 16384
+equal old device
+tpnet recover device 2>err
+show device 0 1
+show device 970 1
+end
+
+story calls_fail
+# Each call of the device's file fails alone, and what is behind it is done: the status is 1, and nothing is printed on standard output.
+text net.txt node a 4\nport h\nwire a.0 h\n
+image a.img
+tpnet format device net.txt . 16384
+copy device old
+faults device alone
+each
+copy old device
+faulty format device net.txt . 16384
+end
+each
+faulty recover device
+end
+each
+faulty show device >out
+empty out
+end
+
+story short
+# Reads and writes that come in parts go on: the device and what is shown of it are as without. Where nothing comes they fail.
+text net.txt node a 4\nport h\nwire a.0 h\n
+image a.img
+tpnet format device net.txt . 16384
+tpnet show device >shown
+copy device old
+faults short 7
+faulty format device net.txt . 16384
+equal old device
+faulty show device >then
+equal shown then
+faults short 0
+faulty show device
+faulty format device net.txt . 16384
+
+story opened
+# recover and show ask for no right to write; format syncs the folder of a file that it made, and no other.
+text net.txt node a 4\nport h\nwire a.0 h\n
+image a.img
+tpnet format device net.txt . 16384
+copy device old
+faulty recover device
+calls
+faulty show device >out
+calls
+faulty format device net.txt . 16384
+calls
+equal old device
+remove device
+faulty format device net.txt . 16384
+calls
+equal old device

@@ -262,3 +262,27 @@ tpnet recover device
 tpnet run device --turns 70001 --workers 1 --quantum 16 --every 4294967295
 tpnet journal device --last 1
 tpnet status device
+
+story to_read
+# A file that can't be written isn't run, and stays.
+text net.txt node a 4\nport h\nwire a.0 h\n
+image a.img
+tpnet format device net.txt . 16384
+keep device
+faults reads
+faulty run device --turns 4 --workers 1 --quantum 16
+calls
+stay
+
+story in_use
+# A device that another process has is left alone by each command that would write it.
+text net.txt node a 4\nport h\nwire a.0 h\n
+image a.img 11 24 F2 54 41 F7 11 24 F2 41 FB 60 03
+tpnet format device net.txt . 16384
+keep device
+held 100
+tpnet run device --turns 4
+tpnet compact device
+tpnet format device net.txt . 16384
+tpnet run device --stream --in 0=-
+stay

@@ -155,3 +155,82 @@ keep device
 tpnet run device --stream --out 0=./device.stop
 empty device.stop
 stay
+
+story others
+# Another process has the device, so its stream is asked, once more where it was asked before; it may end right behind the request. What is there
+# and is no request stays, and nobody is asked. The device stays as it is.
+text net.txt node a 4\nport h\nwire a.0 h\n
+image a.img
+tpnet format device net.txt . 16384
+keep device
+held 100
+tpnet stop device
+empty device.stop
+tpnet stop device
+empty device.stop
+remove device.stop
+held 1
+tpnet stop device
+there device.stop
+held 100
+text device.stop precious
+tpnet stop device
+tpnet stop device --explain
+has device.stop precious
+remove device.stop
+folder device.stop
+tpnet stop device --wait=3
+there device.stop
+stay
+
+story waited
+# The device is waited for: it is asked for once, and then once a second. Here that is enough, also where it was asked before.
+text net.txt node a 4\nport h\nwire a.0 h\n
+image a.img
+tpnet format device net.txt . 16384
+keep device
+held 1
+tpnet stop device --wait 3
+there device.stop
+text device.stop
+held 3
+tpnet stop device --wait 3
+there device.stop
+# One second more was needed: the request stays.
+held 4
+tpnet stop device --wait 3
+empty device.stop
+remove device.stop
+# Who has the device now took the first request for one from before, so there is another one.
+held 100 2 device.stop
+tpnet stop device --wait 3
+empty device.stop
+remove device.stop
+held 100
+tpnet stop device --explain --wait=1
+empty device.stop
+held
+tpnet stop device --wait 1
+there device.stop
+stay
+
+story stop_fails
+# The device's file is opened first, and then the request's file is made: each of these calls may fail.
+text net.txt node a 4\nport h\nwire a.0 h\n
+image a.img
+tpnet format device net.txt . 16384
+keep device
+held 100
+faults all alone
+each
+faulty stop device
+there device.stop
+end
+empty device.stop
+# Where standard output can't be written the stream is asked, and that is said to have failed.
+remove device.stop
+shut gone
+tpnet stop device
+shut
+empty device.stop
+stay

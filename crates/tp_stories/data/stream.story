@@ -378,3 +378,114 @@ ends err  written 10000 confirmed 10000 gone\n
 begins given rest
 equal given rest
 there stop
+
+story unseen_stop
+# A node sends the letter A again and again. A path that can't be looked at any more is no stop: the stream goes on to its last turn. Where the file
+# itself comes it stops.
+text net.txt node a 4\nport h\nwire a.0 h\n
+image a.img 27 2F 2F 2F 2F 2F 6F 40 24 41 FE 60 02
+tpnet format device net.txt . 65536
+reader-makes folder
+tpnet run device --stream --quantum=64 --turns=4000 --out 0=- --stop-file folder/stop >front
+show front 0 4
+remove folder
+tpnet run device --stream --quantum=64 --turns=4000 --out 0=- --stop-file folder >rest 2>err
+ends err  stopped\n
+show rest 0 4
+there folder
+
+story terminals
+# Each look at the clock is ten seconds behind the one before. Where standard error is a terminal a stream says how far it has come whatever was
+# typed, and else just where that was asked for. Each line is written over the one before it where standard error is a terminal, but not where a
+# port's output comes on that; it ends where its rest is cleared, and the last one is ended.
+text net.txt node a 4\nport h\nwire a.0 h\n
+image a.img 11 24 F2 54 41 F7 11 24 F2 41 FB 60 03
+tpnet format device net.txt . 16384
+looks 10000
+tpnet run device --stream --quantum=64 --turns=8 --discard 0 2>err
+has err \x0D\x1B[?7lnext 1 +0/s mark 1 area 0% generation 1 turns
+has err \x1B[K\x1B[?7h\x0D
+has err \x1B[K\x1B[?7h\nnext 1 
+has err /s\nnext 1 +0/s mark 1 area 0% generation 1 turns
+has err \x0D
+has err \x1B
+looks 10000 stdout
+tpnet run device --stream --quantum=64 --turns=8 --out 0=- 2>err
+has err \x0D\x1B[?7lnext 1 +0/s mark 1 area 0% generation 1 turns
+has err \x1B[K\x1B[?7h\x0D
+has err \x1B[K\x1B[?7h\nnext 1 
+has err /s\nnext 1 +0/s mark 1 area 0% generation 1 turns
+has err \x0D
+has err \x1B
+looks 10000
+tpnet run device --stream --quantum=64 --turns=8 --discard 0 --progress 2>err
+has err \x0D\x1B[?7lnext 1 +0/s mark 1 area 0% generation 1 turns
+has err \x1B[K\x1B[?7h\x0D
+has err \x1B[K\x1B[?7h\nnext 1 
+has err /s\nnext 1 +0/s mark 1 area 0% generation 1 turns
+has err \x0D
+has err \x1B
+looks 10000
+tpnet run device --stream --quantum=64 --turns=8 --discard 0 --progress-every 10 2>err
+has err \x0D\x1B[?7lnext 1 +0/s mark 1 area 0% generation 1 turns
+has err \x1B[K\x1B[?7h\x0D
+has err \x1B[K\x1B[?7h\nnext 1 
+has err /s\nnext 1 +0/s mark 1 area 0% generation 1 turns
+has err \x0D
+has err \x1B
+looks 10000 stderr
+tpnet run device --stream --quantum=64 --turns=8 --discard 0 2>err
+has err \x0D\x1B[?7lnext 1 +0/s mark 1 area 0% generation 1 turns
+has err \x1B[K\x1B[?7h\x0D
+has err \x1B[K\x1B[?7h\nnext 1 
+has err /s\nnext 1 +0/s mark 1 area 0% generation 1 turns
+has err \x0D
+has err \x1B
+looks 10000 stderr stdout
+tpnet run device --stream --quantum=64 --turns=8 --discard 0 --progress 2>err
+has err \x0D\x1B[?7lnext 1 +0/s mark 1 area 0% generation 1 turns
+has err \x1B[K\x1B[?7h\x0D
+has err \x1B[K\x1B[?7h\nnext 1 
+has err /s\nnext 1 +0/s mark 1 area 0% generation 1 turns
+has err \x0D
+has err \x1B
+looks 10000 stderr
+tpnet run device --stream --quantum=64 --turns=8 --out 0=- 2>err
+has err \x0D\x1B[?7lnext 1 +0/s mark 1 area 0% generation 1 turns
+has err \x1B[K\x1B[?7h\x0D
+has err \x1B[K\x1B[?7h\nnext 1 
+has err /s\nnext 1 +0/s mark 1 area 0% generation 1 turns
+has err \x0D
+has err \x1B
+looks 10000 stderr stdout
+tpnet run device --stream --quantum=64 --turns=8 --out 0=- 2>err
+has err \x0D\x1B[?7lnext 1 +0/s mark 1 area 0% generation 1 turns
+has err \x1B[K\x1B[?7h\x0D
+has err \x1B[K\x1B[?7h\nnext 1 
+has err /s\nnext 1 +0/s mark 1 area 0% generation 1 turns
+has err \x0D
+has err \x1B
+looks 10000 stderr
+tpnet run device --stream --quantum=64 --turns=8 --discard 0 --progress-every 60 2>err
+has err \x0D\x1B[?7lnext 1 +0/s mark 1 area 0% generation 1 turns
+has err \x1B[K\x1B[?7h\x0D
+has err \x1B[K\x1B[?7h\nnext 1 
+has err /s\nnext 1 +0/s mark 1 area 0% generation 1 turns
+has err \x0D
+has err \x1B
+
+story shut
+# A standard output that takes nothing: on a full disk that is a fault, and that its reader has gone is none. Nothing is confirmed then, and the
+# next stream writes it.
+text net.txt node a 4\nport h\nwire a.0 h\n
+image a.img 11 24 F2 54 41 F7 11 24 F2 41 FB 60 03
+tpnet format device net.txt . 16384
+text in ab
+shut full
+tpnet run device --stream --quantum=64 --out 0=- --in 0=- <in 2>err
+ends err \ntpnet: DeviceFailed\n
+shut gone
+tpnet run device --stream --quantum=64 --out 0=- --in 0=- <in 2>err
+ends err  written 0 confirmed 0 gone\n
+shut
+tpnet run device --stream --quantum=64 --until-quiet --out 0=- 2>err

@@ -1,18 +1,18 @@
 //! The program's commands.
 
-ghost use Rattle.std.specs.Prelude.{false};
-
+use crate::failing::{Came, Plan};
 use crate::printed::print_lines;
 use crate::stage::Stage;
 use std::alloc::Global;
 use std::fs::{Files, OpenFile};
-use std::io::Write;
+use std::io::{ErrorKind, Write};
 use std::os::unix::fs::FileExt;
 use std::sync::Wait;
 use std::thread::Threads;
 use std::{fs, io};
-use tp_program::{answer, answer_stream, is_stream, wants_input};
-use tp_stream_files::{Onlooker, Plain, Times};
+use tp_program::{OneLook, answer_locking, answer_stream_locking, is_stream, wants_input};
+use tp_stream_files::Plain;
+use tp_tests_files::faults::{Faults, FaultyFiles};
 use tp_tests_files::standing::Standing;
 
 /// A command as it was typed: its words, the program's name first, and the files that its streams are redirected to.
@@ -72,16 +72,20 @@ struct Done {
     err: Vec<u8>,
 }
 
-/// The reader of a stream's standard output: it keeps what comes, and then makes a file, where it is to.
+/// The reader of standard output: it keeps what comes, and then makes a file, where it is to; or it takes nothing.
 #[derive(Drop)]
 struct Reader<'a, R> {
     rt: &'a R,
-    made: &'a Option<String>,
+    made: Option<&'a String>,
+    refuses: Option<ErrorKind>,
     bytes: Vec<u8>,
 }
 
 impl<'a, R: Files> Write for Reader<'a, R> {
     fn write(&mut self, buf: &[u8]) -> io::Result<usize> {
+        if let Some(kind) = self.refuses {
+            return Err(io::Error::from(kind));
+        }
         self.bytes.extend_from_slice(buf)?;
         if let Some(file) = self.made {
             fs::write(self.rt, file.as_str(), b"")?;
@@ -94,58 +98,28 @@ impl<'a, R: Files> Write for Reader<'a, R> {
     }
 }
 
-/// How many milliseconds go by between two looks at the time, where a stream says by time how far it has come.
-const PACE: u64 = 250;
-
-/// A clock that goes so far each time that it is looked at, and no terminal.
-#[derive(Drop)]
-struct Steps {
-    now: u64,
-    times: Times,
-}
-
-impl Onlooker for Steps {
-    ghost times = { λ steps. steps.times.told };
-
-    ghost terminal = { λ _. false };
-
-    ghost output_terminal = { λ _. false };
-
-    fn now(&mut self) -> u64 {
-        self.now = self.now.saturating_add(PACE);
-        self.times = self.times.answered(self.now);
-        self.now
-    }
-
-    fn is_terminal(&self) -> bool {
-        false
-    }
-
-    fn is_output_terminal(&self) -> bool {
-        false
-    }
-}
-
 /// Streams as a command asks.
 fn stream<R: Files<File = F> + AllocGlobal + Wait, F: FileExt + OpenFile + Drop>(
     rt: &R,
     stage: &Stage,
+    faults: &Faults,
     words: &[String],
     input: &[u8],
 ) -> Done {
-    let files = Standing::new(rt, stage.streams.as_slice());
+    let standing = Standing::new(rt, stage.streams.as_slice());
+    let files = FaultyFiles::new(&standing, faults);
     let mut feed = Plain::new(if wants_input(words) { input } else { &[] });
     let mut err = Vec::new(rt.alloc());
     let mut out = Reader {
         rt,
-        made: &stage.made,
+        made: stage.made.as_ref(),
+        refuses: stage.refuses,
         bytes: Vec::new(rt.alloc()),
     };
-    let mut steps = Steps {
-        now: 0,
-        times: Times::new(),
-    };
-    let status = answer_stream(&files, words, &mut feed, &mut out, &mut err, &mut steps);
+    let (other, mut steps) = (stage.holding.other(rt), stage.looks.steps());
+    let status = answer_stream_locking(
+        &files, other, words, &mut feed, &mut out, &mut err, &mut steps,
+    );
     Done {
         status,
         out: out.bytes,
@@ -157,13 +131,25 @@ fn stream<R: Files<File = F> + AllocGlobal + Wait, F: FileExt + OpenFile + Drop>
 fn carry_out<
     R: Files<File = F> + AllocGlobal + Threads + Wait + Sync,
     F: FileExt + OpenFile + Drop + Send,
->(rt: &R, stage: &Stage, words: &[String], input: &[u8]) -> Done {
+>(rt: &R, stage: &Stage, faults: &Faults, words: &[String], input: &[u8]) -> Done {
     if is_stream(words) {
-        return stream(rt, stage, words, input);
+        return stream(rt, stage, faults, words, input);
     }
-    let (mut out, mut err) = (Vec::new(rt.alloc()), Vec::new(rt.alloc()));
-    let status = answer(rt, words, &mut out, &mut err);
-    Done { status, out, err }
+    let files = FaultyFiles::new(rt, faults);
+    let mut err = Vec::new(rt.alloc());
+    let mut out = Reader {
+        rt,
+        made: None,
+        refuses: stage.refuses,
+        bytes: Vec::new(rt.alloc()),
+    };
+    let other = stage.holding.other(rt);
+    let status = answer_locking(&files, other, &mut OneLook, words, &mut out, &mut err);
+    Done {
+        status,
+        out: out.bytes,
+        err,
+    }
 }
 
 /// Prints what came on a stream, or writes it to the file that the stream is redirected to.
@@ -193,13 +179,19 @@ fn tell<R: Files + AllocGlobal>(
     write!(stage.transcript, "status {status}\n")
 }
 
-/// Plays a command.
+/// Plays a command, over files whose calls fail as the story says where it is to be a faulty one.
 pub(crate) fn play_command<
     R: Files<File = F> + AllocGlobal + Threads + Wait + Sync,
     F: FileExt + OpenFile + Drop + Send,
->(rt: &R, stage: &mut Stage, words: &str) -> io::Result<()> {
+>(rt: &R, stage: &mut Stage, is_faulty: bool, words: &str) -> io::Result<()> {
     let typed = Typed::read(rt.alloc(), words)?;
     let input = input_of(rt, &typed)?;
-    let done = carry_out(rt, stage, typed.words.as_slice(), input.as_slice());
+    let plan = if is_faulty { stage.plan } else { Plan::NONE };
+    let faults = plan.faults(stage.round);
+    let (words, input) = (typed.words.as_slice(), input.as_slice());
+    let done = carry_out(rt, stage, &faults, words, input);
+    if is_faulty {
+        stage.came = Came::of(&faults, done.status);
+    }
     tell(rt, stage, &typed, &done)
 }

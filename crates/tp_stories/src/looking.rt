@@ -90,6 +90,12 @@ pub(crate) fn look<R: Files<File = F> + AllocGlobal, F: FileExt + Drop>(
         "reader-makes" => stage.reader_makes(rt.alloc(), words),
         "keep" => keep(rt, stage, words),
         "stay" => stay(rt, stage),
+        "held" => stage.hold(rt.alloc(), words),
+        "looks" => stage.look_on(words),
+        "shut" => stage.shut(words),
+        "faults" => stage.fail(words),
+        "calls" => stage.came.print(&mut stage.transcript),
+        "each" => stage.begin_block(rt.alloc(), words),
         _ => Err(malformed()),
     }
 }

@@ -2,10 +2,14 @@
 #![tactic(auto)]
 
 mod commands;
+mod failing;
+mod holding;
 mod looking;
 mod making;
+mod onlooking;
 mod playing;
 mod printed;
+mod rounds;
 mod stage;
 mod staying;
 mod typed;

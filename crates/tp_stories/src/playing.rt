@@ -3,6 +3,7 @@
 use crate::commands::play_command;
 use crate::looking::look;
 use crate::making::make;
+use crate::rounds::{Outcome, count_round, print_outcomes};
 use crate::stage::Stage;
 use std::fs::{Files, OpenFile};
 use std::io::Write;
@@ -10,7 +11,7 @@ use std::os::unix::fs::FileExt;
 use std::rt::Env;
 use std::sync::Wait;
 use std::thread::Threads;
-use std::{fs, io};
+use std::{fs, io, mem};
 
 /// Does what a line asks for.
 fn play_line<
@@ -21,7 +22,8 @@ fn play_line<
     match verb {
         "story" => stage.open(rt, rest),
         _ if !stage.is_open() => Err(io::Error::from(io::ErrorKind::InvalidInput)),
-        "tpnet" => play_command(rt, stage, rest),
+        "tpnet" => play_command(rt, stage, false, rest),
+        "faulty" => play_command(rt, stage, true, rest),
         "image"
         | "text"
         | "bytes"
@@ -58,6 +60,63 @@ fn tell_line<
     }
 }
 
+/// Plays the lines of a round. Answers whether each could be played.
+fn play_round<
+    R: Files<File = F> + Env + AllocGlobal + Threads + Wait + Sync,
+    F: FileExt + OpenFile + Drop + Send,
+>(rt: &R, stage: &mut Stage, lines: &[String]) -> io::Result<bool> {
+    let mut are_played = true;
+    for line in lines {
+        are_played = tell_line(rt, stage, line.as_str())? && are_played;
+    }
+    Ok(are_played)
+}
+
+/// Plays lines again and again, until a faulty command among them is done. Answers whether each could be played.
+fn play_rounds<
+    R: Files<File = F> + Env + AllocGlobal + Threads + Wait + Sync,
+    F: FileExt + OpenFile + Drop + Send,
+>(rt: &R, stage: &mut Stage, lines: &[String], outcomes: &mut Vec<Outcome>) -> io::Result<bool> {
+    for round in 0..stage.most {
+        stage.round = round;
+        let are_played = play_round(rt, stage, lines)?;
+        let none = Vec::new(rt.alloc());
+        count_round(outcomes, mem::replace(&mut stage.transcript, none))?;
+        if !are_played || stage.came.is_done {
+            return Ok(are_played);
+        }
+    }
+    Ok(true)
+}
+
+/// Plays the lines that were kept, and prints what came of them. Answers whether each could be played.
+fn play_block<
+    R: Files<File = F> + Env + AllocGlobal + Threads + Wait + Sync,
+    F: FileExt + OpenFile + Drop + Send,
+>(rt: &R, stage: &mut Stage, are_counted: bool) -> io::Result<bool> {
+    let Some(lines) = stage.block.take() else {
+        return Ok(false);
+    };
+    let mut outcomes = Vec::new(rt.alloc());
+    let are_played = play_rounds(rt, stage, lines.as_slice(), &mut outcomes);
+    print_outcomes(&mut stage.transcript, outcomes.as_slice(), are_counted)?;
+    are_played
+}
+
+/// Plays a line. Those that are played in rounds are kept until all of them are read. Answers whether it could be played.
+fn take_line<
+    R: Files<File = F> + Env + AllocGlobal + Threads + Wait + Sync,
+    F: FileExt + OpenFile + Drop + Send,
+>(rt: &R, stage: &mut Stage, line: &str) -> io::Result<bool> {
+    if line == "end" || line == "end counting" {
+        return play_block(rt, stage, line != "end");
+    }
+    if stage.keep_line(rt.alloc(), line)? {
+        return Ok(true);
+    }
+    tell_line(rt, stage, line)
+}
+
 /// Plays the lines of a text. Answers whether each could be played.
 fn play_lines<
     R: Files<File = F> + Env + AllocGlobal + Threads + Wait + Sync,
@@ -66,7 +125,7 @@ fn play_lines<
 >(rt: &R, stage: &mut Stage, text: &str, out: &mut O) -> io::Result<bool> {
     let mut are_played = true;
     for line in text.lines() {
-        are_played = tell_line(rt, stage, line)? && are_played;
+        are_played = take_line(rt, stage, line)? && are_played;
         out.write_all(stage.transcript.as_slice())?;
         stage.transcript.clear();
     }

@@ -1,9 +1,13 @@
 //! Where a story is played.
 
+use crate::failing::{Came, Plan};
+use crate::holding::Holding;
+use crate::onlooking::Looks;
 use crate::staying::Kept;
-use crate::typed::malformed;
+use crate::typed::{malformed, number_of};
 use std::alloc::Global;
 use std::fs::Files;
+use std::io::ErrorKind;
 use std::rt::Env;
 use std::{env, fs, io};
 
@@ -18,9 +22,27 @@ pub(crate) struct Stage {
     pub(crate) streams: Vec<(&'static str, String)>,
     /// The file that the reader of a stream's standard output makes once something has come, where it makes one.
     pub(crate) made: Option<String>,
+    /// What the reader of standard output says, where it takes nothing.
+    pub(crate) refuses: Option<ErrorKind>,
     /// What files were.
     pub(crate) kept: Vec<Kept>,
+    /// Another process that has devices.
+    pub(crate) holding: Holding,
+    /// Who looks at streams.
+    pub(crate) looks: Looks,
+    /// What becomes of the calls of faulty commands.
+    pub(crate) plan: Plan,
+    /// The number of the round that is played, and how many are at most.
+    pub(crate) round: u64,
+    pub(crate) most: u64,
+    /// What the last faulty command came to.
+    pub(crate) came: Came,
+    /// The lines that are played in rounds, from their first one on until all are read.
+    pub(crate) block: Option<Vec<String>>,
 }
+
+/// How many rounds there are at most, where a story says no other number.
+const MOST: u64 = 200;
 
 impl Stage {
     /// No story has begun.
@@ -30,7 +52,15 @@ impl Stage {
             transcript: Vec::new(alloc),
             streams: Vec::new(alloc),
             made: None,
+            refuses: None,
             kept: Vec::new(alloc),
+            holding: Holding::none(alloc),
+            looks: Looks::PLAIN,
+            plan: Plan::NONE,
+            round: 0,
+            most: MOST,
+            came: Came::new(),
+            block: None,
         }
     }
 
@@ -78,11 +108,69 @@ impl Stage {
         Ok(())
     }
 
+    /// Says that standard output takes nothing in the commands behind this line, as on a full disk or where its reader has gone; with no
+    /// word it takes all.
+    pub(crate) fn shut(&mut self, word: &str) -> io::Result<()> {
+        self.refuses = match word {
+            "" => None,
+            "full" => Some(ErrorKind::StorageFull),
+            "gone" => Some(ErrorKind::BrokenPipe),
+            _ => return Err(malformed()),
+        };
+        Ok(())
+    }
+
+    /// Says what becomes of the calls of the faulty commands behind this line.
+    pub(crate) fn fail(&mut self, words: &str) -> io::Result<()> {
+        self.plan = Plan::read(words)?;
+        self.round = 0;
+        Ok(())
+    }
+
+    /// Says that another process has devices in the commands behind this line; with no word nobody has.
+    pub(crate) fn hold(&mut self, alloc: Global, words: &str) -> io::Result<()> {
+        self.holding = Holding::read(alloc, words)?;
+        Ok(())
+    }
+
+    /// Says who looks at the streams behind this line.
+    pub(crate) fn look_on(&mut self, words: &str) -> io::Result<()> {
+        self.looks = Looks::read(words)?;
+        Ok(())
+    }
+
+    /// Begins lines that are played in rounds.
+    pub(crate) fn begin_block(&mut self, alloc: Global, most: &str) -> io::Result<()> {
+        self.most = if most.is_empty() {
+            MOST
+        } else {
+            number_of(most)?
+        };
+        self.block = Some(Vec::new(alloc));
+        Ok(())
+    }
+
+    /// Keeps a line where it is played in rounds. Answers whether it is.
+    pub(crate) fn keep_line(&mut self, alloc: Global, line: &str) -> io::Result<bool> {
+        match &mut self.block {
+            Some(lines) => {
+                lines.push(String::from_str(alloc, line)?)?;
+                Ok(true)
+            }
+            None => Ok(false),
+        }
+    }
+
     /// Ends the story that has begun, and removes its folder.
     pub(crate) fn close<R: Files + Env + AllocGlobal>(&mut self, rt: &R) -> io::Result<()> {
         self.streams.clear();
         self.made = None;
+        self.refuses = None;
         self.kept.clear();
+        self.holding = Holding::none(rt.alloc());
+        self.looks = Looks::PLAIN;
+        self.plan = Plan::NONE;
+        self.block = None;
         let Some(folder) = self.folder.take() else {
             return Ok(());
         };

@@ -2,15 +2,7 @@
 #![tactic(auto)]
 
 #[cfg(test)]
-mod asking_tests;
-#[cfg(test)]
-mod backup_tests;
-#[cfg(test)]
 mod changing;
-#[cfg(test)]
-mod compact_tests;
-#[cfg(test)]
-mod file_tests;
 #[cfg(test)]
 mod format_tests;
 #[cfg(test)]
@@ -18,18 +10,14 @@ mod holding_tests;
 #[cfg(test)]
 mod opening_tests;
 #[cfg(test)]
+mod output_tests;
+#[cfg(test)]
 mod program;
 #[cfg(test)]
 mod program_tests;
 #[cfg(test)]
 mod run_tests;
 #[cfg(test)]
-mod sessions_program;
-#[cfg(test)]
 mod steady_tests;
-#[cfg(test)]
-mod stop_tests;
-#[cfg(test)]
-mod stream_tests;
 #[cfg(test)]
 mod tests;

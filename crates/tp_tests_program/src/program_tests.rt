@@ -1,9 +1,13 @@
-//! What is asked where words were typed.
+//! What is asked where words were typed, and what is said of words that no story can type.
 
+use std::fs::{Files, OpenFile};
+use std::os::unix::fs::FileExt;
+use std::sync::Wait;
 use std::test::Fail;
+use std::thread::Threads;
 use tp_program::{
-    ArgFault, Asked, BackupAsked, NewDevice, Run, StopAsked, is_backup, is_stop, read_args,
-    read_backup_args, read_stop_args,
+    ArgFault, Asked, BackupAsked, NewDevice, Run, StopAsked, answer, is_backup, is_stop, read_args,
+    read_backup_args, read_stop_args, refuse_in_use,
 };
 use tp_tests_files::scratch::Scratch;
 
@@ -173,4 +177,51 @@ fn the_words_of_a_stop(rt: HostRuntime) -> Result<(), Fail> {
     };
     assert!(rt; line.len() == 257 && is_many);
     scratch.remove(&rt)
+}
+
+/// What the program says on standard error of a line of `count` words: the name that it was called by, and then `run` again and again.
+fn said_of<
+    R: Files<File = F> + AllocGlobal + Threads + Wait + Sync,
+    F: FileExt + OpenFile + Drop + Send,
+>(rt: &R, count: usize) -> Result<String, Fail> {
+    let alloc = rt.alloc();
+    let mut line = Vec::new(alloc);
+    line.push(String::from_str(alloc, "/opt/other")?)?;
+    for _ in 1..count {
+        line.push(String::from_str(alloc, "run")?)?;
+    }
+    let (mut out, mut err) = (Vec::new(alloc), Vec::new(alloc));
+    match answer(rt, line.as_slice(), &mut out, &mut err) {
+        2 => Ok(String::from_utf8(err)?),
+        _ => Err(Fail::new("these words ask for something")),
+    }
+}
+
+/// What is said of words names the program, whatever it was called by.
+#[test]
+fn words_that_are_refused_are_told(rt: HostRuntime) -> Result<(), Fail> {
+    let text = said_of(&rt, 2)?;
+    assert!(rt; text.as_str().contains("Usage: tpnet run ") && !text.as_str().contains("other"));
+    assert_eq!(rt;
+        said_of(&rt, 257)?.as_str(),
+        "tpnet: there are more than 256 words\n"
+    );
+    Ok(())
+}
+
+/// What is said where another process holds the device: one line, and more where the words ask for it.
+#[test]
+fn a_device_in_use_is_told(rt: HostRuntime) -> Result<(), Fail> {
+    let alloc = rt.alloc();
+    let mut line = Vec::new(alloc);
+    let (mut short, mut long) = (Vec::new(alloc), Vec::new(alloc));
+    assert_eq!(rt; refuse_in_use(line.as_slice(), &mut short), 1);
+    assert_eq!(rt; short.as_slice(), b"tpnet: InUse\n".as_slice());
+    line.push(String::from_str(alloc, "--explain")?)?;
+    assert_eq!(rt; refuse_in_use(line.as_slice(), &mut long), 1);
+    assert!(rt;
+        long.as_slice()
+            .starts_with(b"tpnet: InUse\n  Another tpnet ")
+    );
+    Ok(())
 }

@@ -2,14 +2,13 @@
 
 ghost use Rattle.tp_words.specs.Args.{IsRun};
 
-use crate::sessions_program::tpnet;
+use crate::program::tpnet;
 use std::alloc::Global;
 use std::fs::{Files, OpenFile};
 use std::io;
 use std::io::Write;
 use std::os::unix::fs::FileExt;
 use std::sync::Wait;
-use std::sync::atomic::Ordering;
 use std::test::Fail;
 use std::thread::Threads;
 use tp_disk::{Disk, MemDisk, PlannedFault};
@@ -135,19 +134,6 @@ fn each_call_of_the_file_may_fail(rt: HostRuntime) -> Result<(), Fail> {
         calls = number;
     }
     assert!(rt; calls > 12 && calls < 199);
-    scratch.remove(&rt)
-}
-
-/// A file that can't be written isn't run, and stays.
-#[test]
-fn a_file_to_read_alone(rt: HostRuntime) -> Result<(), Fail> {
-    let scratch = device(&rt, "run_reads", letter(rt.alloc())?.as_slice(), "16384")?;
-    let before = scratch.read(&rt, "device")?;
-    let faults = Faults::to_read();
-    let files = FaultyFiles::new(&rt, &faults);
-    assert!(rt; tpnet(&files, &scratch, FOUR)?.is(1, "", "tpnet: ReadFailed\n"));
-    assert!(rt; faults.writable.load(Ordering::SeqCst));
-    assert_eq!(rt; scratch.read(&rt, "device")?.as_slice(), before.as_slice());
     scratch.remove(&rt)
 }
 

@@ -1,0 +1,81 @@
+//! Another process, which has the devices.
+
+use crate::typed::{malformed, parted};
+use std::alloc::Global;
+use std::fs::Files;
+use std::{fs, io};
+use tp_program::{Held, InUse, Locks, NoLock};
+
+/// How often another process is asked for a device in vain, before it lets it go; and the file that it removes behind each of the asks up
+/// to one.
+#[derive(Drop)]
+pub(crate) struct Holding {
+    vain: u32,
+    takes: u32,
+    file: String,
+}
+
+/// The number that a word is; 0 where there is none.
+fn asks_of(word: &str) -> io::Result<u32> {
+    match word {
+        "" => Ok(0),
+        _ => word.parse::<u32>().map_err(|_| malformed()),
+    }
+}
+
+impl Holding {
+    /// Nobody else has a device.
+    pub(crate) fn none(alloc: Global) -> Holding {
+        Holding {
+            vain: 0,
+            takes: 0,
+            file: String::new(alloc),
+        }
+    }
+
+    /// What words say: `VAIN TAKES FILE`.
+    pub(crate) fn read(alloc: Global, words: &str) -> io::Result<Holding> {
+        let (vain, rest) = parted(words);
+        let (takes, file) = parted(rest);
+        Ok(Holding {
+            vain: asks_of(vain)?,
+            takes: asks_of(takes)?,
+            file: String::from_str(alloc, file)?,
+        })
+    }
+
+    /// The other process, as it is when a command begins.
+    pub(crate) fn other<'a, R>(&'a self, rt: &'a R) -> Other<'a, R> {
+        Other {
+            rt,
+            vain: self.vain,
+            takes: self.takes,
+            file: self.file.as_str(),
+        }
+    }
+}
+
+/// The other process.
+#[derive(Drop)]
+pub(crate) struct Other<'a, R> {
+    rt: &'a R,
+    vain: u32,
+    takes: u32,
+    file: &'a str,
+}
+
+impl<'a, R: Files> Locks for Other<'a, R> {
+    type Lock = NoLock;
+
+    fn take(&mut self, path: &str, _seconds: u32) -> Result<Held<NoLock>, InUse> {
+        if self.takes > 0 {
+            self.takes = self.takes.saturating_sub(1);
+            let _missing = fs::remove_file(self.rt, self.file);
+        }
+        if self.vain == 0 {
+            return Ok(Held::new(path, NoLock));
+        }
+        self.vain = self.vain.saturating_sub(1);
+        Err(InUse)
+    }
+}
