@@ -25,11 +25,11 @@ pub(crate) struct Pace {
     pub(crate) count: usize,
 }
 
-/// A device in memory that keeps the list of what was written to it. Once it is rewound, the writes come to pass again while it is read.
+/// What a device in memory holds, and the list of what was written to it. Once it is rewound, the writes come to pass again while it is
+/// read.
 #[derive(Drop)]
-pub(crate) struct RawChanging {
+pub(crate) struct Changing {
     alloc: Global,
-    size: u64,
     first: Vec<u8>,
     bytes: Vec<u8>,
     writes: Vec<Written>,
@@ -39,12 +39,11 @@ pub(crate) struct RawChanging {
     calls: u64,
 }
 
-impl RawChanging {
+impl Changing {
     /// A device that holds `bytes`.
-    pub(crate) fn new(alloc: Global, bytes: &[u8]) -> Result<RawChanging, AllocError> {
-        Ok(RawChanging {
+    pub(crate) fn new(alloc: Global, bytes: &[u8]) -> Result<Changing, AllocError> {
+        Ok(Changing {
             alloc,
-            size: bytes.len() as u64,
             first: Vec::from_slice(alloc, bytes)?,
             bytes: Vec::from_slice(alloc, bytes)?,
             writes: Vec::new(alloc),
@@ -70,9 +69,7 @@ impl RawChanging {
     }
 
     /// Goes back to where the first `done` writes had come to pass. The others come to pass at `pace`, where there is one.
-    pub(crate) fn rewind(&mut self, done: usize, pace: Option<Pace>)
-        ensures { self.new.size ≡ self.old.size }
-    {
+    pub(crate) fn rewind(&mut self, done: usize, pace: Option<Pace>) {
         place(&mut self.bytes, 0, &self.first);
         self.done = 0;
         self.come_to_pass(done);
@@ -81,10 +78,8 @@ impl RawChanging {
     }
 
     /// Some more writes come to pass.
-    fn come_to_pass(&mut self, count: usize)
-        ensures { self.new.size ≡ self.old.size }
-    {
-        let RawChanging {
+    fn come_to_pass(&mut self, count: usize) {
+        let Changing {
             bytes,
             writes,
             done,
@@ -97,9 +92,7 @@ impl RawChanging {
     }
 
     /// Counts a call. The writes that come before it come to pass.
-    fn begin(&mut self)
-        ensures { self.new.size ≡ self.old.size }
-    {
+    fn begin(&mut self) {
         let call = self.calls;
         self.calls = call.saturating_add(1);
         if let Some(pace) = self.pace {
@@ -114,18 +107,38 @@ impl RawChanging {
     }
 
     /// Writes bytes, and keeps them.
-    pub(crate) fn write(&mut self, at: u64, bytes: &[u8]) -> Result<(), AllocError>
-        ensures { self.new.size ≡ self.old.size }
-    {
+    pub(crate) fn write(&mut self, at: u64, bytes: &[u8]) -> Result<(), AllocError> {
         let (at, bytes) = (at as usize, Vec::from_slice(self.alloc, bytes)?);
         place(&mut self.bytes, at, &bytes);
         self.writes.push(Written { at, bytes })?;
         self.done = self.writes.len();
         Ok(())
     }
+
+    /// Reads what it holds from a place on, behind the writes that come to pass before this call.
+    fn read(&mut self, at: u64, out: &mut [u8]) {
+        self.begin();
+        let start = (at as usize).min(self.bytes.len());
+        place(out, 0, &self.bytes[start..]);
+    }
+
+    /// The device.
+    pub(crate) fn disk(&mut self) -> RawChanging<'_> {
+        RawChanging {
+            size: self.bytes.len() as u64,
+            changing: self,
+        }
+    }
 }
 
-impl RawDisk for RawChanging {
+/// A device over that, which is lent it.
+#[derive(Drop)]
+pub(crate) struct RawChanging<'a> {
+    size: u64,
+    changing: &'a mut Changing,
+}
+
+impl<'a> RawDisk for RawChanging<'a> {
     ghost size_of = { λ d. d.size };
 
     ghost keeps = { changing_keeps };
@@ -144,9 +157,7 @@ impl RawDisk for RawChanging {
         ensures after { changing_keeps → OnOk result (unknown.now ≡ done Read unknown.now) }
         ensures failed { changing_keeps → OnErr result (Fails Read unknown unknown) }
     {
-        self.begin();
-        let start = (at as usize).min(self.bytes.len());
-        place(out, 0, &self.bytes[start..]);
+        self.changing.read(at, out);
         Ok(())
     }
 
@@ -157,7 +168,7 @@ impl RawDisk for RawChanging {
         ensures after { changing_keeps → OnOk result (unknown.now ≡ done (Write at bytes.now) unknown.now) }
         ensures failed { changing_keeps → OnErr result (Fails (Write at bytes.now) unknown unknown) }
     {
-        match self.write(at, bytes) {
+        match self.changing.write(at, bytes) {
             Ok(()) => Ok(()),
             Err(_) => Err(DeviceFailed),
         }
@@ -170,7 +181,7 @@ impl RawDisk for RawChanging {
         ensures after { changing_keeps → OnOk result (unknown.now ≡ done Sync unknown.now) }
         ensures failed { changing_keeps → OnErr result (Fails Sync unknown unknown) }
     {
-        self.begin();
+        self.changing.begin();
         Ok(())
     }
 

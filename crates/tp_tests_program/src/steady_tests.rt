@@ -1,6 +1,6 @@
 //! What commands that read a device say of one that another process writes meanwhile.
 
-use crate::changing::{Pace, RawChanging};
+use crate::changing::{Changing, Pace};
 use crate::format_tests::{AREA, images_of};
 use std::alloc::Global;
 use std::sync::Wait;
@@ -46,41 +46,45 @@ const FURTHER: &[u8] = &[
 /// The groups that are appended, each with the place of its gate. A checkpoint comes behind each.
 const GROUPS: &[(u64, &[u8])] = &[(13_033, TURNS), (29_417, FURTHER)];
 
-/// A device, as it is formatted.
-fn formatted(alloc: Global) -> Result<RawChanging, Fail> {
+/// Formats a device. Answers the status.
+fn format_over(alloc: Global, changing: &mut Changing) -> Result<u8, Fail> {
+    let images = images_of(alloc, letter(alloc)?)?;
     let Ok(topology) = Topology::read(alloc, ONE_NODE) else {
         return Err(Fail::new("the topology"));
     };
     let _rules = topology.pages();
-    let images = images_of(alloc, letter(alloc)?)?;
-    let zeros = Vec::from_elem(alloc, 0u8, SIZE)?;
-    let mut disk = Counted::new(RawChanging::new(alloc, &zeros)?);
+    let mut disk = Counted::new(changing.disk());
     let (mut out, mut err) = (Vec::new(alloc), Vec::new(alloc));
-    match format_on(
+    let status = format_on(
         alloc, &mut disk, &topology, &images, AREA, &mut out, &mut err,
-    ) {
-        0 => Ok(disk.into_raw()),
+    );
+    Ok(status)
+}
+
+/// A device, as it is formatted.
+fn formatted(alloc: Global) -> Result<Changing, Fail> {
+    let zeros = Vec::from_elem(alloc, 0u8, SIZE)?;
+    let mut changing = Changing::new(alloc, &zeros)?;
+    match format_over(alloc, &mut changing) {
+        Ok(0) => Ok(changing),
         _ => Err(Fail::new("not formatted")),
     }
 }
 
-/// Appends a group as a run does, its gate last, and then takes a checkpoint.
+/// Appends a group as a run does, its gate last, and then takes a checkpoint. Answers the status of that.
 fn stepped<R: AllocGlobal + Wait>(
     rt: &R,
-    raw: RawChanging,
+    changing: &mut Changing,
     gate: u64,
     body: &[u8],
-) -> Result<RawChanging, Fail> {
-    let (alloc, mut raw) = (rt.alloc(), raw);
-    raw.write(gate.wrapping_add(1), body)?;
-    raw.write(gate, &[0xA5])?;
+) -> Result<u8, Fail> {
+    changing.write(gate.wrapping_add(1), body)?;
+    changing.write(gate, &[0xA5])?;
+    let alloc = rt.alloc();
     let (mut out, mut err) = (Vec::new(alloc), Vec::new(alloc));
-    let (disk, status) = compact_on(rt, alloc, Counted::new(raw), &mut out, &mut err);
-    if status == 0 {
-        Ok(disk.into_raw())
-    } else {
-        Err(Fail::new("no checkpoint"))
-    }
+    let disk = Counted::new(changing.disk());
+    let (_disk, status) = compact_on(rt, alloc, disk, &mut out, &mut err);
+    Ok(status)
 }
 
 /// Makes a copy of a device, and shows it. Answers the status.
@@ -100,10 +104,10 @@ fn show_copy<D: Disk>(
 /// What a command says of a device.
 fn asked<R: AllocGlobal + Threads + Sync>(
     rt: &R,
-    raw: RawChanging,
+    changing: &mut Changing,
     reader: Reader,
-) -> Result<(RawChanging, Output), Fail> {
-    let (alloc, mut disk) = (rt.alloc(), Counted::new(raw));
+) -> Result<Output, Fail> {
+    let (alloc, mut disk) = (rt.alloc(), Counted::new(changing.disk()));
     let (mut out, mut err) = (Vec::new(alloc), Vec::new(alloc));
     let status = match reader {
         Reader::Recover(workers) => recover_on(rt, alloc, &mut disk, workers, &mut out, &mut err),
@@ -111,22 +115,20 @@ fn asked<R: AllocGlobal + Threads + Sync>(
         Reader::Look(view) => view_on(alloc, &mut disk, view, &mut out, &mut err),
         Reader::Backup => show_copy(alloc, &mut disk, &mut out, &mut err)?,
     };
-    Ok((disk.into_raw(), Output { status, out, err }))
+    Ok(Output { status, out, err })
 }
 
 /// What `show` says behind each of the writes, where the device then stays as it is.
 fn said_of_each<R: AllocGlobal + Threads + Sync>(
     rt: &R,
-    raw: RawChanging,
-) -> Result<(RawChanging, Vec<Output>), Fail> {
-    let (mut raw, mut said) = (raw, Vec::new(rt.alloc()));
-    for done in 0..=raw.count() {
-        raw.rewind(done, None);
-        let (back, output) = asked(rt, raw, Reader::Show)?;
-        raw = back;
-        said.push(output)?;
+    changing: &mut Changing,
+) -> Result<Vec<Output>, Fail> {
+    let mut said = Vec::new(rt.alloc());
+    for done in 0..=changing.count() {
+        changing.rewind(done, None);
+        said.push(asked(rt, changing, Reader::Show)?)?;
     }
-    Ok((raw, said))
+    Ok(said)
 }
 
 fn is_alike(one: &Output, other: &Output) -> bool {
@@ -148,63 +150,79 @@ fn is_of_a_moment(said: &[Output], from: usize, upto: usize, output: &Output) ->
 /// pass. Answers how often what was said is of no moment in between.
 fn asked_meanwhile<R: AllocGlobal + Threads + Sync>(
     rt: &R,
-    raw: RawChanging,
+    changing: &mut Changing,
     reader: Reader,
     said: &[Output],
     from: usize,
     count: usize,
-) -> Result<(RawChanging, usize), Fail> {
-    let (mut raw, _still) = asked(rt, raw, reader)?;
-    let (calls, mut wrong) = (raw.calls(), 0usize);
+) -> Result<usize, Fail> {
+    let _still = asked(rt, changing, reader)?;
+    let (calls, mut wrong) = (changing.calls(), 0usize);
     for first in 0..calls {
         let pace = Pace {
             first,
             period: 1,
             count,
         };
-        raw.rewind(from, Some(pace));
-        let (back, output) = asked(rt, raw, reader)?;
-        raw = back;
-        if !is_of_a_moment(said, from, raw.done(), &output) {
+        changing.rewind(from, Some(pace));
+        let output = asked(rt, changing, reader)?;
+        if !is_of_a_moment(said, from, changing.done(), &output) {
             wrong = wrong.saturating_add(1);
         }
     }
-    raw.rewind(raw.count(), None);
-    Ok((raw, wrong))
+    changing.rewind(changing.count(), None);
+    Ok(wrong)
 }
 
 /// How many writes have come to pass when the device is read, and how many come to pass before each call: the first are those of the
 /// format.
 const PACES: &[(usize, usize)] = &[(0, 1), (7, 1), (7, 3), (7, usize::MAX)];
 
+/// Appends the groups, and takes their checkpoints.
+fn grow<R: AllocGlobal + Wait>(rt: &R, changing: &mut Changing) -> Result<(), Fail> {
+    for (gate, body) in GROUPS {
+        if stepped(rt, changing, *gate, body)? != 0 {
+            return Err(Fail::new("no checkpoint"));
+        }
+    }
+    Ok(())
+}
+
 /// How often a command says of a device what is of no moment in between, at those paces.
-fn asked_at_each_pace<R: AllocGlobal + Threads + Wait + Sync>(
+fn wrong_at_each_pace<R: AllocGlobal + Threads + Sync>(
     rt: &R,
+    changing: &mut Changing,
     reader: Reader,
 ) -> Result<usize, Fail> {
-    let mut raw = formatted(rt.alloc())?;
-    for (gate, body) in GROUPS {
-        raw = stepped(rt, raw, *gate, body)?;
-    }
-    let (mut raw, said) = said_of_each(rt, raw)?;
+    let said = said_of_each(rt, changing)?;
     let mut wrong = 0usize;
     for (from, count) in PACES {
-        let (back, more) = asked_meanwhile(rt, raw, reader, &said, *from, *count)?;
-        raw = back;
+        let more = asked_meanwhile(rt, changing, reader, &said, *from, *count)?;
         wrong = wrong.saturating_add(more);
     }
     Ok(wrong)
 }
 
+/// Whether a command says of a device that has grown what is of a moment in between, at those paces.
+fn is_of_one_moment<R: AllocGlobal + Threads + Wait + Sync>(
+    rt: &R,
+    reader: Reader,
+) -> Result<bool, Fail> {
+    let mut changing = formatted(rt.alloc())?;
+    let is_grown = grow(rt, &mut changing).is_ok();
+    let wrong = wrong_at_each_pace(rt, &mut changing, reader);
+    Ok(is_grown && matches!(wrong, Ok(0)))
+}
+
 #[test]
 fn an_answer_is_of_one_moment(rt: HostRuntime) -> Result<(), Fail> {
-    assert_eq!(rt; asked_at_each_pace(&rt, Reader::Show)?, 0);
+    assert!(rt; is_of_one_moment(&rt, Reader::Show)?);
     Ok(())
 }
 
 #[test]
 fn a_copy_is_of_one_moment(rt: HostRuntime) -> Result<(), Fail> {
-    assert_eq!(rt; asked_at_each_pace(&rt, Reader::Backup)?, 0);
+    assert!(rt; is_of_one_moment(&rt, Reader::Backup)?);
     Ok(())
 }
 
@@ -241,31 +259,38 @@ const SWITCHES: &[[(usize, &[u8]); 3]] = &[
     ],
 ];
 
-/// A device to which that was written.
-fn switched(alloc: Global) -> Result<RawChanging, Fail> {
-    let mut raw = formatted(alloc)?;
+/// Writes that to a device.
+fn switch(changing: &mut Changing) -> Result<(), Fail> {
     for (at, bytes) in SWITCHES.iter().flatten() {
-        raw.write(*at as u64, bytes)?;
+        changing.write(*at as u64, bytes)?;
     }
-    Ok(raw)
+    Ok(())
 }
 
-/// Whether `show` says what is so behind the switches, where they come while it reads.
-fn is_not_overlooked<R: AllocGlobal + Threads + Sync>(rt: &R) -> Result<bool, Fail> {
-    let mut raw = switched(rt.alloc())?;
-    let count = raw.count();
-    let (mut raw, still) = asked(rt, raw, Reader::Show)?;
+/// Whether `show` says of a device to which that was written what is so behind the switches, where they come while it reads.
+fn sees_switches<R: AllocGlobal + Threads + Sync>(
+    rt: &R,
+    changing: &mut Changing,
+) -> Result<bool, Fail> {
+    let still = asked(rt, changing, Reader::Show)?;
+    let count = changing.count();
     let from = count.wrapping_sub(SWITCHES.len().wrapping_mul(3));
-    raw.rewind(
-        from,
-        Some(Pace {
-            first: 0,
-            period: 1,
-            count: 3,
-        }),
-    );
-    let (raw, output) = asked(rt, raw, Reader::Show)?;
-    Ok(output.status == 0 && is_alike(&output, &still) && raw.done() == count)
+    let pace = Pace {
+        first: 0,
+        period: 1,
+        count: 3,
+    };
+    changing.rewind(from, Some(pace));
+    let output = asked(rt, changing, Reader::Show)?;
+    Ok(output.status == 0 && is_alike(&output, &still) && changing.done() == count)
+}
+
+/// Whether no switch is overlooked.
+fn is_not_overlooked<R: AllocGlobal + Threads + Sync>(rt: &R) -> Result<bool, Fail> {
+    let mut changing = formatted(rt.alloc())?;
+    let is_switched = switch(&mut changing).is_ok();
+    let sees = sees_switches(rt, &mut changing);
+    Ok(is_switched && matches!(sees, Ok(true)))
 }
 
 #[test]
@@ -275,13 +300,12 @@ fn no_switch_is_overlooked(rt: HostRuntime) -> Result<(), Fail> {
 }
 
 /// Writes to the area that counts, each a generation two above the one before it, as two checkpoints leave it.
-fn aged(alloc: Global, times: u8) -> Result<RawChanging, Fail> {
-    let mut raw = formatted(alloc)?;
+fn age(changing: &mut Changing, times: u8) -> Result<(), Fail> {
     for time in 1..=times {
         let generation = time.wrapping_mul(2).wrapping_add(1);
-        raw.write(512, &[0xA5, generation, 0, 0, 0, 0, 0, 0, 0])?;
+        changing.write(512, &[0xA5, generation, 0, 0, 0, 0, 0, 0, 0])?;
     }
-    Ok(raw)
+    Ok(())
 }
 
 /// All of a journal.
@@ -320,27 +344,25 @@ fn call_of(reader: Reader, calls: u64) -> u64 {
     }
 }
 
-/// Whether a command says what it has to of a device that is written once in each try.
+/// Whether a command says what it has to of a device whose last writes, that many, come once in each try.
 fn is_tried<R: AllocGlobal + Threads + Sync>(
     rt: &R,
+    changing: &mut Changing,
     reader: Reader,
     times: u8,
     is_read: bool,
 ) -> Result<bool, Fail> {
-    let mut raw = aged(rt.alloc(), times)?;
-    let count = raw.count();
-    raw.rewind(count, None);
-    let (mut raw, still) = asked(rt, raw, reader)?;
-    let (from, calls) = (count.wrapping_sub(usize::from(times)), raw.calls());
-    raw.rewind(
-        from,
-        Some(Pace {
-            first: call_of(reader, calls),
-            period: calls,
-            count: 1,
-        }),
-    );
-    let (_raw, output) = asked(rt, raw, reader)?;
+    let count = changing.count();
+    changing.rewind(count, None);
+    let still = asked(rt, changing, reader)?;
+    let (from, calls) = (count.wrapping_sub(usize::from(times)), changing.calls());
+    let pace = Pace {
+        first: call_of(reader, calls),
+        period: calls,
+        count: 1,
+    };
+    changing.rewind(from, Some(pace));
+    let output = asked(rt, changing, reader)?;
     Ok(if is_read {
         is_alike(&output, &still)
     } else {
@@ -348,10 +370,23 @@ fn is_tried<R: AllocGlobal + Threads + Sync>(
     })
 }
 
+/// Whether it does so where a device is written that many times.
+fn says_so<R: AllocGlobal + Threads + Sync>(
+    rt: &R,
+    reader: Reader,
+    times: u8,
+    is_read: bool,
+) -> Result<bool, Fail> {
+    let mut changing = formatted(rt.alloc())?;
+    let is_aged = age(&mut changing, times).is_ok();
+    let says_so = is_tried(rt, &mut changing, reader, times, is_read);
+    Ok(is_aged && matches!(says_so, Ok(true)))
+}
+
 #[test]
 fn a_device_is_tried_twenty_times(rt: HostRuntime) -> Result<(), Fail> {
     for (reader, times, is_read) in TRIES {
-        assert!(rt; is_tried(&rt, *reader, *times, *is_read)?);
+        assert!(rt; says_so(&rt, *reader, *times, *is_read)?);
     }
     Ok(())
 }
