@@ -99,6 +99,7 @@ fn play_block<
     };
     let mut outcomes = Vec::new(rt.alloc());
     let are_played = play_rounds(rt, stage, lines.as_slice(), &mut outcomes);
+    stage.round = 0;
     print_outcomes(&mut stage.transcript, outcomes.as_slice(), are_counted)?;
     are_played
 }
