@@ -38,3 +38,9 @@ tpnet try a.img --turns 4 --explain
 tpnet try a.img --turns 0 --explain
 # One that goes round hasn't halted.
 tpnet try b.img --turns 4 --explain
+
+story shut
+# Where standard output can't be written the letter is lost, and that is said.
+image a.img
+shut gone
+tpnet try a.img --turns 4

@@ -100,6 +100,6 @@ fn a_device_in_use_is_left_alone(rt: HostRuntime) -> Result<(), Fail> {
     let scratch = device(&rt, "in_use", echo(rt.alloc())?.as_slice(), "16384")?;
     let before = scratch.read(&rt, "device")?;
     assert!(rt; is_stream_refused(&rt, &scratch)?);
-    assert_eq!(rt; scratch.read(&rt, "device")?.as_slice(), before.as_slice());
+    assert!(rt; scratch.read(&rt, "device")?.as_slice() == before.as_slice());
     scratch.remove(&rt)
 }

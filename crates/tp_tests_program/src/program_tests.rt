@@ -1,5 +1,6 @@
 //! What is asked where words were typed, and what is said of words that no story can type.
 
+use std::alloc::Global;
 use std::fs::{Files, OpenFile};
 use std::os::unix::fs::FileExt;
 use std::sync::Wait;
@@ -9,7 +10,6 @@ use tp_program::{
     ArgFault, Asked, BackupAsked, NewDevice, Run, StopAsked, answer, is_backup, is_stop, read_args,
     read_backup_args, read_stop_args, refuse_in_use,
 };
-use tp_tests_files::scratch::Scratch;
 
 fn is_device(new: &NewDevice) -> bool {
     new.device.as_str() == "d"
@@ -19,25 +19,38 @@ fn is_device(new: &NewDevice) -> bool {
         && !new.only_new
 }
 
-#[test]
-fn the_greatest_numbers(rt: HostRuntime) -> Result<(), Fail> {
-    let alloc = rt.alloc();
-    let scratch = Scratch::new(&rt, "numbers")?;
-    let line = scratch.line(alloc, &["try", "a.img", "--turns", "4294967295"])?;
-    let is_tried = match read_args(alloc, line.as_slice()) {
+/// The program's name, and words behind it.
+fn line_of(alloc: Global, words: &[&str]) -> Result<Vec<String>, Fail> {
+    let mut line = Vec::new(alloc);
+    line.push(String::from_str(alloc, "tpnet")?)?;
+    for word in words {
+        line.push(String::from_str(alloc, word)?)?;
+    }
+    Ok(line)
+}
+
+/// Whether words ask for a try of that many turns, or for a device of that many bytes.
+fn asks_greatest(alloc: Global, line: &[String]) -> bool {
+    match read_args(alloc, line) {
         Ok(Asked::Try { image, turns }) => image.as_str() == "a.img" && turns == 4_294_967_295,
-        Ok(_other) => false,
-        Err(_fault) => false,
-    };
-    assert!(rt; is_tried);
-    let line = scratch.line(alloc, &["format", "d", "t", "i", "1099511627776"])?;
-    let is_made = match read_args(alloc, line.as_slice()) {
         Ok(Asked::Format(new)) => is_device(&new),
         Ok(_other) => false,
         Err(_fault) => false,
-    };
-    assert!(rt; is_made);
-    scratch.remove(&rt)
+    }
+}
+
+const GREATEST: &[&[&str]] = &[
+    &["try", "a.img", "--turns", "4294967295"],
+    &["format", "d", "t", "i", "1099511627776"],
+];
+
+#[test]
+fn the_greatest_numbers(rt: HostRuntime) -> Result<(), Fail> {
+    for words in GREATEST {
+        let line = line_of(rt.alloc(), words)?;
+        assert!(rt; asks_greatest(rt.alloc(), line.as_slice()));
+    }
+    Ok(())
 }
 
 /// A run that is asked for: its device, turns, workers, steps of a turn, spare frames, entries between snapshots, port and input.
@@ -92,21 +105,24 @@ fn is_run(run: &Run, wanted: &Wanted) -> bool {
     is_shared && is_placed && run.spare == spare && run.every == every
 }
 
+/// Whether options ask for that run.
+fn asks_run(alloc: Global, options: &[&str], wanted: &Wanted) -> Result<bool, Fail> {
+    let mut words = Vec::from_slice(alloc, &["run"])?;
+    words.extend_from_slice(options)?;
+    let line = line_of(alloc, words.as_slice())?;
+    Ok(match read_args(alloc, line.as_slice()) {
+        Ok(Asked::Run(run)) => is_run(&run, wanted),
+        Ok(_other) => false,
+        Err(_fault) => false,
+    })
+}
+
 #[test]
 fn each_option_of_a_run(rt: HostRuntime) -> Result<(), Fail> {
-    let scratch = Scratch::new(&rt, "options")?;
     for (options, wanted) in RUNS {
-        let mut words = Vec::from_slice(rt.alloc(), &["run"])?;
-        words.extend_from_slice(options)?;
-        let line = scratch.line(rt.alloc(), words.as_slice())?;
-        let is_wanted = match read_args(rt.alloc(), line.as_slice()) {
-            Ok(Asked::Run(run)) => is_run(&run, wanted),
-            Ok(_other) => false,
-            Err(_fault) => false,
-        };
-        assert!(rt; is_wanted);
+        assert!(rt; asks_run(rt.alloc(), options, wanted)?);
     }
-    scratch.remove(&rt)
+    Ok(())
 }
 
 /// Words of a backup, behind which stand its device `d` and its copy `c`.
@@ -117,32 +133,27 @@ const BACKUPS: &[&[&str]] = &[
     &["backup", "--", "d", "c"],
 ];
 
-/// The device comes first, and the copy behind it. Words that are none of `backup` are such nowhere, and more than 256 are too many.
+/// Whether words ask for that backup.
+fn asks_backup(alloc: Global, line: &[String]) -> bool {
+    match read_backup_args(alloc, line) {
+        Ok(BackupAsked::Make(backup)) => {
+            backup.device.as_str() == "d" && backup.copy.as_str() == "c"
+        }
+        Ok(_other) => false,
+        Err(_fault) => false,
+    }
+}
+
+/// The device comes first, and the copy behind it. Words that are none of `backup` are such nowhere.
 #[test]
 fn the_words_of_a_backup(rt: HostRuntime) -> Result<(), Fail> {
-    let scratch = Scratch::new(&rt, "backup_words")?;
     for words in BACKUPS {
-        let line = scratch.line(rt.alloc(), words)?;
-        let is_wanted = match read_backup_args(rt.alloc(), line.as_slice()) {
-            Ok(BackupAsked::Make(backup)) => {
-                backup.device.as_str() == "d" && backup.copy.as_str() == "c"
-            }
-            Ok(_other) => false,
-            Err(_fault) => false,
-        };
-        assert!(rt; is_wanted && is_backup(line.as_slice()));
+        let line = line_of(rt.alloc(), words)?;
+        assert!(rt; asks_backup(rt.alloc(), line.as_slice()) && is_backup(line.as_slice()));
     }
-    let line = scratch.line(rt.alloc(), &["show", "backup"])?;
+    let line = line_of(rt.alloc(), &["show", "backup"])?;
     assert!(rt; !is_backup(line.as_slice()));
-    let mut words = Vec::from_elem(rt.alloc(), "d", 256)?;
-    words[0] = "backup";
-    let line = scratch.line(rt.alloc(), words.as_slice())?;
-    let is_many = match read_backup_args(rt.alloc(), line.as_slice()) {
-        Err(ArgFault::Many) => true,
-        _ => false,
-    };
-    assert!(rt; line.len() == 257 && is_many);
-    scratch.remove(&rt)
+    Ok(())
 }
 
 /// Words of a stop of the device `d`, and how many seconds it waits.
@@ -153,30 +164,58 @@ const STOPS: &[(&[&str], Option<u32>)] = &[
     (&["stop", "--wait=4294967", "--", "d"], Some(4_294_967)),
 ];
 
-/// It waits as long as was typed, and else not at all. Words that are none of `stop` are such nowhere, and more than 256 are too many.
+/// Whether words ask for a stop that waits so long.
+fn asks_stop(alloc: Global, line: &[String], wait: Option<u32>) -> bool {
+    match read_stop_args(alloc, line) {
+        Ok(StopAsked::Ask(asked)) => asked.device.as_str() == "d" && asked.wait == wait,
+        Ok(_other) => false,
+        Err(_fault) => false,
+    }
+}
+
+/// It waits as long as was typed, and else not at all. Words that are none of `stop` are such nowhere.
 #[test]
 fn the_words_of_a_stop(rt: HostRuntime) -> Result<(), Fail> {
-    let scratch = Scratch::new(&rt, "stop_words")?;
     for (words, wait) in STOPS {
-        let line = scratch.line(rt.alloc(), words)?;
-        let is_wanted = match read_stop_args(rt.alloc(), line.as_slice()) {
-            Ok(StopAsked::Ask(asked)) => asked.device.as_str() == "d" && asked.wait == *wait,
-            Ok(_other) => false,
-            Err(_fault) => false,
-        };
-        assert!(rt; is_wanted && is_stop(line.as_slice()));
+        let line = line_of(rt.alloc(), words)?;
+        assert!(rt; asks_stop(rt.alloc(), line.as_slice(), *wait) && is_stop(line.as_slice()));
     }
-    let line = scratch.line(rt.alloc(), &["show", "stop"])?;
+    let line = line_of(rt.alloc(), &["show", "stop"])?;
     assert!(rt; !is_stop(line.as_slice()));
-    let mut words = Vec::from_elem(rt.alloc(), "d", 256)?;
-    words[0] = "stop";
-    let line = scratch.line(rt.alloc(), words.as_slice())?;
-    let is_many = match read_stop_args(rt.alloc(), line.as_slice()) {
+    Ok(())
+}
+
+/// A line of 257 words, the program's name first and then this one.
+fn long_line(alloc: Global, first: &str) -> Result<Vec<String>, Fail> {
+    let mut words = Vec::from_elem(alloc, "d", 256)?;
+    words[0] = first;
+    line_of(alloc, words.as_slice())
+}
+
+/// Whether words are too many for a backup.
+fn are_many(alloc: Global, line: &[String]) -> bool {
+    match read_backup_args(alloc, line) {
         Err(ArgFault::Many) => true,
         _ => false,
-    };
-    assert!(rt; line.len() == 257 && is_many);
-    scratch.remove(&rt)
+    }
+}
+
+/// Whether they are for a stop.
+fn are_many_of_stop(alloc: Global, line: &[String]) -> bool {
+    match read_stop_args(alloc, line) {
+        Err(ArgFault::Many) => true,
+        _ => false,
+    }
+}
+
+/// More than 256 words are too many.
+#[test]
+fn words_may_be_too_many(rt: HostRuntime) -> Result<(), Fail> {
+    let line = long_line(rt.alloc(), "backup")?;
+    assert!(rt; line.len() == 257 && are_many(rt.alloc(), line.as_slice()));
+    let line = long_line(rt.alloc(), "stop")?;
+    assert!(rt; line.len() == 257 && are_many_of_stop(rt.alloc(), line.as_slice()));
+    Ok(())
 }
 
 /// What the program says on standard error of a line of `count` words: the name that it was called by, and then `run` again and again.
@@ -202,23 +241,26 @@ fn said_of<
 fn words_that_are_refused_are_told(rt: HostRuntime) -> Result<(), Fail> {
     let text = said_of(&rt, 2)?;
     assert!(rt; text.as_str().contains("Usage: tpnet run ") && !text.as_str().contains("other"));
-    assert_eq!(rt;
-        said_of(&rt, 257)?.as_str(),
-        "tpnet: there are more than 256 words\n"
-    );
+    assert!(rt; said_of(&rt, 257)?.as_str() == "tpnet: there are more than 256 words\n");
     Ok(())
 }
 
-/// What is said where another process holds the device: one line, and more where the words ask for it.
+/// What is said where another process holds the device that these words name.
+fn refused_as(alloc: Global, words: &[&str]) -> Result<Vec<u8>, Fail> {
+    let line = line_of(alloc, words)?;
+    let mut err = Vec::new(alloc);
+    match refuse_in_use(line.as_slice(), &mut err) {
+        1 => Ok(err),
+        _ => Err(Fail::new("another status")),
+    }
+}
+
+/// One line is said there, and more where the words ask for it.
 #[test]
 fn a_device_in_use_is_told(rt: HostRuntime) -> Result<(), Fail> {
-    let alloc = rt.alloc();
-    let mut line = Vec::new(alloc);
-    let (mut short, mut long) = (Vec::new(alloc), Vec::new(alloc));
-    assert_eq!(rt; refuse_in_use(line.as_slice(), &mut short), 1);
-    assert_eq!(rt; short.as_slice(), b"tpnet: InUse\n".as_slice());
-    line.push(String::from_str(alloc, "--explain")?)?;
-    assert_eq!(rt; refuse_in_use(line.as_slice(), &mut long), 1);
+    let short = refused_as(rt.alloc(), &[])?;
+    assert!(rt; short.as_slice() == b"tpnet: InUse\n".as_slice());
+    let long = refused_as(rt.alloc(), &["--explain"])?;
     assert!(rt;
         long.as_slice()
             .starts_with(b"tpnet: InUse\n  Another tpnet ")
