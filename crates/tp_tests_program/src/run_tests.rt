@@ -118,17 +118,29 @@ fn goes_on<
     Ok(is_said && unconfirmed.status == 0 && again.status == 0 && prints)
 }
 
+/// What becomes of a run of that device where the call of that number fails, and those behind it: whether it was done, and whether the next
+/// one goes on.
+fn fails_at(
+    rt: &HostRuntime,
+    scratch: &Scratch,
+    fresh: &[u8],
+    number: u64,
+) -> Result<(bool, bool), Fail> {
+    scratch.put(rt, "device", fresh)?;
+    let faults = Faults::at(number, false);
+    let ran = tpnet(&FaultyFiles::new(rt, &faults), scratch, FOUR)?;
+    Ok((ran.status == 0, goes_on(rt, scratch, &ran)?))
+}
+
 #[test]
 fn each_call_of_the_file_may_fail(rt: HostRuntime) -> Result<(), Fail> {
     let scratch = device(&rt, "run_fails", letter(rt.alloc())?.as_slice(), "16384")?;
     let fresh = scratch.read(&rt, "device")?;
     let mut calls = 0u64;
     for number in 0..200u64 {
-        scratch.put(&rt, "device", fresh.as_slice())?;
-        let faults = Faults::at(number, false);
-        let ran = tpnet(&FaultyFiles::new(&rt, &faults), &scratch, FOUR)?;
-        assert!(rt; goes_on(&rt, &scratch, &ran)?);
-        if ran.status == 0 {
+        let (is_done, goes_on) = fails_at(&rt, &scratch, fresh.as_slice(), number)?;
+        assert!(rt; goes_on);
+        if is_done {
             break;
         }
         calls = number;
