@@ -301,8 +301,8 @@ tpnet format --new one net.txt . 2>err
 equal one three
 
 story stops
-# A format over a device stops at each call, as a crash does: it opens to the network that was there, as long as nothing was written, or to the new
-# one, whose letter is another one: all behind the head is written and synced before the head is. Its first byte and that letter are shown.
+# A format over a device stops at each call, as a crash does: the device opens to the network that was there, as long as it is as it was, or to the
+# new one, whose node has another image, or not at all: all behind the head is written and synced before the head is.
 text net.txt node a 4\nport h\nwire a.0 h\n
 image a.img
 tpnet format device net.txt . 16384
@@ -314,8 +314,8 @@ copy old device
 faulty format device net.txt . 16384
 equal old device
 tpnet recover device 2>err
-show device 0 1
-show device 970 1
+tpnet image device 0 >then 2>err
+equal then a.img
 end
 
 story calls_fail

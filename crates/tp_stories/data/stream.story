@@ -380,13 +380,14 @@ equal given rest
 there stop
 
 story unseen_stop
-# A node sends the letter A again and again. A path that can't be looked at any more is no stop: the stream goes on to its last turn. Where the file
-# itself comes it stops.
+# A node sends the letter A again and again. A path that can't be looked at any more is no stop: the stream goes on to its last turn. Each two
+# turns put a letter out. Where the file itself comes it stops.
 text net.txt node a 4\nport h\nwire a.0 h\n
 image a.img 27 2F 2F 2F 2F 2F 6F 40 24 41 FE 60 02
 tpnet format device net.txt . 65536
 reader-makes folder
-tpnet run device --stream --quantum=64 --turns=4000 --out 0=- --stop-file folder/stop >front
+tpnet run device --stream --quantum=64 --turns=4000 --out 0=- --stop-file folder/stop >front 2>err
+ends err  written 2000 confirmed 2000 turns\n
 show front 0 4
 remove folder
 tpnet run device --stream --quantum=64 --turns=4000 --out 0=- --stop-file folder >rest 2>err
