@@ -4,11 +4,8 @@ use crate::failing::{Came, Plan};
 use crate::printed::print_lines;
 use crate::stage::Stage;
 use std::alloc::Global;
-use std::fs::{Files, OpenFile};
+use std::fs::Files;
 use std::io::{ErrorKind, Write};
-use std::os::unix::fs::FileExt;
-use std::sync::Wait;
-use std::thread::Threads;
 use std::{fs, io};
 use tp_program::{OneLook, answer_locking, answer_stream_locking, is_stream, wants_input};
 use tp_stream_files::Plain;
@@ -99,8 +96,8 @@ impl<'a, R: Files> Write for Reader<'a, R> {
 }
 
 /// Streams as a command asks.
-fn stream<R: Files<File = F> + AllocGlobal + Wait, F: FileExt + OpenFile + Drop>(
-    rt: &R,
+fn stream(
+    rt: &HostRuntime,
     stage: &Stage,
     faults: &Faults,
     words: &[String],
@@ -128,10 +125,13 @@ fn stream<R: Files<File = F> + AllocGlobal + Wait, F: FileExt + OpenFile + Drop>
 }
 
 /// Does what a command asks for, as the program does. Standard streams that are files are seen by a stream alone.
-fn carry_out<
-    R: Files<File = F> + AllocGlobal + Threads + Wait + Sync,
-    F: FileExt + OpenFile + Drop + Send,
->(rt: &R, stage: &Stage, faults: &Faults, words: &[String], input: &[u8]) -> Done {
+fn carry_out(
+    rt: &HostRuntime,
+    stage: &Stage,
+    faults: &Faults,
+    words: &[String],
+    input: &[u8],
+) -> Done {
     if is_stream(words) {
         return stream(rt, stage, faults, words, input);
     }
@@ -180,10 +180,12 @@ fn tell<R: Files + AllocGlobal>(
 }
 
 /// Plays a command, over files whose calls fail as the story says where it is to be a faulty one.
-pub(crate) fn play_command<
-    R: Files<File = F> + AllocGlobal + Threads + Wait + Sync,
-    F: FileExt + OpenFile + Drop + Send,
->(rt: &R, stage: &mut Stage, is_faulty: bool, words: &str) -> io::Result<()> {
+pub(crate) fn play_command(
+    rt: &HostRuntime,
+    stage: &mut Stage,
+    is_faulty: bool,
+    words: &str,
+) -> io::Result<()> {
     let typed = Typed::read(rt.alloc(), words)?;
     let input = input_of(rt, &typed)?;
     let plan = if is_faulty { stage.plan } else { Plan::NONE };

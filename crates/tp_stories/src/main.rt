@@ -15,21 +15,12 @@ mod staying;
 mod typed;
 
 use playing::play_file;
-use std::fs::{Files, OpenFile};
 use std::io::Write;
-use std::os::unix::fs::FileExt;
 use std::process::ExitCode;
-use std::rt::Env;
-use std::sync::Wait;
-use std::thread::Threads;
 use std::{env, io};
 
 /// Plays the files of stories that the words name. Answers whether each line of them could be played.
-fn play_files<
-    R: Files<File = F> + Env + AllocGlobal + Threads + Wait + Sync,
-    F: FileExt + OpenFile + Drop + Send,
-    O: Write,
->(rt: &R, out: &mut O) -> io::Result<bool> {
+fn play_files<O: Write>(rt: &HostRuntime, out: &mut O) -> io::Result<bool> {
     let mut are_played = true;
     for path in env::args(rt)?.skip(1) {
         are_played = play_file(rt, path.as_str(), out)? && are_played;

@@ -5,19 +5,11 @@ use crate::looking::look;
 use crate::making::make;
 use crate::rounds::{Outcome, count_round, print_outcomes};
 use crate::stage::Stage;
-use std::fs::{Files, OpenFile};
 use std::io::Write;
-use std::os::unix::fs::FileExt;
-use std::rt::Env;
-use std::sync::Wait;
-use std::thread::Threads;
 use std::{fs, io, mem};
 
 /// Does what a line asks for.
-fn play_line<
-    R: Files<File = F> + Env + AllocGlobal + Threads + Wait + Sync,
-    F: FileExt + OpenFile + Drop + Send,
->(rt: &R, stage: &mut Stage, line: &str) -> io::Result<()> {
+fn play_line(rt: &HostRuntime, stage: &mut Stage, line: &str) -> io::Result<()> {
     let (verb, rest) = line.split_once(' ').unwrap_or((line, ""));
     match verb {
         "story" => stage.open(rt, rest),
@@ -42,10 +34,7 @@ fn play_line<
 }
 
 /// Prints a line as it stands, and what came of it. Answers whether it could be played.
-fn tell_line<
-    R: Files<File = F> + Env + AllocGlobal + Threads + Wait + Sync,
-    F: FileExt + OpenFile + Drop + Send,
->(rt: &R, stage: &mut Stage, line: &str) -> io::Result<bool> {
+fn tell_line(rt: &HostRuntime, stage: &mut Stage, line: &str) -> io::Result<bool> {
     if line.is_empty() || line.starts_with('#') {
         write!(stage.transcript, "{line}\n")?;
         return Ok(true);
@@ -61,10 +50,7 @@ fn tell_line<
 }
 
 /// Plays the lines of a round. Answers whether each could be played.
-fn play_round<
-    R: Files<File = F> + Env + AllocGlobal + Threads + Wait + Sync,
-    F: FileExt + OpenFile + Drop + Send,
->(rt: &R, stage: &mut Stage, lines: &[String]) -> io::Result<bool> {
+fn play_round(rt: &HostRuntime, stage: &mut Stage, lines: &[String]) -> io::Result<bool> {
     let mut are_played = true;
     for line in lines {
         are_played = tell_line(rt, stage, line.as_str())? && are_played;
@@ -73,10 +59,12 @@ fn play_round<
 }
 
 /// Plays lines again and again, until a faulty command among them is done. Answers whether each could be played.
-fn play_rounds<
-    R: Files<File = F> + Env + AllocGlobal + Threads + Wait + Sync,
-    F: FileExt + OpenFile + Drop + Send,
->(rt: &R, stage: &mut Stage, lines: &[String], outcomes: &mut Vec<Outcome>) -> io::Result<bool> {
+fn play_rounds(
+    rt: &HostRuntime,
+    stage: &mut Stage,
+    lines: &[String],
+    outcomes: &mut Vec<Outcome>,
+) -> io::Result<bool> {
     for round in 0..stage.most {
         stage.round = round;
         let are_played = play_round(rt, stage, lines)?;
@@ -90,10 +78,7 @@ fn play_rounds<
 }
 
 /// Plays the lines that were kept, and prints what came of them. Answers whether each could be played.
-fn play_block<
-    R: Files<File = F> + Env + AllocGlobal + Threads + Wait + Sync,
-    F: FileExt + OpenFile + Drop + Send,
->(rt: &R, stage: &mut Stage, are_counted: bool) -> io::Result<bool> {
+fn play_block(rt: &HostRuntime, stage: &mut Stage, are_counted: bool) -> io::Result<bool> {
     let Some(lines) = stage.block.take() else {
         return Ok(false);
     };
@@ -105,10 +90,7 @@ fn play_block<
 }
 
 /// Plays a line. Those that are played in rounds are kept until all of them are read. Answers whether it could be played.
-fn take_line<
-    R: Files<File = F> + Env + AllocGlobal + Threads + Wait + Sync,
-    F: FileExt + OpenFile + Drop + Send,
->(rt: &R, stage: &mut Stage, line: &str) -> io::Result<bool> {
+fn take_line(rt: &HostRuntime, stage: &mut Stage, line: &str) -> io::Result<bool> {
     if line == "end" || line == "end counting" {
         return play_block(rt, stage, line != "end");
     }
@@ -119,11 +101,12 @@ fn take_line<
 }
 
 /// Plays the lines of a text. Answers whether each could be played.
-fn play_lines<
-    R: Files<File = F> + Env + AllocGlobal + Threads + Wait + Sync,
-    F: FileExt + OpenFile + Drop + Send,
-    O: Write,
->(rt: &R, stage: &mut Stage, text: &str, out: &mut O) -> io::Result<bool> {
+fn play_lines<O: Write>(
+    rt: &HostRuntime,
+    stage: &mut Stage,
+    text: &str,
+    out: &mut O,
+) -> io::Result<bool> {
     let mut are_played = true;
     for line in text.lines() {
         are_played = take_line(rt, stage, line)? && are_played;
@@ -134,11 +117,7 @@ fn play_lines<
 }
 
 /// Plays the stories of a file. Answers whether each line could be played.
-pub(crate) fn play_file<
-    R: Files<File = F> + Env + AllocGlobal + Threads + Wait + Sync,
-    F: FileExt + OpenFile + Drop + Send,
-    O: Write,
->(rt: &R, path: &str, out: &mut O) -> io::Result<bool> {
+pub(crate) fn play_file<O: Write>(rt: &HostRuntime, path: &str, out: &mut O) -> io::Result<bool> {
     let text = fs::read_to_string(rt, path)?;
     let mut stage = Stage::new(rt.alloc());
     let are_played = play_lines(rt, &mut stage, text.as_str(), out)?;
