@@ -11,6 +11,7 @@ pub mod Entered
 pub mod Fields
 pub mod Formed
 pub mod Fresh
+pub mod Front
 pub mod GoingOn
 pub mod HandedIn
 pub mod HostTaken

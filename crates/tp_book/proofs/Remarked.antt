@@ -10,11 +10,12 @@ use Rattle.tp_model.specs.Network.{has_wire, on_line, is_first, sent}
 use Rattle.tp_model.specs.Entries.{process}
 use Rattle.tp_model.specs.Order.{made}
 use Rattle.tp_model.specs.Sound.{Sound}
-use Rattle.tp_model.specs.Markers.{before, has_marker, markers, plain, unmarked}
+use Rattle.tp_model.specs.Markers.{before, has_marker, markers, plain, plain_network, unmarked}
 use Rattle.tp_model.specs.Snapshot.{Snapshot, has_recorded, first_snapshot, with_count, with_closed, closed_over, host_markers, node_markers}
 use Rattle.tp_model.specs.Halves.{BookState, live, marked, with_begin, with_record, with_close, with_close_over}
 use Rattle.tp_model.specs.Acts.{Begin, Record, Close, happens}
 use Rattle.tp_law_machine.proofs.LinkLaws.{has_four_links, never_marks}
+use Rattle.tp_law_network.proofs.Begin.{made_past}
 use Rattle.tp_law_network.proofs.Lines.{on_set_same}
 use Rattle.tp_law_network.proofs.CutsMarks.{marker_there}
 use Rattle.tp_law_network.proofs.Whole.{running}
@@ -36,6 +37,7 @@ use Rattle.tp_book.proofs.Commit.{length-agreed}
 use Rattle.tp_model.specs.declared.limits.TheConstants.{NUMBER_LIMIT}
 use Rattle.tp_book.proofs.Told.{ages_kept, floor_kept}
 use Rattle.tp_book.proofs.Entered.{keeps_joined, cut_small}
+use Rattle.tp_book.proofs.Front.{front_begun, front_kept, front_recorded}
 
 -- Other lines with the same tokens, Markers left out, and with no two Markers on one.
 pub remarked : (b : BookState NodeState) → BookKeeps b → (lines : List (List Token)) → map plain lines ≡ map plain b.lines → ((line : ℕ) → markers (on_line lines line) ≤ 1) → BookKeeps (record b { lines = lines })
@@ -191,6 +193,7 @@ module _ (j : BookValue) (s : SnapshotsValue) (g : ℕ) (B : BookStands j s g) (
     host = closed_host s.snapshot line (length j.state.start.nodes) B.host;
     fits = B.fits;
     ages = ages_kept (λ x. with_closed x line) s.snapshot g B.ages;
+    front = front_kept (λ x. with_closed x line) s.snapshot (process j.state.start.wires (length j.state.start.nodes)) j.state.entries s.front s.early (λ x. refl) B.front;
     low = floor_kept (λ x. with_closed x line) s.snapshot s.floor (length j.state.entries) (length j.state.entries) (omega arith) (λ x. omega arith) B.low;
     as_many = B.as_many;
     told = B.told;
@@ -205,6 +208,7 @@ module _ (j : BookValue) (s : SnapshotsValue) (g : ℕ) (B : BookStands j s g) (
     host = passed_host s.snapshot line (length j.state.start.nodes) (before (on_line j.state.lines line)) B.host;
     fits = B.fits;
     ages = ages_kept (λ x. closed_over x line (before (on_line j.state.lines line))) s.snapshot g B.ages;
+    front = front_kept (λ x. closed_over x line (before (on_line j.state.lines line))) s.snapshot (process j.state.start.wires (length j.state.start.nodes)) j.state.entries s.front s.early (λ x. refl) B.front;
     low = floor_kept (λ x. closed_over x line (before (on_line j.state.lines line))) s.snapshot s.floor (length j.state.entries) (length j.state.entries) (omega arith) (λ x. omega arith) B.low;
     as_many = B.as_many;
     told = B.told;
@@ -216,7 +220,7 @@ module _ (j : BookValue) (s : SnapshotsValue) (g : ℕ) (B : BookStands j s g) (
     j_begun = with_lines j (sent (has_wire j.state.start.wires) j.state.lines (host_markers (length j.state.start.nodes) (length j.state.ports)))
 
     abbrev begun_by : ℕ → ℕ → SnapshotsValue
-    begun_by n h = record s { snapshot = Some (first_snapshot n (length j.state.lines) h j.state.ports (length j.state.entries)); frozen = replicate n None }
+    begun_by n h = record s { snapshot = Some (first_snapshot n (length j.state.lines) h j.state.ports (length j.state.entries)); frozen = replicate n None; front = length j.state.entries; early = s.made }
 
     own : get_or s.made (length j.runs) 0 ≡ made (process j.state.start.wires (length j.state.start.nodes)) (length j.state.start.nodes) j.state.entries
     own = B.counted.each (length j.runs) (omega (arith, shaped.count, B.counted.count)) ∙ ap (λ n. made (process j.state.start.wires (length j.state.start.nodes)) n j.state.entries) (sym shaped.count)
@@ -242,6 +246,9 @@ module _ (j : BookValue) (s : SnapshotsValue) (g : ℕ) (B : BookStands j s g) (
       fits = B.fits;
       ages = age;
       low = (floor_before, floor_before);
+      front = front_begun (length j.runs) (length j.state.lines) (get_or s.made (length j.runs) 0) (length j.state.entries) j.state.ports (process j.state.start.wires (length j.state.start.nodes)) j.state.entries s.made
+          (B.counted.count ∙ ap (λ n. n + 1) shaped.count) B.counted.each
+          (λ p past. made_past t414 has_four_links j.state.start (plain_network (live j.state (agreed j.state))) j.state.entries K.history p (omega (arith, past, shaped.count))) refl;
       as_many = B.as_many;
       told = B.told;
     }
@@ -269,6 +276,7 @@ module _ (j : BookValue) (s : SnapshotsValue) (g : ℕ) (B : BookStands j s g) (
       host = counted_host s.snapshot node (get_or s.made node 0) (length j.state.start.nodes) B.host;
       fits = B.fits;
       ages = ages_kept (λ x. with_count x node (get_or s.made node 0)) s.snapshot g B.ages;
+      front = front_recorded s.snapshot (process j.state.start.wires (length j.state.start.nodes)) j.state.entries s.front s.early node (get_or s.made node 0) (sym (B.counted.each node (omega (arith, below, B.counted.count)))) B.front;
       low = floor_kept (λ x. with_count x node (get_or s.made node 0)) s.snapshot s.floor (length j.state.entries) (length j.state.entries) (omega arith) (λ x. omega arith) B.low;
       as_many = B.as_many;
       told = B.told;

@@ -7,6 +7,7 @@ pub mod Counted
 pub mod Covered
 pub mod Dropped
 pub mod FirstTwo
+pub mod Front
 pub mod Host
 pub mod Inputs
 pub mod Inside

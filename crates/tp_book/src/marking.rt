@@ -54,7 +54,7 @@ impl Journal {
         snapshots: &mut Snapshots,
     ) -> Result<(), AllocError>
         requires { count_of_nodes self.now < length snapshots.old.made }
-        ensures ok { IfOk result (λ done. snapshots.new ≡ record snapshots.old { snapshot = Some (first_snapshot (count_of_nodes self.now) (length self.now.state.lines) (get_or snapshots.old.made (count_of_nodes self.now) 0) self.now.state.ports (length self.now.state.entries)); frozen = replicate (count_of_nodes self.now) None }) }
+        ensures ok { IfOk result (λ done. snapshots.new ≡ record snapshots.old { snapshot = Some (first_snapshot (count_of_nodes self.now) (length self.now.state.lines) (get_or snapshots.old.made (count_of_nodes self.now) 0) self.now.state.ports (length self.now.state.entries)); frozen = replicate (count_of_nodes self.now) None; front = length self.now.state.entries; early = snapshots.old.made }) }
         ensures err { OnErr result (snapshots.new ≡ snapshots.old) }
     {
         snapshots.begin(

@@ -4,6 +4,7 @@ pub mod Behind
 pub mod Codes
 pub mod Exact
 pub mod IsaSpelling
+pub mod Parts
 pub mod Reading
 pub mod Shortest
 pub mod Spelt

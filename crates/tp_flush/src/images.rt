@@ -77,7 +77,7 @@ impl<J: Naming, D: Disk> Flusher<J, D> {
         Ok(true)
     }
 
-    /// Copies a page of a frozen image, which begins at `image`. False where the node isn't frozen, or has no such page.
+    /// Copies a page of a frozen image, which begins at `image`, by way of `bytes`. False where the node isn't frozen, or has no such page.
     fn copy_page<R: Wait, G: Gate>(
         &mut self,
         rt: &R,
@@ -86,6 +86,7 @@ impl<J: Naming, D: Disk> Flusher<J, D> {
         node: u8,
         image: u64,
         page: usize,
+        bytes: &mut [u8; PAGE_BYTES],
     ) -> Result<bool, FlushFault>
         requires rests { self.old.world.at ≡ Resting }
         requires cleared { self.old.progress.cleared ≡ true }
@@ -101,12 +102,11 @@ impl<J: Naming, D: Disk> Flusher<J, D> {
         ensures stands { D.keeps → IfOk result (λ found. found ≡ true → IsPartOut self.new.topology self.new.world.net (content_beside self.new.place self.new.state) node (page + 1)) }
         ensures goes { FlushedOn D.keeps J.formatted J.before self.old self.new }
     {
-        let mut bytes = [0; PAGE_BYTES];
-        if !self.read_page(rt, shared, node, page, &mut bytes) {
+        if !self.read_page(rt, shared, node, page, bytes) {
             return Ok(false);
         }
         gate.at(FLUSHER, PAGE_COPIED);
-        self.put(rt, shared, node as usize, image, page + 1, &bytes)?;
+        self.put(rt, shared, node as usize, image, page + 1, bytes)?;
         Ok(true)
     }
 
@@ -134,8 +134,9 @@ impl<J: Naming, D: Disk> Flusher<J, D> {
         if !self.copy_head(rt, shared, node, image)? {
             return Ok(false);
         }
+        let mut bytes = [0; PAGE_BYTES];
         for page in 0..self.pages_of(node as usize) {
-            if !self.copy_page(rt, shared, gate, node, image, page)? {
+            if !self.copy_page(rt, shared, gate, node, image, page, &mut bytes)? {
                 return Ok(false);
             }
         }

@@ -159,7 +159,7 @@ impl<'a> Declarations<'a> {
         }
     }
 
-    /// A line declares a node.
+    /// A line declares a node. A 65th is TooMany.
     fn add_node(&mut self, number: u64, name: &'a [u8], pages: &[u8]) -> Result<(), NetFault>
         ensures { IsStep (after_node self.old number name.now pages.now) self.new result }
     {
@@ -187,7 +187,7 @@ impl<'a> Declarations<'a> {
         Ok(())
     }
 
-    /// A line declares a port.
+    /// A line declares a port. A 9th is TooMany.
     fn add_port(&mut self, number: u64, name: &'a [u8]) -> Result<(), NetFault>
         ensures { IsStep (after_port self.old number name.now) self.new result }
     {
@@ -231,6 +231,7 @@ impl<'a> Declarations<'a> {
         self.join(number, first, second)
     }
 
+    /// Joins two ends by a wire. An end that has one, or one end twice, is TwoWires.
     fn join(&mut self, number: u64, first: WireEnd, second: WireEnd) -> Result<(), NetFault>
         ensures { IsStep (wire_joined self.old number (Some first) (Some second)) self.new result }
     {

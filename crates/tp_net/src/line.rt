@@ -47,6 +47,7 @@ impl Line {
         Ok(Line { ring })
     }
 
+    /// Appends a token; the line has fewer than 3.
     fn push(&mut self, token: Token)
         requires { length self.old < LINE_TOKENS }
         ensures { self.new ≡ self.old ++ token ∷ [] }

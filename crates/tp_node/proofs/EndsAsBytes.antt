@@ -1,11 +1,7 @@
 -- Ends of links as bytes.
-use Rattle.std.proofs.Common.{◌≡◌, ℕ, ◌+◌, List, [], ◌∷◌, length, drop, Some, None, refl, add_assoc}
+use Rattle.std.proofs.Common.{◌≡◌, ℕ, ◌+◌, List, [], ◌∷◌, drop, add_assoc}
 use Rattle.std.proofs.lemmas.List.{drop-drop}
-use Rattle.tp_model.specs.declared.link.OutEnd.{OutEnd}
-use Rattle.tp_model.specs.declared.link.OutEnd.TheVariants.{Idle as OutIdle, Waits}
-use Rattle.tp_model.specs.declared.link.InEnd.{InEnd}
-use Rattle.tp_model.specs.declared.link.InEnd.TheVariants.{Idle as InIdle, Inputs, Enabled}
-use Rattle.tp_model.specs.EndBytes.{out_end_bytes, in_end_bytes, ends_at}
+use Rattle.tp_model.specs.EndBytes.{ends_at}
 
 -- four ends stand 16 bytes apart
 pub four_ends_apart : {End : Type 0} (end_at : List ℕ → End) (at : ℕ) (bytes : List ℕ)

@@ -1,10 +1,10 @@
 -- Words that are written behind what a token puts into memory.
-use Rattle.std.proofs.Common.{◌≡◌, ℕ, ◌%◌, Bool, true, false, cond, ltb, List, [], ◌∷◌, length, Option, Some, None, is_some, refl, sym, ap, ◌∙◌}
+use Rattle.std.proofs.Common.{◌≡◌, ℕ, ◌%◌, Bool, true, false, cond, ltb, List, [], ◌∷◌, length, Some, None, is_some, refl, sym, ap, ◌∙◌}
 use Rattle.tp_model.specs.Memory.{word_offset, word_at, set_word, stored}
 use Rattle.tp_mem.proofs.Writes.{length-stored, length-byte_stored}
 use Rattle.tp_node.specs.declared.first.First.{First}
 use Rattle.tp_node.specs.declared.first.First.TheVariants.{Nothing, Byte, Word}
-use Rattle.tp_node.specs.First.{first_stored, stored_behind}
+use Rattle.tp_node.specs.First.{first_stored}
 
 -- it keeps the length of memory
 pub length-first_stored : (first : First) (memory m : List ℕ) → length memory % 4 ≡ 0 → first_stored first memory ≡ Some m → length m ≡ length memory

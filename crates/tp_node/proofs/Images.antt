@@ -1,12 +1,14 @@
 -- What bytes that are an image keep, and why others are none.
-use Rattle.std.proofs.Common.{◌≡◌, ℕ, ◌+◌, ◌*◌, ◌/◌, ◌<◌, ◌≤◌, true, false, ◌&&◌, List, [], length, take, drop, Some, None, bytes_eq, refl, sym, ap, ◌∙◌, arith}
+use Rattle.std.proofs.Common.{◌≡◌, ℕ, zero, suc, ◌+◌, ◌*◌, ◌<◌, ◌≤◌, true, false, ◌&&◌, List, [], ◌++◌, length, take, drop, Some, None, bytes_eq, refl, sym, ap, ◌∙◌, arith}
 use Rattle.std.proofs.lemmas.Bool.{cond_both, and_parts, eqb-true, leb-true}
-use Rattle.std.proofs.lemmas.List.{drop_all, length-drop}
+use Rattle.std.proofs.lemmas.List.{drop_all, drop_at, drop-append-le, get_or_append_left, length-drop}
+use Rattle.std.specs.Int.{from_le_bytes, w16, w32}
 use Rattle.tp_model.specs.declared.limits.TheConstants.{PAGE_BYTES, IMAGE_HEAD_BYTES, MIN_PAGES, MAX_PAGES}
 use Rattle.tp_node.specs.declared.head.Head.{Head}
 use Rattle.tp_node.specs.StateWith.{state_with}
 use Rattle.tp_model.specs.NodeState.{NodeState}
-use Rattle.tp_model.specs.EndBytes.{ends_at, out_end_at, in_end_at}
+use Rattle.tp_model.specs.Bytes.{u8_at, u16_at, u32_at}
+use Rattle.tp_model.specs.EndBytes.{ends_at, out_end_at, in_end_at, transfer_at}
 use Rattle.tp_model.specs.Image.{cpu_at, page_count, image_head, node_at, is_node, node_of}
 
 -- the node that the bytes spell, by its parts
@@ -61,3 +63,73 @@ image_pages bytes n =
     let same : node_at bytes ≡ n = cc in
     has_pages n (ap is_node (sym same) ∙ (and_parts _ _ both).0))
     (λ _ is. absurd (cc))
+
+-- ## A head with memory behind it
+
+-- what stands in the front
+u8_front : (front rest : List ℕ) (at : ℕ) → at < length front → u8_at (front ++ rest) at ≡ u8_at front at
+u8_front front rest at lt = get_or_append_left front rest 0 at lt
+
+u16_first : (front rest : List ℕ) → 2 ≤ length front → from_le_bytes w16 (front ++ rest) ≡ from_le_bytes w16 front
+u16_first front rest le = rw (get_or_append_left front rest 0 0 (omega arith), get_or_append_left front rest 0 1 (omega arith)) refl
+
+u32_first : (front rest : List ℕ) → 4 ≤ length front → from_le_bytes w32 (front ++ rest) ≡ from_le_bytes w32 front
+u32_first front rest le =
+    rw (get_or_append_left front rest 0 0 (omega arith), get_or_append_left front rest 0 1 (omega arith), get_or_append_left front rest 0 2 (omega arith), get_or_append_left front rest 0 3 (omega arith)) refl
+
+u16_front : (front rest : List ℕ) (at : ℕ) → at + 2 ≤ length front → u16_at (front ++ rest) at ≡ u16_at front at
+u16_front front rest at le =
+    ap (from_le_bytes w16) (drop-append-le at front rest (omega arith)) ∙ u16_first (drop at front) rest (omega (arith, length-drop at front))
+
+u32_front : (front rest : List ℕ) (at : ℕ) → at + 4 ≤ length front → u32_at (front ++ rest) at ≡ u32_at front at
+u32_front front rest at le =
+    ap (from_le_bytes w32) (drop-append-le at front rest (omega arith)) ∙ u32_first (drop at front) rest (omega (arith, length-drop at front))
+
+transfer_front : (front rest : List ℕ) → 16 ≤ length front → transfer_at (front ++ rest) ≡ transfer_at front
+transfer_front front rest le =
+    rw (u32_front front rest 4 (omega arith), u32_front front rest 8 (omega arith), u32_front front rest 12 (omega arith)) refl
+
+out_end_front : (front rest : List ℕ) → 16 ≤ length front → out_end_at (front ++ rest) ≡ out_end_at front
+out_end_front front rest le = rw (u8_front front rest 0 (omega arith), transfer_front front rest le) refl
+
+in_end_front : (front rest : List ℕ) → 16 ≤ length front → in_end_at (front ++ rest) ≡ in_end_at front
+in_end_front front rest le =
+    rw (u8_front front rest 0 (omega arith), u8_front front rest 1 (omega arith), u8_front front rest 2 (omega arith), transfer_front front rest le, u32_front front rest 4 (omega arith)) refl
+
+ends_first : {End : Type 0} (end_at : List ℕ → End) → ((front rest : List ℕ) → 16 ≤ length front → end_at (front ++ rest) ≡ end_at front)
+    → (count : ℕ) (front rest : List ℕ) → 16 * count ≤ length front → ends_at end_at count (front ++ rest) ≡ ends_at end_at count front
+unfolding ends_at
+ends_first end_at each zero front rest le = refl
+ends_first end_at each (suc count) front rest le =
+    rw (each front rest (omega arith), drop-append-le 16 front rest (omega arith), ends_first end_at each count (drop 16 front) rest (omega (arith, length-drop 16 front))) refl
+
+ends_front : {End : Type 0} (end_at : List ℕ → End) → ((front rest : List ℕ) → 16 ≤ length front → end_at (front ++ rest) ≡ end_at front)
+    → (front rest : List ℕ) (at : ℕ) → at + 64 ≤ length front → ends_at end_at 4 (drop at (front ++ rest)) ≡ ends_at end_at 4 (drop at front)
+ends_front end_at each front rest at le =
+    ap (ends_at end_at 4) (drop-append-le at front rest (omega arith)) ∙ ends_first end_at each 4 (drop at front) rest (omega (arith, length-drop at front))
+
+cpu_front : (front rest : List ℕ) → 44 ≤ length front → cpu_at (front ++ rest) ≡ cpu_at front
+cpu_front front rest le =
+    rw (
+      u32_front front rest 4 (omega arith),
+      u32_front front rest 8 (omega arith),
+      u32_front front rest 12 (omega arith),
+      u32_front front rest 16 (omega arith),
+      u32_front front rest 20 (omega arith),
+      u32_front front rest 24 (omega arith),
+      u32_front front rest 28 (omega arith),
+      u32_front front rest 32 (omega arith),
+      u32_front front rest 36 (omega arith),
+      u8_front front rest 40 (omega arith),
+      u8_front front rest 41 (omega arith),
+      u16_front front rest 42 (omega arith),
+      u8_front front rest 1 (omega arith),
+    ) refl
+
+-- the node that a head spells with memory behind it, by its parts
+pub node_at-front : (front memory : List ℕ) (head : Head) → length front ≡ IMAGE_HEAD_BYTES → head.cpu ≡ cpu_at front → head.outputs ≡ ends_at out_end_at 4 (drop 44 front) → head.inputs ≡ ends_at in_end_at 4 (drop 108 front)
+    → node_at (front ++ memory) ≡ state_with head memory
+node_at-front front memory head size cpu outputs inputs =
+    node_at-parts (front ++ memory) head (cpu ∙ sym (cpu_front front memory (omega arith)))
+    (outputs ∙ sym (ends_front out_end_at out_end_front front memory 44 (omega arith))) (inputs ∙ sym (ends_front in_end_at in_end_front front memory 108 (omega arith)))
+    ∙ ap (state_with head) (drop_at front memory IMAGE_HEAD_BYTES size)

@@ -1,12 +1,12 @@
 -- One step more behind others.
-use Rattle.std.proofs.Common.{◌≡◌, ℕ, zero, suc, ◌+◌, List, [], ◌++◌, Option, Some, None, refl, sym, ap, ◌∙◌, arith}
+use Rattle.std.proofs.Common.{◌≡◌, ℕ, zero, suc, ◌+◌, List, [], ◌++◌, Some, refl, sym, ap, ◌∙◌, arith}
 use Rattle.std.proofs.lemmas.List.{append-nil, append_assoc}
 use Rattle.tp_model.specs.declared.link.Token.{Token}
 use Rattle.tp_model.specs.Network.{◌>>=◌, Machine, steps}
 use Rattle.tp_model.specs.NodeState.{NodeState}
 use Rattle.tp_model.specs.SharedPages.{Kept, kept_behind}
 use Rattle.tp_model.specs.Node.{node_step, t414}
-use Rattle.tp_model.specs.NodeWrites.{node_ranges, kept_on, kept_behind_steps}
+use Rattle.tp_model.specs.NodeWrites.{node_ranges, kept_behind_steps}
 use Rattle.tp_law_machine.proofs.Partial.{bind_some}
 
 pub one_more : {Node : Type 0} (M : Machine Node) (count : ℕ) (n m : Node) (sent : List (ℕ × Token)) (after : Node × List (ℕ × Token))

@@ -1,7 +1,7 @@
 -- What a token puts into memory, before the process that hears of it is queued.
 use Rattle.std.specs.Prelude.{◌≡◌, ℕ, List, [], ◌∷◌, ◌++◌, Option, Some, option_and_then}
 use Rattle.tp_model.specs.Memory.{byte_stored, stored}
-use Rattle.tp_model.specs.SharedPages.{word_ranges, byte_ranges}
+use Rattle.tp_model.specs.SharedPages.{byte_ranges}
 use Rattle.tp_model.specs.StepWrites.{◌>>=◌, word_range}
 use Rattle.tp_model.specs.declared.link.News.{News}
 use Rattle.tp_model.specs.declared.link.News.TheVariants.{Nobody, Process, Alternative}

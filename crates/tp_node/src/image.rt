@@ -1,6 +1,6 @@
 //! Reading images.
 
-ghost use Rattle.std.specs.Prelude.{◌≡◌, ℕ, List, length};
+ghost use Rattle.std.specs.Prelude.{◌≡◌, ◌++◌, ℕ, List, length};
 ghost use Rattle.std.specs.Option.{option_map};
 ghost use Rattle.tp_model.specs.Image.{is_node, node_of};
 ghost use Rattle.tp_node.specs.StateWith.{state_with};
@@ -21,6 +21,24 @@ fn keeps_rules(head: &Head, len: usize) -> bool
         && are_inputs(len, &head.inputs)
 }
 
+/// The head that `front` spells, if that and `len` bytes of memory behind it may be an image.
+pub(crate) fn read_head(front: &[u8], len: usize) -> Option<Head>
+    requires { length front.now ≡ IMAGE_HEAD_BYTES }
+    ensures { (memory : List ℕ) → length memory ≡ len → node_of (front.now ++ memory) ≡ option_map (λ head. state_with head memory) result }
+{
+    let head = Head::read(front);
+    if !keeps_rules(&head, len) {
+        return None;
+    }
+    let mut spelled = [0; IMAGE_HEAD_BYTES];
+    head.write((len / PAGE_BYTES) as u16, &mut spelled);
+    if front[..] == spelled[..] {
+        Some(head)
+    } else {
+        None
+    }
+}
+
 /// The head and the memory of the node whose image the bytes are, if they are one.
 pub(crate) fn read_image(bytes: &[u8]) -> Option<(Head, &[u8])>
     ensures { node_of bytes.now ≡ option_map (λ parts. state_with parts.0 parts.1.now) result }
@@ -28,16 +46,7 @@ pub(crate) fn read_image(bytes: &[u8]) -> Option<(Head, &[u8])>
     if bytes.len() < IMAGE_HEAD_BYTES {
         return None;
     }
-    let head = Head::read(bytes);
     let memory = &bytes[IMAGE_HEAD_BYTES..];
-    if !keeps_rules(&head, memory.len()) {
-        return None;
-    }
-    let mut spelled = [0; IMAGE_HEAD_BYTES];
-    head.write((memory.len() / PAGE_BYTES) as u16, &mut spelled);
-    if bytes[..IMAGE_HEAD_BYTES] == spelled[..] {
-        Some((head, memory))
-    } else {
-        None
-    }
+    let head = read_head(&bytes[..IMAGE_HEAD_BYTES], memory.len())?;
+    Some((head, memory))
 }

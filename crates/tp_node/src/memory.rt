@@ -22,3 +22,18 @@ pub(crate) fn reserve(
 {
     Memory::new(alloc, pages, spare.min(pages), bytes)
 }
+
+/// Makes a memory of `pages` pages of their bytes `live`, which aren't copied, with `spare` frames for copies, but no more than it has
+/// pages.
+pub(crate) fn take_over(
+    alloc: Global,
+    pages: usize,
+    spare: usize,
+    live: Vec<u8>,
+) -> Result<Memory, AllocError>
+    requires few { pages ≤ 1024 }
+    requires whole { length live.items ≡ PAGE_BYTES * pages }
+    ensures { IfOk result (λ m. m ≡ record { live = live.items; frozen = None; shared = replicate pages false; spare = min spare pages }) }
+{
+    Memory::of_bytes(alloc, pages, spare.min(pages), live)
+}

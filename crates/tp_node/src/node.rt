@@ -1,6 +1,6 @@
 //! A node: its image, the tokens that come in, and how it is frozen.
 
-ghost use Rattle.std.specs.Prelude.{◌≡◌, ◌*◌, ◌<◌, [], Some, None, true, false, length, replicate, IsSome, IsNone, IfSome, IfOk, is_some};
+ghost use Rattle.std.specs.Prelude.{◌≡◌, ◌*◌, ◌<◌, ◌++◌, [], Some, None, true, false, length, replicate, IsSome, IsNone, IfSome, IfOk, is_some};
 ghost use Rattle.tp_model.specs.Image.{image_head, node_of, IsNode};
 ghost use Rattle.tp_model.specs.Network.{steps};
 ghost use Rattle.tp_model.specs.Node.{took, t414, waits, holds};
@@ -16,8 +16,8 @@ ghost use Rattle.tp_node.specs.Takes.{Takes};
 
 use crate::fault::{ImageFault, NoFrame};
 use crate::head::Head;
-use crate::image::read_image;
-use crate::memory::{Memory, reserve};
+use crate::image::{read_head, read_image};
+use crate::memory::{Memory, reserve, take_over};
 use crate::run::{Ran, run};
 use crate::standing::Standing;
 use crate::take::{take_ack, take_data};
@@ -58,6 +58,31 @@ impl Node {
             return Err(ImageFault::BadImage);
         };
         match reserve(alloc, memory.len() / PAGE_BYTES, spare, memory) {
+            Err(_) => Err(ImageFault::Memory),
+            Ok(memory) => Ok(Node {
+                head,
+                memory,
+                frozen: None,
+            }),
+        }
+    }
+
+    /// The node whose image is `head` and the bytes of `memory` behind it, which aren't copied. No more spare frames are reserved than
+    /// the node has pages.
+    pub fn from_parts(
+        alloc: Global,
+        head: &[u8; IMAGE_HEAD_BYTES],
+        memory: Vec<u8>,
+        spare: usize,
+    ) -> Result<Node, ImageFault>
+        ensures reads { ReadsImage (node_of (head.now ++ memory.items)) result }
+        ensures frames { IfOk result (λ node. HasFrames spare node) }
+    {
+        let len = memory.len();
+        let Some(head) = read_head(head, len) else {
+            return Err(ImageFault::BadImage);
+        };
+        match take_over(alloc, len / PAGE_BYTES, spare, memory) {
             Err(_) => Err(ImageFault::Memory),
             Ok(memory) => Ok(Node {
                 head,

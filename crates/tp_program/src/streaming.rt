@@ -152,7 +152,7 @@ fn report_fault<E: Write>(err: &mut E, fault: StreamFault) -> u8
     }
 }
 
-/// The status of a stream that was done.
+/// The status of a stream that was done: 3 where a node has halted, else 0.
 fn ending_status(why: Ending) -> u8
     ensures value { result ≡ ending_status why }
     ensures few { result ≤ 3 }

@@ -13,6 +13,7 @@ use tp_book::send_some;
 
 impl FlatNetwork {
     /// The host hands a byte to a port.
+    #[inline(never)]
     pub(crate) fn hand_in(&mut self, port: u8, byte: u8) -> Result<(), NotPossible>
         ensures applies { AppliesEntry (next t414 self.old (HostIn port byte)) result self.new }
         ensures err { OnErr result (self.new ≡ self.old) }
@@ -31,6 +32,7 @@ impl FlatNetwork {
     }
 
     /// The host confirms a port's output up to a position.
+    #[inline(never)]
     pub(crate) fn confirm(&mut self, port: u8, upto: u64) -> Result<(), NotPossible>
         ensures applies { AppliesEntry (next t414 self.old (Confirm port upto)) result self.new }
         ensures err { OnErr result (self.new ≡ self.old) }

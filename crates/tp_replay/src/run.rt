@@ -16,6 +16,7 @@ use tp_net::link_line;
 
 impl FlatNetwork {
     /// Runs a node for at most `most` steps; for fewer only where it has no step then. Answers how many it made.
+    #[inline(always)]
     pub fn run_upto(&mut self, node: u8, most: u16) -> u16
         requires there { node < length self.old.nodes }
         requires bound { most ≤ MAX_STEPS }
@@ -29,6 +30,7 @@ impl FlatNetwork {
     }
 
     /// Has `node` make `count` steps. Where it can't make all of them, it has made those that it can.
+    #[inline(always)]
     pub(crate) fn run(&mut self, node: u8, count: u16) -> Result<(), NotPossible>
         ensures applies { AppliesEntry (next t414 self.old (Run node count)) result self.new }
         ensures err { OnErr result (LeavesShort self.old (Run node count) self.new) }

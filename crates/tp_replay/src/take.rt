@@ -22,6 +22,7 @@ use tp_node::NoFrame;
 
 impl FlatNetwork {
     /// The receiver of a line takes the token in front.
+    #[inline(never)]
     pub(crate) fn take(&mut self, line: u16, token: Token) -> Result<(), NotPossible>
         requires counted { CanCount self.old }
         ensures applies { AppliesEntry (next t414 self.old (Take line token)) result self.new }

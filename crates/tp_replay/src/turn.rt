@@ -21,6 +21,7 @@ use tp_net::link_line;
 impl FlatNetwork {
     /// Has `node` take what came in on its links, and then make `count` steps. Where it can't make them, it has taken the tokens and
     /// made the steps that it can.
+    #[inline(never)]
     pub(crate) fn turn(
         &mut self,
         node: u8,

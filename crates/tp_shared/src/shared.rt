@@ -144,22 +144,10 @@ impl<J: Naming> Shared<J> {
         ensures refused { IfErr result IsTurnRefusal }
     {
         match number % 4 {
-            0 => self
-                .c0
-                .lock(rt)
-                .turn(rt, gate, &self.book, seat, seen, number, quantum),
-            1 => self
-                .c1
-                .lock(rt)
-                .turn(rt, gate, &self.book, seat, seen, number, quantum),
-            2 => self
-                .c2
-                .lock(rt)
-                .turn(rt, gate, &self.book, seat, seen, number, quantum),
-            _ => self
-                .c3
-                .lock(rt)
-                .turn(rt, gate, &self.book, seat, seen, number, quantum),
+            0 => lock_soon(rt, &self.c0).turn(rt, gate, &self.book, seat, seen, number, quantum),
+            1 => lock_soon(rt, &self.c1).turn(rt, gate, &self.book, seat, seen, number, quantum),
+            2 => lock_soon(rt, &self.c2).turn(rt, gate, &self.book, seat, seen, number, quantum),
+            _ => lock_soon(rt, &self.c3).turn(rt, gate, &self.book, seat, seen, number, quantum),
         }
     }
 

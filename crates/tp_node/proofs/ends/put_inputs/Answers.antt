@@ -1,4 +1,4 @@
-use Rattle.std.proofs.Common.{◌≡◌, ◌*◌, ◌-◌, ◌++◌, length, take, drop, get_or, refl, ◌∙◌}
+use Rattle.std.proofs.Common.{refl, ◌∙◌}
 use Rattle.tp_model.specs.EndBytes.{in_end_bytes}
 use Rattle.tp_law_machine.proofs.EndImages.{length-in_end}
 use Rattle.tp_node.proofs.Pieces.{pieces_more}

@@ -1,4 +1,3 @@
-use Rattle.std.proofs.Common.{drop}
 use Rattle.std.proofs.lemmas.List.{drop-drop}
 use Rattle.tp_node.proofs.ends.transfer_at.Goals as goal
 

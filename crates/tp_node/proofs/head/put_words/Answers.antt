@@ -1,4 +1,4 @@
-use Rattle.std.proofs.Common.{refl, arith}
+use Rattle.std.proofs.Common.{refl}
 use Rattle.tp_model.specs.Bytes.{u32_bytes}
 use Rattle.tp_node.proofs.Pieces.{pieces_more}
 use Rattle.tp_node.proofs.head.put_words.Goals as goal

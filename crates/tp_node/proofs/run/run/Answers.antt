@@ -1,12 +1,11 @@
-use Rattle.std.proofs.Common.{◌≡◌, ◌+◌, ◌≤◌, ℕ, List, ◌++◌, Option, Some, None, length, option_to_list, refl, sym, ap, ◌∙◌, subst, arith}
+use Rattle.std.proofs.Common.{◌≡◌, ◌+◌, ℕ, List, Option, Some, None, option_to_list, refl, sym, subst, arith}
 use Rattle.tp_model.specs.NodeState.{NodeState}
 use Rattle.tp_model.specs.Node.{node_step}
 use Rattle.tp_model.specs.declared.link.Token.{Token}
 use Rattle.tp_node.specs.declared.step.StepOutcome.TheVariants.{Step}
 use Rattle.tp_node.specs.Makes.{Makes}
 use Rattle.tp_node.specs.StateWith.{state_with}
-use Rattle.tp_model.specs.SharedPages.{Kept}
-use Rattle.tp_node.proofs.Room.{room, room_step, room_few}
+use Rattle.tp_node.proofs.Room.{room_step, room_few}
 use Rattle.tp_node.proofs.Runs.{Runs, runs_step, runs_on, runs_first}
 use Rattle.tp_node.proofs.run.run.Goals as goal
 use Rattle.tp_node.proofs.run.run.Goals.{In-Step}

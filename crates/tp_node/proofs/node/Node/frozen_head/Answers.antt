@@ -1,4 +1,4 @@
-use Rattle.std.proofs.Common.{◌≡◌, ◌/◌, ◌*◌, ◌++◌, [], ℕ, List, Option, Some, None, length, drop, ap, ◌∙◌, arith}
+use Rattle.std.proofs.Common.{◌≡◌, ◌*◌, ◌++◌, [], ℕ, List, Option, Some, None, length, drop, ap, ◌∙◌, arith}
 use Rattle.std.specs.Option.{IfSome}
 use Rattle.std.proofs.lemmas.List.{append-nil, drop_all}
 use Rattle.tp_model.specs.declared.limits.TheConstants.{PAGE_BYTES, IMAGE_HEAD_BYTES}
