@@ -1,10 +1,10 @@
 -- Images that are read one behind the other.
-use Rattle.std.proofs.Common.{◌≡◌, ℕ, ◌+◌, ◌<◌, ◌≤◌, List, [], ◌∷◌, ◌++◌, length, take, drop, get_or, refl, sym, ap, ◌∙◌, arith, append-nil, Bool, true, false, cond, subst}
+use Rattle.std.proofs.Common.{◌≡◌, ℕ, ◌+◌, ◌*◌, ◌<◌, ◌≤◌, List, [], ◌∷◌, ◌++◌, length, take, drop, get_or, refl, sym, ap, ◌∙◌, arith, append-nil, Bool, true, false, cond, subst}
 use Rattle.std.specs.Prelude.{nat_eq, Option, Some, None, Result, Ok, Err, sum_by}
 use Rattle.std.proofs.lemmas.Bool.{eq-eqb}
-use Rattle.std.proofs.lemmas.List.{take_all, take-take, drop-drop, drop_more, drop_all, length-drop}
+use Rattle.std.proofs.lemmas.List.{take_all, take-append-drop, take-take, drop-take, drop-drop, drop_more, drop_all, length-drop}
 use Rattle.std.proofs.lemmas.List.Sums.{sum_by_more, sum_by_more_le}
-use Rattle.tp_model.specs.declared.limits.TheConstants.{IMAGE_HEAD_BYTES}
+use Rattle.tp_model.specs.declared.limits.TheConstants.{IMAGE_HEAD_BYTES, PAGE_BYTES}
 use Rattle.tp_model.specs.CutImage.{node_with, nodes_in, only_if, or_damaged}
 use Rattle.tp_model.specs.Disk.{Moment}
 use Rattle.tp_model.specs.Image.{node_at, node_of, page_count}
@@ -42,6 +42,20 @@ node_with-take pages bytes =
 
 pub node_read : (at pages : ℕ) (xs bytes : List ℕ) → bytes ≡ take (image_length pages) (drop at xs) → or_damaged at (node_with pages (drop at xs)) ≡ or_damaged at (node_with pages bytes)
 node_read at pages xs bytes front = ap (or_damaged at) (sym (node_with-take pages (drop at xs)) ∙ ap (node_with pages) (sym front))
+
+-- a head and the memory behind it, read one after the other
+take_both : (n m : ℕ) (xs : List ℕ) → take (n + m) xs ≡ take n xs ++ take m (drop n xs)
+take_both n m xs = sym (take-append-drop n (take (n + m) xs)) ∙ ap (λ ys. ys ++ drop n (take (n + m) xs)) (take-take n (n + m) xs (omega arith)) ∙ ap (λ ys. take n xs ++ ys) (drop-take n m xs)
+
+pub image_apart : (at place pages : ℕ) (old now : Moment) (head memory : List ℕ) → place ≡ at + IMAGE_HEAD_BYTES → now ≡ old
+    → head ≡ take IMAGE_HEAD_BYTES (drop at old.bytes) → memory ≡ take (PAGE_BYTES * pages) (drop place now.bytes)
+    → head ++ memory ≡ take (image_length pages) (drop at old.bytes)
+image_apart at place pages old now head memory there kept front rest =
+    ap (λ xs. xs ++ memory) front
+    ∙ ap (λ ys. take IMAGE_HEAD_BYTES (drop at old.bytes) ++ ys)
+    (rest ∙ ap (λ (m : Moment). take (PAGE_BYTES * pages) (drop place m.bytes)) kept ∙ ap (λ p. take (PAGE_BYTES * pages) (drop p old.bytes)) there
+    ∙ ap (take (PAGE_BYTES * pages)) (sym (drop-drop IMAGE_HEAD_BYTES at old.bytes)))
+    ∙ sym (take_both IMAGE_HEAD_BYTES (PAGE_BYTES * pages) (drop at old.bytes))
 
 -- an image that is refused
 pub image_refused : (found : Option NodeState) → ReadsImage found (Err BadImage) → found ≡ None

@@ -31,10 +31,13 @@ all_pushed P (y ∷ ys) x all here = (all.0, all_pushed P ys x all.1 here)
 
 -- ## Nodes
 
+-- what fits in bytes are bytes
+pub fit_bytes : (bytes : List ℕ) → ((i : ℕ) → Fits w8 (get_or bytes i 0)) → AreBytes bytes
+fit_bytes bytes fit = are_bytes bytes (λ i. omega (arith, fit i))
+
 -- A node that was read has an image, and the pages that were asked for.
-pub node_imaged : (pages : ℕ) (bytes : List ℕ) (node : NodeState) → ((i : ℕ) → Fits w8 (get_or bytes i 0)) → node_with pages bytes ≡ Some node → HasImage pages node
-node_imaged pages bytes node fit is =
-    let are : AreBytes bytes = are_bytes bytes (λ i. omega (arith, fit i)) in
+pub node_imaged : (pages : ℕ) (bytes : List ℕ) (node : NodeState) → AreBytes bytes → node_with pages bytes ≡ Some node → HasImage pages node
+node_imaged pages bytes node are is =
     let part = take (image_length pages) bytes in
     let found = tested (λ n. page_count n.memory == pages) (node_of part) node is in
     record {

@@ -1,6 +1,6 @@
 //! Reading bytes of a device.
 
-ghost use Rattle.std.specs.Prelude.{◌≡◌, ◌+◌, ◌≤◌, length, take, drop, IfOk, OnOk};
+ghost use Rattle.std.specs.Prelude.{◌≡◌, ◌+◌, ◌≤◌, length, take, drop, IfOk};
 ghost use Rattle.tp_model.specs.DiskHistory.{Counts};
 ghost use Rattle.tp_recover.specs.Reading.{has_read, found, ReadAnswer, LeavesAlone, LeavesNothingNew, TakesNone};
 
@@ -27,29 +27,6 @@ pub(crate) fn read_array<D: Disk, const N: usize>(
     }
 }
 
-/// Reads `count` bytes from `at` on, in place of what `bytes` has.
-pub(crate) fn read_over<D: Disk>(
-    disk: &mut D,
-    at: u64,
-    count: usize,
-    bytes: &mut Vec<u8>,
-) -> Result<(), Unopened>
-    requires { at + count ≤ D.size_of disk.old }
-    ensures counts { Counts (has_read result) (D.size_of disk.old) (D.size_of disk.new) (D.failures_of disk.old) (D.failures_of disk.new) }
-    ensures kept { D.keeps → LeavesAlone result (D.state disk.old).now (D.state disk.new).now }
-    ensures leaves { D.keeps → LeavesNothingNew (D.state disk.old) (D.state disk.new) }
-    ensures len { OnOk result (length bytes.new.items ≡ count) }
-    ensures bytes { D.keeps → ReadAnswer (λ done. bytes.new.items) (found (take count (drop at (D.state disk.old).now.bytes))) result }
-{
-    if bytes.resize(count, 0).is_err() {
-        return Err(Unopened::Memory);
-    }
-    match disk.read(at, bytes) {
-        Ok(()) => Ok(()),
-        Err(_) => Err(Unopened::ReadFailed),
-    }
-}
-
 /// Reads `count` bytes from `at` on.
 pub(crate) fn read_bytes<D: Disk>(
     alloc: Global,
@@ -65,8 +42,11 @@ pub(crate) fn read_bytes<D: Disk>(
     ensures bytes { D.keeps → ReadAnswer (λ bytes. bytes.items) (found (take count (drop at (D.state disk.old).now.bytes))) result }
 {
     let mut bytes = Vec::new(alloc);
-    match read_over(disk, at, count, &mut bytes) {
+    if bytes.resize(count, 0).is_err() {
+        return Err(Unopened::Memory);
+    }
+    match disk.read(at, &mut bytes) {
         Ok(()) => Ok(bytes),
-        Err(error) => Err(error),
+        Err(_) => Err(Unopened::ReadFailed),
     }
 }

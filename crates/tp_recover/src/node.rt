@@ -1,45 +1,47 @@
 //! The nodes of a cut.
 
-ghost use Rattle.std.specs.Prelude.{◌≡◌, ◌+◌, ◌≤◌, ◌<◌, ◌^◌, None, true, IfOk, map, length, drop, sum_by};
+ghost use Rattle.std.specs.Prelude.{◌≡◌, ◌+◌, ◌*◌, ◌≤◌, ◌<◌, ◌^◌, ◌++◌, None, true, IfOk, map, length, drop, sum_by};
 ghost use Rattle.tp_model.specs.CutImage.{node_with, nodes_in, or_damaged};
 ghost use Rattle.tp_model.specs.DiskHistory.{Counts};
 ghost use Rattle.tp_model.specs.Journal.{image_length};
 ghost use Rattle.tp_recover.specs.Nodes.{live_node, AreAllThawed, HasImage, HaveImages};
 ghost use Rattle.tp_recover.specs.Reading.{has_read, ReadAnswer, LeavesAlone, LeavesNothingNew};
 
-use crate::device::read_over;
+use crate::device::{read_array, read_bytes};
 use crate::unopened::Unopened;
 use std::alloc::Global;
 use tp_area::image_length;
 use tp_disk::Disk;
 use tp_model::OpenFault;
+use tp_model::limits::{IMAGE_HEAD_BYTES, PAGE_BYTES};
 use tp_node::{ImageFault, Node};
 
-/// Decodes the node of `pages` pages from its image `bytes`, which stands at `at`. It has no spare frame, since nothing is replayed while
-/// it is frozen.
-fn node_in(alloc: Global, at: u64, pages: u16, bytes: &[u8]) -> Result<Node, Unopened>
-    requires { length bytes.now ≡ image_length pages }
+/// Decodes the node of `pages` pages from its image, `head` and `memory` behind it, which stands at `at`. It has no spare frame, since
+/// nothing is replayed while it is frozen.
+fn node_in(
+    alloc: Global,
+    at: u64,
+    pages: u16,
+    head: &[u8; IMAGE_HEAD_BYTES],
+    memory: Vec<u8>,
+) -> Result<Node, Unopened>
+    requires { length memory.items ≡ PAGE_BYTES * pages }
     ensures read { has_read result ≡ true }
     ensures thawed { IfOk result (λ node. node.frozen ≡ None) }
     ensures image { IfOk result (λ node. HasImage pages node.live) }
-    ensures is { ReadAnswer live_node (or_damaged at (node_with pages bytes.now)) result }
+    ensures is { ReadAnswer live_node (or_damaged at (node_with pages (head.now ++ memory.items))) result }
 {
-    match Node::from_image(alloc, bytes, 0) {
+    match Node::from_parts(alloc, head, memory, 0) {
         Ok(node) => Ok(node),
         Err(ImageFault::BadImage) => Err(Unopened::Fault(OpenFault::Damaged(at))),
         Err(ImageFault::Memory) => Err(Unopened::Memory),
     }
 }
 
-/// Reads the node of `pages` pages whose image stands at `at`. The image goes into `buffer`.
-fn read_node<D: Disk>(
-    alloc: Global,
-    disk: &mut D,
-    at: u64,
-    pages: u16,
-    buffer: &mut Vec<u8>,
-) -> Result<Node, Unopened>
-    requires { at + image_length pages ≤ D.size_of disk.old }
+/// Reads the node of `pages` pages whose image stands at `at`: its head, and then its memory, straight into the bytes that the node keeps.
+fn read_node<D: Disk>(alloc: Global, disk: &mut D, at: u64, pages: u16) -> Result<Node, Unopened>
+    requires inside { at + image_length pages ≤ D.size_of disk.old }
+    requires counted { at + image_length pages < 2 ^ 64 }
     ensures counts { Counts (has_read result) (D.size_of disk.old) (D.size_of disk.new) (D.failures_of disk.old) (D.failures_of disk.new) }
     ensures kept { D.keeps → LeavesAlone result (D.state disk.old).now (D.state disk.new).now }
     ensures leaves { D.keeps → LeavesNothingNew (D.state disk.old) (D.state disk.new) }
@@ -47,13 +49,13 @@ fn read_node<D: Disk>(
     ensures image { IfOk result (λ node. HasImage pages node.live) }
     ensures is { D.keeps → ReadAnswer live_node (or_damaged at (node_with pages (drop at (D.state disk.old).now.bytes))) result }
 {
-    match read_over(disk, at, image_length(pages), buffer) {
-        Ok(()) => node_in(alloc, at, pages, buffer),
-        Err(error) => Err(error),
-    }
+    let head: [u8; IMAGE_HEAD_BYTES] = read_array(disk, at)?;
+    let place = at + IMAGE_HEAD_BYTES as u64;
+    let memory = read_bytes(alloc, disk, place, PAGE_BYTES * usize::from(pages))?;
+    node_in(alloc, at, pages, &head, memory)
 }
 
-/// Reads the nodes with `pages` pages each. Their images stand from `at` on, one behind the other; each is read in place of the one before.
+/// Reads the nodes with `pages` pages each. Their images stand from `at` on, one behind the other.
 pub(crate) fn read_nodes<D: Disk>(
     alloc: Global,
     disk: &mut D,
@@ -71,10 +73,9 @@ pub(crate) fn read_nodes<D: Disk>(
     ensures is { D.keeps → ReadAnswer (λ nodes. map live_node nodes.items) (nodes_in at pages.now (drop at (D.state disk.old).now.bytes)) result }
 {
     let mut nodes = Vec::new(alloc);
-    let mut buffer = Vec::new(alloc);
     let mut place = at;
     for count in pages {
-        let read = read_node(alloc, disk, place, *count, &mut buffer)?;
+        let read = read_node(alloc, disk, place, *count)?;
         let Ok(()) = nodes.push(read) else {
             return Err(Unopened::Memory);
         };
