@@ -1,6 +1,7 @@
 -- What was seen broken stays so.
-use Rattle.std.proofs.Common.{◌≡◌, ℕ, zero, suc, Bool, true, List, [], ◌∷◌, ◌++◌, map, refl, sym, subst}
+use Rattle.std.proofs.Common.{◌≡◌, ℕ, zero, suc, Bool, true, List, [], ◌∷◌, ◌++◌, map, refl, sym, ap, subst, ◌∙◌}
 use Rattle.std.specs.List.{AllByRecursion}
+use Rattle.std.proofs.lemmas.List.{map-append}
 use mathlib.Core.List.{cons≢nil}
 use Rattle.tp_law_machine.proofs.Partial.{all_append}
 use Rattle.tp_token.specs.Sound.{Sound, item_of}
@@ -11,12 +12,19 @@ use Rattle.tp_shared.specs.BrokenSeen.{BrokenSince, StayBroken}
 pub seen_none : {V : Type 0} (value : V → BookValue) (now : Bool) (items : List V) → items ≡ [] → BrokenSince now (map value items)
 seen_none value now items none = subst (λ vs. BrokenSince now (map value vs)) (sym none) tt
 
+-- the store is as it was
+pub seen_still : (was now : Bool) (seen : List BookValue) → now ≡ was → BrokenSince was seen → BrokenSince now seen
+seen_still was now seen same all = subst (λ broken. BrokenSince broken seen) (sym same) all
+
 -- it is broken now
 pub ever_since : (seen : List BookValue) → BrokenSince true seen
 ever_since [] = tt
 ever_since (x ∷ seen) = ((λ broken. refl), ever_since seen)
 
 -- the book as it is was seen
+pub sees_now : {V : Type 0} (value : V → BookValue) (new old : List V) (v : V) (b : BookValue) → new ≡ old ++ v ∷ [] → value v ≡ b → map value new ≡ map value old ++ b ∷ []
+sees_now value new old v b is same = ap (map value) is ∙ map-append value old (v ∷ []) ∙ ap (λ x. map value old ++ x ∷ []) same
+
 pub seen_now : (b : BookValue) (seen new : List BookValue) → new ≡ seen ++ b ∷ [] → BrokenSince b.broken seen → BrokenSince b.broken new
 seen_now b seen new is all = subst (BrokenSince b.broken) (sym is) (all_append (λ x. x.broken ≡ true → b.broken ≡ true) seen (b ∷ []) all ((λ h. h), tt))
 
