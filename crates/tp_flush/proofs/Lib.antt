@@ -25,5 +25,5 @@ mod SwitchingEnds
 mod Reasons
 mod Rooms
 mod Forms
-mod Telling
+mod Breaking
 pub mod Follows

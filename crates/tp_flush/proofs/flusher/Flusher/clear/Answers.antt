@@ -26,7 +26,7 @@ use Rattle.tp_flush.proofs.Goings.{goes_still}
 use Rattle.tp_flush.proofs.Puts.{Answered, after_put, cleared_walks, on_ok, on_ok_same, put_answered, put_keeps, put_known, put_net, put_stored, put_tried, told_put}
 use Rattle.tp_area.specs.declared.place.Place.{Place}
 use Rattle.tp_flush.proofs.Forms.{holds_at}
-use Rattle.tp_flush.proofs.Telling.{first_where, whole_where}
+use Rattle.tp_flush.proofs.Breaking.{first_where, whole_where}
 use Rattle.tp_flush.proofs.flusher.Flusher.clear.Given as given
 use Rattle.tp_flush.proofs.flusher.Flusher.clear.Goals as goal
 

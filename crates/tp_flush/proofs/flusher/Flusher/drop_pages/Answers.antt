@@ -11,7 +11,7 @@ use Rattle.tp_flush.proofs.Devices.{look_device}
 use Rattle.tp_flush.proofs.Goings.{goes_looked, went_looked}
 use Rattle.tp_flush.proofs.Kept.{learn_keeps, learned_looked}
 use Rattle.tp_flush.proofs.Forms.{holds_since}
-use Rattle.tp_flush.proofs.Telling.{where_since}
+use Rattle.tp_flush.proofs.Breaking.{where_since}
 use Rattle.tp_flush.proofs.flusher.Flusher.drop_pages.Given as given
 use Rattle.tp_flush.proofs.flusher.Flusher.drop_pages.Goals as goal
 

@@ -14,7 +14,7 @@ use Rattle.tp_flush.proofs.Begins.{begun, begun_is, first_keeps}
 use Rattle.tp_flush.proofs.Devices.{first_device}
 use Rattle.tp_flush.proofs.Gone.{gone_none}
 use Rattle.tp_flush.proofs.Forms.{holds_same}
-use Rattle.tp_flush.proofs.Telling.{where_whole}
+use Rattle.tp_flush.proofs.Breaking.{where_whole}
 use Rattle.tp_flush.proofs.flusher.Flusher.over.Goals as goal
 
 pub invariant_of-result : goal.invariant_of-result

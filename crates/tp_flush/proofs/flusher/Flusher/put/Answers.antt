@@ -28,7 +28,7 @@ use Rattle.tp_area.specs.declared.place.Place.{Place}
 use Rattle.tp_model.specs.Disk.{written}
 use Rattle.tp_flush.proofs.Puts.{if_answered, piece_inside, Answered, after_put, on_ok, on_ok_same, piece_walks, place_from, put_answered, put_keeps, put_known, put_net, put_stored, put_tried, told_put}
 use Rattle.tp_flush.proofs.Forms.{holds_at}
-use Rattle.tp_flush.proofs.Telling.{first_where, whole_where}
+use Rattle.tp_flush.proofs.Breaking.{first_where, whole_where}
 use Rattle.tp_flush.proofs.flusher.Flusher.put.Given as given
 use Rattle.tp_flush.proofs.flusher.Flusher.put.Goals as goal
 

@@ -12,7 +12,7 @@ use Rattle.tp_flush.proofs.Devices.{look_device}
 use Rattle.tp_flush.proofs.Goings.{goes_looked, went_looked}
 use Rattle.tp_flush.proofs.Kept.{learn_keeps, learned_looked}
 use Rattle.tp_flush.proofs.Forms.{holds_since}
-use Rattle.tp_flush.proofs.Telling.{where_since}
+use Rattle.tp_flush.proofs.Breaking.{where_since}
 use Rattle.tp_flush.proofs.flusher.Flusher.read_page.Given as given
 use Rattle.tp_flush.proofs.flusher.Flusher.read_page.Goals as goal
 
