@@ -41,7 +41,7 @@ impl<J: Naming, D: Disk> Flusher<J, D> {
         let done = parts.store.clear_other();
         parts.progress.cleared = true;
         parts.whole = Whole::of(&*parts);
-        tell_where(rt, shared, parts.store.broken, told);
+        tell_where(rt, shared, parts.store.broken, &mut parts.key, told);
         answer_of(done)
     }
 
@@ -75,7 +75,7 @@ impl<J: Naming, D: Disk> Flusher<J, D> {
         let Flusher { parts, told } = self;
         let done = parts.store.put_at(image + place_in_image(piece), bytes);
         parts.whole = Whole::of(&*parts);
-        tell_where(rt, shared, parts.store.broken, told);
+        tell_where(rt, shared, parts.store.broken, &mut parts.key, told);
         answer_of(done)
     }
 
