@@ -186,7 +186,7 @@ done_says x s told = record { silent = λ none. absurd none; prints = told }
 prints_as : {A B : Type 0} (was now : Option (List ℕ)) (outputs : List ℕ) (r : Result A RunFault) (s : Result B RunFault) → SaysAs r s → PrintsSo r was now outputs → PrintsSo s was now outputs
 prints_as was now outputs r s says (count, appended, prints) = (count, appended, says.prints count (length outputs) prints)
 
-prints_at : {A B : Type 0} (there : State) (was now : OutletValue) (outputs : List ℕ) (r : Result A RunFault) (s : Result B RunFault) → SaysAs r s → PrintsAt there r was now outputs → PrintsAt there s was now outputs
+pub prints_at : {A B : Type 0} (there : State) (was now : OutletValue) (outputs : List ℕ) (r : Result A RunFault) (s : Result B RunFault) → SaysAs r s → PrintsAt there r was now outputs → PrintsAt there s was now outputs
 prints_at there was now outputs r s says P = record { prints = prints_as was.taken now.taken outputs r s says P.prints; called = P.called }
 
 -- what was printed at one moment, as it is known at a later one

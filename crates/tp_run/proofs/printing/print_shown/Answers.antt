@@ -2,7 +2,7 @@ use Rattle.std.proofs.Common.{◌≡◌, Err, length, rules, sym, ap, subst, ◌
 use Rattle.tp_book.specs.Calls.{marks_of}
 use Rattle.tp_book.specs.Host.{port_in, shown_from}
 use Rattle.tp_run.specs.Prints.{PrintsAt}
-use Rattle.tp_run.proofs.Shown.{fault_of, printed_is, prints_on}
+use Rattle.tp_run.proofs.Shown.{fault_of, fault_says, printed_is, prints_at, prints_on}
 use Rattle.tp_shared.specs.Receipted.{Receipted}
 use Rattle.tp_run.proofs.printing.print_shown.Goals as goal
 
@@ -19,7 +19,8 @@ returns-in_err-put-clause-printed g c =
     let was = g.O.Outlet.value c.args.out.now in
     let now = g.O.Outlet.value c.put.new.out in
     subst (λ r. PrintsAt c.args.flusher.now.state r was now (shown_from b port c.args.mark (port_in b port).out_base)) (sym is)
-    (subst (PrintsAt c.args.flusher.now.state (fault_of Receipted fault) was now) shown c.in_err-put.ensures.printed)
+    (prints_at c.args.flusher.now.state was now _ (fault_of (Unit {0}) fault) (fault_of Receipted fault) (fault_says (Unit {0}) Receipted fault)
+    (subst (PrintsAt c.args.flusher.now.state (fault_of (Unit {0}) fault) was now) shown c.in_err-put.ensures.printed))
 
 pub returns-clause-printed : goal.returns-clause-printed
 returns-clause-printed g c =
