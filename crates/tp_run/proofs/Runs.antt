@@ -7,7 +7,7 @@ use Rattle.tp_model.specs.NodeState.{NodeState}
 use Rattle.tp_model.specs.Node.{t414}
 use Rattle.tp_model.specs.Network.{Network}
 use Rattle.tp_model.specs.Disk.{MayBe}
-use Rattle.tp_model.specs.DiskHistory.{State, LeavesOnly}
+use Rattle.tp_model.specs.DiskHistory.{State}
 use Rattle.tp_model.specs.DeviceAreas.{device_areas}
 use Rattle.tp_model.specs.Opening.{Opened, held_of, verdict}
 use Rattle.tp_model.specs.Runs.{World, reopened}

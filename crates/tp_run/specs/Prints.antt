@@ -1,5 +1,5 @@
 -- What is left on the output, by what was answered.
-use Rattle.std.specs.Prelude.{◌≡◌, ◌<◌, ◌≤◌, ℕ, List, length, take, Option, Result, Ok, Err}
+use Rattle.std.specs.Prelude.{◌<◌, ◌≤◌, ℕ, List, length, take, Option, Result, Ok, Err}
 use Rattle.std.specs.Io.KnownBytes.{Appends}
 use Rattle.tp_model.specs.DiskHistory.{State}
 use Rattle.tp_run.specs.Outlet.{OutletValue, WasCalled}

@@ -1,4 +1,4 @@
-use Rattle.std.proofs.Common.{◌≡◌, ◌≤◌, ℕ, ◌++◌, inl, Ok, Err, rules, refl, sym, ap, subst, ◌∙◌, arith, IfOk}
+use Rattle.std.proofs.Common.{◌≡◌, ◌≤◌, ℕ, ◌++◌, inl, Err, rules, refl, sym, ap, subst, ◌∙◌, arith, IfOk}
 use Rattle.std.specs.Prelude.{flat_map, IfErr}
 use Rattle.std.proofs.lemmas.Result.{IfOk-weaker}
 use Rattle.tp_flush.specs.Known.{Began}

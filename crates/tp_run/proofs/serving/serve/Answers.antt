@@ -1,4 +1,4 @@
-use Rattle.std.proofs.Common.{◌≡◌, ◌<◌, inl, refl, length, sym, ap, subst, ◌∙◌, IfOk}
+use Rattle.std.proofs.Common.{◌<◌, inl, refl, length, sym, subst, IfOk}
 use Rattle.std.specs.Prelude.{All}
 use Rattle.tp_work.specs.declared.seat.Seat.{Seat}
 use Rattle.tp_flush.specs.Known.{Began}
