@@ -3,6 +3,7 @@ use Rattle.std.specs.Prelude.{◌≡◌, ◌⊎◌, ℕ, List, [], Option, None,
 use Rattle.tp_model.specs.DiskHistory.{State}
 use Rattle.tp_model.specs.Opening.{verdict}
 use Rattle.tp_recover.specs.Reading.{LeavesNothingNew}
+use Rattle.tp_run.specs.Outlet.{unnoted}
 use Rattle.tp_run.specs.Ran.{History}
 use Rattle.tp_words.specs.declared.args.Run.{Run}
 use Rattle.tp_program.specs.Devices.{DeviceCall, UsedOne, WasRefused}
@@ -10,7 +11,7 @@ use Rattle.tp_program.specs.Running.{RanAs, job_of}
 
 -- What `run_on` promises, of a device from the state as it was opened to the one as it was given back.
 pub record RanBetween (keeps : Type 0) (history : History) (run : Run) (input : List ℕ) (was now : Option (List ℕ)) (status : ℕ) (opened closed : State) : Type 0 where
-  pub ran : RanAs keeps history (job_of run) input opened closed was now status
+  pub ran : RanAs keeps history (job_of run) input opened closed (unnoted was) (unnoted now) status
   pub words : status ≡ 2 → (keeps → LeavesNothingNew opened closed) × (now ≡ was)
   pub unopened : keeps → IsErr (verdict opened.now.bytes) → (status ≡ 1) × LeavesNothingNew opened closed × (now ≡ was)
 

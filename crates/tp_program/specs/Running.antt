@@ -1,12 +1,13 @@
 -- What `run` does.
-use Rattle.std.specs.Prelude.{◌≡◌, ℕ, List, Option, Result, Ok, Err, min}
+use Rattle.std.specs.Prelude.{◌≡◌, ℕ, List, Result, Ok, Err, min}
 use Rattle.tp_flush.specs.Known.{Began}
 use Rattle.tp_model.specs.DiskHistory.{State}
 use Rattle.tp_model.specs.Opening.{verdict}
 use Rattle.tp_recover.specs.Reading.{LeavesNothingNew}
 use Rattle.tp_run.specs.Answered.{AnswerFor}
 use Rattle.tp_run.specs.Faults.{IsSilent, IsUnbegun}
-use Rattle.tp_run.specs.Ran.{History, Ran}
+use Rattle.tp_run.specs.Outlet.{OutletValue}
+use Rattle.tp_run.specs.Ran.{History, RanInto}
 use Rattle.tp_run.specs.declared.fault.RunFault.{RunFault}
 use Rattle.tp_run.specs.declared.fault.RunFault.TheVariants.{Spare, Port}
 use Rattle.tp_run.specs.declared.job.Job.{Job}
@@ -30,12 +31,12 @@ status_of (Err Spare) = 2
 status_of (Err Port) = 2
 status_of _ = 1
 
--- A run of this job and input that ended with this status, for a reason that the device and the job give, and what it left on the device and
--- on standard output.
-pub record RanAs (keeps : Type 0) (history : History) (job : Job) (input : List ℕ) (old new : State) (was now : Option (List ℕ)) (status : ℕ) : Type 0 where
+-- A run of this job and input that ended with this status, for a reason that the device and the job give, what it left on the device and
+-- on standard output, and how the device stood at each call for that.
+pub record RanAs (keeps : Type 0) (history : History) (job : Job) (input : List ℕ) (old new : State) (was now : OutletValue) (status : ℕ) : Type 0 where
   pub done : Result ℕ RunFault
   pub is : status ≡ status_of done
-  pub ran : keeps → Began history.formatted history.before old.now.bytes → Ran history.formatted job input was now done old new
+  pub ran : keeps → Began history.formatted history.before old.now.bytes → RanInto history.formatted job input was now done old new
   pub unwritten : keeps → IsUnbegun done → LeavesNothingNew old new
   pub silent : IsSilent done → now ≡ was
   pub answer : keeps → AnswerFor (verdict old.now.bytes) job input done

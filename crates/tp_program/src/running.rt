@@ -14,7 +14,7 @@ use std::io::Write;
 use std::sync::Wait;
 use std::thread::Threads;
 use tp_disk::Disk;
-use tp_run::{Job, RunFault, run};
+use tp_run::{Job, Outlet, RunFault, run};
 use tp_words::Run;
 
 /// What the threads are asked. A number that no device has is the greatest of its kind.
@@ -73,7 +73,7 @@ fn report<E: Write>(err: &mut E, done: Result<u64, RunFault>) -> u8
 /// and confirms what the port shows, and says on standard error which number the next entry gets. Answers the device, and the
 /// program's status: 0 where that was done, 2 where `--spare` is above a node's pages or the port isn't there, else 1. A device
 /// that doesn't open is left as it is, and so it is at status 2; nothing is printed then.
-pub fn run_on<D: Disk + Drop + Send, O: Write, E: Write, R: Threads + Wait + Sync>(
+pub fn run_on<D: Disk + Drop + Send, O: Outlet, E: Write, R: Threads + Wait + Sync>(
     rt: &R,
     alloc: Global,
     asked: &Run,
@@ -86,9 +86,9 @@ pub fn run_on<D: Disk + Drop + Send, O: Write, E: Write, R: Threads + Wait + Syn
     requires { IsRun asked.now }
     ensures status { result.1 ≤ 2 }
     ensures size { D.size_of result.0 ≡ D.size_of disk }
-    ensures ran { RanAs D.keeps history (job_of asked.now) input.now (D.state disk) (D.state result.0) (O.contents out.old) (O.contents out.new) result.1 }
-    ensures words { result.1 ≡ 2 → (D.keeps → LeavesNothingNew (D.state disk) (D.state result.0)) × (O.contents out.new ≡ O.contents out.old) }
-    ensures unopened { D.keeps → IsErr (verdict (D.state disk).now.bytes) → (result.1 ≡ 1) × LeavesNothingNew (D.state disk) (D.state result.0) × (O.contents out.new ≡ O.contents out.old) }
+    ensures ran { RanAs D.keeps history (job_of asked.now) input.now (D.state disk) (D.state result.0) (O.value out.old) (O.value out.new) result.1 }
+    ensures words { result.1 ≡ 2 → (D.keeps → LeavesNothingNew (D.state disk) (D.state result.0)) × (O.value out.new ≡ O.value out.old) }
+    ensures unopened { D.keeps → IsErr (verdict (D.state disk).now.bytes) → (result.1 ≡ 1) × LeavesNothingNew (D.state disk) (D.state result.0) × (O.value out.new ≡ O.value out.old) }
 {
     let job = job_of(asked);
     let (disk, done) = run(rt, alloc, job, disk, input, out);

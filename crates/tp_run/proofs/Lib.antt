@@ -3,6 +3,7 @@ pub mod Answered
 pub mod Failures
 pub mod Faults
 pub mod Made
+pub mod Called
 pub mod Runs
 mod Shown
 pub mod Slips

@@ -10,7 +10,7 @@ use Rattle.tp_model.specs.Node.{t414}
 use Rattle.tp_model.specs.Network.{Network}
 use Rattle.tp_model.specs.Markers.{plain_network}
 use Rattle.tp_model.specs.Order.{after}
-use Rattle.tp_model.specs.DiskHistory.{moment}
+use Rattle.tp_model.specs.DiskHistory.{State, moment}
 use Rattle.tp_model.specs.DeviceAreas.{device_areas}
 use Rattle.tp_model.specs.Runs.{World}
 use Rattle.tp_model.specs.Walks.{RecoversTo}
@@ -29,7 +29,8 @@ use Rattle.tp_flush.proofs.Kept.{reached_then}
 use Rattle.tp_flush.proofs.Turns.{walked_nowhere, walked_recovers, walked_stays}
 use Rattle.tp_run.specs.declared.fault.RunFault.{RunFault}
 use Rattle.tp_run.specs.Output.{AreOutputs, AreShownBytes, IsForOutput, PrintedOf, ShowsAll, confirms}
-use Rattle.tp_run.specs.Prints.{MayBeSilent, PrintsOf, PrintsSo, TellsAllPrinted}
+use Rattle.tp_run.specs.Outlet.{OutletValue, WasCalled}
+use Rattle.tp_run.specs.Prints.{MayBeSilent, PrintsAt, PrintsOf, PrintsSo, TellsAllPrinted}
 use Rattle.tp_run.specs.Shown.{AreShownIn, MayPrint, MayShow}
 use Rattle.tp_flush.proofs.Recovers.{recovers_less}
 use Rattle.tp_run.proofs.Slips.{confirms_shown}
@@ -86,16 +87,19 @@ output_like port from One Other was now (Err e) like O = tt
 pub are_outputs : (b : BookValue) (port mark : ℕ) → shown_of b port mark ≡ length (port_in b port).outputs → (number : ℕ) (bytes : List ℕ) → AreShownBytes b port mark number bytes → AreOutputs b port number bytes
 are_outputs b port mark all number bytes A = (A.0, sym (A.1 ∙ all_shown b port mark all))
 
-pub printed_of : {A : Type 0} (b : BookValue) (port mark confirmed : ℕ) (was now : Option (List ℕ)) (r : Result A RunFault) → (port_in b port).out_base ≡ confirmed
-    → shown_of b port mark ≡ length (port_in b port).outputs → next_in_book b ≤ mark → PrintsSo r was now (shown_from b port mark (port_in b port).out_base)
-    → PrintedOf b port mark confirmed was now r
-printed_of b port mark confirmed was now r base all stored printed =
-    inr (record { base = base; all = all; stored = stored }, subst (λ bytes. PrintsSo r was now bytes) (all_shown b port mark all) printed)
+pub printed_of : {A : Type 0} (b : BookValue) (port mark confirmed : ℕ) (there : State) (was now : OutletValue) (r : Result A RunFault) → (port_in b port).out_base ≡ confirmed
+    → shown_of b port mark ≡ length (port_in b port).outputs → next_in_book b ≤ mark → PrintsAt there r was now (shown_from b port mark (port_in b port).out_base)
+    → PrintedOf b port mark confirmed there was now r
+printed_of b port mark confirmed there was now r base all stored printed =
+    inr (record { base = base; all = all; stored = stored }, subst (λ bytes. PrintsAt there r was now bytes) (all_shown b port mark all) printed)
 
 -- all of it was appended, and the answer behind that says so
-pub prints_on : {A : Type 0} (was now : Option (List ℕ)) (bytes : List ℕ) (r : Result A RunFault) → Appends was now bytes → TellsAllPrinted r → PrintsSo r was now bytes
-prints_on was now bytes r appended told =
-    (length bytes, subst (Appends was now) (sym (take_all (length bytes) bytes (omega arith))) appended, told (length bytes) (length bytes) (omega arith))
+pub prints_on : {A : Type 0} (there : State) (was now : OutletValue) (bytes : List ℕ) (r : Result A RunFault) → Appends was.taken now.taken bytes → TellsAllPrinted r → WasCalled there bytes was now
+    → PrintsAt there r was now bytes
+prints_on there was now bytes r appended told called = record {
+  prints = (length bytes, subst (Appends was.taken now.taken) (sym (take_all (length bytes) bytes (omega arith))) appended, told (length bytes) (length bytes) (omega arith));
+  called = called;
+}
 
 -- ## Beside the flusher's journal
 
@@ -122,12 +126,12 @@ pub outputs_shown : (start : Network NodeState) (w : World NodeState) (b : BookV
     → (number : ℕ) (bytes : List ℕ) → AreOutputs b port number bytes → AreShownIn start w port confirmed number bytes
 outputs_shown start w b port mark confirmed A S at number bytes O = subst (AreShownIn start w port confirmed number) O.1 (shows_book start w b port mark confirmed number A S at O.0)
 
-pub may_show : {A : Type 0} (start : Network NodeState) (w : World NodeState) (b : BookValue) (port mark confirmed : ℕ) (was now : Option (List ℕ)) (r : Result A RunFault) → IsAheadOf start w b → mark ≡ w.mark
-    → PrintedOf b port mark confirmed was now r → MayShow start w.journal w.mark port confirmed was now r
-may_show start w b port mark confirmed was now r A at (inl same) = inl same
-may_show start w b port mark confirmed was now r A at (inr (S, F)) =
-    let there = shows_book start w b port mark confirmed (next_in_book b) A S at refl in
-    inr (record { number = next_in_book b; few = there.0; outputs = (port_in b port).outputs; shows = there.1; printed = F })
+pub may_show : {A : Type 0} (start : Network NodeState) (w : World NodeState) (b : BookValue) (port mark confirmed : ℕ) (there : State) (was now : OutletValue) (r : Result A RunFault) → IsAheadOf start w b
+    → mark ≡ w.mark → PrintedOf b port mark confirmed there was now r → MayShow start w.journal w.mark port confirmed there was now r
+may_show start w b port mark confirmed there was now r A at (inl same) = inl same
+may_show start w b port mark confirmed there was now r A at (inr (S, F)) =
+    let shows = shows_book start w b port mark confirmed (next_in_book b) A S at refl in
+    inr (record { number = next_in_book b; few = shows.0; outputs = (port_in b port).outputs; shows = shows.1; printed = F })
 
 -- the outputs that a receipt is for are shown
 pub output_shown : (keeps began : Type 0) (start : Network NodeState) (w : World NodeState) (b : BookValue) (port mark confirmed : ℕ) (was now : Option (List ℕ)) (r : Result Receipted RunFault)
@@ -182,9 +186,12 @@ done_says x s told = record { silent = λ none. absurd none; prints = told }
 prints_as : {A B : Type 0} (was now : Option (List ℕ)) (outputs : List ℕ) (r : Result A RunFault) (s : Result B RunFault) → SaysAs r s → PrintsSo r was now outputs → PrintsSo s was now outputs
 prints_as was now outputs r s says (count, appended, prints) = (count, appended, says.prints count (length outputs) prints)
 
+pub prints_at : {A B : Type 0} (there : State) (was now : OutletValue) (outputs : List ℕ) (r : Result A RunFault) (s : Result B RunFault) → SaysAs r s → PrintsAt there r was now outputs → PrintsAt there s was now outputs
+prints_at there was now outputs r s says P = record { prints = prints_as was.taken now.taken outputs r s says P.prints; called = P.called }
+
 -- what was printed at one moment, as it is known at a later one
-pub may_print : {A B : Type 0} (start : Network NodeState) (old at new : Flushing) → Reached start old.world → Walked old at → Walked at new → (port confirmed : ℕ) (was now : Option (List ℕ))
-    → (r : Result A RunFault) (s : Result B RunFault) → SaysAs r s → MayShow start at.world.journal at.world.mark port confirmed was now r → MayPrint start old new port confirmed was now s
+pub may_print : {A B : Type 0} (start : Network NodeState) (old at new : Flushing) → Reached start old.world → Walked old at → Walked at new → (port confirmed : ℕ) (was now : OutletValue)
+    → (r : Result A RunFault) (s : Result B RunFault) → SaysAs r s → MayShow start at.world.journal at.world.mark port confirmed at.state was now r → MayPrint start old new port confirmed was now s
 may_print start old at new R W V port confirmed was now r s says (inl (same, silent)) = inl (same, says.silent silent)
 may_print start old at new R W V port confirmed was now r s says (inr H) =
     let reached = walked_reached start old at R W in
@@ -192,8 +199,8 @@ may_print start old at new R W V port confirmed was now r s says (inr H) =
       number = H.number;
       outputs = H.outputs;
       shows = (shows_on start at new reached V port confirmed H.number H.outputs (H.few, H.shows)).1;
-      printed = prints_as was now H.outputs r s says H.printed;
       there = at.state;
+      printed = prints_at at.state was now H.outputs r s says H.printed;
       later = walked_later old at W;
       since =
           weaker at.state new.state (RecoversTo t414 device_areas start new.world.journal at.world.mark) _
@@ -201,12 +208,12 @@ may_print start old at new R W V port confirmed was now r s says (inr H) =
     })
 
 -- nothing came behind it
-pub may_print_last : {A B : Type 0} (start : Network NodeState) (old at : Flushing) → Reached start old.world → Walked old at → (port confirmed : ℕ) (was now : Option (List ℕ))
-    → (r : Result A RunFault) (s : Result B RunFault) → SaysAs r s → MayShow start at.world.journal at.world.mark port confirmed was now r → MayPrint start old at port confirmed was now s
+pub may_print_last : {A B : Type 0} (start : Network NodeState) (old at : Flushing) → Reached start old.world → Walked old at → (port confirmed : ℕ) (was now : OutletValue)
+    → (r : Result A RunFault) (s : Result B RunFault) → SaysAs r s → MayShow start at.world.journal at.world.mark port confirmed at.state was now r → MayPrint start old at port confirmed was now s
 may_print_last start old at R W port confirmed was now r s says shown = may_print start old at at R W (walked_nowhere at W.now) port confirmed was now r s says shown
 
 -- and from an earlier one on
-pub may_print_since : {A : Type 0} (start : Network NodeState) (first old new : Flushing) → Walked first old → (port confirmed : ℕ) (was now : Option (List ℕ)) (r : Result A RunFault)
+pub may_print_since : {A : Type 0} (start : Network NodeState) (first old new : Flushing) → Walked first old → (port confirmed : ℕ) (was now : OutletValue) (r : Result A RunFault)
     → MayPrint start old new port confirmed was now r → MayPrint start first new port confirmed was now r
 may_print_since start first old new W port confirmed was now r (inl same) = inl same
 may_print_since start first old new W port confirmed was now r (inr H) =
@@ -216,8 +223,8 @@ may_print_since start first old new W port confirmed was now r (inr H) =
       number = H.number;
       outputs = H.outputs;
       shows = H.shows;
-      printed = H.printed;
       there = H.there;
+      printed = H.printed;
       later = omega (arith, up, later);
       since = H.since;
     })

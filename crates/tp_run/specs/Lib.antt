@@ -8,6 +8,7 @@ pub mod Faults
 pub mod Input
 pub mod Made
 pub mod Outset
+pub mod Outlet
 pub mod Output
 pub mod Prints
 pub mod Ran

@@ -3,12 +3,14 @@ use Rattle.std.specs.Prelude.{◌≡◌, ◌≤◌, ◌⊎◌, ℕ, ◌+◌, Lis
 use Rattle.std.specs.Io.KnownBytes.{Appends}
 use Rattle.tp_model.specs.declared.entry.Entry.{Entry}
 use Rattle.tp_model.specs.declared.entry.Entry.TheVariants.{Confirm}
+use Rattle.tp_model.specs.DiskHistory.{State}
 use Rattle.tp_book.specs.Book.{BookValue, next_in_book}
 use Rattle.tp_book.specs.Host.{port_in, shown_from, shown_of}
 use Rattle.tp_work.specs.Receipts.{IsFor}
 use Rattle.tp_shared.specs.Receipted.{Receipted}
 use Rattle.tp_run.specs.declared.fault.RunFault.{RunFault}
-use Rattle.tp_run.specs.Prints.{MayBeSilent, PrintsSo}
+use Rattle.tp_run.specs.Outlet.{OutletValue}
+use Rattle.tp_run.specs.Prints.{MayBeSilent, PrintsAt}
 
 -- the entry that confirms a port's outputs, whose first has the position `from`; none where there is no output
 abbrev pub confirms : ℕ → ℕ → List ℕ → List Entry
@@ -37,8 +39,8 @@ pub record ShowsAll (b : BookValue) (port mark confirmed : ℕ) : Type 0 where
   pub all : shown_of b port mark ≡ length (port_in b port).outputs
   pub stored : next_in_book b ≤ mark
 
--- Nothing was appended, where the answer lets that be; or a mark shows all outputs of a port in a book, and of these as many were as the
--- answer says.
-abbrev pub PrintedOf : {A : Type 0} → BookValue → ℕ → ℕ → ℕ → Option (List ℕ) → Option (List ℕ) → Result A RunFault → Type 0
-PrintedOf b port mark confirmed was now r =
-    ((now ≡ was) × MayBeSilent r) ⊎ (ShowsAll b port mark confirmed × PrintsSo r was now (port_in b port).outputs)
+-- Nothing was appended, and no call made, where the answer lets that be; or a mark shows all outputs of a port in a book, and as many of
+-- them were appended as the answer says, by calls that were made while the device stood so.
+abbrev pub PrintedOf : {A : Type 0} → BookValue → ℕ → ℕ → ℕ → State → OutletValue → OutletValue → Result A RunFault → Type 0
+PrintedOf b port mark confirmed there was now r =
+    ((now ≡ was) × MayBeSilent r) ⊎ (ShowsAll b port mark confirmed × PrintsAt there r was now (port_in b port).outputs)

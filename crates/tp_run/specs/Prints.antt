@@ -1,6 +1,8 @@
 -- What is left on the output, by what was answered.
-use Rattle.std.specs.Prelude.{◌≡◌, ◌<◌, ◌≤◌, ℕ, List, length, take, Option, Result, Ok, Err}
+use Rattle.std.specs.Prelude.{◌<◌, ◌≤◌, ℕ, List, length, take, Option, Result, Ok, Err}
 use Rattle.std.specs.Io.KnownBytes.{Appends}
+use Rattle.tp_model.specs.DiskHistory.{State}
+use Rattle.tp_run.specs.Outlet.{OutletValue, WasCalled}
 use Rattle.tp_run.specs.declared.fault.RunFault.{RunFault}
 use Rattle.tp_run.specs.declared.fault.RunFault.TheVariants.{OutputFailed, ConfirmRefused, LastFlushFailed, Unaccounted, Memory}
 
@@ -37,3 +39,8 @@ TellsAllPrinted r = (count all : ℕ) → all ≤ count → PrintsOf r count all
 -- of these bytes as many were appended as the answer says
 abbrev pub PrintsSo : {A : Type 0} → Result A RunFault → Option (List ℕ) → Option (List ℕ) → List ℕ → Type 0
 PrintsSo r was now bytes = (count : ℕ) × Appends was now (take count bytes) × PrintsOf r count (length bytes)
+
+-- so; and the outlet was called for these bytes, while the device stood so
+pub record PrintsAt {A : Type 0} (there : State) (r : Result A RunFault) (was now : OutletValue) (bytes : List ℕ) : Type 0 where
+  pub prints : PrintsSo r was.taken now.taken bytes
+  pub called : WasCalled there bytes was now

@@ -1,5 +1,5 @@
 -- What a run leaves, whatever becomes of the device in it.
-use Rattle.std.specs.Prelude.{◌≡◌, ◌≤◌, ◌⊎◌, ℕ, List, ◌++◌, take, Option, Result, Ok, IfOk}
+use Rattle.std.specs.Prelude.{◌≡◌, ◌≤◌, ◌⊎◌, ℕ, List, ◌++◌, Option, Result, Ok, IfOk}
 use Rattle.std.specs.List.{enumerate_from}
 use Rattle.std.specs.Io.KnownBytes.{Appends}
 use Rattle.tp_model.specs.declared.entry.Entry.{Entry}
@@ -20,6 +20,7 @@ use Rattle.tp_run.specs.declared.fault.RunFault.{RunFault}
 use Rattle.tp_run.specs.declared.job.Job.{Job}
 use Rattle.tp_run.specs.declared.outset.Outset.{Outset}
 use Rattle.tp_run.specs.Input.{input_slips}
+use Rattle.tp_run.specs.Outlet.{OutletValue, WasCalled}
 use Rattle.tp_run.specs.Outset.{outset_in}
 use Rattle.tp_run.specs.Output.{confirms}
 use Rattle.tp_run.specs.Prints.{MayBeSilent, PrintsSo}
@@ -88,3 +89,14 @@ pub record Ran (start : Network NodeState) (job : Job) (input : List ℕ) (was n
   pub stored : IfOk result (λ next. (left : List ℕ) → MayBe new.now left → Follows start journal next old.now.bytes left)
   pub carried : IfOk result (λ next. Carried start journal job input was now next old new)
   pub printed : ((now ≡ was) × MayBeSilent result) ⊎ IsPrinted start journal job.port was now result old new
+
+-- What an outlet was called for, however the run ended: it took what was printed, and each call was made while the device stood where
+-- whatever a crash leaves from then on has each entry that leads to it.
+pub record IsCalled (start : Network NodeState) (journal : List Entry) (port : ℕ) (was now : OutletValue) (result : Result ℕ RunFault) (old new : State) : Type 0 where
+  pub printed : IsPrinted start journal port was.taken now.taken result old new
+  pub called : WasCalled printed.there printed.outputs was now
+
+-- What a run leaves, and what its outlet was called for in that journal; or no call was made.
+pub record RanInto (start : Network NodeState) (job : Job) (input : List ℕ) (was now : OutletValue) (result : Result ℕ RunFault) (old new : State) : Type 0 where
+  pub ran : Ran start job input was.taken now.taken result old new
+  pub called : (now ≡ was) ⊎ IsCalled start ran.journal job.port was now result old new

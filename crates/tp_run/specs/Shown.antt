@@ -1,5 +1,5 @@
 -- What was printed, beside the journal: the outputs of a port where entries lead.
-use Rattle.std.specs.Prelude.{◌≡◌, ◌≤◌, ◌⊎◌, ℕ, List, [], get_or, take, Option, Some, Result}
+use Rattle.std.specs.Prelude.{◌≡◌, ◌≤◌, ◌⊎◌, ℕ, List, [], get_or, take, Some, Result}
 use Rattle.tp_model.specs.declared.entry.Entry.{Entry}
 use Rattle.tp_model.specs.NodeState.{NodeState}
 use Rattle.tp_model.specs.Node.{t414}
@@ -11,7 +11,8 @@ use Rattle.tp_model.specs.Runs.{World}
 use Rattle.tp_model.specs.Walks.{RecoversTo}
 use Rattle.tp_flush.specs.Flushing.{Flushing}
 use Rattle.tp_run.specs.declared.fault.RunFault.{RunFault}
-use Rattle.tp_run.specs.Prints.{MayBeSilent, PrintsSo}
+use Rattle.tp_run.specs.Outlet.{OutletValue}
+use Rattle.tp_run.specs.Prints.{MayBeSilent, PrintsAt}
 
 -- a port of a network; where there is none, one at which nothing has happened
 abbrev pub port_or_new : Network NodeState → ℕ → Port
@@ -28,30 +29,30 @@ pub record LeadsToOutputs (start : Network NodeState) (journal : List Entry) (nu
 abbrev pub AreShownIn : Network NodeState → World NodeState → ℕ → ℕ → ℕ → List ℕ → Type 0
 AreShownIn start w port confirmed number outputs = (number ≤ w.mark) × LeadsToOutputs start w.journal number port confirmed outputs
 
--- What was appended to an output is a front of a port's outputs behind those confirmed, as many as the answer says, where the first
--- entries of the journal lead; there are at most `least` of those entries.
-pub record HasShown {A : Type 0} (start : Network NodeState) (journal : List Entry) (least port confirmed : ℕ) (was now : Option (List ℕ)) (r : Result A RunFault) : Type 0 where
+-- What was appended to an outlet is a front of a port's outputs behind those confirmed, as many as the answer says, where the first
+-- entries of the journal lead; there are at most `least` of those entries. Each call of it was for them, while the device stood so.
+pub record HasShown {A : Type 0} (start : Network NodeState) (journal : List Entry) (least port confirmed : ℕ) (there : State) (was now : OutletValue) (r : Result A RunFault) : Type 0 where
   pub number : ℕ
   pub few : number ≤ least
   pub outputs : List ℕ
   pub shows : LeadsToOutputs start journal number port confirmed outputs
-  pub printed : PrintsSo r was now outputs
+  pub printed : PrintsAt there r was now outputs
 
--- or nothing was appended, where the answer lets that be
-abbrev pub MayShow : {A : Type 0} → Network NodeState → List Entry → ℕ → ℕ → ℕ → Option (List ℕ) → Option (List ℕ) → Result A RunFault → Type 0
-MayShow start journal least port confirmed was now r = ((now ≡ was) × MayBeSilent r) ⊎ HasShown start journal least port confirmed was now r
+-- or nothing was appended, and no call made, where the answer lets that be
+abbrev pub MayShow : {A : Type 0} → Network NodeState → List Entry → ℕ → ℕ → ℕ → State → OutletValue → OutletValue → Result A RunFault → Type 0
+MayShow start journal least port confirmed there was now r = ((now ≡ was) × MayBeSilent r) ⊎ HasShown start journal least port confirmed there was now r
 
 -- What was appended while the device stood somewhere between two moments: a front of a port's outputs behind those confirmed, as many as
 -- the answer says, where the first entries of the journal lead; and whatever a crash leaves from then on has each of those entries.
-pub record HasPrinted {A : Type 0} (start : Network NodeState) (old new : Flushing) (port confirmed : ℕ) (was now : Option (List ℕ)) (r : Result A RunFault) : Type 0 where
+pub record HasPrinted {A : Type 0} (start : Network NodeState) (old new : Flushing) (port confirmed : ℕ) (was now : OutletValue) (r : Result A RunFault) : Type 0 where
   pub number : ℕ
   pub outputs : List ℕ
   pub shows : LeadsToOutputs start new.world.journal number port confirmed outputs
-  pub printed : PrintsSo r was now outputs
   pub there : State
+  pub printed : PrintsAt there r was now outputs
   pub later : moment old.state ≤ moment there
   pub since : LeavesOnly there new.state (RecoversTo t414 device_areas start new.world.journal number)
 
--- or nothing was appended, where the answer lets that be
-abbrev pub MayPrint : {A : Type 0} → Network NodeState → Flushing → Flushing → ℕ → ℕ → Option (List ℕ) → Option (List ℕ) → Result A RunFault → Type 0
+-- or nothing was appended, and no call made, where the answer lets that be
+abbrev pub MayPrint : {A : Type 0} → Network NodeState → Flushing → Flushing → ℕ → ℕ → OutletValue → OutletValue → Result A RunFault → Type 0
 MayPrint start old new port confirmed was now r = ((now ≡ was) × MayBeSilent r) ⊎ HasPrinted start old new port confirmed was now r

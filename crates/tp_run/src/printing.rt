@@ -8,42 +8,53 @@ ghost use Rattle.tp_book.specs.Acts.{confirm_entries};
 ghost use Rattle.tp_work.specs.Receipts.{IsFor};
 ghost use Rattle.tp_run.specs.Faults.{IsLate};
 ghost use Rattle.tp_run.specs.Output.{AreOutputs, AreShownBytes, IsForOutput, PrintedOf, ShowsAll};
-ghost use Rattle.tp_run.specs.Prints.{PrintsSo, TellsAllPrinted};
+ghost use Rattle.tp_run.specs.Outlet.{WasCalled};
+ghost use Rattle.tp_run.specs.Prints.{PrintsAt, TellsAllPrinted};
 
 use crate::fault::RunFault;
+use crate::outlet::{Outlet, OutletFault};
 use crate::outset::Outset;
-use std::io::{ErrorKind, Write};
 use tp_book::Book;
+use tp_disk::Disk;
+use tp_flush::Flusher;
 use tp_shared::{Locked, Naming, Receipt};
 use tp_work::{ConfirmFault, confirm};
 
-/// Writes bytes as they are, until the output takes no more. Answers how many of them it took.
-fn write_front<O: Write>(out: &mut O, bytes: &[u8]) -> usize
+/// Calls an outlet for bytes, until it has taken all of them or failed. Answers how many of them it took.
+fn write_front<J: Naming, D: Disk, O: Outlet>(
+    flusher: &Flusher<J, D>,
+    out: &mut O,
+    bytes: &[u8],
+) -> usize
     ensures few { result ≤ length bytes.now }
-    ensures front { Appends (O.contents out.old) (O.contents out.new) (take result bytes.now) }
+    ensures front { Appends (O.value out.old).taken (O.value out.new).taken (take result bytes.now) }
+    ensures called { WasCalled flusher.now.state bytes.now (O.value out.old) (O.value out.new) }
 {
     let mut written = 0;
     for _ in 0..u64::MAX {
         if written >= bytes.len() {
             return written;
         }
-        match out.write(&bytes[written..]) {
-            Ok(0) => return written,
+        match out.print(flusher, &bytes[written..]) {
             Ok(count) => written += count,
-            Err(error) if error.kind() == ErrorKind::Interrupted => {}
-            Err(_) => return written,
+            Err(OutletFault::Interrupted) => {}
+            Err(OutletFault::Failed) => return written,
         }
     }
     written
 }
 
-/// Writes bytes as they are. A front of them stands on the output, whatever is answered: where that is a fault, not all of them.
-pub(crate) fn put<O: Write>(out: &mut O, bytes: &[u8]) -> Result<(), RunFault>
-    ensures written { OnOk result (Appends (O.contents out.old) (O.contents out.new) bytes.now) }
-    ensures printed { PrintsSo result (O.contents out.old) (O.contents out.new) bytes.now }
+/// Prints bytes as they are. The outlet has taken a front of them, whatever is answered: where that is a fault, not all of them.
+fn put<J: Naming, D: Disk, O: Outlet>(
+    flusher: &Flusher<J, D>,
+    out: &mut O,
+    bytes: &[u8],
+) -> Result<(), RunFault>
+    ensures written { OnOk result (Appends (O.value out.old).taken (O.value out.new).taken bytes.now) }
+    ensures printed { PrintsAt flusher.now.state result (O.value out.old) (O.value out.new) bytes.now }
     ensures refused { IfErr result (λ fault. fault ≡ RunFault.OutputFailed) }
 {
-    let written = write_front(out, bytes);
+    let written = write_front(flusher, out, bytes);
     if written < bytes.len() {
         return Err(RunFault::OutputFailed);
     }
@@ -76,22 +87,23 @@ fn confirm_shown<J: Naming>(
 
 /// Prints, under the book's lock, the outputs of a port that `mark` shows and that aren't confirmed, and confirms them. The receipt
 /// has the number of the next entry. Where the output can't be written, nothing is confirmed.
-pub(crate) fn print_shown<J: Naming, O: Write>(
+fn print_shown<J: Naming, D: Disk, O: Outlet>(
     held: &mut Locked<J>,
+    flusher: &Flusher<J, D>,
     port: u8,
     mark: u64,
     out: &mut O,
 ) -> Result<Receipt<J>, RunFault>
     requires there { port < length held.old.book.state.ports }
-    ensures printed { PrintsSo result (O.contents out.old) (O.contents out.new) (shown_from held.old.book port mark (port_in held.old.book port).out_base) }
+    ensures printed { PrintsAt flusher.now.state result (O.value out.old) (O.value out.new) (shown_from held.old.book port mark (port_in held.old.book port).out_base) }
     ensures book { IfOk result (λ receipt. held.new.book ≡ after_confirm held.old.book port (shown_upto_of held.old.book port mark)) }
     ensures number { IfOk result (λ receipt. receipt.number ≡ next_in_book held.new.book) }
-    ensures receipt { IfOk result (IsForOutput port (port_in held.old.book port).out_base (AreShownBytes held.old.book port mark) (O.contents out.old) (O.contents out.new)) }
+    ensures receipt { IfOk result (IsForOutput port (port_in held.old.book port).out_base (AreShownBytes held.old.book port mark) (O.value out.old).taken (O.value out.new).taken) }
     ensures late { IfErr result IsLate }
     ensures err { OnErr result (held.new ≡ held.old) }
 {
     let from = held.book().out_base(port);
-    put(out, held.book().shown(port, mark, from))?;
+    put(flusher, out, held.book().shown(port, mark, from))?;
     confirm_shown(held, port, mark)
 }
 
@@ -111,20 +123,21 @@ fn is_all_shown(book: &Book, port: u8, mark: u64) -> Result<(), RunFault>
 
 /// Prints and confirms, where the book has confirmed what it had as the device was opened, and `mark` shows all outputs and is above
 /// all entries; else it prints nothing. Behind a flush, with no other thread there, both are so.
-pub(crate) fn print_from<J: Naming, O: Write>(
+pub(crate) fn print_from<J: Naming, D: Disk, O: Outlet>(
     held: &mut Locked<J>,
+    flusher: &Flusher<J, D>,
     outset: Outset,
     mark: u64,
     out: &mut O,
 ) -> Result<Receipt<J>, RunFault>
     requires there { outset.port < length held.old.book.state.ports }
-    ensures receipt { IfOk result (IsForOutput outset.port outset.confirmed (AreOutputs held.old.book outset.port) (O.contents out.old) (O.contents out.new)) }
+    ensures receipt { IfOk result (IsForOutput outset.port outset.confirmed (AreOutputs held.old.book outset.port) (O.value out.old).taken (O.value out.new).taken) }
     ensures all { IfOk result (λ receipt. ShowsAll held.old.book outset.port mark outset.confirmed) }
-    ensures printed { PrintedOf held.old.book outset.port mark outset.confirmed (O.contents out.old) (O.contents out.new) result }
+    ensures printed { PrintedOf held.old.book outset.port mark outset.confirmed flusher.now.state (O.value out.old) (O.value out.new) result }
     ensures late { IfErr result IsLate }
     ensures err { OnErr result (held.new ≡ held.old) }
 {
     outset.is_confirmed_in(held.book())?;
     is_all_shown(held.book(), outset.port, mark)?;
-    print_shown(held, outset.port, mark, out)
+    print_shown(held, flusher, outset.port, mark, out)
 }

@@ -18,7 +18,7 @@ ghost use Rattle.tp_run.specs.Faults.{ComesBegun, IsSilent, IsUnbegun};
 ghost use Rattle.tp_run.specs.Input.{rest_at};
 ghost use Rattle.tp_flush.specs.Made.{IsMadeOf};
 ghost use Rattle.tp_run.specs.Outset.{outset_in};
-ghost use Rattle.tp_run.specs.Ran.{History, Ran};
+ghost use Rattle.tp_run.specs.Ran.{History, Ran, RanInto};
 ghost use Rattle.tp_recover.specs.declared.unopened.Unopened.{Unopened};
 ghost use Rattle.tp_work.specs.declared.start.TheConstants.{MAX_WORKERS};
 ghost use Rattle.tp_shared.specs.Named.{Names};
@@ -27,10 +27,10 @@ use crate::beginning::every_of;
 use crate::fault::RunFault;
 use crate::job::Job;
 use crate::opening::{job_fault, parts_of};
+use crate::outlet::Outlet;
 use crate::outset::Outset;
 use crate::serving::serve;
 use std::alloc::Global;
-use std::io::Write;
 use std::marker::Brand;
 use std::snapshot::Snapshot;
 use std::sync::Wait;
@@ -45,7 +45,7 @@ use tp_shared::{Naming, NoGate, Parts};
 use tp_work::Net;
 
 /// A run over the store of a device that was opened, with the parts that were made of it.
-fn run_parts<J: Naming + Send + Sync, D: Disk + Send + Drop, O: Write, R: Threads + Wait + Sync>(
+fn run_parts<J: Naming + Send + Sync, D: Disk + Send + Drop, O: Outlet, R: Threads + Wait + Sync>(
     rt: &R,
     alloc: Global,
     job: Job,
@@ -75,9 +75,9 @@ fn run_parts<J: Naming + Send + Sync, D: Disk + Send + Drop, O: Write, R: Thread
     requires read { D.keeps → verdict (D.state store.disk).now.bytes ≡ Ok opened.value }
     requires synced { D.keeps → IsSynced (D.state store.disk) }
     ensures size { D.size_of result.0 ≡ D.size_of store.disk }
-    ensures ran { D.keeps → Began J.formatted J.before (D.state store.disk).now.bytes
-        → Ran J.formatted job input.now (O.contents out.old) (O.contents out.new) result.1 (D.state store.disk) (D.state result.0) }
-    ensures silent { IsSilent result.1 → O.contents out.new ≡ O.contents out.old }
+    ensures called { D.keeps → Began J.formatted J.before (D.state store.disk).now.bytes
+        → RanInto J.formatted job input.now (O.value out.old) (O.value out.new) result.1 (D.state store.disk) (D.state result.0) }
+    ensures silent { IsSilent result.1 → O.value out.new ≡ O.value out.old }
     ensures failures { D.failures_of result.0 ≡ failures_after (has_failed result.1) (D.failures_of store.disk) }
     ensures some { IfErr result.1 (λ fault. fault ≡ RunFault.OfferRefused → 0 < length (rest_at outset input.now)) }
     ensures begun { IfErr result.1 ComesBegun }
@@ -110,9 +110,10 @@ fn run_parts<J: Naming + Send + Sync, D: Disk + Send + Drop, O: Write, R: Thread
 /// those of the input, behind what the device had, and the one that confirms what was printed; all others behind what the device had were
 /// made by turns of the workers. However the call ends, what it printed
 /// are outputs of the port where entries of that journal lead that whatever a crash leaves from then on has: all of them, or fewer where the
-/// output can't be written. A fault tells its reason: what opening answers, or what is wrong with the job; and a call of the device has failed
+/// output can't be written. Each call of `out` is for all of them that it hasn't taken, while the device stands so, until it has taken all
+/// or a call has failed. A fault tells its reason: what opening answers, or what is wrong with the job; and a call of the device has failed
 /// just where that is told.
-pub fn run<D: Disk + Send + Drop, O: Write, R: Threads + Wait + Sync>(
+pub fn run<D: Disk + Send + Drop, O: Outlet, R: Threads + Wait + Sync>(
     rt: &R,
     alloc: Global,
     job: Job,
@@ -125,9 +126,11 @@ pub fn run<D: Disk + Send + Drop, O: Write, R: Threads + Wait + Sync>(
     requires quantum { (0 < job.quantum) × (job.quantum ≤ MAX_STEPS) }
     ensures size { D.size_of result.0 ≡ D.size_of disk }
     ensures ran { D.keeps → Began history.formatted history.before (D.state disk).now.bytes
-        → Ran history.formatted job input.now (O.contents out.old) (O.contents out.new) result.1 (D.state disk) (D.state result.0) }
+        → Ran history.formatted job input.now (O.value out.old).taken (O.value out.new).taken result.1 (D.state disk) (D.state result.0) }
+    ensures called { D.keeps → Began history.formatted history.before (D.state disk).now.bytes
+        → RanInto history.formatted job input.now (O.value out.old) (O.value out.new) result.1 (D.state disk) (D.state result.0) }
     ensures unwritten { D.keeps → IsUnbegun result.1 → LeavesNothingNew (D.state disk) (D.state result.0) }
-    ensures silent { IsSilent result.1 → O.contents out.new ≡ O.contents out.old }
+    ensures silent { IsSilent result.1 → O.value out.new ≡ O.value out.old }
     ensures unopened { D.keeps → IsErr (verdict (D.state disk).now.bytes) → (unopened : Unopened) × (result.1 ≡ Err (RunFault.Opening unopened)) }
     ensures answer { D.keeps → AnswerFor (verdict (D.state disk).now.bytes) job input.now result.1 }
     ensures failures { D.failures_of result.0 ≡ failures_after (has_failed result.1) (D.failures_of disk) }

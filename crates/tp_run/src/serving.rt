@@ -21,12 +21,12 @@ use crate::fault::RunFault;
 use crate::flushing::{flush_meanwhile, flush_upto};
 use crate::job::Job;
 use crate::offering::offer_at;
+use crate::outlet::Outlet;
 use crate::outset::Outset;
 use crate::printing::print_from;
 use crate::watch::Watch;
 use crate::working::work_all;
 use std::alloc::Global;
-use std::io::Write;
 use std::sync::Wait;
 use std::thread::{Threads, join};
 use tp_disk::Disk;
@@ -53,7 +53,7 @@ fn offer<J: Naming, R: Wait>(
 
 /// Prints and confirms, under the book's lock, what `mark` shows, which the flusher raised. What is printed are outputs of the port where
 /// the flusher's journal leads.
-fn print_settled<J: Naming, D: Disk, O: Write>(
+fn print_settled<J: Naming, D: Disk, O: Outlet>(
     held: &mut Locked<J>,
     flusher: &mut Flusher<J, D>,
     outset: Outset,
@@ -65,18 +65,18 @@ fn print_settled<J: Naming, D: Disk, O: Write>(
     ensures same { flusher.new ≡ flusher.old }
     ensures receipt { IfOk result (IsForOutput outset.port outset.confirmed
         (λ number bytes. D.keeps → Began J.formatted J.before flusher.old.opened → AreShownIn J.formatted flusher.old.world outset.port outset.confirmed number bytes)
-        (O.contents out.old) (O.contents out.new)) }
+        (O.value out.old).taken (O.value out.new).taken) }
     ensures shown { D.keeps → Began J.formatted J.before flusher.old.opened
-        → MayShow J.formatted flusher.old.world.journal flusher.old.world.mark outset.port outset.confirmed (O.contents out.old) (O.contents out.new) result }
+        → MayShow J.formatted flusher.old.world.journal flusher.old.world.mark outset.port outset.confirmed flusher.old.state (O.value out.old) (O.value out.new) result }
     ensures late { IfErr result IsLate }
     ensures err { OnErr result (held.new ≡ held.old) }
 {
     flusher.settle_book(held);
-    print_from(held, outset, mark, out)
+    print_from(held, flusher, outset, mark, out)
 }
 
 /// Takes the book's lock, and prints and confirms under it.
-fn print<J: Naming, D: Disk, O: Write, R: Wait>(
+fn print<J: Naming, D: Disk, O: Outlet, R: Wait>(
     rt: &R,
     shared: &Shared<J>,
     flusher: &mut Flusher<J, D>,
@@ -89,9 +89,9 @@ fn print<J: Naming, D: Disk, O: Write, R: Wait>(
     ensures same { flusher.new ≡ flusher.old }
     ensures receipt { IfOk result (IsForOutput outset.port outset.confirmed
         (λ number bytes. D.keeps → Began J.formatted J.before flusher.old.opened → AreShownIn J.formatted flusher.old.world outset.port outset.confirmed number bytes)
-        (O.contents out.old) (O.contents out.new)) }
+        (O.value out.old).taken (O.value out.new).taken) }
     ensures shown { D.keeps → Began J.formatted J.before flusher.old.opened
-        → MayShow J.formatted flusher.old.world.journal flusher.old.world.mark outset.port outset.confirmed (O.contents out.old) (O.contents out.new) result }
+        → MayShow J.formatted flusher.old.world.journal flusher.old.world.mark outset.port outset.confirmed flusher.old.state (O.value out.old) (O.value out.new) result }
     ensures late { IfErr result IsLate }
 {
     let mut held = shared.book().lock(rt);
@@ -175,7 +175,7 @@ fn settle<J: Naming, D: Disk, R: Wait>(
 /// Flushes, prints what is shown, confirms it, and flushes again. Answers the number that the next entry gets. What is in the receipt
 /// of the input, and in that of the output, is then in the journal, and with what the workers made it is all of it since the opening; and
 /// what was printed are outputs of the port where it leads, however it ends.
-fn finish<J: Naming, D: Disk, O: Write, R: Wait>(
+fn finish<J: Naming, D: Disk, O: Outlet, R: Wait>(
     rt: &R,
     alloc: Global,
     shared: &Shared<J>,
@@ -194,10 +194,10 @@ fn finish<J: Naming, D: Disk, O: Write, R: Wait>(
     ensures process { IsSameProcess flusher.old flusher.new }
     ensures stored { IfOk result (λ next. next ≤ flusher.new.world.mark) }
     ensures settled { D.keeps → Began J.formatted J.before flusher.old.opened
-        → IfOk result (Settled J.formatted J.start job outset offered.seat (O.contents out.old) (O.contents out.new) flusher.new.world.journal) }
+        → IfOk result (Settled J.formatted J.start job outset offered.seat (O.value out.old).taken (O.value out.new).taken flusher.new.world.journal) }
     ensures shown { D.keeps → Began J.formatted J.before flusher.old.opened
-        → MayPrint J.formatted flusher.old flusher.new outset.port outset.confirmed (O.contents out.old) (O.contents out.new) result }
-    ensures silent { IsSilent result → O.contents out.new ≡ O.contents out.old }
+        → MayPrint J.formatted flusher.old flusher.new outset.port outset.confirmed (O.value out.old) (O.value out.new) result }
+    ensures silent { IsSilent result → O.value out.new ≡ O.value out.old }
     ensures failures { CountsFailures flusher.old flusher.new }
     ensures ends { flusher.new.world.at ≡ position (has_failed result) }
     ensures behind { IfErr result ComesBehind }
@@ -225,7 +225,7 @@ fn finish<J: Naming, D: Disk, O: Write, R: Wait>(
 pub(crate) fn serve<
     J: Naming + Send + Sync,
     D: Disk + Send + Drop,
-    O: Write,
+    O: Outlet,
     R: Threads + Wait + Sync,
 >(
     rt: &R,
@@ -250,10 +250,10 @@ pub(crate) fn serve<
     ensures failures { result.0.failures ≡ failures_after (has_failed result.1) flusher.failures }
     ensures stored { IfOk result.1 (λ next. next ≤ result.0.world.mark) }
     ensures settled { D.keeps → Began J.formatted J.before flusher.opened
-        → IfOk result.1 (Settled J.formatted J.start job outset (input_slips outset input.now) (O.contents out.old) (O.contents out.new) result.0.world.journal) }
+        → IfOk result.1 (Settled J.formatted J.start job outset (input_slips outset input.now) (O.value out.old).taken (O.value out.new).taken result.0.world.journal) }
     ensures shown { D.keeps → Began J.formatted J.before flusher.opened
-        → MayPrint J.formatted flusher result.0 outset.port outset.confirmed (O.contents out.old) (O.contents out.new) result.1 }
-    ensures silent { IsSilent result.1 → O.contents out.new ≡ O.contents out.old }
+        → MayPrint J.formatted flusher result.0 outset.port outset.confirmed (O.value out.old) (O.value out.new) result.1 }
+    ensures silent { IsSilent result.1 → O.value out.new ≡ O.value out.old }
     ensures some { IfErr result.1 (λ fault. fault ≡ RunFault.OfferRefused → 0 < length (rest_at outset input.now)) }
     ensures begun { IfErr result.1 ComesBegun }
 {

@@ -1,5 +1,9 @@
-//! Devices and outputs that fail.
+//! Devices and outputs that fail, and outlets that take little.
 
+ghost use Rattle.std.specs.Prelude.{None};
+ghost use Rattle.tp_run.specs.Outlet.{unnoted};
+
+use crate::devices::{ECHO, ONE, formatted};
 use crate::runs::{FOUR, left, letter, run_on};
 use std::alloc::{AllocError, Global};
 use std::io;
@@ -8,8 +12,10 @@ use std::process::Abort;
 use std::sync::Wait;
 use std::test::Fail;
 use std::thread::Threads;
-use tp_disk::{MemDisk, PlannedFault};
-use tp_run::{Job, RunFault};
+use tp_disk::{Disk, MemDisk, PlannedFault};
+use tp_flush::Flusher;
+use tp_run::{Job, Outlet, OutletFault, RunFault};
+use tp_shared::Naming;
 
 /// More calls than a run makes on the device.
 const CALLS: u64 = 40;
@@ -168,5 +174,83 @@ fn an_output_that_fails_confirms_nothing(rt: HostRuntime) -> Result<(), Fail> {
         let told = is_not_confirmed(&rt, alloc, letter(alloc)?, fails);
         assert!(rt; told);
     }
+    Ok(())
+}
+
+/// An outlet that is interrupted before each byte that it takes, and fails once it has no room: what it took, and how many bytes each call
+/// was for.
+#[derive(Drop)]
+struct Slow {
+    room: usize,
+    is_ready: bool,
+    taken: Vec<u8>,
+    asked: Vec<usize>,
+}
+
+impl Slow {
+    fn with_room(alloc: Global, room: usize) -> Slow {
+        Slow {
+            room,
+            is_ready: false,
+            taken: Vec::new(alloc),
+            asked: Vec::new(alloc),
+        }
+    }
+
+    /// Whether it took these bytes, by calls for so many.
+    fn has(&self, taken: &[u8], asked: &[usize]) -> bool {
+        self.taken.as_slice() == taken && self.asked.as_slice() == asked
+    }
+}
+
+impl Outlet for Slow {
+    ghost value = { λ _. unnoted None };
+
+    fn print<J: Naming, D: Disk>(
+        &mut self,
+        _flusher: &Flusher<J, D>,
+        bytes: &[u8],
+    ) -> Result<usize, OutletFault> {
+        self.is_ready = !self.is_ready;
+        if self.asked.push(bytes.len()).is_err() {
+            return Err(OutletFault::Failed);
+        }
+        if self.is_ready {
+            return Err(OutletFault::Interrupted);
+        }
+        if self.room == 0 || bytes.is_empty() || self.taken.push(bytes[0]).is_err() {
+            return Err(OutletFault::Failed);
+        }
+        self.room -= 1;
+        Ok(1)
+    }
+}
+
+/// A run that hands in three bytes, and prints them.
+const ECHOES: Job = Job { turns: 64, ..FOUR };
+
+#[test]
+fn an_outlet_is_called_for_what_it_has_not_taken(rt: HostRuntime) -> Result<(), Fail> {
+    let alloc = rt.alloc();
+    let mut disk = MemDisk::of_bytes(formatted(alloc, ONE, ECHO, 16_384)?);
+    let mut slow = Slow::with_room(alloc, 3);
+    let done = run_on(&rt, alloc, ECHOES, &mut disk, b"abc", &mut slow);
+    assert!(rt; done.is_ok());
+    assert!(rt; slow.has(b"abc", &[3, 3, 2, 2, 1, 1]));
+    Ok(())
+}
+
+#[test]
+fn an_outlet_that_failed_is_not_called_again(rt: HostRuntime) -> Result<(), Fail> {
+    let alloc = rt.alloc();
+    let mut disk = MemDisk::of_bytes(formatted(alloc, ONE, ECHO, 16_384)?);
+    let mut slow = Slow::with_room(alloc, 1);
+    let failed = run_on(&rt, alloc, ECHOES, &mut disk, b"abc", &mut slow);
+    assert!(rt; failed == Err(RunFault::OutputFailed));
+    assert!(rt; slow.has(b"a", &[3, 3, 2, 2]));
+    let mut wide = Slow::with_room(alloc, 3);
+    let done = run_on(&rt, alloc, ECHOES, &mut disk, b"abc", &mut wide);
+    assert!(rt; done.is_ok());
+    assert!(rt; wide.has(b"abc", &[3, 3, 2, 2, 1, 1]));
     Ok(())
 }

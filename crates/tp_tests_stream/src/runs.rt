@@ -7,14 +7,13 @@ ghost use Rattle.tp_work.specs.declared.start.TheConstants.{MAX_WORKERS};
 use crate::devices::{ONE, formatted};
 use crate::players::{Left, look_at};
 use std::alloc::Global;
-use std::io::Write;
 use std::mem;
 use std::process::Abort;
 use std::sync::Wait;
 use std::test::Fail;
 use std::thread::Threads;
 use tp_disk::{Disk, MemDisk};
-use tp_run::{Job, MAX_WORKERS, RunFault, run};
+use tp_run::{Job, MAX_WORKERS, Outlet, RunFault, run};
 use tp_tests_fixtures::SENDS_A;
 
 /// Four turns of one worker, of 16 steps at most.
@@ -33,7 +32,7 @@ pub(crate) fn letter(alloc: Global) -> Result<MemDisk, Fail> {
 }
 
 // A run, where as many workers and steps are asked for as may be.
-fn run_within<D: Disk + Send + Drop, R: Threads + Wait + Sync, O: Write>(
+fn run_within<D: Disk + Send + Drop, R: Threads + Wait + Sync, O: Outlet>(
     rt: &R,
     alloc: Global,
     job: Job,
@@ -48,7 +47,7 @@ fn run_within<D: Disk + Send + Drop, R: Threads + Wait + Sync, O: Write>(
 }
 
 /// A run.
-pub(crate) fn run_on<R: Threads + Wait + Abort + Sync, O: Write>(
+pub(crate) fn run_on<R: Threads + Wait + Abort + Sync, O: Outlet>(
     rt: &R,
     alloc: Global,
     job: Job,

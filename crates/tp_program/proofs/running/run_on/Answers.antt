@@ -1,7 +1,7 @@
 use Rattle.std.proofs.Common.{◌∙◌, sym, subst, ◌≤◌}
 use Rattle.tp_model.specs.Opening.{verdict}
 use Rattle.tp_run.specs.Answered.{AnswerFor}
-use Rattle.tp_run.specs.Ran.{Ran}
+use Rattle.tp_run.specs.Ran.{RanInto}
 use Rattle.tp_run.specs.declared.job.Job.{Job}
 use Rattle.tp_program.proofs.Statuses.{status_few, status_words, status_unopened}
 use Rattle.tp_program.proofs.running.run_on.Goals as goal
@@ -15,8 +15,8 @@ returns-clause-ran g c = record {
   is = c.report.ensures;
   ran =
       λ keeps began. subst
-      (λ (j : Job). Ran g.history.formatted j c.args.input.now (g.O.Write.contents c.args.out.now) (g.O.Write.contents c.run-disk.new.out) c.run-disk.result.1 (g.D.Disk.state c.args.disk) (g.D.Disk.state c.run-disk.result.0))
-      c.job_of-job.ensures.value (c.run-disk.ensures.ran keeps began);
+      (λ (j : Job). RanInto g.history.formatted j c.args.input.now (g.O.Outlet.value c.args.out.now) (g.O.Outlet.value c.run-disk.new.out) c.run-disk.result.1 (g.D.Disk.state c.args.disk) (g.D.Disk.state c.run-disk.result.0))
+      c.job_of-job.ensures.value (c.run-disk.ensures.called keeps began);
   unwritten = c.run-disk.ensures.unwritten;
   silent = c.run-disk.ensures.silent;
   answer =

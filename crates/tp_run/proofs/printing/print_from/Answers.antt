@@ -10,8 +10,8 @@ pub returns-clause-receipt : goal.returns-clause-receipt
 returns-clause-receipt g c =
     let b = c.args.held.now.book in
     let port = c.args.outset.port in
-    let was = g.O.Write.contents c.args.out.now in
-    let now = g.O.Write.contents c.print_shown.new.out in
+    let was = (g.O.Outlet.value c.args.out.now).taken in
+    let now = (g.O.Outlet.value c.print_shown.new.out).taken in
     let base : (port_in b port).out_base ≡ c.args.outset.confirmed = ap (λ d. (port_in d port).out_base) (sym c.book.ensures) ∙ c.in_ok-is_confirmed_in.ensures.confirmed in
     let all = subst (λ d. shown_of d port c.args.mark ≡ length (port_in d port).outputs) c.book-2.ensures c.in_ok-is_all_shown.ensures.all in
     subst (λ from. IfOk c.print_shown.result (IsForOutput port from (AreOutputs b port) was now)) base
@@ -43,7 +43,7 @@ pub returns-clause-printed : goal.returns-clause-printed
 returns-clause-printed g c =
     let b = c.args.held.now.book in
     let port = c.args.outset.port in
-    printed_of b port c.args.mark c.args.outset.confirmed (g.O.Write.contents c.args.out.now) (g.O.Write.contents c.print_shown.new.out) c.print_shown.result
+    printed_of b port c.args.mark c.args.outset.confirmed c.args.flusher.now.state (g.O.Outlet.value c.args.out.now) (g.O.Outlet.value c.print_shown.new.out) c.print_shown.result
     (ap (λ d. (port_in d port).out_base) (sym c.book.ensures) ∙ c.in_ok-is_confirmed_in.ensures.confirmed)
     (subst (λ d. shown_of d port c.args.mark ≡ length (port_in d port).outputs) c.book-2.ensures c.in_ok-is_all_shown.ensures.all)
     (subst (λ d. next_in_book d ≤ c.args.mark) c.book-2.ensures c.in_ok-is_all_shown.ensures.stored) c.print_shown.ensures.printed

@@ -11,12 +11,12 @@ use Rattle.tp_run.specs.Input.{rest_at}
 use Rattle.tp_run.specs.Failures.{failures_after, has_failed, is_failure}
 use Rattle.tp_run.specs.Made.{has_pages, job_fault}
 use Rattle.tp_run.specs.Prints.{ComesSilent}
-use Rattle.tp_run.specs.Ran.{Ran}
+use Rattle.tp_run.specs.Ran.{Ran, RanInto}
 use Rattle.tp_run.proofs.Answered.{answered, none_of, wrong_is, wrong_told}
 use Rattle.tp_run.proofs.Failures.{opening_counted, uncounted}
 use Rattle.tp_run.proofs.Faults.{begun_written}
 use Rattle.tp_run.proofs.Made.{shape_is}
-use Rattle.tp_run.proofs.Runs.{opened_ran, unwritten_ran}
+use Rattle.tp_run.proofs.Runs.{opened_into, ran_silent, unwritten_ran}
 use Rattle.tp_run.proofs.running.run.Goals as goal
 
 pub run_parts-requires-clause-names : goal.run_parts-requires-clause-names
@@ -37,34 +37,47 @@ run_parts-requires-clause-names g c κs within =
 
 pub returns-in-Err-clause-ran : goal.returns-in-Err-clause-ran
 returns-in-Err-clause-ran g c k began =
-    let out = g.O.Write.contents c.args.out.now in
-    unwritten_ran g.history.formatted c.args.job c.args.input.now out (Opening c.in-Err.unopened) (g.D.Disk.state c.args.disk) (g.D.Disk.state c.open.new.disk) (c.open.ensures.leaves k) tt
+    unwritten_ran g.history.formatted c.args.job c.args.input.now (g.O.Outlet.value c.args.out.now).taken (Opening c.in-Err.unopened) (g.D.Disk.state c.args.disk) (g.D.Disk.state c.open.new.disk) (c.open.ensures.leaves k) tt
+
+pub returns-in-Err-clause-called : goal.returns-in-Err-clause-called
+returns-in-Err-clause-called g c k began =
+    ran_silent g.history.formatted c.args.job c.args.input.now (g.O.Outlet.value c.args.out.now) _ (g.D.Disk.state c.args.disk) (g.D.Disk.state c.open.new.disk) (returns-in-Err-clause-ran g c k began)
 
 pub returns-in-Some-clause-ran : goal.returns-in-Some-clause-ran
 returns-in-Some-clause-ran g c k began =
-    let out = g.O.Write.contents c.args.out.now in
-    unwritten_ran g.history.formatted c.args.job c.args.input.now out c.in-Some.fault (g.D.Disk.state c.args.disk) (g.D.Disk.state c.open.new.disk) (c.open.ensures.leaves k)
+    unwritten_ran g.history.formatted c.args.job c.args.input.now (g.O.Outlet.value c.args.out.now).taken c.in-Some.fault (g.D.Disk.state c.args.disk) (g.D.Disk.state c.open.new.disk) (c.open.ensures.leaves k)
     (wrong_is ComesSilent (has_pages c.args.job.spare c.topology.result.now) (nat_lt c.args.job.port c.topology.result.now.ports) c.in-Some.fault (sym c.in-Some.ensures) tt tt)
+
+pub returns-in-Some-clause-called : goal.returns-in-Some-clause-called
+returns-in-Some-clause-called g c k began =
+    ran_silent g.history.formatted c.args.job c.args.input.now (g.O.Outlet.value c.args.out.now) _ (g.D.Disk.state c.args.disk) (g.D.Disk.state c.open.new.disk) (returns-in-Some-clause-ran g c k began)
 
 pub returns-in_default-parts_of-clause-ran : goal.returns-in_default-parts_of-clause-ran
 returns-in_default-parts_of-clause-ran g c k began =
-    let out = g.O.Write.contents c.args.out.now in
+    let out = (g.O.Outlet.value c.args.out.now).taken in
     subst (λ d. Ran g.history.formatted c.args.job c.args.input.now out out (Err Memory) (g.D.Disk.state c.args.disk) (g.D.Disk.state d)) (sym (c.into_disk.ensures ∙ c.store-store.ensures.disk))
     (unwritten_ran g.history.formatted c.args.job c.args.input.now out Memory (g.D.Disk.state c.args.disk) (g.D.Disk.state c.open.new.disk) (c.open.ensures.leaves k) tt)
 
-pub returns-clause-ran : goal.returns-clause-ran
-returns-clause-ran g c k began =
+pub returns-in_default-parts_of-clause-called : goal.returns-in_default-parts_of-clause-called
+returns-in_default-parts_of-clause-called g c k began =
+    ran_silent g.history.formatted c.args.job c.args.input.now (g.O.Outlet.value c.args.out.now) _ (g.D.Disk.state c.args.disk) (g.D.Disk.state c.into_disk.result) (returns-in_default-parts_of-clause-ran g c k began)
+
+pub returns-clause-called : goal.returns-clause-called
+returns-clause-called g c k began =
     let start = g.history.formatted in
     let job = c.args.job in
     let input = c.args.input.now in
-    let was = g.O.Write.contents c.args.out.now in
-    let now = g.O.Write.contents c.run_parts.new.out in
+    let was = g.O.Outlet.value c.args.out.now in
+    let now = g.O.Outlet.value c.run_parts.new.out in
     let done = c.run_parts.result.1 in
     let kept : (g.D.Disk.state c.open.new.disk).now.bytes ≡ (g.D.Disk.state c.args.disk).now.bytes = ap (λ (m : Moment). m.bytes) (c.in-Ok.ensures.kept k) in
     let same : (g.D.Disk.state c.store-store.result.disk).now.bytes ≡ (g.D.Disk.state c.args.disk).now.bytes = ap (λ d. (g.D.Disk.state d).now.bytes) c.store-store.ensures.disk ∙ kept in
-    opened_ran start job input was now done (g.D.Disk.state c.args.disk) (g.D.Disk.state c.open.new.disk) (g.D.Disk.state c.run_parts.result.0) (c.open.ensures.leaves k) kept
-    (subst (λ d. Ran start job input was now done (g.D.Disk.state d) (g.D.Disk.state c.run_parts.result.0)) c.store-store.ensures.disk
-    (c.run_parts.ensures.ran k (subst (Began start g.history.before) (sym same) began)))
+    opened_into start job input was now done (g.D.Disk.state c.args.disk) (g.D.Disk.state c.open.new.disk) (g.D.Disk.state c.run_parts.result.0) (c.open.ensures.leaves k) kept
+    (subst (λ d. RanInto start job input was now done (g.D.Disk.state d) (g.D.Disk.state c.run_parts.result.0)) c.store-store.ensures.disk
+    (c.run_parts.ensures.called k (subst (Began start g.history.before) (sym same) began)))
+
+pub returns-clause-ran : goal.returns-clause-ran
+returns-clause-ran g c k began = (returns-clause-called g c k began).ran
 
 pub returns-clause-unwritten : goal.returns-clause-unwritten
 returns-clause-unwritten g c k unbegun = absurd (begun_written c.run_parts.result.1 c.run_parts.ensures.begun unbegun)

@@ -10,11 +10,11 @@ use Rattle.tp_model.specs.Network.{Network}
 use Rattle.tp_run.specs.Input.{input_slips}
 use Rattle.tp_run.specs.Outset.{outset_in}
 use Rattle.tp_run.specs.declared.outset.Outset.{Outset}
-use Rattle.tp_run.specs.Ran.{Ran, Settled}
+use Rattle.tp_run.specs.Ran.{RanInto, Settled}
 use Rattle.tp_run.specs.Shown.{MayPrint}
 use Rattle.tp_run.specs.Failures.{failures_after, has_failed}
 use Rattle.tp_run.proofs.Failures.{uncounted}
-use Rattle.tp_run.proofs.Runs.{served_ran, still_ran}
+use Rattle.tp_run.proofs.Runs.{ran_silent, served_ran, still_ran}
 use Rattle.tp_run.proofs.running.run_parts.Goals as goal
 
 pub over-flusher-requires-clause-bound : goal.over-flusher-requires-clause-bound
@@ -23,19 +23,20 @@ over-flusher-requires-clause-bound g c = sym c.requires.names.room_is ∙ c.requ
 pub over-flusher-requires-clause-first : goal.over-flusher-requires-clause-first
 over-flusher-requires-clause-first g c = sym c.requires.names.first_is ∙ c.requires.stands.first
 
-pub returns-in_default-clause-ran : goal.returns-in_default-clause-ran
-returns-in_default-clause-ran g c k began =
-    let out = g.O.Write.contents c.args.out.now in
-    subst (λ d. Ran g.J.Naming.formatted c.args.job c.args.input.now out out (Err Memory) (g.D.Disk.state c.args.store.disk) (g.D.Disk.state d)) (sym c.into_disk.ensures)
-    (still_ran g.J.Naming.formatted c.args.job c.args.input.now out Memory (g.D.Disk.state c.args.store.disk) tt)
+pub returns-in_default-clause-called : goal.returns-in_default-clause-called
+returns-in_default-clause-called g c k began =
+    let out = g.O.Outlet.value c.args.out.now in
+    let state = g.D.Disk.state c.args.store.disk in
+    subst (λ d. RanInto g.J.Naming.formatted c.args.job c.args.input.now out out (Err Memory) state (g.D.Disk.state d)) (sym c.into_disk.ensures)
+    (ran_silent g.J.Naming.formatted c.args.job c.args.input.now out (Err Memory) state state (still_ran g.J.Naming.formatted c.args.job c.args.input.now out.taken Memory state tt))
 
-pub returns-clause-ran : goal.returns-clause-ran
-returns-clause-ran g c k began =
+pub returns-clause-called : goal.returns-clause-called
+returns-clause-called g c k began =
     let start = g.J.Naming.formatted in
     let job = c.args.job in
     let input = c.args.input.now in
-    let was = g.O.Write.contents c.args.out.now in
-    let now = g.O.Write.contents c.serve-flusher.new.out in
+    let was = g.O.Outlet.value c.args.out.now in
+    let now = g.O.Outlet.value c.serve-flusher.new.out in
     let opened = c.args.opened.value in
     let old = c.over-flusher.result in
     let new = c.serve-flusher.result.0 in
@@ -48,12 +49,12 @@ returns-clause-ran g c k began =
     subst (λ (s : State). old.world ≡ reopened before s.now.bytes (held_of opened) opened.now) device c.over-flusher.ensures.world in
     let reads : verdict old.state.now.bytes ≡ Ok opened = subst (λ (s : State). verdict s.now.bytes ≡ Ok opened) device (c.requires.read k) in
     let settled =
-    subst (λ (s : Network NodeState). IfOk done (Settled start s job (outset_in opened job.port) (input_slips (outset_in opened job.port) input) was now new.world.journal)) c.requires.network
-    (subst (λ u. IfOk done (Settled start g.J.Naming.start job u (input_slips u input) was now new.world.journal)) c.requires.outset (c.serve-flusher.ensures.settled k first)) in
+    subst (λ (s : Network NodeState). IfOk done (Settled start s job (outset_in opened job.port) (input_slips (outset_in opened job.port) input) was.taken now.taken new.world.journal)) c.requires.network
+    (subst (λ u. IfOk done (Settled start g.J.Naming.start job u (input_slips u input) was.taken now.taken new.world.journal)) c.requires.outset (c.serve-flusher.ensures.settled k first)) in
     let shown = subst (λ (u : Outset). MayPrint start old new u.port u.confirmed was now done) c.requires.outset (c.serve-flusher.ensures.shown k first) in
-    let ran : Ran start job input was now done old.state new.state =
+    let ran : RanInto start job input was now done old.state new.state =
     served_ran c.stored_slips_are_recovered.ensures start before opened job input was now old new done there reads world (c.serve-flusher.ensures.walks k first) c.serve-flusher.ensures.stored settled shown in
-    subst (λ s. Ran start job input was now done (g.D.Disk.state c.args.store.disk) s) (sym c.into_disk-2.ensures.state) (subst (λ s. Ran start job input was now done s new.state) c.over-flusher.ensures.device.0 ran)
+    subst (λ s. RanInto start job input was now done (g.D.Disk.state c.args.store.disk) s) (sym c.into_disk-2.ensures.state) (subst (λ s. RanInto start job input was now done s new.state) c.over-flusher.ensures.device.0 ran)
 
 pub serve-flusher-requires-clause-first : goal.serve-flusher-requires-clause-first
 serve-flusher-requires-clause-first g c κs within = ap (λ (u : Outset). u.next) c.requires.outset ∙ sym c.requires.stands.first ∙ c.requires.names.first_is

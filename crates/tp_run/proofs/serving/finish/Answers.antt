@@ -1,4 +1,4 @@
-use Rattle.std.proofs.Common.{◌≡◌, ◌≤◌, ℕ, ◌++◌, inl, Ok, Err, rules, refl, sym, ap, subst, ◌∙◌, arith, IfOk}
+use Rattle.std.proofs.Common.{◌≡◌, ◌≤◌, ℕ, ◌++◌, inl, Err, rules, refl, sym, ap, subst, ◌∙◌, arith, IfOk}
 use Rattle.std.specs.Prelude.{flat_map, IfErr}
 use Rattle.std.proofs.lemmas.Result.{IfOk-weaker}
 use Rattle.tp_flush.specs.Known.{Began}
@@ -50,8 +50,8 @@ pub returns-in_err-confirmed-clause-shown : goal.returns-in_err-confirmed-clause
 returns-in_err-confirmed-clause-shown g c k began =
     let start = g.J.Naming.formatted in
     let there = subst (Began start g.J.Naming.before) (sym c.flush_upto.ensures.process.opened) began in
-    let was = g.O.Write.contents c.args.out.now in
-    let now = g.O.Write.contents c.print.new.out in
+    let was = g.O.Outlet.value c.args.out.now in
+    let now = g.O.Outlet.value c.print.new.out in
     let fault = c.in_err-confirmed.field-0.0 in
     let is : c.from_residual-in_err-confirmed.result ≡ Err fault = search rules in
     subst (MayPrint start c.args.flusher.now c.print.new.flusher c.args.outset.port c.args.outset.confirmed was now) (sym is)
@@ -67,9 +67,9 @@ returns-in_err-_mark-clause-shown g c k began =
     let walked = subst (λ (f : Flushing). Walked f c.flush_upto-2.new.flusher) c.print.ensures.same (c.flush_upto-2.ensures.walks k later) in
     let fault = c.in_err-_mark.field-0.0 in
     let is : c.from_residual-in_err-_mark.result ≡ Err fault = search rules in
-    subst (MayPrint start c.args.flusher.now c.flush_upto-2.new.flusher c.args.outset.port c.args.outset.confirmed (g.O.Write.contents c.args.out.now) (g.O.Write.contents c.print.new.out)) (sym is)
+    subst (MayPrint start c.args.flusher.now c.flush_upto-2.new.flusher c.args.outset.port c.args.outset.confirmed (g.O.Outlet.value c.args.out.now) (g.O.Outlet.value c.print.new.out)) (sym is)
     (may_print start c.args.flusher.now c.flush_upto.new.flusher c.flush_upto-2.new.flusher (c.known.ensures.reached k began) (c.flush_upto.ensures.walks k began) walked c.args.outset.port
-    c.args.outset.confirmed (g.O.Write.contents c.args.out.now) (g.O.Write.contents c.print.new.out) (done_as c.in_ok-confirmed.confirmed) (fault_of ℕ fault)
+    c.args.outset.confirmed (g.O.Outlet.value c.args.out.now) (g.O.Outlet.value c.print.new.out) (done_as c.in_ok-confirmed.confirmed) (fault_of ℕ fault)
     (done_says c.in_ok-confirmed.confirmed (fault_of ℕ fault) (flush_prints fault c.flush_upto-2.new.flusher.world.at c.in_err-_mark.ensures.refused)) (c.in_ok-confirmed.ensures.shown k there))
 
 pub returns-clause-shown : goal.returns-clause-shown
@@ -78,8 +78,8 @@ returns-clause-shown g c k began =
     let there = subst (Began start g.J.Naming.before) (sym c.flush_upto.ensures.process.opened) began in
     let later = subst (λ (f : Flushing). Began start g.J.Naming.before f.opened) (sym c.print.ensures.same) there in
     let walked = subst (λ (f : Flushing). Walked f c.flush_upto-2.new.flusher) c.print.ensures.same (c.flush_upto-2.ensures.walks k later) in
-    let was = g.O.Write.contents c.args.out.now in
-    let now = g.O.Write.contents c.print.new.out in
+    let was = g.O.Outlet.value c.args.out.now in
+    let now = g.O.Outlet.value c.print.new.out in
     subst (λ (f : Flushing). MayPrint start c.args.flusher.now f c.args.outset.port c.args.outset.confirmed was now c.settle.result) (sym c.settle.ensures.same)
     (may_print start c.args.flusher.now c.flush_upto.new.flusher c.flush_upto-2.new.flusher (c.known.ensures.reached k began) (c.flush_upto.ensures.walks k began) walked c.args.outset.port
     c.args.outset.confirmed was now (done_as c.in_ok-confirmed.confirmed) c.settle.result (done_says c.in_ok-confirmed.confirmed c.settle.result c.settle.ensures.told)
@@ -90,8 +90,8 @@ returns-clause-shown g c k began =
 pub returns-clause-settled : goal.returns-clause-settled
 returns-clause-settled g c k began =
     let start = g.J.Naming.formatted in
-    let was = g.O.Write.contents c.args.out.now in
-    let now = g.O.Write.contents c.print.new.out in
+    let was = (g.O.Outlet.value c.args.out.now).taken in
+    let now = (g.O.Outlet.value c.print.new.out).taken in
     let one = c.flush_upto.new.flusher in
     let two = c.flush_upto-2.new.flusher in
     let O = c.in_ok-confirmed.ensures.receipt in

@@ -1,6 +1,8 @@
 use Rattle.std.proofs.Common.{sym, subst}
 use Rattle.tp_shared.specs.Seals.{Stage}
 use Rattle.tp_flush.specs.Ahead.{IsAheadOf}
+use Rattle.tp_flush.specs.Flushing.{Flushing}
+use Rattle.tp_run.specs.Output.{PrintedOf}
 use Rattle.tp_run.proofs.Shown.{may_show, output_shown}
 use Rattle.tp_run.proofs.serving.print_settled.Goals as goal
 
@@ -9,14 +11,16 @@ returns-clause-shown g c k began =
     let start = g.J.Naming.formatted in
     let w = c.args.flusher.now.world in
     let ahead = subst (λ (stage : Stage). IsAheadOf start w stage.book) (sym c.settle_book.ensures.same.1) (c.settle_book.ensures.ahead k began) in
-    may_show start w c.settle_book.new.held.book c.args.outset.port c.args.mark c.args.outset.confirmed (g.O.Write.contents c.args.out.now) (g.O.Write.contents c.print_from.new.out) c.print_from.result ahead
-    c.requires.mark c.print_from.ensures.printed
+    may_show start w c.settle_book.new.held.book c.args.outset.port c.args.mark c.args.outset.confirmed c.args.flusher.now.state (g.O.Outlet.value c.args.out.now) (g.O.Outlet.value c.print_from.new.out)
+    c.print_from.result ahead c.requires.mark
+    (subst (λ (f : Flushing). PrintedOf c.settle_book.new.held.book c.args.outset.port c.args.mark c.args.outset.confirmed f.state (g.O.Outlet.value c.args.out.now) (g.O.Outlet.value c.print_from.new.out) c.print_from.result)
+    c.settle_book.ensures.same.0 c.print_from.ensures.printed)
 
 pub returns-clause-receipt : goal.returns-clause-receipt
 returns-clause-receipt g c =
     let start = g.J.Naming.formatted in
     let w = c.args.flusher.now.world in
-    output_shown g.D.Disk.keeps _ start w c.settle_book.new.held.book c.args.outset.port c.args.mark c.args.outset.confirmed (g.O.Write.contents c.args.out.now)
-    (g.O.Write.contents c.print_from.new.out) c.print_from.result
+    output_shown g.D.Disk.keeps _ start w c.settle_book.new.held.book c.args.outset.port c.args.mark c.args.outset.confirmed (g.O.Outlet.value c.args.out.now).taken
+    (g.O.Outlet.value c.print_from.new.out).taken c.print_from.result
     (λ k began. subst (λ (stage : Stage). IsAheadOf start w stage.book) (sym c.settle_book.ensures.same.1) (c.settle_book.ensures.ahead k began))
     c.requires.mark c.print_from.ensures.all c.print_from.ensures.receipt

@@ -1,4 +1,4 @@
-use Rattle.std.proofs.Common.{◌≡◌, ◌<◌, inl, refl, length, sym, ap, subst, ◌∙◌, IfOk}
+use Rattle.std.proofs.Common.{◌<◌, inl, refl, length, sym, subst, IfOk}
 use Rattle.std.specs.Prelude.{All}
 use Rattle.tp_work.specs.declared.seat.Seat.{Seat}
 use Rattle.tp_flush.specs.Known.{Began}
@@ -22,15 +22,15 @@ returns-clause-walks g c k began =
 
 pub returns-clause-settled : goal.returns-clause-settled
 returns-clause-settled g c k began =
-    let was = g.O.Write.contents c.args.out.now in
-    let now = g.O.Write.contents c.finish-done.new.out in
+    let was = (g.O.Outlet.value c.args.out.now).taken in
+    let now = (g.O.Outlet.value c.finish-done.new.out).taken in
     subst (λ slips. IfOk c.finish-done.result (Settled g.J.Naming.formatted g.J.Naming.start c.args.job c.args.outset slips was now c.finish-done.new.flusher.world.journal)) c.in-Ok.ensures.receipt.slips
     (c.finish-done.ensures.settled k (subst (Began g.J.Naming.formatted g.J.Naming.before) (sym c.work-flusher.ensures.process.opened) began))
 
 pub returns-clause-shown : goal.returns-clause-shown
 returns-clause-shown g c k began =
     may_print_since g.J.Naming.formatted c.args.flusher c.work-flusher.result.0 c.finish-done.new.flusher (c.work-flusher.ensures.walks k began) c.args.outset.port c.args.outset.confirmed
-    (g.O.Write.contents c.args.out.now) (g.O.Write.contents c.finish-done.new.out) c.finish-done.result
+    (g.O.Outlet.value c.args.out.now) (g.O.Outlet.value c.finish-done.new.out) c.finish-done.result
     (c.finish-done.ensures.shown k (subst (Began g.J.Naming.formatted g.J.Naming.before) (sym c.work-flusher.ensures.process.opened) began))
 
 -- ## Who made what
