@@ -18,6 +18,7 @@ use std::fs::{Files, OpenFile};
 use std::io::Write;
 use std::os::unix::fs::FileExt;
 use std::sync::Wait;
+use std::thread::Threads;
 use thiserror::Error;
 use tp_disk::Disk;
 use tp_stream::{Ended, Ending, Sink, Source, StreamFault, Streams, Task, stream};
@@ -62,6 +63,7 @@ fn task_of(asked: &StreamRun) -> Task
         until_quiet: asked.until_quiet,
         stop_on_halt: asked.stop_on_halt,
         until_asked: true,
+        workers: (asked.quantum % 10) as u8,
         quantum: asked.quantum,
         spare: asked.spare.min(u16::MAX as u64) as u16,
         every: asked.every,
@@ -180,8 +182,8 @@ fn report<E: Write>(err: &mut E, done: Result<Ended, FilesFault>) -> u8
 /// how far it has come, at the end each node that has stopped, and `next M`, with how much standard output was given and how much of
 /// that is confirmed, and why it ended.
 fn stream_opened<
-    R: Files + AllocGlobal + Wait,
-    D: Disk + Drop,
+    R: Files + AllocGlobal + Threads + Wait + Sync,
+    D: Disk + Drop + Send,
     S: Sink,
     I: Source,
     E: Write,
@@ -230,7 +232,7 @@ fn stream_opened<
 fn open_ports<
     'a,
     R: Files<File = F> + AllocGlobal,
-    F: FileExt + OpenFile + Drop,
+    F: FileExt + OpenFile + Drop + Send,
     I: Feed,
     O: Write,
 >(
@@ -258,9 +260,9 @@ fn open_ports<
 /// Opens the ends of a device's ports, and streams its network on them. A request to stop is taken away behind that, whyever it ended: it was
 /// for this process, which holds the device.
 fn stream_files<
-    R: Files<File = F> + AllocGlobal + Wait,
-    F: FileExt + OpenFile + Drop,
-    D: Disk + Drop,
+    R: Files<File = F> + AllocGlobal + Threads + Wait + Sync,
+    F: FileExt + OpenFile + Drop + Send,
+    D: Disk + Drop + Send,
     I: Feed,
     O: Write,
     E: Write,
@@ -301,9 +303,9 @@ fn stream_files<
 /// `tpnet run --stream`, on a device: opens the ends of its ports, lets its network run, and puts, makes safe and confirms what ports
 /// show as it comes, until it is over as it was asked to be. Answers the device, the program's status and what came of it.
 pub fn stream_on<
-    R: Files<File = F> + AllocGlobal + Wait,
-    F: FileExt + OpenFile + Drop,
-    D: Disk + Drop,
+    R: Files<File = F> + AllocGlobal + Threads + Wait + Sync,
+    F: FileExt + OpenFile + Drop + Send,
+    D: Disk + Drop + Send,
     I: Feed,
     O: Write,
     E: Write,

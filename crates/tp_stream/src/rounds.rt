@@ -193,9 +193,11 @@ pub(crate) fn round<J: Naming, R: Wait>(
     ensures begun { IfErr result CameOfTurns }
 {
     let nodes = shared.nodes();
+    let most = if turns.is_busy { u32::from(nodes) + 1 } else { ROUND };
     turns.begin();
-    for _ in 0..ROUND {
+    for _ in 0..most {
         if turns.is_round_over(pace.task, nodes) {
+            turns.is_busy = false;
             return Ok(());
         }
         let seen = look(rt, alloc, shared, pace);
@@ -205,5 +207,6 @@ pub(crate) fn round<J: Naming, R: Wait>(
         }
         one_turn(rt, shared, pace, seat, turns, seen)?;
     }
+    turns.is_busy = pace.task.workers > 1;
     Ok(())
 }

@@ -14,6 +14,7 @@ ghost use Rattle.tp_stream.specs.Steps.{AllStepped};
 ghost use Rattle.tp_stream.specs.Streamed.{CameBegun, CameBetween, CameOfTurns};
 ghost use Rattle.tp_stream.specs.Told.{ToldLater};
 
+use crate::beside::go_beside;
 use crate::endings::{are_over, ending, is_asked, may_wait};
 use crate::fault::StreamFault;
 use crate::flushing::{finish, flush};
@@ -26,10 +27,12 @@ use crate::telling::tell;
 use crate::turns::Turns;
 use std::alloc::Global;
 use std::sync::Wait;
+use std::thread::Threads;
 use tp_disk::Disk;
 use tp_flush::Flusher;
-use tp_shared::{Naming, Seat, Shared};
+use tp_shared::{Naming, NoGate, Seat, Shared};
 use tp_stream_files::{Ended, Ending, Input, Listener, Sink, Source, Stop, Streams};
+use tp_work::Net;
 
 /// How a stream goes on: its turns, and the slips of what they journalled.
 #[derive(Drop)]
@@ -152,11 +155,79 @@ fn cycle<J: Naming, D: Disk, S: Sink, I: Source, L: Listener, P: Stop, R: Wait>(
     go_on(rt, alloc, shared, pace, going, flusher, streams, stop)
 }
 
-/// All cycles, until nothing more is to be done or one is refused; and whether each process had nothing to do in its last turn.
-fn cycles<J: Naming, D: Disk, S: Sink, I: Source, L: Listener, P: Stop, R: Wait>(
+/// A cycle, and behind it, where it isn't over and there is more to do than a round, turns of workers with the flusher's beside them.
+fn lap<
+    J: Naming + Send + Sync,
+    D: Disk + Send + Drop,
+    S: Sink,
+    I: Source,
+    L: Listener,
+    P: Stop,
+    R: Threads + Wait + Sync,
+>(
     rt: &R,
     alloc: Global,
-    shared: &Shared<J>,
+    net: &Net<J, NoGate>,
+    pace: Pace,
+    going: &mut Going<J>,
+    seats: Vec<tp_work::Seat<J>>,
+    flusher: Flusher<J, D>,
+    streams: &mut Streams<S, I>,
+    listener: &mut L,
+    stop: &mut P,
+) -> (
+    Flusher<J, D>,
+    Vec<tp_work::Seat<J>>,
+    Result<Option<Ending>, StreamFault>,
+)
+{
+    let mut flusher = flusher;
+    let done = cycle(
+        rt,
+        alloc,
+        net.shared(),
+        pace,
+        going,
+        &mut flusher,
+        streams,
+        listener,
+        stop,
+    );
+    let Ok(None) = done else {
+        return (flusher, seats, done);
+    };
+    if !going.turns.is_busy {
+        return (flusher, seats, done);
+    }
+    let (flusher, seats, beside) = go_beside(
+        rt,
+        alloc,
+        net,
+        pace,
+        &mut going.turns,
+        seats,
+        flusher,
+    );
+    match beside {
+        Ok(()) => (flusher, seats, Ok(None)),
+        Err(fault) => (flusher, seats, Err(fault)),
+    }
+}
+
+/// All cycles, until nothing more is to be done or one is refused; and whether each process had nothing to do in its last turn.
+fn cycles<
+    J: Naming + Send + Sync,
+    D: Disk + Send + Drop,
+    S: Sink,
+    I: Source,
+    L: Listener,
+    P: Stop,
+    R: Threads + Wait + Sync,
+>(
+    rt: &R,
+    alloc: Global,
+    net: &Net<J, NoGate>,
+    seats: Vec<tp_work::Seat<J>>,
     pace: Pace,
     first: Flusher<J, D>,
     streams: &mut Streams<S, I>,
@@ -175,7 +246,9 @@ fn cycles<J: Naming, D: Disk, S: Sink, I: Source, L: Listener, P: Stop, R: Wait>
     ensures begun { IfErr result.1 CameBegun }
 {
     first.known();
+    let shared = net.shared();
     let mut flusher = first;
+    let mut seats = seats;
     let has_halted = pace.task.stop_on_halt && find_halted(rt, shared);
     let mut going = Going {
         turns: Turns::new(has_halted),
@@ -186,17 +259,21 @@ fn cycles<J: Naming, D: Disk, S: Sink, I: Source, L: Listener, P: Stop, R: Wait>
         let Ok(None) = last else {
             break;
         };
-        last = cycle(
+        let (there, freed, done) = lap(
             rt,
             alloc,
-            shared,
+            net,
             pace,
             &mut going,
-            &mut flusher,
+            seats,
+            flusher,
             streams,
             listener,
             stop,
         );
+        flusher = there;
+        seats = freed;
+        last = done;
     }
     let rests = going.turns.is_quiet(shared.nodes());
     (flusher, last, rests)
@@ -204,10 +281,19 @@ fn cycles<J: Naming, D: Disk, S: Sink, I: Source, L: Listener, P: Stop, R: Wait>
 
 /// Makes turns, and lets each stream make its steps, until that ends. Answers the number that the next entry gets, all below
 /// being stored, and why it is over; which nodes have stopped is told before.
-pub(crate) fn serve<J: Naming, D: Disk, S: Sink, I: Source, L: Listener, P: Stop, R: Wait>(
+pub(crate) fn serve<
+    J: Naming + Send + Sync,
+    D: Disk + Send + Drop,
+    S: Sink,
+    I: Source,
+    L: Listener,
+    P: Stop,
+    R: Threads + Wait + Sync,
+>(
     rt: &R,
     alloc: Global,
-    shared: &Shared<J>,
+    net: &Net<J, NoGate>,
+    seats: Vec<tp_work::Seat<J>>,
     pace: Pace,
     flusher: Flusher<J, D>,
     streams: &mut Streams<S, I>,
@@ -227,8 +313,9 @@ pub(crate) fn serve<J: Naming, D: Disk, S: Sink, I: Source, L: Listener, P: Stop
     ensures failures { flusher.world.at ≡ Resting → FailedWhere (answer_failed result.1) flusher result.0 }
     ensures begun { IfErr result.1 CameBegun }
 {
+    let shared = net.shared();
     let (mut there, last, rests) = cycles(
-        rt, alloc, shared, pace, flusher, streams, listener, stop,
+        rt, alloc, net, seats, pace, flusher, streams, listener, stop,
     );
     let why = match last {
         Ok(Some(why)) => why,

@@ -42,15 +42,17 @@ use std::alloc::Global;
 use std::marker::Brand;
 use std::snapshot::Snapshot;
 use std::sync::Wait;
+use std::thread::Threads;
 use tp_area::Store;
 use tp_disk::Disk;
 use tp_flush::{Flusher, topology_of};
 use tp_net::Topology;
 use tp_ready::Raiser;
 use tp_recover::{Opened, open};
-use tp_shared::{Naming, Parts, Shared};
+use tp_shared::{Naming, NoGate, Parts};
 use tp_stream_files::{Ended, Listener, Sink, Source, Stop, Streams};
 use tp_turn::{TAKES, TURN_ENTRIES};
+use tp_work::{MAX_WORKERS, Net};
 
 /// How turns are made on a device of this topology. Each needs room for a node's turn, or for the host's with [`TAKES`] entries a port,
 /// whichever is more, and for a confirm a port.
@@ -74,7 +76,15 @@ fn pace_of(task: Task, topology: &Topology, area: u64) -> Pace
 }
 
 /// A stream over the store of a device that was opened, with the parts that were made of it.
-fn stream_parts<J: Naming, D: Disk + Drop, S: Sink, I: Source, L: Listener, P: Stop, R: Wait>(
+fn stream_parts<
+    J: Naming + Send + Sync,
+    D: Disk + Send + Drop,
+    S: Sink,
+    I: Source,
+    L: Listener,
+    P: Stop,
+    R: Threads + Wait + Sync,
+>(
     rt: &R,
     alloc: Global,
     task: Task,
@@ -110,11 +120,21 @@ fn stream_parts<J: Naming, D: Disk + Drop, S: Sink, I: Source, L: Listener, P: S
     ensures failures { D.failures_of result.0 ≡ calls_failed (answer_failed result.1) (D.failures_of store.disk) }
     ensures begun { IfErr result.1 CameBegun }
 {
-    let (shared, key) = Shared::<J>::start(parts);
+    let seats = task.workers.max(1).min((topology.pages().len() as u8).saturating_add(1)).min(MAX_WORKERS);
+    let Ok((net, seats, key)) = Net::<J, NoGate>::start(
+        rt,
+        alloc,
+        parts,
+        task.quantum.max(1),
+        seats,
+        NoGate,
+    ) else {
+        return (store.into_disk(), Err(StreamFault::Memory));
+    };
     let pace = pace_of(task, &topology, store.place.areas.length);
     let flusher = Flusher::over(opened, topology, store, key, raiser);
     flusher.known();
-    let (flusher, done) = serve(rt, alloc, &shared, pace, flusher, streams, listener, stop);
+    let (flusher, done) = serve(rt, alloc, &net, seats, pace, flusher, streams, listener, stop);
     (flusher.into_disk(), done)
 }
 
@@ -127,7 +147,14 @@ fn stream_parts<J: Naming, D: Disk + Drop, S: Sink, I: Source, L: Listener, P: S
 /// crash leaves from then on has. That all that was put is safe, and no more is confirmed, is said by `Output`, of each moment. It ends as
 /// stopped just where the last look whether it is asked to stop has answered yes, and no look before that has. A fault of the opening is
 /// what that answers, and that a call of the device failed, as it was opened or in a flush, is answered just where one has.
-pub fn stream<D: Disk + Drop, S: Sink, I: Source, L: Listener, P: Stop, R: Wait>(
+pub fn stream<
+    D: Disk + Send + Drop,
+    S: Sink,
+    I: Source,
+    L: Listener,
+    P: Stop,
+    R: Threads + Wait + Sync,
+>(
     rt: &R,
     alloc: Global,
     task: Task,

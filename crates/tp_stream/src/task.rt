@@ -12,6 +12,9 @@ pub struct Task {
     pub stop_on_halt: bool,
     /// Whether it ends once it is asked to stop. It is looked for that behind each flush, and while input is waited for.
     pub until_asked: bool,
+    /// How many threads make turns, 1 to [`MAX_WORKERS`](tp_work::MAX_WORKERS): with 1 the thread that calls makes them, and all else; with
+    /// more, the flusher and the steps of the ports have one more.
+    pub workers: u8,
     /// How many steps a turn may run, 1 to 4,096.
     pub quantum: u16,
     /// How many spare frames each node has, at most its pages, for pages that it writes while it is frozen.

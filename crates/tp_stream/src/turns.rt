@@ -38,6 +38,7 @@ pub(crate) struct Turns {
     beside: u32,
     pub(crate) has_halted: bool,
     pub(crate) is_full: bool,
+    pub(crate) is_busy: bool,
     settled: u32,
 }
 
@@ -61,6 +62,7 @@ impl Turns {
             beside: 0,
             has_halted,
             is_full: false,
+            is_busy: false,
             settled: 0,
         }
     }
@@ -115,6 +117,16 @@ impl Turns {
         if !did.nothing {
             self.settled = 0;
         }
+    }
+
+    /// Workers made `count` turns, in which a node has halted or none has. None of them is one of those that had nothing to do.
+    pub(crate) fn add(&mut self, count: u64, has_halted: bool)
+        ensures whose { self.new.whose ≡ self.old.whose }
+        ensures idle { self.new.idle ≡ 0 }
+    {
+        self.made = self.made.saturating_add(count);
+        self.idle = 0;
+        self.has_halted = self.has_halted || has_halted;
     }
 
     /// A stream has moved, so that settling isn't in vain.
