@@ -1,17 +1,18 @@
 //! Workers, and the flusher beside them.
 
-ghost use Rattle.std.specs.Prelude.{◌≡◌, ◌<◌, ◌*◌, ◌+◌, ◌-◌, true, All, Some, IfErr};
+ghost use Rattle.std.specs.Prelude.{◌≡◌, ◌≤◌, ◌*◌, ◌-◌, All, Some, None, IfOk, IfErr};
 ghost use Rattle.tp_model.specs.WriteOrder.{Resting};
 ghost use Rattle.tp_flush.specs.Known.{Began};
 ghost use Rattle.tp_flush.specs.Flushing.{IsSameProcess, Walked};
 ghost use Rattle.tp_stream.specs.Failures.{FailedWhere, answer_failed};
-ghost use Rattle.tp_stream.specs.Rooms.{has_room_for};
+ghost use Rattle.tp_stream.specs.Rooms.{free_of};
 ghost use Rattle.tp_stream.specs.Streamed.{CameBegun, CameOfFlush};
 
 use crate::fault::StreamFault;
 use crate::flushing::flush;
 use crate::pace::Pace;
 use crate::shift::Shift;
+use crate::task::Task;
 use crate::turns::Turns;
 use std::alloc::Global;
 use std::sync::Wait;
@@ -20,6 +21,7 @@ use std::thread::{Threads, join};
 use tp_disk::Disk;
 use tp_flush::Flusher;
 use tp_shared::{Locked, Naming, NoGate, Shared};
+use tp_stream_files::Ending;
 use tp_work::{Net, Seat};
 
 /// Makes turns until none is left in this shift.
@@ -42,22 +44,22 @@ fn work<J: Naming, R: Wait>(
     }
 }
 
-/// Lets a worker at each seat make turns until none is left, each in a thread of its own where one can be made, and then tells the
+/// Lets a worker at each seat make turns until none is left, in at most so many threads where they can be made, and then tells the
 /// flusher.
 fn work_all<J: Naming + Send + Sync, R: Threads + Wait + Sync>(
     rt: &R,
     net: &Net<J, NoGate>,
     shift: &Shift,
+    workers: usize,
     seats: &mut [Seat<J>],
 )
     requires seats { All (λ seat. seat.hand.of ≡ Some net.now.queue) seats.old }
     ensures seats { All (λ seat. seat.hand.of ≡ Some net.now.queue) seats.new }
 {
-    let threads = seats.len().max(1);
     thread::for_each_mut(
         rt,
         seats,
-        threads,
+        workers.max(1),
         &|_, seat: &mut Seat<J>|
             requires { seat.now.hand.of ≡ Some net.now.queue }
             ensures { seat.exit.now.hand.of ≡ Some net.entry.now.queue }
@@ -96,24 +98,26 @@ fn flush_beside<J: Naming, D: Disk, R: Wait>(
     (flusher, Ok(()))
 }
 
-/// A shift: workers make turns, and the flusher its own in a thread of its own meanwhile, where one can be made, and else behind them.
-fn shift_in<J: Naming + Send + Sync, D: Disk + Send + Drop, R: Threads + Wait + Sync>(
+/// A shift: at most so many workers make turns, and the flusher its own in a thread of its own meanwhile, where one can be made, and else
+/// behind them.
+fn make_shift<J: Naming + Send + Sync, D: Disk + Send + Drop, R: Threads + Wait + Sync>(
     rt: &R,
     alloc: Global,
     net: &Net<J, NoGate>,
     shift: &Shift,
+    workers: usize,
     seats: Vec<Seat<J>>,
     flusher: Flusher<J, D>,
-) -> ((Flusher<J, D>, Result<(), StreamFault>), Vec<Seat<J>>)
+) -> (Flusher<J, D>, Vec<Seat<J>>, Result<(), StreamFault>)
     requires seats { All (λ seat. seat.hand.of ≡ Some net.now.queue) seats.items }
-    ensures walks { D.keeps → Began J.formatted J.before flusher.opened → Walked flusher result.0.0 }
-    ensures process { IsSameProcess flusher result.0.0 }
-    ensures failures { flusher.world.at ≡ Resting → FailedWhere (answer_failed result.0.1) flusher result.0.0 }
-    ensures begun { IfErr result.0.1 CameOfFlush }
+    ensures walks { D.keeps → Began J.formatted J.before flusher.opened → Walked flusher result.0 }
+    ensures process { IsSameProcess flusher result.0 }
+    ensures failures { flusher.world.at ≡ Resting → FailedWhere (answer_failed result.2) flusher result.0 }
+    ensures begun { IfErr result.2 CameOfFlush }
     ensures seats { All (λ seat. seat.hand.of ≡ Some net.now.queue) result.1.items }
 {
     let shared = net.shared();
-    join(
+    let ((flusher, flushed), seats) = join(
         rt,
         move || -> (Flusher<J, D>, Result<(), StreamFault>)
             ensures { (D.keeps → Began J.formatted J.before flusher.opened → Walked flusher result.0) × IsSameProcess flusher result.0 × (flusher.world.at ≡ Resting → FailedWhere (answer_failed result.1) flusher result.0) × IfErr result.1 CameOfFlush }
@@ -123,41 +127,65 @@ fn shift_in<J: Naming + Send + Sync, D: Disk + Send + Drop, R: Threads + Wait + 
             ensures { All (λ seat. seat.hand.of ≡ Some net.entry.now.queue) result.items }
         {
             let mut seats = seats;
-            work_all(rt, net, shift, seats.as_mut_slice());
+            work_all(rt, net, shift, workers, seats.as_mut_slice());
             seats
         },
-    )
+    );
+    (flusher, seats, flushed)
 }
 
-/// How many turns workers may make at most until the next step of the ports, for each of them.
+/// How many turns a worker makes at most until the next step of the ports.
 const SHIFT: u64 = 1024;
 
 /// How many turns the journal has room for, and for a confirm a port behind them, under the book's lock: at most `most`.
-fn turns_in<J: Naming>(held: &Locked<J>, pace: Pace, most: u64) -> u64 {
+fn turns_in<J: Naming>(held: &Locked<J>, pace: Pace, most: u64) -> u64
+    ensures room { result * (pace.need - pace.confirms) ≤ free_of pace.rooms.journal held.now.book - pace.confirms }
+    ensures most { result ≤ most }
+{
     let free = pace.rooms.free(held.book());
     let turn = u64::from(pace.need.saturating_sub(pace.confirms)).max(1);
     (free.saturating_sub(u64::from(pace.confirms)) / turn).min(most)
 }
 
-/// Takes the book's lock, and asks under it how many turns a shift may have.
-fn shift_of<J: Naming, R: Wait>(
-    rt: &R,
-    shared: &Shared<J>,
-    pace: Pace,
-    turns: &Turns,
-    workers: u64,
-) -> Shift {
-    let most = match pace.task.turns {
-        Some(bound) => u64::from(bound).saturating_sub(turns.made),
-        None => u64::MAX,
-    };
-    let held = shared.book().lock(rt);
-    let count = turns_in(&held, pace, most.min(SHIFT * workers));
-    Shift::new(count, 2 * (u64::from(shared.nodes()) + 1))
+/// How many turns may be made at most, as it was asked, in the next shift of `workers`.
+fn most_of(task: Task, turns: &Turns, workers: u64) -> u64 {
+    let shift = SHIFT.saturating_mul(workers);
+    match task.turns {
+        Some(bound) => u64::from(bound).saturating_sub(turns.made).min(shift),
+        None => shift,
+    }
 }
 
-/// Workers make turns, and the flusher its own beside them.
-pub(crate) fn go_beside<J: Naming + Send + Sync, D: Disk + Send + Drop, R: Threads + Wait + Sync>(
+/// Takes the book's lock, and asks under it for a shift of at most `most` turns.
+fn shift_of<J: Naming, R: Wait>(rt: &R, shared: &Shared<J>, pace: Pace, most: u64) -> Shift {
+    let held = shared.book().lock(rt);
+    let turns = turns_in(&held, pace, most);
+    Shift::new(turns, 2 * (u64::from(shared.nodes()) + 1))
+}
+
+/// What comes of a shift: the fault of a flush, or why turns were refused.
+fn outcome_of(flushed: Result<(), StreamFault>, shift: &Shift) -> Result<Option<Ending>, StreamFault>
+    requires { IfErr flushed CameOfFlush }
+    ensures failed { answer_failed result ≡ answer_failed flushed }
+    ensures goes_on { IfOk result (λ ended. ended ≡ None) }
+    ensures begun { IfErr result CameBegun }
+{
+    match flushed {
+        Err(fault) => Err(fault),
+        Ok(()) => match shift.outcome() {
+            Ok(()) => Ok(None),
+            Err(fault) => Err(fault),
+        },
+    }
+}
+
+/// Workers make turns until the journal may have no room for one more, they have made as many as they may, or nothing is left to do, and the
+/// flusher makes its own beside them. Where turns have few steps there is one worker.
+pub(crate) fn go_beside<
+    J: Naming + Send + Sync,
+    D: Disk + Send + Drop,
+    R: Threads + Wait + Sync,
+>(
     rt: &R,
     alloc: Global,
     net: &Net<J, NoGate>,
@@ -165,24 +193,25 @@ pub(crate) fn go_beside<J: Naming + Send + Sync, D: Disk + Send + Drop, R: Threa
     turns: &mut Turns,
     seats: Vec<Seat<J>>,
     flusher: Flusher<J, D>,
-) -> (Flusher<J, D>, Vec<Seat<J>>, Result<(), StreamFault>)
+) -> (
+    Flusher<J, D>,
+    Vec<Seat<J>>,
+    Result<Option<Ending>, StreamFault>,
+)
     requires seats { All (λ seat. seat.hand.of ≡ Some net.now.queue) seats.items }
     ensures walks { D.keeps → Began J.formatted J.before flusher.opened → Walked flusher result.0 }
     ensures process { IsSameProcess flusher result.0 }
+    ensures whose { turns.new.whose ≡ turns.old.whose }
+    ensures idle { turns.new.idle ≡ 0 }
+    ensures goes_on { IfOk result.2 (λ ended. ended ≡ None) }
     ensures failures { flusher.world.at ≡ Resting → FailedWhere (answer_failed result.2) flusher result.0 }
     ensures begun { IfErr result.2 CameBegun }
     ensures seats { All (λ seat. seat.hand.of ≡ Some net.now.queue) result.1.items }
 {
-    let workers = seats.len() as u64;
-    let shift = shift_of(rt, net.shared(), pace, turns, workers);
-    let ((flusher, flushed), seats) = shift_in(rt, alloc, net, &shift, seats, flusher);
-    turns.add(shift.count(), shift.has_halted());
-    if shift.is_idle() {
-        turns.is_busy = false;
-    }
-    let done = match flushed {
-        Ok(()) => shift.outcome(),
-        Err(fault) => Err(fault),
-    };
-    (flusher, seats, done)
+    let workers = if turns.is_heavy { seats.len() } else { 1 };
+    let most = most_of(pace.task, turns, workers as u64);
+    let shift = shift_of(rt, net.shared(), pace, most);
+    let (flusher, seats, flushed) = make_shift(rt, alloc, net, &shift, workers, seats, flusher);
+    turns.add(shift.count(), shift.has_halted(), shift.is_idle());
+    (flusher, seats, outcome_of(flushed, &shift))
 }

@@ -1,13 +1,13 @@
 //! What a stream does with a network, and its flusher.
 
 ghost use Rattle.std.specs.List.{list_all};
-ghost use Rattle.std.specs.Prelude.{◌≡◌, ◌≤◌, length, Some, IfOk, IfSome, IfErr, OnOk};
+ghost use Rattle.std.specs.Prelude.{◌≡◌, ◌≤◌, length, All, Some, IfOk, IfSome, IfErr, OnOk};
 ghost use Rattle.tp_model.specs.WriteOrder.{Resting};
 ghost use Rattle.tp_flush.specs.Known.{Began};
 ghost use Rattle.tp_flush.specs.Flushing.{IsSameProcess, Walked};
 ghost use Rattle.tp_stream_files.specs.Inputs.{is_over};
 ghost use Rattle.tp_stream.specs.Failures.{FailedWhere, answer_failed};
-ghost use Rattle.tp_stream.specs.Looks.{HaveLooked, LooksOnce};
+ghost use Rattle.tp_stream.specs.Looks.{HaveLooked, LooksAtMostOnce, LooksOnce};
 ghost use Rattle.tp_stream.specs.Over.{LeavesNoInput};
 ghost use Rattle.tp_stream.specs.Quiet.{HaveRested, IsWhyEnded};
 ghost use Rattle.tp_stream.specs.Steps.{AllStepped};
@@ -155,7 +155,7 @@ fn cycle<J: Naming, D: Disk, S: Sink, I: Source, L: Listener, P: Stop, R: Wait>(
     go_on(rt, alloc, shared, pace, going, flusher, streams, stop)
 }
 
-/// A cycle, and behind it, where it isn't over and there is more to do than a round, turns of workers with the flusher's beside them.
+/// A cycle; and behind it, where it isn't over and there is more to do than a round did, workers make turns, with the flusher's beside them.
 fn lap<
     J: Naming + Send + Sync,
     D: Disk + Send + Drop,
@@ -180,6 +180,20 @@ fn lap<
     Vec<tp_work::Seat<J>>,
     Result<Option<Ending>, StreamFault>,
 )
+    requires rested { HaveRested J.start going.old.turns.whose going.old.turns.idle }
+    requires seats { All (λ seat. seat.hand.of ≡ Some net.now.queue) seats.items }
+    ensures walks { D.keeps → Began J.formatted J.before flusher.opened → Walked flusher result.0 }
+    ensures process { IsSameProcess flusher result.0 }
+    ensures put { D.keeps → Began J.formatted J.before flusher.opened
+        → AllStepped J.formatted flusher result.0 streams.old.outputs.items streams.new.outputs.items }
+    ensures why { IfOk result.2 (λ ended. IfSome ended (IsWhyEnded J.start pace.task)) }
+    ensures inputs { IfOk result.2 (λ ended. IfSome ended (LeavesNoInput (list_all (λ i. is_over i.ended i.is_blocked) streams.new.inputs.items))) }
+    ensures looks { IfOk result.2 (LooksAtMostOnce pace.task (P.answers stop.old) (P.answers stop.new)) }
+    ensures told { ToldLater (length J.start.nodes) (L.told listener.old) (L.told listener.new) }
+    ensures rested { OnOk result.2 (HaveRested J.start going.new.turns.whose going.new.turns.idle) }
+    ensures failures { flusher.world.at ≡ Resting → FailedWhere (answer_failed result.2) flusher result.0 }
+    ensures begun { IfErr result.2 CameBegun }
+    ensures seats { All (λ seat. seat.hand.of ≡ Some net.now.queue) result.1.items }
 {
     let mut flusher = flusher;
     let done = cycle(
@@ -193,25 +207,21 @@ fn lap<
         listener,
         stop,
     );
-    let Ok(None) = done else {
-        return (flusher, seats, done);
-    };
-    if !going.turns.is_busy {
-        return (flusher, seats, done);
+    let goes_on = going.turns.is_busy && !going.turns.is_full;
+    if let Ok(None) = done
+        && goes_on
+    {
+        return go_beside(
+            rt,
+            alloc,
+            net,
+            pace,
+            &mut going.turns,
+            seats,
+            flusher,
+        );
     }
-    let (flusher, seats, beside) = go_beside(
-        rt,
-        alloc,
-        net,
-        pace,
-        &mut going.turns,
-        seats,
-        flusher,
-    );
-    match beside {
-        Ok(()) => (flusher, seats, Ok(None)),
-        Err(fault) => (flusher, seats, Err(fault)),
-    }
+    (flusher, seats, done)
 }
 
 /// All cycles, until nothing more is to be done or one is refused; and whether each process had nothing to do in its last turn.
@@ -234,6 +244,7 @@ fn cycles<
     listener: &mut L,
     stop: &mut P,
 ) -> (Flusher<J, D>, Result<Option<Ending>, StreamFault>, bool)
+    requires { All (λ seat. seat.hand.of ≡ Some net.now.queue) seats.items }
     ensures walks { D.keeps → Began J.formatted J.before first.opened → Walked first result.0 }
     ensures process { IsSameProcess first result.0 }
     ensures put { D.keeps → Began J.formatted J.before first.opened
@@ -300,6 +311,7 @@ pub(crate) fn serve<
     listener: &mut L,
     stop: &mut P,
 ) -> (Flusher<J, D>, Result<Ended, StreamFault>)
+    requires { All (λ seat. seat.hand.of ≡ Some net.now.queue) seats.items }
     ensures walks { D.keeps → Began J.formatted J.before flusher.opened → Walked flusher result.0 }
     ensures process { IsSameProcess flusher result.0 }
     ensures put { D.keeps → Began J.formatted J.before flusher.opened

@@ -30,6 +30,7 @@ ghost use Rattle.tp_stream.specs.Standing.{AllHaveAccepted, AllMayBegin, IsFirst
 ghost use Rattle.tp_stream.specs.Streamed.{CameBegun, StaysUnstreamed, Streamed};
 ghost use Rattle.tp_stream.specs.Told.{ToldFirst, ToldLater, input_begins, output_begins};
 ghost use Rattle.tp_recover.specs.declared.unopened.Unopened.{Unopened};
+ghost use Rattle.tp_work.specs.declared.start.TheConstants.{MAX_WORKERS};
 
 use crate::beginning::task_fault;
 use crate::fault::StreamFault;
@@ -54,6 +55,15 @@ use tp_stream_files::{Ended, Listener, Sink, Source, Stop, Streams};
 use tp_turn::{TAKES, TURN_ENTRIES};
 use tp_work::{MAX_WORKERS, Net};
 
+/// How many workers make turns on a device of this topology: as many as are asked for, at least one, and no more than there are processes.
+fn workers_of(task: Task, topology: &Topology) -> u8
+    ensures some { 0 < result }
+    ensures few { result ≤ MAX_WORKERS }
+{
+    let processes = (topology.pages().len() as u8).saturating_add(1);
+    task.workers.min(processes).min(MAX_WORKERS).max(1)
+}
+
 /// How turns are made on a device of this topology. Each needs room for a node's turn, or for the host's with [`TAKES`] entries a port,
 /// whichever is more, and for a confirm a port.
 fn pace_of(task: Task, topology: &Topology, area: u64) -> Pace
@@ -63,6 +73,7 @@ fn pace_of(task: Task, topology: &Topology, area: u64) -> Pace
     ensures every { result.every ≡ every_of (journal_of topology.now area) task.every }
     ensures need { result.need ≡ need_of topology.now.ports }
     ensures confirms { result.confirms ≡ topology.now.ports }
+    ensures workers { (0 < result.workers) × (result.workers ≤ MAX_WORKERS) }
 {
     let ports = topology.port_count() as u32;
     let rooms = Rooms::of(topology, area);
@@ -72,6 +83,7 @@ fn pace_of(task: Task, topology: &Topology, area: u64) -> Pace
         rooms,
         need: (TURN_ENTRIES as u32).max(TAKES as u32 * ports) + ports,
         confirms: ports,
+        workers: workers_of(task, topology),
     }
 }
 
@@ -120,18 +132,17 @@ fn stream_parts<
     ensures failures { D.failures_of result.0 ≡ calls_failed (answer_failed result.1) (D.failures_of store.disk) }
     ensures begun { IfErr result.1 CameBegun }
 {
-    let seats = task.workers.max(1).min((topology.pages().len() as u8).saturating_add(1)).min(MAX_WORKERS);
+    let pace = pace_of(task, &topology, store.place.areas.length);
     let Ok((net, seats, key)) = Net::<J, NoGate>::start(
         rt,
         alloc,
         parts,
         task.quantum.max(1),
-        seats,
+        pace.workers,
         NoGate,
     ) else {
         return (store.into_disk(), Err(StreamFault::Memory));
     };
-    let pace = pace_of(task, &topology, store.place.areas.length);
     let flusher = Flusher::over(opened, topology, store, key, raiser);
     flusher.known();
     let (flusher, done) = serve(rt, alloc, &net, seats, pace, flusher, streams, listener, stop);
