@@ -9,7 +9,7 @@ ghost use Rattle.tp_recover.specs.declared.unopened.Unopened.{Unopened};
 ghost use Rattle.tp_run.specs.Ran.{History};
 ghost use Rattle.tp_stream.specs.Quiet.{IsAsked};
 ghost use Rattle.tp_stream.specs.Streamed.{StaysUnstreamed, Streamed as StreamLeft};
-ghost use Rattle.tp_program.specs.Streaming.{IsOfEnds, IsUnopened, FindsNothingNew, StreamedOn, end_status, ending_status, fault_status, seconds_of, shown_on, stream_status, task_of};
+ghost use Rattle.tp_program.specs.Streaming.{IsOfEnds, IsUnopened, FindsNothingNew, StreamedOn, end_status, ending_status, fault_status, seconds_of, shown_on, spread_over, stream_status, task_of};
 ghost use Rattle.tp_words.specs.StreamArgs.{IsStreamRun};
 
 use crate::request_file::RequestFile;
@@ -18,6 +18,7 @@ use std::fs::{Files, OpenFile};
 use std::io::Write;
 use std::os::unix::fs::FileExt;
 use std::sync::Wait;
+use std::thread;
 use std::thread::Threads;
 use thiserror::Error;
 use tp_disk::Disk;
@@ -29,6 +30,9 @@ use tp_words::StreamRun;
 
 /// After how many seconds it is said again how far a stream has come, where none were typed.
 const SECONDS_TOLD: u32 = 10;
+
+/// How many threads make turns at most, where nothing was typed of that.
+const MOST_WORKERS: usize = 4;
 
 /// Why a stream on files ends early.
 #[derive(Clone, Copy, Debug, PartialEq, Eq, Error)]
@@ -63,7 +67,10 @@ fn task_of(asked: &StreamRun) -> Task
         until_quiet: asked.until_quiet,
         stop_on_halt: asked.stop_on_halt,
         until_asked: true,
-        workers: (asked.quantum % 10) as u8,
+        workers: match asked.workers {
+            Some(workers) => workers as u8,
+            None => 0,
+        },
         quantum: asked.quantum,
         spare: asked.spare.min(u16::MAX as u64) as u16,
         every: asked.every,
@@ -80,6 +87,28 @@ fn shown_on(task: Task, on_terminal: bool) -> Task
     Task {
         tells: task.tells || on_terminal,
         ..task
+    }
+}
+
+/// The task, where nothing was typed of how many threads make turns: as many as there are processors, up to [`MOST_WORKERS`].
+fn spread_over(task: Task, processors: usize) -> Task
+    requires { task.quantum ≤ MAX_STEPS }
+    ensures value { result ≡ spread_over processors task }
+    ensures quantum { result.quantum ≤ MAX_STEPS }
+{
+    let workers = if task.workers == 0 {
+        processors.min(MOST_WORKERS) as u8
+    } else {
+        task.workers
+    };
+    Task { workers, ..task }
+}
+
+/// How many processors there are, where that can be said.
+fn processors<R: Threads>(rt: &R) -> usize {
+    match thread::available_parallelism(rt) {
+        Ok(count) => count.get(),
+        Err(_) => 1,
     }
 }
 
@@ -206,7 +235,8 @@ fn stream_opened<
     ensures unopened { D.keeps → IsErr (verdict (D.state disk).now.bytes) → (unopened : Unopened) × (result.1 ≡ Err (StreamFault.Opening unopened)) }
     ensures why { IfOk result.1 (λ ended. IsAsked (task_of asked.now) ended.why) }
 {
-    let task = shown_on(task_of(asked), onlooker.is_terminal());
+    let shown = shown_on(task_of(asked), onlooker.is_terminal());
+    let task = spread_over(shown, processors(rt));
     let standard_out = asked.ends.standard_out();
     let standard_in = asked.ends.standard_in();
     let seconds = seconds_of(asked);
