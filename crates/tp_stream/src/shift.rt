@@ -7,10 +7,11 @@ use crate::fault::StreamFault;
 use std::sync::Wait;
 use std::sync::atomic::{AtomicBool, AtomicU64, Ordering};
 use std::time::Duration;
+use tp_model::limits::MAX_GROUP;
 use tp_node::Why;
 use tp_work::{Turn, TurnFault};
 
-/// How many microseconds the flusher sleeps where nothing was made. No turn wakes it.
+/// How many microseconds the flusher sleeps where too little was made. No turn wakes it.
 const SLEEP: u64 = 500;
 
 /// A shift: how many turns its workers may make, and how many were drawn; how many of the last ones in a row had nothing to do, and how
@@ -113,22 +114,25 @@ impl Shift {
         self.made.wake_one();
     }
 
-    /// Waits until another number of entries was made than `seen`, and answers it; `None` once the workers have ended. Where none were
-    /// made it sleeps for [`SLEEP`] microseconds, and looks again.
+    /// Waits until as many entries more than `seen` were made as fill a group, or some while it slept for [`SLEEP`] microseconds, and answers how
+    /// many there are; `None` once the workers have ended.
     pub(crate) fn wait<R: Wait>(&self, rt: &R, seen: u64) -> Option<u64> {
+        let mut has_slept = false;
         for _ in rt.forever() {
             if self.ended.load(Ordering::SeqCst) {
                 return None;
             }
             let made = self.made.load(Ordering::SeqCst);
-            if made != seen {
+            let more = made.saturating_sub(seen);
+            if more >= MAX_GROUP as u64 || has_slept && more > 0 {
                 return Some(made);
             }
             self.made.park_timeout(
                 rt,
-                (seen & 0xffff_ffff) as u32,
+                (made & 0xffff_ffff) as u32,
                 Duration::from_micros(SLEEP),
             );
+            has_slept = true;
         }
         None
     }
