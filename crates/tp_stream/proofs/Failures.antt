@@ -147,9 +147,9 @@ pub none_ends : (r : Result (Option Ending) StreamFault) (P : Ending → Type 0)
 none_ends (Ok ended) P on = subst (λ e. IfSome e P) (sym on) tt
 none_ends (Err fault) P on = tt
 
-pub on_ok : {A : Type 0} (r : Result A StreamFault) (P : Type 0) → P → OnOk r P
-on_ok (Ok x) P holds = holds
-on_ok (Err fault) P holds = tt
+pub ended_ok : (r : Result (Option Ending) StreamFault) (P : Type 0) → P → OnOk r P
+ended_ok (Ok ended) P holds = holds
+ended_ok (Err fault) P holds = tt
 
 -- ## The opening
 

@@ -44,22 +44,22 @@ fn work<J: Naming, R: Wait>(
     }
 }
 
-/// Lets a worker at each seat make turns until none is left, in at most so many threads where they can be made, and then tells the
+/// Lets a worker at each seat make turns until none is left, each in a thread of its own where one can be made, and then tells the
 /// flusher.
 fn work_all<J: Naming + Send + Sync, R: Threads + Wait + Sync>(
     rt: &R,
     net: &Net<J, NoGate>,
     shift: &Shift,
-    workers: usize,
     seats: &mut [Seat<J>],
 )
     requires seats { All (λ seat. seat.hand.of ≡ Some net.now.queue) seats.old }
     ensures seats { All (λ seat. seat.hand.of ≡ Some net.now.queue) seats.new }
 {
+    let threads = seats.len().max(1);
     thread::for_each_mut(
         rt,
         seats,
-        workers.max(1),
+        threads,
         &|_, seat: &mut Seat<J>|
             requires { seat.now.hand.of ≡ Some net.now.queue }
             ensures { seat.exit.now.hand.of ≡ Some net.entry.now.queue }
@@ -98,14 +98,12 @@ fn flush_beside<J: Naming, D: Disk, R: Wait>(
     (flusher, Ok(()))
 }
 
-/// A shift: at most so many workers make turns, and the flusher its own in a thread of its own meanwhile, where one can be made, and else
-/// behind them.
+/// A shift: workers make turns, and the flusher its own in a thread of its own meanwhile, where one can be made, and else behind them.
 fn make_shift<J: Naming + Send + Sync, D: Disk + Send + Drop, R: Threads + Wait + Sync>(
     rt: &R,
     alloc: Global,
     net: &Net<J, NoGate>,
     shift: &Shift,
-    workers: usize,
     seats: Vec<Seat<J>>,
     flusher: Flusher<J, D>,
 ) -> (Flusher<J, D>, Vec<Seat<J>>, Result<(), StreamFault>)
@@ -127,7 +125,7 @@ fn make_shift<J: Naming + Send + Sync, D: Disk + Send + Drop, R: Threads + Wait 
             ensures { All (λ seat. seat.hand.of ≡ Some net.entry.now.queue) result.items }
         {
             let mut seats = seats;
-            work_all(rt, net, shift, workers, seats.as_mut_slice());
+            work_all(rt, net, shift, seats.as_mut_slice());
             seats
         },
     );
@@ -180,7 +178,7 @@ fn outcome_of(flushed: Result<(), StreamFault>, shift: &Shift) -> Result<Option<
 }
 
 /// Workers make turns until the journal may have no room for one more, they have made as many as they may, or nothing is left to do, and the
-/// flusher makes its own beside them. Where turns have few steps there is one worker.
+/// flusher makes its own beside them.
 pub(crate) fn go_beside<
     J: Naming + Send + Sync,
     D: Disk + Send + Drop,
@@ -208,10 +206,9 @@ pub(crate) fn go_beside<
     ensures begun { IfErr result.2 CameBegun }
     ensures seats { All (λ seat. seat.hand.of ≡ Some net.now.queue) result.1.items }
 {
-    let workers = if turns.is_heavy { seats.len() } else { 1 };
-    let most = most_of(pace.task, turns, workers as u64);
+    let most = most_of(pace.task, turns, seats.len() as u64);
     let shift = shift_of(rt, net.shared(), pace, most);
-    let (flusher, seats, flushed) = make_shift(rt, alloc, net, &shift, workers, seats, flusher);
+    let (flusher, seats, flushed) = make_shift(rt, alloc, net, &shift, seats, flusher);
     turns.add(shift.count(), shift.has_halted(), shift.is_idle());
     (flusher, seats, outcome_of(flushed, &shift))
 }

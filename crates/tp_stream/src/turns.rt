@@ -34,8 +34,8 @@ impl Did {
 
 /// How far turns have come: how many were made, whose turn is next, how many of the last ones in a row had nothing to do while no
 /// snapshot ran, how many of this round were made while one ran, how many it had, and with how many steps, whether a node has halted, whether the journal
-/// had no room for one more, whether there is more to do than the last round did, and whether that is worth threads, and how often the
-/// journal was settled since a turn did something.
+/// had no room for one more, whether there is more to do than the last round did, for which threads are worth it, and how often the journal was settled
+/// since a turn did something.
 #[derive(Drop)]
 pub(crate) struct Turns {
     pub(crate) made: u64,
@@ -47,7 +47,6 @@ pub(crate) struct Turns {
     pub(crate) has_halted: bool,
     pub(crate) is_full: bool,
     pub(crate) is_busy: bool,
-    pub(crate) is_heavy: bool,
     settled: u32,
 }
 
@@ -74,7 +73,6 @@ impl Turns {
             has_halted,
             is_full: false,
             is_busy: false,
-            is_heavy: false,
             settled: 0,
         }
     }
@@ -91,15 +89,15 @@ impl Turns {
         self.is_full = false;
     }
 
-    /// A round ends, in which all turns were made that it may have, or fewer. There is more to do where all were, and it is done by workers where
-    /// `may_be` says so; one that ends since a snapshot runs says nothing of that.
+    /// A round ends, in which all turns were made that it may have, or fewer. Where all were, and had [`HEAVY`] steps in the mean, there is more to
+    /// do that is worth threads, if `may_be` says that there may be any. One that ends since a snapshot runs says nothing of that.
     pub(crate) fn end(&mut self, task: Task, nodes: u8, were_all: bool, may_be: bool)
         ensures whose { self.new.whose ≡ self.old.whose }
         ensures idle { self.new.idle ≡ self.old.idle }
     {
         let more = may_be && !self.is_done(task, nodes);
-        self.is_busy = more && (were_all || self.is_busy);
-        self.is_heavy = self.steps / HEAVY >= u64::from(self.round);
+        let heavy = self.steps / HEAVY >= u64::from(self.round);
+        self.is_busy = more && (were_all && heavy || !were_all && self.is_busy);
     }
 
     /// The journal has no room for one more.
