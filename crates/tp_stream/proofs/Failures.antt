@@ -1,6 +1,6 @@
 -- Which calls of the device have failed, and what is answered.
-use Rattle.std.proofs.Common.{◌≡◌, ◌⊎◌, ℕ, ◌+◌, inl, inr, Bool, true, false, List, Option, None, Result, Ok, Err, refl, sym, ap, subst, ◌∙◌, arith}
-use Rattle.std.specs.Prelude.{IfErr, IfOk, IfSome, OnOk, if◌then◌else◌}
+use Rattle.std.proofs.Common.{◌≡◌, ◌⊎◌, ℕ, ◌+◌, inl, inr, Bool, true, false, List, Result, Ok, Err, refl, sym, ap, subst, ◌∙◌, arith}
+use Rattle.std.specs.Prelude.{IfErr, if◌then◌else◌}
 use Rattle.tp_model.specs.NodeState.{NodeState}
 use Rattle.tp_model.specs.Opening.{Opened}
 use Rattle.tp_model.specs.Topology.{Topology}
@@ -15,7 +15,6 @@ use Rattle.tp_flush.specs.declared.fault.FlushFault.{FlushFault}
 use Rattle.tp_flush.specs.declared.fault.FlushFault.TheVariants as flush
 use Rattle.tp_stream_files.specs.Inputs.{GivenInput}
 use Rattle.tp_stream_files.specs.Outputs.{Given, OutputValue}
-use Rattle.tp_stream_files.specs.declared.ending.Ending.{Ending}
 use Rattle.tp_stream.specs.declared.fault.StreamFault.{StreamFault}
 use Rattle.tp_stream.specs.declared.fault.StreamFault.TheVariants.{Opening, Spare, Port as Absent, Unnamed, Short, Long, Gone, NotShown, ShortInput, InputFailed, OutputFailed, FlushFailed, NotStored, JournalFull, Memory}
 use Rattle.tp_stream.specs.declared.standing.Standing.{Standing}
@@ -139,17 +138,6 @@ fault_begun Memory came = tt
 pub between_begun : {A : Type 0} (r : Result A StreamFault) → IfErr r CameBetween → IfErr r CameBegun
 between_begun (Ok x) came = tt
 between_begun (Err fault) came = fault_begun fault came
-
--- ## Beside workers
-
--- nothing is over there
-pub none_ends : (r : Result (Option Ending) StreamFault) (P : Ending → Type 0) → IfOk r (λ ended. ended ≡ None) → IfOk r (λ ended. IfSome ended P)
-none_ends (Ok ended) P on = subst (λ e. IfSome e P) (sym on) tt
-none_ends (Err fault) P on = tt
-
-pub ended_ok : (r : Result (Option Ending) StreamFault) (P : Type 0) → P → OnOk r P
-ended_ok (Ok ended) P holds = holds
-ended_ok (Err fault) P holds = tt
 
 -- ## The opening
 

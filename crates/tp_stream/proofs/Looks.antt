@@ -9,7 +9,7 @@ use Rattle.tp_stream.specs.declared.task.Task.{Task}
 use Rattle.tp_stream_files.specs.declared.ending.Ending.{Ending}
 use Rattle.tp_stream_files.specs.declared.ending.Ending.TheVariants.{Quiet, Turns, Gone, Halted, Stopped}
 use Rattle.tp_stream.specs.declared.fault.StreamFault.{StreamFault}
-use Rattle.tp_stream.specs.Looks.{HaveLooked, LooksAtMostOnce, LooksOnce, is_stopped, looked}
+use Rattle.tp_stream.specs.Looks.{HaveLooked, LooksAtMostOnce, is_stopped, looked}
 use Rattle.tp_stream.specs.Quiet.{IsWhyEnded}
 
 abbrev IsNo : Bool → Type 0
@@ -83,21 +83,3 @@ pub looks_then : (start : Network NodeState) (task : Task) (old mid new : List B
 looks_then start task old mid new last (Ok ended) is H why once =
     looks_more start task old mid new ended why (subst (λ r. IfOk r (HaveLooked task old mid)) is H) once
 looks_then start task old mid new last (Err fault) is H why once = tt
-
-at_most : (task : Task) (made later : ℕ) (old new : List Bool) (ended : Option Ending) → LooksOnce task made later old new ended → LooksAtMostOnce task old new ended
-at_most task made later old new ended once = elim once [
-  | inl grew ↦ inl grew
-  | inr still ↦ inr (still.0, still.1)
-]
-
--- it was looked once in a cycle
-pub looks_less : (task : Task) (made later : ℕ) (old new : List Bool) (r : Result (Option Ending) StreamFault) → IfOk r (LooksOnce task made later old new) → IfOk r (LooksAtMostOnce task old new)
-looks_less task made later old new (Ok ended) once = at_most task made later old new ended once
-looks_less task made later old new (Err fault) once = tt
-
--- and behind one that isn't over workers go on
-pub looks_on : (task : Task) (made later : ℕ) (old new : List Bool) (done r : Result (Option Ending) StreamFault) → done ≡ Ok None → IfOk done (LooksOnce task made later old new) → IfOk r (λ ended. ended ≡ None)
-    → IfOk r (LooksAtMostOnce task old new)
-looks_on task made later old new done (Ok ended) is once on =
-    subst (λ e. LooksAtMostOnce task old new e) (sym on) (at_most task made later old new None (subst (λ d. IfOk d (LooksOnce task made later old new)) is once))
-looks_on task made later old new done (Err fault) is once on = tt

@@ -57,7 +57,7 @@ unput start fault was now old new L same = record { streamed = unwritten start f
 -- where nothing was begun, and nothing was put
 pub unserved : (start : Network NodeState) (fault : StreamFault) (outputs : List OutputValue) (old : State) → ServedInto start (Err fault) outputs outputs old old
 unserved start fault outputs old = record {
-  streamed = unwritten start fault old old (none_leaves old);
+  streamed = record { journal = []; leaves = read_alone start [] old old (none_leaves old); stored = tt; last = tt };
   outputs =
       each_same (λ a b. Got start [] a.next old old a b)
       (λ a. let none : a.next ≡ a.next + 0 = omega arith in record { port = refl; pieces = []; each = tt; next = none; holds = none_put a.next [] a.held refl }) outputs;
