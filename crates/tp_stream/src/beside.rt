@@ -25,12 +25,7 @@ use tp_stream_files::Ending;
 use tp_work::{Net, Seat};
 
 /// Makes turns until none is left in this shift.
-fn work<J: Naming, R: Wait>(
-    rt: &R,
-    net: &Net<J, NoGate>,
-    shift: &Shift,
-    seat: &mut Seat<J>,
-)
+fn work<J: Naming, R: Wait>(rt: &R, net: &Net<J, NoGate>, shift: &Shift, seat: &mut Seat<J>)
     requires queue { seat.old.hand.of ≡ Some net.now.queue }
     ensures queue { seat.new.hand.of ≡ Some net.now.queue }
 {
@@ -162,7 +157,10 @@ fn shift_of<J: Naming, R: Wait>(rt: &R, shared: &Shared<J>, pace: Pace, most: u6
 }
 
 /// What comes of a shift: the fault of a flush, or why turns were refused.
-fn outcome_of(flushed: Result<(), StreamFault>, shift: &Shift) -> Result<Option<Ending>, StreamFault>
+fn outcome_of(
+    flushed: Result<(), StreamFault>,
+    shift: &Shift,
+) -> Result<Option<Ending>, StreamFault>
     requires { IfErr flushed CameOfFlush }
     ensures failed { answer_failed result ≡ answer_failed flushed }
     ensures goes_on { IfOk result (λ ended. ended ≡ None) }
@@ -179,11 +177,7 @@ fn outcome_of(flushed: Result<(), StreamFault>, shift: &Shift) -> Result<Option<
 
 /// Workers make turns until the journal may have no room for one more, they have made as many as they may, or nothing is left to do, and the
 /// flusher makes its own beside them.
-pub(crate) fn go_beside<
-    J: Naming + Send + Sync,
-    D: Disk + Send + Drop,
-    R: Threads + Wait + Sync,
->(
+pub(crate) fn go_beside<J: Naming + Send + Sync, D: Disk + Send + Drop, R: Threads + Wait + Sync>(
     rt: &R,
     alloc: Global,
     net: &Net<J, NoGate>,

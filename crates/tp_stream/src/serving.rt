@@ -211,15 +211,7 @@ fn lap<
     if let Ok(None) = done
         && goes_on
     {
-        return go_beside(
-            rt,
-            alloc,
-            net,
-            pace,
-            &mut going.turns,
-            seats,
-            flusher,
-        );
+        return go_beside(rt, alloc, net, pace, &mut going.turns, seats, flusher);
     }
     (flusher, seats, done)
 }
@@ -271,16 +263,7 @@ fn cycles<
             break;
         };
         let (there, freed, done) = lap(
-            rt,
-            alloc,
-            net,
-            pace,
-            &mut going,
-            seats,
-            flusher,
-            streams,
-            listener,
-            stop,
+            rt, alloc, net, pace, &mut going, seats, flusher, streams, listener, stop,
         );
         flusher = there;
         seats = freed;

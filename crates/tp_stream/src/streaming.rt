@@ -145,7 +145,9 @@ fn stream_parts<
     };
     let flusher = Flusher::over(opened, topology, store, key, raiser);
     flusher.known();
-    let (flusher, done) = serve(rt, alloc, &net, seats, pace, flusher, streams, listener, stop);
+    let (flusher, done) = serve(
+        rt, alloc, &net, seats, pace, flusher, streams, listener, stop,
+    );
     (flusher.into_disk(), done)
 }
 

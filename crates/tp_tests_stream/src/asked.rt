@@ -32,7 +32,11 @@ struct Seen {
     put: usize,
 }
 
-fn see_on<R: Threads + Wait + Abort + Sync>(rt: &R, asked: Asked, desk: &mut Desk) -> Result<Seen, Fail>
+fn see_on<R: Threads + Wait + Abort + Sync>(
+    rt: &R,
+    asked: Asked,
+    desk: &mut Desk,
+) -> Result<Seen, Fail>
 where
     R: AllocGlobal,
 {

@@ -107,7 +107,11 @@ const ROWS: &[Row] = &[
 ];
 
 /// Whether a stream with an empty sink ends as a row says, and the node is told of as it says.
-fn is_ended<R: Threads + Wait + Abort + Sync>(rt: &R, row: &Row, desk: &mut Desk) -> Result<bool, Fail>
+fn is_ended<R: Threads + Wait + Abort + Sync>(
+    rt: &R,
+    row: &Row,
+    desk: &mut Desk,
+) -> Result<bool, Fail>
 where
     R: AllocGlobal,
 {
@@ -130,7 +134,11 @@ where
 }
 
 /// Whether streams one after another do.
-fn are_ended<R: Threads + Wait + Abort + Sync>(rt: &R, rows: &[Row], desk: &mut Desk) -> Result<bool, Fail>
+fn are_ended<R: Threads + Wait + Abort + Sync>(
+    rt: &R,
+    rows: &[Row],
+    desk: &mut Desk,
+) -> Result<bool, Fail>
 where
     R: AllocGlobal,
 {
@@ -143,7 +151,11 @@ where
 }
 
 /// Whether streams do so one after another, on a device of a node with this code.
-fn are_ended_by<R: Threads + Wait + Abort + Sync>(rt: &R, code: &[u8], rows: &[Row]) -> Result<bool, Fail>
+fn are_ended_by<R: Threads + Wait + Abort + Sync>(
+    rt: &R,
+    code: &[u8],
+    rows: &[Row],
+) -> Result<bool, Fail>
 where
     R: AllocGlobal,
 {

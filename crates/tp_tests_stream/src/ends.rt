@@ -221,7 +221,11 @@ where
 
 /// Whether a stream ends once the taker of one of its sinks has gone with `pieces` pieces: all of them are confirmed and none more, and
 /// the other sink's outputs are put and confirmed. What wasn't put comes in the next stream.
-fn is_gone<R: Threads + Wait + Abort + Sync>(rt: &R, device: &mut Vec<u8>, pieces: u32) -> Result<bool, Fail>
+fn is_gone<R: Threads + Wait + Abort + Sync>(
+    rt: &R,
+    device: &mut Vec<u8>,
+    pieces: u32,
+) -> Result<bool, Fail>
 where
     R: AllocGlobal,
 {

@@ -22,7 +22,11 @@ fn handed(calls: u32) -> Asked {
 }
 
 /// Plays a stream with a sink whose call fails. None where it ends otherwise than it may, or nothing is journalled.
-fn play_fault<R: Threads + Wait + Abort + Sync>(rt: &R, desk: &mut Desk, calls: u32) -> Result<Option<Played>, Fail>
+fn play_fault<R: Threads + Wait + Abort + Sync>(
+    rt: &R,
+    desk: &mut Desk,
+    calls: u32,
+) -> Result<Option<Played>, Fail>
 where
     R: AllocGlobal,
 {
@@ -38,7 +42,11 @@ where
 
 /// Whether the next stream, with that sink, puts all the rest, where the first `safe` bytes were put and were safe: no more than those
 /// were confirmed.
-fn goes_on<R: Threads + Wait + Abort + Sync>(rt: &R, desk: &mut Desk, safe: u64) -> Result<bool, Fail>
+fn goes_on<R: Threads + Wait + Abort + Sync>(
+    rt: &R,
+    desk: &mut Desk,
+    safe: u64,
+) -> Result<bool, Fail>
 where
     R: AllocGlobal,
 {
@@ -50,7 +58,11 @@ where
 
 /// Whether no more is confirmed than was put before a call fails and was safe, and the next stream puts all the rest: none where that isn't
 /// so, and else whether a call failed.
-fn is_failed<R: Threads + Wait + Abort + Sync>(rt: &R, desk: &mut Desk, calls: u32) -> Result<Option<bool>, Fail>
+fn is_failed<R: Threads + Wait + Abort + Sync>(
+    rt: &R,
+    desk: &mut Desk,
+    calls: u32,
+) -> Result<Option<bool>, Fail>
 where
     R: AllocGlobal,
 {

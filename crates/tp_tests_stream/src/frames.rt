@@ -18,7 +18,11 @@ const SPARES: &[u16] = &[0, 1, 4, 11, 12, 16];
 
 /// Whether the byte comes behind the writes of a node with `spare` frames, and the stream is quiet then, where each entry begins a
 /// snapshot that may.
-fn is_sent<R: Threads + Wait + Abort + Sync>(rt: &R, spare: u16, desk: &mut Desk) -> Result<bool, Fail>
+fn is_sent<R: Threads + Wait + Abort + Sync>(
+    rt: &R,
+    spare: u16,
+    desk: &mut Desk,
+) -> Result<bool, Fail>
 where
     R: AllocGlobal,
 {
@@ -103,7 +107,11 @@ where
 }
 
 /// Whether the host gets its answers on a device that is freshly formatted.
-fn is_answered_with<R: Threads + Wait + Abort + Sync>(rt: &R, spare: u16, turns: Option<u32>) -> Result<bool, Fail>
+fn is_answered_with<R: Threads + Wait + Abort + Sync>(
+    rt: &R,
+    spare: u16,
+    turns: Option<u32>,
+) -> Result<bool, Fail>
 where
     R: AllocGlobal,
 {

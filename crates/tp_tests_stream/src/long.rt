@@ -9,7 +9,11 @@ use std::thread::Threads;
 use tp_stream::Task;
 
 /// Whether more than any port holds is put out, over at least two checkpoints, where so many workers make turns.
-fn goes_round<R: Threads + Wait + Abort + Sync>(rt: &R, workers: u8, desk: &mut Desk) -> Result<bool, Fail>
+fn goes_round<R: Threads + Wait + Abort + Sync>(
+    rt: &R,
+    workers: u8,
+    desk: &mut Desk,
+) -> Result<bool, Fail>
 where
     R: AllocGlobal,
 {

@@ -56,8 +56,15 @@ where
 /// Far more bytes than a port holds, in pieces of different sizes: all come back, in an area that is switched again and again.
 #[test]
 fn a_long_input_comes_back(rt: HostRuntime) -> Result<(), Fail> {
-    for (workers, most, area) in [(1u8, 4096usize, 65_536u32), (1, 7, 16_384), (3, 4096, 65_536)] {
-        assert!(rt; comes_back_in(&rt, workers, most, area)?, "{workers} workers");
+    for (workers, most, area) in [
+        (1u8, 4096usize, 65_536u32),
+        (1, 7, 16_384),
+        (3, 4096, 65_536),
+    ] {
+        assert!(rt;
+            comes_back_in(&rt, workers, most, area)?,
+            "{workers} workers"
+        );
     }
     Ok(())
 }

@@ -56,7 +56,11 @@ pub(crate) const PLAIN: Step = Step {
 };
 
 /// Whether a stream goes as its step says.
-fn is_step<R: Threads + Wait + Abort + Sync>(rt: &R, step: &Step, desk: &mut Desk) -> Result<bool, Fail>
+fn is_step<R: Threads + Wait + Abort + Sync>(
+    rt: &R,
+    step: &Step,
+    desk: &mut Desk,
+) -> Result<bool, Fail>
 where
     R: AllocGlobal,
 {
