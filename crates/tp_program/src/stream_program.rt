@@ -16,6 +16,7 @@ use std::io;
 use std::io::Write;
 use std::os::unix::fs::FileExt;
 use std::sync::Wait;
+use std::thread::Threads;
 use tp_disk::Disk;
 use tp_stream_files::{Feed, Onlooker};
 use tp_views::{Refusal, is_device_file, print_help, refuse};
@@ -53,10 +54,10 @@ fn unopened<E: Write>(err: &mut E, system: Option<io::Error>) -> Outcome
 
 /// `tpnet run --stream`, on files. The device's file, which is held, is opened as it is, and keeps its length.
 fn stream_file<
-    R: Files<File = F> + AllocGlobal + Wait,
-    F: FileExt + OpenFile + Drop,
+    R: Files<File = F> + AllocGlobal + Threads + Wait + Sync,
+    F: FileExt + OpenFile + Drop + Send,
     S: Devices<Device = D>,
-    D: Disk + Drop,
+    D: Disk + Drop + Send,
     I: Feed,
     O: Write,
     E: Write,
@@ -89,10 +90,10 @@ fn stream_file<
 
 /// Streams as it is asked for, and says more of a refusal where the words ask for that. Answers the status.
 fn stream_and_explain<
-    R: Files<File = F> + AllocGlobal + Wait,
-    F: FileExt + OpenFile + Drop,
+    R: Files<File = F> + AllocGlobal + Threads + Wait + Sync,
+    F: FileExt + OpenFile + Drop + Send,
     S: Devices<Device = D>,
-    D: Disk + Drop,
+    D: Disk + Drop + Send,
     I: Feed,
     O: Write,
     E: Write,
@@ -122,10 +123,10 @@ fn stream_and_explain<
 
 /// Asks for the device first, and streams on it unless another process has it. Answers the status.
 fn hold_and_stream<
-    R: Files<File = F> + AllocGlobal + Wait,
-    F: FileExt + OpenFile + Drop,
+    R: Files<File = F> + AllocGlobal + Threads + Wait + Sync,
+    F: FileExt + OpenFile + Drop + Send,
     S: Devices<Device = D>,
-    D: Disk + Drop,
+    D: Disk + Drop + Send,
     I: Feed,
     O: Write,
     E: Write,
@@ -155,10 +156,10 @@ fn hold_and_stream<
 /// opens the device, and `onlooker` looks at `err` and has the time. Answers the program's status: that of the stream, 3 where it ended
 /// since a node halted, or 2 where the words ask for nothing; no file is opened then. Asking for help is no fault.
 pub fn answer_stream_over<
-    R: Files<File = F> + AllocGlobal + Wait,
-    F: FileExt + OpenFile + Drop,
+    R: Files<File = F> + AllocGlobal + Threads + Wait + Sync,
+    F: FileExt + OpenFile + Drop + Send,
     S: Devices<Device = D>,
-    D: Disk + Drop,
+    D: Disk + Drop + Send,
     I: Feed,
     O: Write,
     E: Write,
@@ -190,10 +191,10 @@ pub fn answer_stream_over<
 
 /// Does what the words ask for, as `answer_stream_over`, over devices that tell nothing of what was called.
 fn answer_stream_untold<
-    R: Files<File = F> + AllocGlobal + Wait,
-    F: FileExt + OpenFile + Drop,
+    R: Files<File = F> + AllocGlobal + Threads + Wait + Sync,
+    F: FileExt + OpenFile + Drop + Send,
     S: Devices<Device = D>,
-    D: Disk + Drop,
+    D: Disk + Drop + Send,
     I: Feed,
     O: Write,
     E: Write,
@@ -214,8 +215,8 @@ fn answer_stream_untold<
 
 /// Does what the words ask for, as `answer_stream_over`, with the devices in files of the system, whose locks `locks` takes.
 pub fn answer_stream_locking<
-    R: Files<File = F> + AllocGlobal + Wait,
-    F: FileExt + OpenFile + Drop,
+    R: Files<File = F> + AllocGlobal + Threads + Wait + Sync,
+    F: FileExt + OpenFile + Drop + Send,
     L: Locks<Lock = K> + Drop,
     K: Drop,
     I: Feed,
@@ -239,8 +240,8 @@ pub fn answer_stream_locking<
 
 /// Does what the words ask for, as `answer_stream_over`, where nobody else has a device.
 pub fn answer_stream<
-    R: Files<File = F> + AllocGlobal + Wait,
-    F: FileExt + OpenFile + Drop,
+    R: Files<File = F> + AllocGlobal + Threads + Wait + Sync,
+    F: FileExt + OpenFile + Drop + Send,
     I: Feed,
     O: Write,
     E: Write,

@@ -7,7 +7,7 @@ use Rattle.clap.specs.declared.parser.matches.ArgMatches.{ArgMatches}
 use Rattle.tp_model.specs.declared.limits.TheConstants.{MAX_STEPS}
 use Rattle.tp_words.specs.declared.arg_fault.ArgFault.{ArgFault}
 use Rattle.tp_words.specs.declared.arg_fault.ArgFault.TheVariants.{Words, Many, Missing, Memory}
-use Rattle.tp_words.specs.declared.args.TheConstants.{MAX_TURNS, MAX_WORDS}
+use Rattle.tp_words.specs.declared.args.TheConstants.{MAX_TURNS, MAX_WORDS, MAX_WORKERS}
 use Rattle.tp_words.specs.declared.stream_args.StreamArgFault.{StreamArgFault}
 use Rattle.tp_words.specs.declared.stream_args.StreamArgFault.TheVariants.{Arg, Ends}
 use Rattle.tp_words.specs.declared.stream_args.TheConstants.{MAX_PROGRESS}
@@ -21,6 +21,7 @@ abbrev pub number_options : List NumberOption
 number_options =
     record { id = codes "turns"; least = 0; most = MAX_TURNS }
     ∷ record { id = codes "progress-every"; least = 1; most = MAX_PROGRESS }
+    ∷ record { id = codes "workers"; least = 1; most = MAX_WORKERS }
     ∷ record { id = codes "quantum"; least = 1; most = MAX_STEPS }
     ∷ record { id = codes "spare"; least = 0; most = 18446744073709551615 }
     ∷ every_option

@@ -7,7 +7,7 @@ ghost use Rattle.tp_words.specs.StreamRefused.{IsMatchRefused, IsRunRefused, IsS
 ghost use Rattle.tp_words.specs.declared.stream_args.StreamArgFault.TheVariants.{Arg, Ends};
 
 use crate::arg_fault::ArgFault;
-use crate::args::{MAX_TURNS, QUANTUM};
+use crate::args::{MAX_TURNS, MAX_WORKERS, QUANTUM};
 use crate::device_args::{every_of, wait_of};
 use crate::found::{option_or, option_short, option_string, text_of};
 use crate::numbers::has_word;
@@ -48,6 +48,8 @@ pub struct StreamRun {
     pub has_progress: bool,
     /// How many seconds lie between two lines, where that was typed, which asks for lines, too; `None`: 10, if `has_progress` asks for any.
     pub progress_every: Option<u32>,
+    /// How many threads make turns at most; `None`: as many as there are processors, up to 4.
+    pub workers: Option<u32>,
     /// The most steps of a turn.
     pub quantum: u16,
     /// The spare frames of each node.
@@ -64,6 +66,7 @@ pub struct StreamRun {
 struct StreamNumbers {
     turns: Option<u32>,
     progress_every: Option<u32>,
+    workers: Option<u32>,
     quantum: u16,
     spare: u64,
     every: Option<u32>,
@@ -139,6 +142,7 @@ fn numbers_of(
     let steps = MAX_STEPS as u64;
     let turns = option_short(alloc, words, found, "turns", 0, MAX_TURNS)?;
     let seconds = option_short(alloc, words, found, "progress-every", 1, MAX_PROGRESS)?;
+    let workers = option_short(alloc, words, found, "workers", 1, MAX_WORKERS as u64)?;
     let quantum = option_or(alloc, words, found, "quantum", 1, steps, QUANTUM as u64)?;
     let spare = option_or(alloc, words, found, "spare", 0, u64::MAX, 4)?;
     let every = every_of(alloc, words, found)?;
@@ -146,6 +150,7 @@ fn numbers_of(
     Ok(StreamNumbers {
         turns,
         progress_every: seconds,
+        workers,
         quantum: quantum as u16,
         spare,
         every,
@@ -172,6 +177,7 @@ fn run_of(
         stop_file: option_string(alloc, words, found, "stop-file")?,
         has_progress: found.get_flag("progress"),
         progress_every: numbers.progress_every,
+        workers: numbers.workers,
         quantum: numbers.quantum,
         spare: numbers.spare,
         every: numbers.every,
