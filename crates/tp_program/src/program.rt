@@ -292,7 +292,9 @@ pub fn answer_over<
     match CommandLine::read(rt.alloc(), words) {
         Ok(line) => {
             let (command, explains) = (&line.command, line.explains);
-            answer_command(rt, devices, watch, command, explains, feed, out, err, onlooker)
+            answer_command(
+                rt, devices, watch, command, explains, feed, out, err, onlooker,
+            )
         }
         Err(fault) => {
             let _ = write!(err, "{fault}");

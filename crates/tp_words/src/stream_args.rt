@@ -98,11 +98,7 @@ fn numbers_of(
 
 /// The stream that was found among the words.
 #[tactic(auto, unfolding(crate::specs::StreamArgs::IsStreamRun))]
-fn run_of(
-    alloc: Global,
-    words: &[String],
-    found: &ArgMatches,
-) -> Result<StreamAsked, CommandFault>
+fn run_of(alloc: Global, words: &[String], found: &ArgMatches) -> Result<StreamAsked, CommandFault>
     ensures range { IfOk result IsStreamInRange }
     ensures typed { IfOk result (WasStreamTyped words.now) }
     ensures refused { IfErr result (IsRunRefused found.now words.now) }
