@@ -1,5 +1,5 @@
 -- The parts of a cut that were read: what the tests of each record say.
-use Rattle.std.proofs.Common.{◌≡◌, ℕ, ◌+◌, ◌<◌, ◌≤◌, List, [], ◌∷◌, ◌++◌, length, take, get_or, sym, ap, subst, ◌∙◌, arith, true, Some, Ok, Fits, w8}
+use Rattle.std.proofs.Common.{◌≡◌, ℕ, ◌+◌, ◌<◌, ◌≤◌, List, [], ◌∷◌, ◌++◌, length, take, get_or, sym, ap, subst, ◌∙◌, arith, true, Some, Ok}
 use Rattle.std.specs.Prelude.{◌==◌, ◌&&◌, bytes_eq}
 use Rattle.std.specs.List.{AllByRecursion}
 use Rattle.std.proofs.lemmas.Bool.{and_parts, eqb-true}
@@ -17,7 +17,7 @@ use Rattle.tp_model.specs.Spelling.{are_lines, IsCut}
 use Rattle.tp_model.specs.Topology.{Topology, line_count}
 use Rattle.tp_law_network.proofs.InPlace.{flights_found}
 use Rattle.tp_law_device.proofs.Faults.{tested}
-use Rattle.tp_law_machine.proofs.Numbers.{AreBytes, are_bytes, are_bytes-take}
+use Rattle.tp_law_machine.proofs.Numbers.{AreBytes, are_bytes-take}
 use Rattle.tp_law_machine.specs.NodeOfBytes.{IsNodeOfBytes}
 use Rattle.tp_law_machine.proofs.Images.{node_of_bytes}
 use Rattle.tp_recover.specs.Cuts.{wired}
@@ -30,10 +30,6 @@ all_pushed P [] x all here = (here, tt)
 all_pushed P (y ∷ ys) x all here = (all.0, all_pushed P ys x all.1 here)
 
 -- ## Nodes
-
--- what fits in bytes are bytes
-pub fit_bytes : (bytes : List ℕ) → ((i : ℕ) → Fits w8 (get_or bytes i 0)) → AreBytes bytes
-fit_bytes bytes fit = are_bytes bytes (λ i. omega (arith, fit i))
 
 -- A node that was read has an image, and the pages that were asked for.
 pub node_imaged : (pages : ℕ) (bytes : List ℕ) (node : NodeState) → AreBytes bytes → node_with pages bytes ≡ Some node → HasImage pages node

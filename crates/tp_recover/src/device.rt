@@ -1,12 +1,29 @@
 //! Reading bytes of a device.
 
-ghost use Rattle.std.specs.Prelude.{◌≡◌, ◌+◌, ◌≤◌, length, take, drop, IfOk};
+ghost use Rattle.std.specs.Prelude.{◌≡◌, ◌+◌, ◌≤◌, ◌<◌, ℕ, length, take, drop, get_or, IfOk};
 ghost use Rattle.tp_model.specs.DiskHistory.{Counts};
 ghost use Rattle.tp_recover.specs.Reading.{has_read, found, ReadAnswer, LeavesAlone, LeavesNothingNew, TakesNone};
 
 use crate::unopened::Unopened;
 use std::alloc::Global;
 use tp_disk::Disk;
+
+/// Reads bytes from `at` on, until `out` is full.
+fn fill<D: Disk>(disk: &mut D, at: u64, out: &mut [u8]) -> Result<(), Unopened>
+    requires { at + length out.old ≤ D.size_of disk.old }
+    ensures takes_none { TakesNone result }
+    ensures counts { Counts (has_read result) (D.size_of disk.old) (D.size_of disk.new) (D.failures_of disk.old) (D.failures_of disk.new) }
+    ensures kept { D.keeps → LeavesAlone result (D.state disk.old).now (D.state disk.new).now }
+    ensures leaves { D.keeps → LeavesNothingNew (D.state disk.old) (D.state disk.new) }
+    ensures len { length out.new ≡ length out.old }
+    ensures fit { (i : ℕ) → get_or out.new i 0 < 256 }
+    ensures bytes { D.keeps → ReadAnswer (λ done. out.new) (found (take (length out.old) (drop at (D.state disk.old).now.bytes))) result }
+{
+    match disk.read(at, out) {
+        Ok(()) => Ok(()),
+        Err(_) => Err(Unopened::ReadFailed),
+    }
+}
 
 /// Reads `N` bytes from a place on.
 pub(crate) fn read_array<D: Disk, const N: usize>(
@@ -21,10 +38,8 @@ pub(crate) fn read_array<D: Disk, const N: usize>(
     ensures bytes { D.keeps → ReadAnswer (λ bytes. bytes) (found (take N (drop at (D.state disk.old).now.bytes))) result }
 {
     let mut bytes = [0; N];
-    match disk.read(at, &mut bytes) {
-        Ok(()) => Ok(bytes),
-        Err(_) => Err(Unopened::ReadFailed),
-    }
+    fill(disk, at, &mut bytes)?;
+    Ok(bytes)
 }
 
 /// Reads `count` bytes from `at` on.
@@ -39,14 +54,13 @@ pub(crate) fn read_bytes<D: Disk>(
     ensures kept { D.keeps → LeavesAlone result (D.state disk.old).now (D.state disk.new).now }
     ensures leaves { D.keeps → LeavesNothingNew (D.state disk.old) (D.state disk.new) }
     ensures len { IfOk result (λ bytes. length bytes.items ≡ count) }
+    ensures fit { IfOk result (λ bytes. (i : ℕ) → get_or bytes.items i 0 < 256) }
     ensures bytes { D.keeps → ReadAnswer (λ bytes. bytes.items) (found (take count (drop at (D.state disk.old).now.bytes))) result }
 {
     let mut bytes = Vec::new(alloc);
     if bytes.resize(count, 0).is_err() {
         return Err(Unopened::Memory);
     }
-    match disk.read(at, &mut bytes) {
-        Ok(()) => Ok(bytes),
-        Err(_) => Err(Unopened::ReadFailed),
-    }
+    fill(disk, at, &mut bytes)?;
+    Ok(bytes)
 }

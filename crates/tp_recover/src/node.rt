@@ -1,6 +1,6 @@
 //! The nodes of a cut.
 
-ghost use Rattle.std.specs.Prelude.{◌≡◌, ◌+◌, ◌*◌, ◌≤◌, ◌<◌, ◌^◌, ◌++◌, None, true, IfOk, map, length, drop, sum_by};
+ghost use Rattle.std.specs.Prelude.{◌≡◌, ◌+◌, ◌*◌, ◌≤◌, ◌<◌, ◌^◌, ◌++◌, ℕ, None, true, IfOk, map, length, drop, get_or, sum_by};
 ghost use Rattle.tp_model.specs.CutImage.{node_with, nodes_in, or_damaged};
 ghost use Rattle.tp_model.specs.DiskHistory.{Counts};
 ghost use Rattle.tp_model.specs.Journal.{image_length};
@@ -25,7 +25,8 @@ fn node_in(
     head: &[u8; IMAGE_HEAD_BYTES],
     memory: Vec<u8>,
 ) -> Result<Node, Unopened>
-    requires { length memory.items ≡ PAGE_BYTES * pages }
+    requires whole { length memory.items ≡ PAGE_BYTES * pages }
+    requires bytes { (i : ℕ) → get_or memory.items i 0 < 256 }
     ensures read { has_read result ≡ true }
     ensures thawed { IfOk result (λ node. node.frozen ≡ None) }
     ensures image { IfOk result (λ node. HasImage pages node.live) }

@@ -1,13 +1,5 @@
-use Rattle.tp_recover.proofs.Leaving.{none_leaves, read_leaves}
+use Rattle.tp_recover.proofs.Leaving.{none_leaves}
 use Rattle.tp_recover.proofs.device.read_bytes.Goals as goal
 
 pub returns-then-is_err-clause-leaves : goal.returns-then-is_err-clause-leaves
 returns-then-is_err-clause-leaves g c k = none_leaves (g.D.Disk.state c.args.disk.now)
-
-pub returns-in-Ok-clause-leaves : goal.returns-in-Ok-clause-leaves
-returns-in-Ok-clause-leaves g c k =
-    read_leaves c.read.result (g.D.Disk.state c.args.disk.now) (g.D.Disk.state c.read.new.self) (c.read.ensures.goes k) (c.read.ensures.after k) (c.read.ensures.failed k)
-
-pub returns-in-Err-clause-leaves : goal.returns-in-Err-clause-leaves
-returns-in-Err-clause-leaves g c k =
-    read_leaves c.read.result (g.D.Disk.state c.args.disk.now) (g.D.Disk.state c.read.new.self) (c.read.ensures.goes k) (c.read.ensures.after k) (c.read.ensures.failed k)

@@ -1,4 +1,4 @@
-use Rattle.std.proofs.Common.{◌≡◌, ◌∙◌, ap, sym, subst, arith, length, take, Ok, Err}
+use Rattle.std.proofs.Common.{◌≡◌, ◌∙◌, ap, sym, subst, arith, length, take, Ok}
 use Rattle.tp_model.specs.Head.{Head, head_of}
 use Rattle.tp_model.specs.declared.head.HeadVersion.TheVariants.{Narrow, Wide}
 use Rattle.tp_model.specs.declared.limits.TheConstants.{NARROW_HEAD_BYTES}

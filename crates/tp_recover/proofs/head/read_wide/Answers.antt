@@ -1,5 +1,5 @@
 use Rattle.std.proofs.Common.{◌∙◌, refl, sym, subst, arith}
-use Rattle.tp_model.specs.Head.{Head, head_of}
+use Rattle.tp_model.specs.Head.{Head}
 use Rattle.tp_model.specs.declared.head.HeadVersion.TheVariants.{Wide}
 use Rattle.tp_area.proofs.Heads.{head_of-cut_off, head_of-read}
 use Rattle.tp_recover.specs.Reading.{ReadAnswer}

@@ -1,5 +1,5 @@
-use Rattle.std.proofs.Common.{◌≡◌, ◌∙◌, Bool, rules, ap, subst, Ok, Err}
-use Rattle.tp_model.specs.Head.{Head, head_of}
+use Rattle.std.proofs.Common.{◌≡◌, Bool, rules, ap, subst, Ok, Err}
+use Rattle.tp_model.specs.Head.{Head}
 use Rattle.tp_model.specs.Opening.{chosen_area}
 use Rattle.tp_recover.specs.Chosen.{chosen_in}
 use Rattle.tp_recover.specs.Reading.{ReadAnswer}

@@ -1,5 +1,5 @@
 use Rattle.tp_recover.proofs.Leaving.{read_leaves}
-use Rattle.tp_recover.proofs.device.read_array.Goals as goal
+use Rattle.tp_recover.proofs.device.fill.Goals as goal
 
 pub returns-in-Ok-clause-leaves : goal.returns-in-Ok-clause-leaves
 returns-in-Ok-clause-leaves g c k =
