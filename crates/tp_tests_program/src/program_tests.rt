@@ -191,43 +191,6 @@ fn the_words_of_a_stop(rt: HostRuntime) -> Result<(), Fail> {
     Ok(())
 }
 
-/// Words of a command, and whether more is said of what it does.
-const EXPLAINED: &[(&[&str], bool)] = &[
-    (&["show", "backup"], false),
-    (&["show", "stop", "--explain"], true),
-    (&["run", "d", "--stream"], false),
-    (&["run", "--stream", "--explain", "d"], true),
-];
-
-/// Whether words ask for a look at a device called so, or for a stream of `d`, and how much is said.
-fn asks_so(alloc: Global, words: &[&str], explains: bool) -> Result<bool, Fail> {
-    let line = line_of(alloc, words)?;
-    Ok(match CommandLine::read(alloc, line.as_slice()) {
-        Ok(line) => line.explains == explains && is_look_or_stream(&line.command),
-        Err(_fault) => false,
-    })
-}
-
-/// Whether a command looks at a device called as a command is, or is a stream of `d`.
-fn is_look_or_stream(command: &Command) -> bool {
-    match command {
-        Command::Other(Asked::Show { device, .. }) => {
-            device.as_str() == "backup" || device.as_str() == "stop"
-        }
-        Command::Stream(run) => run.device.as_str() == "d",
-        _ => false,
-    }
-}
-
-/// A command is the one whose name stands first, and a stream where `--stream` is there, too.
-#[test]
-fn which_command_it_is(rt: HostRuntime) -> Result<(), Fail> {
-    for (words, explains) in EXPLAINED {
-        assert!(rt; asks_so(rt.alloc(), words, *explains)?);
-    }
-    Ok(())
-}
-
 /// Words of commands that are read in several ways.
 const READ: &[&[&str]] = &[&["backup"], &["stop"], &["show"], &["run", "--stream"]];
 
