@@ -18,7 +18,8 @@ pub(crate) fn answer<
     K: Drop,
 >(rt: &R, locks: L, line: &[String]) -> Output {
     let (mut out, mut err) = (Vec::new(rt.alloc()), Vec::new(rt.alloc()));
-    let mut feed = Plain::new(&[]);
+    let nothing: &[u8] = &[];
+    let mut feed = Plain::new(nothing);
     let status = answer_locking(
         rt,
         locks,
