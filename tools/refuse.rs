@@ -20,6 +20,7 @@ const WRITE: c_long = 1;
 const PREAD: c_long = 17;
 const PWRITE: c_long = 18;
 const FSYNC: c_long = 74;
+const FDATASYNC: c_long = 75;
 const FTRUNCATE: c_long = 77;
 const NO_MEMORY: c_int = 12;
 const FAILED: c_int = 5;
@@ -117,4 +118,12 @@ pub extern "C" fn fsync(file: c_int) -> c_int {
         return -1;
     }
     unsafe { syscall(FSYNC, file) as c_int }
+}
+
+#[no_mangle]
+pub extern "C" fn fdatasync(file: c_int) -> c_int {
+    if is_refused("sync", FAILED) {
+        return -1;
+    }
+    unsafe { syscall(FDATASYNC, file) as c_int }
 }

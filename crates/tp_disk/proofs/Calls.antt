@@ -4,7 +4,7 @@ use Rattle.std.proofs.lemmas.List.{drop-append-le}
 use Rattle.std.proofs.Math.Seq.{drop-length}
 use Rattle.tp_model.specs.Disk.{Moment, MayBe, IsOutside, Call, Write, Sync, Read, written, done, within, broken, SameOutside}
 use Rattle.tp_model.specs.DiskHistory.{State, MomentPassed, Fails, IsSynced, SomeMay, MayHaveLeft, moment, LeavesOnly}
-use Rattle.tp_model.specs.StoreCalls.{all_done, moments_of, Called, BrokeIn, Broke}
+use Rattle.tp_model.specs.StoreCalls.{all_done, moments_of, Called, Broke}
 use Rattle.tp_disk.specs.Laws.{IsMomentInside}
 use Rattle.tp_disk.proofs.Moments.{outside_each, may_within, write_may, may_write, broken_may, synced_may}
 

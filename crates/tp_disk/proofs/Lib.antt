@@ -2,3 +2,4 @@ pub mod Moments
 pub mod Calls
 pub mod Torn
 pub mod Agree
+pub mod Pieces

@@ -1,8 +1,14 @@
 -- The premise on files, and how a file becomes a device.
-use Rattle.std.specs.Prelude.{ℕ, Bool, true, false, ◌&&◌, if◌then◌else◌, nat_eq, nat_lt, List, [], ◌∷◌, length, take, drop}
-use Rattle.tp_disk.specs.History.{FileCall, Resizes, Syncs, Writes}
+use Rattle.std.specs.Prelude.{◌≡◌, ℕ, true, ◌&&◌, if◌then◌else◌, nat_eq, nat_lt, List, [], ◌∷◌, ◌++◌, length, take, drop}
+use Rattle.tp_disk.specs.declared.filling.Making.{Making}
+use Rattle.tp_disk.specs.declared.filling.Making.TheVariants.{Done, Empties, Fills}
+use Rattle.tp_disk.specs.Filling.{asking, clearing}
+use Rattle.tp_disk.specs.History.{FileCall, Measures, Resizes, Syncs, SyncsData, Writes}
 
--- Files of the operating system keep the model. Nothing proves it, and no proof outside this crate unfolds it.
+-- Files of the operating system keep the model. Nothing proves it, and no proof outside this crate unfolds it. What it asks of a
+-- sync that succeeded: `fsync` (`Syncs`) makes last what was written, and the length that was given. Of a file whose length lasts `fdatasync`
+-- (`SyncsData`) makes last what was written, with what else is needed to read it, as where its blocks lie; of one that another program put there,
+-- and never synced, the length too, since it is needed to read the bytes. So POSIX says of both.
 unfoldable pub file_keeps : Type 0
 file_keeps = ⊥
 
@@ -10,13 +16,21 @@ pub no_file : file_keeps → ⊥
 unfolding file_keeps
 no_file keeps = keeps
 
--- the calls of the system that make a device of `size` bytes of a file, where it isn't one yet
-abbrev pub making : Bool → ℕ → List FileCall
-making true size = []
-making false size = Resizes 0 true ∷ Resizes size true ∷ Syncs true ∷ []
+-- The calls of the system that make a device of `size` bytes of a file: none where it is one; where it takes room as it is
+-- written, it is emptied and gets its length; else it first has room for all of it, and only then is what it had written over.
+abbrev pub making : Making → ℕ → List FileCall
+making Done size = []
+making Empties size = Resizes 0 true ∷ Resizes size true ∷ Syncs true ∷ []
+making (Fills old) size = asking old size ++ clearing old size
+
+-- The system was asked once how many bytes a file has that is to be filled.
+abbrev pub IsMeasured : Making → (old new : List FileCall) → Type 0
+IsMeasured Done old new = ⊥
+IsMeasured Empties old new = ⊥
+IsMeasured (Fills length) old new = new ≡ old ++ Measures length ∷ []
 
 -- the calls of the system that write bytes: at the front the first byte last, alone, once the others are synced
 abbrev pub placing : ℕ → List ℕ → List FileCall
 placing at bytes =
-    if nat_eq at 0 && nat_lt 0 (length bytes) then Writes 1 (drop 1 bytes) true ∷ Syncs true ∷ Writes 0 (take 1 bytes) true ∷ []
+    if nat_eq at 0 && nat_lt 0 (length bytes) then Writes 1 (drop 1 bytes) true ∷ SyncsData true ∷ Writes 0 (take 1 bytes) true ∷ []
     else Writes at bytes true ∷ []

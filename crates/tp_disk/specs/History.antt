@@ -3,11 +3,12 @@ use Rattle.std.specs.Prelude.{ℕ, Bool, List, [], ◌∷◌, ◌++◌}
 use Rattle.tp_model.specs.Disk.{Moment}
 
 -- A call of the system on an open file: where it reads or writes and which bytes came or went, the length that was answered
--- or asked for, and whether it was answered Ok.
+-- or asked for, and whether it was answered Ok. `Syncs` is of the file and all that is kept of it, `SyncsData` of its bytes.
 pub data FileCall : Type 0 where
   Reads : (at : ℕ) → (came : List ℕ) → (ok : Bool) → FileCall
   Writes : (at : ℕ) → (bytes : List ℕ) → (ok : Bool) → FileCall
   Syncs : (ok : Bool) → FileCall
+  SyncsData : (ok : Bool) → FileCall
   Measures : (length : ℕ) → FileCall
   Resizes : (length : ℕ) → (ok : Bool) → FileCall
 

@@ -3,4 +3,5 @@ pub mod History
 pub mod Plan
 pub mod Memory
 pub mod Laws
+pub mod Filling
 pub mod File

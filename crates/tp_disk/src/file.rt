@@ -4,7 +4,7 @@ ghost use Rattle.std.specs.Prelude.{◌≡◌, ◌+◌, ◌≤◌, [], ◌∷◌
 ghost use Rattle.tp_model.specs.Disk.{Write, Sync, Read, done};
 ghost use Rattle.tp_model.specs.DiskHistory.{Fails, MomentPassed, unknown};
 ghost use Rattle.tp_disk.specs.File.{file_keeps, no_file};
-ghost use Rattle.tp_disk.specs.History.{Measures, Reads, Syncs, Writes};
+ghost use Rattle.tp_disk.specs.History.{Measures, Reads, SyncsData, Writes};
 
 use crate::counted::Counted;
 use crate::disk::{DeviceFailed, Disk};
@@ -16,7 +16,8 @@ use std::os::unix::fs::FileExt;
 use std::rt::Files;
 
 /// A file that doesn't count its failures. That it keeps the model is a premise: of it are proved its size, and that each call
-/// makes exactly the one call of the system that it stands for and is done only where that was.
+/// makes exactly the one call of the system that it stands for and is done only where that was. Its length never changes, so a sync is of the
+/// bytes alone.
 #[derive(Drop)]
 pub struct RawFile<F: SystemFile + Drop> {
     file: F,
@@ -102,9 +103,9 @@ impl<F: SystemFile + Drop> RawDisk for RawFile<F> {
         ensures goes { file_keeps → MomentPassed unknown unknown }
         ensures after { file_keeps → OnOk result (unknown.now ≡ done Sync unknown.now) }
         ensures failed { file_keeps → OnErr result (Fails Sync unknown unknown) }
-        ensures called { F.calls self.new.file ≡ F.calls self.old.file ++ Syncs (is_ok result) ∷ [] }
+        ensures called { F.calls self.new.file ≡ F.calls self.old.file ++ SyncsData (is_ok result) ∷ [] }
     {
-        answer(self.file.sync(), &mut self.failure)
+        answer(self.file.sync_data(), &mut self.failure)
     }
 
     ghost whole = { λ k d. absurd (no_file k) };

@@ -2,7 +2,7 @@
 
 ghost use Rattle.std.specs.Prelude.{◌≡◌, ◌+◌, [], ◌∷◌, ◌++◌};
 ghost use Rattle.std.specs.Borrow.{ftrue};
-ghost use Rattle.tp_disk.specs.History.{DeviceTold, nothing_told, with_call, Measures, Reads, Resizes, Syncs, Writes};
+ghost use Rattle.tp_disk.specs.History.{DeviceTold, nothing_told, with_call, Measures, Reads, Resizes, Syncs, SyncsData, Writes};
 
 use std::marker::Model;
 
@@ -96,6 +96,13 @@ impl History {
     /// The system was asked to sync.
     pub(crate) fn has_synced(&self, ok: bool) -> History
         ensures { result.told ≡ with_call self.now.told (Syncs ok) }
+    {
+        History::of(&(self, ok))
+    }
+
+    /// The system was asked to sync the bytes.
+    pub(crate) fn has_synced_data(&self, ok: bool) -> History
+        ensures { result.told ≡ with_call self.now.told (SyncsData ok) }
     {
         History::of(&(self, ok))
     }

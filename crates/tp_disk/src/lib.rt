@@ -5,6 +5,7 @@ mod counted;
 mod disk;
 mod failures;
 mod file;
+mod filling;
 mod history;
 mod laws;
 mod memory;

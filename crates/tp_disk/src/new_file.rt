@@ -1,30 +1,31 @@
 //! A file that becomes a device.
 
-ghost use Rattle.std.specs.Prelude.{◌≡◌, ◌+◌, ◌≤◌, [], ◌∷◌, ◌++◌, true, false, length, take, drop, is_ok, IfOk, OnOk, OnErr};
+ghost use Rattle.std.specs.Prelude.{◌≡◌, ◌+◌, ◌≤◌, [], ◌∷◌, ◌++◌, true, length, take, drop, is_ok, IfOk, OnOk, OnErr};
 ghost use Rattle.tp_model.specs.Disk.{Write, Sync, Read, done};
 ghost use Rattle.tp_model.specs.DiskHistory.{Fails, MomentPassed, unknown};
-ghost use Rattle.tp_disk.specs.File.{file_keeps, making, no_file, placing};
-ghost use Rattle.tp_disk.specs.History.{Reads, Syncs};
+ghost use Rattle.tp_disk.specs.File.{IsMeasured, file_keeps, making, no_file, placing};
+ghost use Rattle.tp_disk.specs.History.{Reads, SyncsData};
+ghost use Rattle.tp_disk.specs.declared.filling.Making.TheVariants.{Done, Empties, Fills};
 
 use crate::counted::Counted;
 use crate::disk::{DeviceFailed, Disk};
 use crate::file::answer;
+use crate::filling::{Making, fill_over};
 use crate::raw::RawDisk;
 use crate::system::{NotedFile, SystemFile};
 use std::fs::{OpenFile, OpenOptions};
-use std::io;
 use std::os::unix::fs::FileExt;
 use std::rt::Files;
+use std::{fs, io};
 
-/// A file that becomes a device of `size` bytes with the first call of it: it is emptied, gets its length, all bytes 00, and
-/// is synced. Until then it stays as it was. One that was made anew has its length already. Bytes at the front are written with
-/// the first of them last, alone, behind a sync: so a stop on the way, also within a write, leaves no first byte of a head
-/// without the rest.
+/// A file that becomes a device of `size` bytes 00 with the first call of it, and is synced. Until then it stays as it was. One that was
+/// made anew is a device already. Bytes at the front are written with the first of them last, alone, behind a sync: so a stop on
+/// the way, also within a write, leaves no first byte of a head without the rest.
 #[derive(Drop)]
 pub struct NewFile<F: SystemFile + Drop> {
     file: F,
     size: u64,
-    is_made: bool,
+    making: Making,
     failure: Option<io::Error>,
 }
 
@@ -32,16 +33,43 @@ pub struct NewFile<F: SystemFile + Drop> {
 pub type NewDisk<F> = Counted<NewFile<NotedFile<F>>>;
 
 impl<F: SystemFile + Drop> NewFile<F> {
-    /// A file that is there, and stays as it is until the first call.
+    /// A file that is there, and stays as it is until the first call. Then it is emptied, and takes room as it is written.
     pub fn over(file: F, size: u64) -> NewFile<F>
         ensures file { result.file ≡ file }
         ensures size { result.size ≡ size }
-        ensures unmade { result.is_made ≡ false }
+        ensures unmade { result.making ≡ Empties }
     {
         NewFile {
             file,
             size,
-            is_made: false,
+            making: Making::Empties,
+            failure: None,
+        }
+    }
+
+    /// A file that is there, and stays as it is until the first call. Then it gets room for all of the device, before anything of it is lost.
+    pub fn filled(mut file: F, size: u64) -> io::Result<NewFile<F>>
+        ensures size { IfOk result (λ new. new.size ≡ size) }
+        ensures measured { IfOk result (λ new. IsMeasured new.making (F.calls file) (F.calls new.file)) }
+    {
+        let length = file.measure()?;
+        Ok(NewFile {
+            file,
+            size,
+            making: Making::Fills { length },
+            failure: None,
+        })
+    }
+
+    /// A file that is a device.
+    fn made(file: F, size: u64) -> NewFile<F>
+        ensures size { result.size ≡ size }
+        ensures made { result.making ≡ Done }
+    {
+        NewFile {
+            file,
+            size,
+            making: Making::Done,
             failure: None,
         }
     }
@@ -54,15 +82,11 @@ impl<F: SystemFile + Drop> NewFile<F> {
     /// Makes a device of the file where it isn't one yet.
     fn make(&mut self) -> Result<(), DeviceFailed>
         ensures size { self.new.size ≡ self.old.size }
-        ensures made { OnOk result ((self.new.is_made ≡ true) × (F.calls self.new.file ≡ F.calls self.old.file ++ making self.old.is_made self.old.size)) }
+        ensures made { OnOk result ((self.new.making ≡ Done) × (F.calls self.new.file ≡ F.calls self.old.file ++ making self.old.making self.old.size)) }
     {
-        if self.is_made {
-            return Ok(());
-        }
-        answer(self.file.resize(0), &mut self.failure)?;
-        answer(self.file.resize(self.size), &mut self.failure)?;
-        answer(self.file.sync(), &mut self.failure)?;
-        self.is_made = true;
+        let made = make_of(&mut self.file, self.making, self.size);
+        answer(made, &mut self.failure)?;
+        self.making = Making::Done;
         Ok(())
     }
 
@@ -76,7 +100,7 @@ impl<F: SystemFile + Drop> NewFile<F> {
         }
         let (first, rest) = bytes.split_at(1);
         answer(self.file.write_all(1, rest), &mut self.failure)?;
-        answer(self.file.sync(), &mut self.failure)?;
+        answer(self.file.sync_data(), &mut self.failure)?;
         answer(self.file.write_all(0, first), &mut self.failure)
     }
 }
@@ -99,7 +123,7 @@ impl<F: SystemFile + Drop> RawDisk for NewFile<F> {
         ensures bytes { file_keeps → OnOk result (out.new ≡ take (length out.old) (drop at unknown.now.bytes)) }
         ensures after { file_keeps → OnOk result (unknown.now ≡ done Read unknown.now) }
         ensures failed { file_keeps → OnErr result (Fails Read unknown unknown) }
-        ensures called { OnOk result (F.calls self.new.file ≡ (F.calls self.old.file ++ making self.old.is_made self.old.size) ++ Reads at out.new true ∷ []) }
+        ensures called { OnOk result (F.calls self.new.file ≡ (F.calls self.old.file ++ making self.old.making self.old.size) ++ Reads at out.new true ∷ []) }
     {
         self.make()?;
         answer(self.file.read_all(at, out), &mut self.failure)
@@ -111,7 +135,7 @@ impl<F: SystemFile + Drop> RawDisk for NewFile<F> {
         ensures goes { file_keeps → MomentPassed unknown unknown }
         ensures after { file_keeps → OnOk result (unknown.now ≡ done (Write at bytes.now) unknown.now) }
         ensures failed { file_keeps → OnErr result (Fails (Write at bytes.now) unknown unknown) }
-        ensures called { OnOk result (F.calls self.new.file ≡ (F.calls self.old.file ++ making self.old.is_made self.old.size) ++ placing at bytes.now) }
+        ensures called { OnOk result (F.calls self.new.file ≡ (F.calls self.old.file ++ making self.old.making self.old.size) ++ placing at bytes.now) }
     {
         self.make()?;
         self.place(at, bytes)
@@ -123,13 +147,33 @@ impl<F: SystemFile + Drop> RawDisk for NewFile<F> {
         ensures goes { file_keeps → MomentPassed unknown unknown }
         ensures after { file_keeps → OnOk result (unknown.now ≡ done Sync unknown.now) }
         ensures failed { file_keeps → OnErr result (Fails Sync unknown unknown) }
-        ensures called { OnOk result (F.calls self.new.file ≡ (F.calls self.old.file ++ making self.old.is_made self.old.size) ++ Syncs true ∷ []) }
+        ensures called { OnOk result (F.calls self.new.file ≡ (F.calls self.old.file ++ making self.old.making self.old.size) ++ SyncsData true ∷ []) }
     {
         self.make()?;
-        answer(self.file.sync(), &mut self.failure)
+        answer(self.file.sync_data(), &mut self.failure)
     }
 
     ghost whole = { λ k d. absurd (no_file k) };
+}
+
+/// Empties a file, and gives it its length: it takes room as it is written.
+fn empty<F: SystemFile>(file: &mut F, size: u64) -> io::Result<()>
+    ensures { OnOk result (F.calls file.new ≡ F.calls file.old ++ making Empties size) }
+{
+    file.resize(0)?;
+    file.resize(size)?;
+    file.sync()
+}
+
+/// Makes a device of `size` bytes of a file, and syncs it.
+fn make_of<F: SystemFile>(file: &mut F, what: Making, size: u64) -> io::Result<()>
+    ensures { OnOk result (F.calls file.new ≡ F.calls file.old ++ making what size) }
+{
+    match what {
+        Making::Done => Ok(()),
+        Making::Empties => empty(file, size),
+        Making::Fills { length } => fill_over(file, length, size),
+    }
 }
 
 /// Syncs the folder of a path, so that a name made in it lasts.
@@ -142,31 +186,37 @@ fn sync_folder<R: Files>(rt: &R, path: &str) -> io::Result<()> {
     OpenOptions::new().read(true).open(rt, folder)?.sync_all()
 }
 
-/// Makes a file of `size` bytes where none of that path is, all bytes 00, and syncs its folder.
-fn new_file<R: Files>(rt: &R, path: &str, size: u64) -> io::Result<R::File> {
-    let file = OpenOptions::new()
-        .read(true)
-        .write(true)
-        .create_new(true)
-        .open(rt, path)?;
-    file.set_len(size)?;
+/// Gives a file that was just made `size` bytes 00 and room for them, and syncs it and its folder.
+fn filled_new<R: Files, F: SystemFile + Drop>(
+    rt: &R,
+    path: &str,
+    file: F,
+    size: u64,
+) -> io::Result<F>
+    ensures { IfOk result (λ new. F.calls new ≡ F.calls file ++ making (Fills 0) size) }
+{
+    let mut file = file;
+    make_of(&mut file, Making::Fills { length: 0 }, size)?;
     sync_folder(rt, path)?;
     Ok(file)
 }
 
 impl<F: FileExt + OpenFile + Drop> Counted<NewFile<NotedFile<F>>> {
-    /// A device of `size` bytes in a new file. A file of that path is refused with `AlreadyExists`.
+    /// A device of `size` bytes in a new file. A file of that path is refused with `AlreadyExists`. Where it can't be made whole, it is removed.
     pub fn create_new<R: Files<File = F>>(rt: &R, path: &str, size: u64) -> io::Result<NewDisk<F>>
         ensures size { IfOk result (λ disk. ⟦<NewDisk<F> as Disk>⟧.size_of disk ≡ size) }
         ensures failures { IfOk result (λ disk. ⟦<NewDisk<F> as Disk>⟧.failures_of disk ≡ 0) }
     {
-        let file = NotedFile::new(new_file(rt, path, size)?);
-        Ok(Counted::new(NewFile {
-            file,
-            size,
-            is_made: true,
-            failure: None,
-        }))
+        let mut how = OpenOptions::new();
+        how.read(true).write(true).create_new(true);
+        let file = NotedFile::new(how.open(rt, path)?);
+        match filled_new(rt, path, file, size) {
+            Ok(file) => Ok(Counted::new(NewFile::made(file, size))),
+            Err(error) => {
+                let _left = fs::remove_file(rt, path);
+                Err(error)
+            }
+        }
     }
 
     /// A device of `size` bytes over a file that is there, which stays as it is until the first call of the device.
@@ -175,7 +225,7 @@ impl<F: FileExt + OpenFile + Drop> Counted<NewFile<NotedFile<F>>> {
         ensures failures { IfOk result (λ disk. ⟦<NewDisk<F> as Disk>⟧.failures_of disk ≡ 0) }
     {
         let file = OpenOptions::new().read(true).write(true).open(rt, path)?;
-        Ok(Counted::new(NewFile::over(NotedFile::new(file), size)))
+        Ok(Counted::new(NewFile::filled(NotedFile::new(file), size)?))
     }
 
     /// A device of `size` bytes in a new file, or over the file of that path where one is there.

@@ -1,7 +1,7 @@
 //! The system's calls on an open file.
 
 ghost use Rattle.std.specs.Prelude.{◌≡◌, List, [], ◌∷◌, ◌++◌, is_ok, IfOk};
-ghost use Rattle.tp_disk.specs.History.{FileCall, Measures, Reads, Resizes, Syncs, Writes};
+ghost use Rattle.tp_disk.specs.History.{FileCall, Measures, Reads, Resizes, Syncs, SyncsData, Writes};
 
 use crate::history::History;
 use std::fs::OpenFile;
@@ -29,9 +29,13 @@ pub trait SystemFile {
     fn write_all(&mut self, at: u64, bytes: &[u8]) -> io::Result<()>
         ensures { calls self.new ≡ calls self.old ++ Writes at bytes.now (is_ok result) ∷ [] };
 
-    /// Has the system force what was written to the device below.
+    /// Has the system force what was written to the device below, with its length and all else that is kept of the file.
     fn sync(&mut self) -> io::Result<()>
         ensures { calls self.new ≡ calls self.old ++ Syncs (is_ok result) ∷ [] };
+
+    /// Has the system force what was written to the device below, with what is needed to read it. When it was written need not last.
+    fn sync_data(&mut self) -> io::Result<()>
+        ensures { calls self.new ≡ calls self.old ++ SyncsData (is_ok result) ∷ [] };
 }
 
 /// A file of the system, with a list of its calls that contracts alone see.
@@ -85,6 +89,12 @@ impl<F: FileExt + OpenFile + Drop> SystemFile for NotedFile<F> {
     fn sync(&mut self) -> io::Result<()> {
         let done = self.file.sync_all();
         self.history = self.history.has_synced(done.is_ok());
+        done
+    }
+
+    fn sync_data(&mut self) -> io::Result<()> {
+        let done = self.file.sync_data();
+        self.history = self.history.has_synced_data(done.is_ok());
         done
     }
 }

@@ -25,4 +25,5 @@ mod SwitchingEnds
 mod Reasons
 mod Rooms
 mod Forms
+mod Breaking
 pub mod Follows

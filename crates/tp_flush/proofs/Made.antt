@@ -43,6 +43,7 @@ stands s o room parts raiser now base form next kept cut leads world book first 
   book = ap world_of book ∙ world;
   base = ap (λ (b : BookValue). b.base) book ∙ base;
   form = ap (λ (b : BookValue). b.form) book ∙ form;
+  whole = ap (λ (b : BookValue). b.broken) book;
   first = first ∙ next_is s o room base kept;
   ports = ap (λ (b : BookValue). length b.state.ports) book ∙ ports_are s o now cut leads;
   raised = raised ∙ ap (λ n. record { mark = parts.mark; at = n }) next;

@@ -2,6 +2,7 @@
 
 ghost use Rattle.std.specs.Prelude.{◌≡◌};
 ghost use Rattle.tp_flush.specs.Ahead.{IsAheadOf};
+ghost use Rattle.tp_flush.specs.Flushing.{position};
 ghost use Rattle.tp_flush.specs.Known.{Began};
 
 use crate::flusher::Flusher;
@@ -10,10 +11,12 @@ use tp_shared::{Locked, Naming};
 
 impl<J: Naming, D: Disk> Flusher<J, D> {
     /// Changes nothing. The book has the flusher's journal and some entries behind it, and all of them lead from the network of the
-    /// images that the device was formatted with to the one that the book has.
+    /// images that the device was formatted with to the one that the book has. The book is broken exactly where a call of the device has
+    /// failed, whoever locks it, and when: nobody else breaks it, and nobody mends it.
     pub fn settle_book(&mut self, held: &mut Locked<J>)
         ensures same { (self.new ≡ self.old) × (held.new ≡ held.old) }
         ensures ahead { D.keeps → Began J.formatted J.before self.old.opened → IsAheadOf J.formatted self.old.world held.old.book }
+        ensures broken { self.old.world.at ≡ position held.old.book.broken }
     {
         self.known();
         let Flusher { parts, .. } = self;

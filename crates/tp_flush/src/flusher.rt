@@ -58,7 +58,7 @@ impl<J: Naming, D: Disk> Model for Flusher<J, D> {
 
     ghost view = { λ f. record { world = f.parts.whole.known.world; state = D.state f.parts.store.disk; size = D.size_of f.parts.store.disk; failures = D.failures_of f.parts.store.disk; opened = f.parts.whole.known.opened; place = f.parts.store.place; topology = f.parts.topology; progress = f.parts.progress; frozen = f.parts.key.value.frozen } };
 
-    ghost invariant = { λ f. (f.parts.key.name ≡ J.flusher) × (f.parts.raiser.mark ≡ J.mark) × IsFirst f.parts.key.value f.parts.whole.known.world × KeepsWorld D.keeps J.formatted J.before f.parts.whole.known (D.state f.parts.store.disk) f.parts.store.place f.parts.store.broken f.parts.raiser.at × KeepsCopy D.keeps f.parts.whole.known.world.net (D.state f.parts.store.disk) f.parts.store.place f.parts.store.broken f.parts.topology f.parts.progress × IsOfDevice D.keeps J.room f.parts.whole.known.world (D.state f.parts.store.disk) f.parts.store.place f.parts.store.broken f.parts.topology × (J.first ≤ f.parts.whole.known.world.stored) × (f.parts.key.value.numbered_from ≤ f.parts.whole.known.world.stored) × HoldsAllOf f.parts.store.place.form f.parts.key.value.form × ToldWhere f.parts.store.broken f.told × AreGone f.parts.whole.known.world.net f.parts.key.value.frozen f.parts.progress };
+    ghost invariant = { λ f. (f.parts.key.name ≡ J.flusher) × (f.parts.raiser.mark ≡ J.mark) × IsFirst f.parts.key.value f.parts.whole.known.world × KeepsWorld D.keeps J.formatted J.before f.parts.whole.known (D.state f.parts.store.disk) f.parts.store.place f.parts.store.broken f.parts.raiser.at × KeepsCopy D.keeps f.parts.whole.known.world.net (D.state f.parts.store.disk) f.parts.store.place f.parts.store.broken f.parts.topology f.parts.progress × IsOfDevice D.keeps J.room f.parts.whole.known.world (D.state f.parts.store.disk) f.parts.store.place f.parts.store.broken f.parts.topology × (J.first ≤ f.parts.whole.known.world.stored) × (f.parts.key.value.numbered_from ≤ f.parts.whole.known.world.stored) × HoldsAllOf f.parts.store.place.form f.parts.key.value.form × ToldWhere f.parts.store.broken f.parts.key.value f.told × AreGone f.parts.whole.known.world.net f.parts.key.value.frozen f.parts.progress };
 }
 
 impl<J: Naming, D: Disk> Flusher<J, D> {
@@ -76,6 +76,7 @@ impl<J: Naming, D: Disk> Flusher<J, D> {
         requires numbered { key.value.numbered_from ≡ J.first }
         requires form { key.value.form ≡ store.place.form }
         requires unbroken { store.broken ≡ false }
+        requires whole { key.value.broken ≡ false }
         requires next { store.place.next ≡ next_of opened.now }
         requires raiser { raiser ≡ record { mark = J.mark; at = next_of opened.now } }
         requires read { D.keeps → verdict (D.state store.disk).now.bytes ≡ Ok opened.now }
@@ -107,6 +108,7 @@ impl<J: Naming, D: Disk> Flusher<J, D> {
         requires numbered { key.value.numbered_from ≡ J.first }
         requires form { key.value.form ≡ store.place.form }
         requires unbroken { store.broken ≡ false }
+        requires whole { key.value.broken ≡ false }
         requires next { store.place.next ≡ next_of opened.value }
         requires raiser { raiser ≡ record { mark = J.mark; at = next_of opened.value } }
         requires read { D.keeps → verdict (D.state store.disk).now.bytes ≡ Ok opened.value }

@@ -1,4 +1,4 @@
-//! The flusher copies the frozen images of a snapshot, one page a hold of the locks.
+//! The flusher copies the frozen images of a snapshot, some pages a hold of the locks.
 
 ghost use Rattle.std.specs.Prelude.{◌≡◌, ◌+◌, ◌<◌, ◌≤◌, true, false, length, get_or, IfOk};
 ghost use Rattle.tp_model.specs.declared.limits.TheConstants.{MAX_NODES, MAX_PAGES};
@@ -21,6 +21,10 @@ use tp_disk::Disk;
 use tp_model::limits::{IMAGE_HEAD_BYTES, MAX_PAGES, PAGE_BYTES};
 use tp_shared::gate::PAGE_COPIED;
 use tp_shared::{Gate, Look, Naming, Shared};
+
+/// How many pages are read in one hold of a node's lock, at most. A turn of a node in that cell waits for all of them: less than a
+/// microsecond, where a turn of 1,024 steps takes eight.
+const PAGES_A_HOLD: usize = 8;
 
 impl<J: Naming, D: Disk> Flusher<J, D> {
     /// How many pages a node has.
@@ -77,40 +81,43 @@ impl<J: Naming, D: Disk> Flusher<J, D> {
         Ok(true)
     }
 
-    /// Copies a page of a frozen image, which begins at `image`, by way of `bytes`. False where the node isn't frozen, or has no such page.
-    fn copy_page<R: Wait, G: Gate>(
+    /// Copies pages of a frozen image, which begins at `image`, from `first` on: as many as find room in `pages`, which they go by way of. They
+    /// are read in one hold of the node's lock. False where the node isn't frozen, or has fewer.
+    fn copy_pages<R: Wait, G: Gate>(
         &mut self,
         rt: &R,
         shared: &Shared<J>,
         gate: &G,
         node: u8,
         image: u64,
-        page: usize,
-        bytes: &mut [u8; PAGE_BYTES],
+        first: usize,
+        pages: &mut [[u8; PAGE_BYTES]],
     ) -> Result<bool, FlushFault>
         requires rests { self.old.world.at ≡ Resting }
         requires cleared { self.old.progress.cleared ≡ true }
         requires node { node < length self.old.topology.pages }
         requires image { image ≡ piece_place self.old.topology node 0 }
         requires there { node < length J.start.nodes }
-        requires page { page < get_or self.old.topology.pages node 0 }
-        requires few { page < MAX_PAGES }
+        requires room { first + length pages.old ≤ get_or self.old.topology.pages node 0 }
+        requires few { first + length pages.old ≤ MAX_PAGES }
         requires free { is_out self.old.progress node ≡ false }
-        requires stands { D.keeps → IsPartOut self.old.topology self.old.world.net (content_beside self.old.place self.old.state) node page }
+        requires stands { D.keeps → IsPartOut self.old.topology self.old.world.net (content_beside self.old.place self.old.state) node first }
         ensures tried { Tried result self.old self.new }
         ensures same { self.new.progress ≡ self.old.progress }
-        ensures stands { D.keeps → IfOk result (λ found. found ≡ true → IsPartOut self.new.topology self.new.world.net (content_beside self.new.place self.new.state) node (page + 1)) }
+        ensures stands { D.keeps → IfOk result (λ found. found ≡ true → IsPartOut self.new.topology self.new.world.net (content_beside self.new.place self.new.state) node (first + length pages.old)) }
         ensures goes { FlushedOn D.keeps J.formatted J.before self.old self.new }
     {
-        if !self.read_page(rt, shared, node, page, bytes) {
+        if self.read_pages(rt, shared, node, first, pages) < pages.len() {
             return Ok(false);
         }
-        gate.at(FLUSHER, PAGE_COPIED);
-        self.put(rt, shared, node as usize, image, page + 1, bytes)?;
+        for k in 0..pages.len() {
+            gate.at(FLUSHER, PAGE_COPIED);
+            self.put(rt, shared, node as usize, image, first + k + 1, &pages[k])?;
+        }
         Ok(true)
     }
 
-    /// Copies a frozen image, which begins at `image`. False where the node isn't frozen.
+    /// Copies a frozen image, which begins at `image`, by way of `pages`. False where the node isn't frozen.
     fn copy_image<R: Wait, G: Gate>(
         &mut self,
         rt: &R,
@@ -118,6 +125,7 @@ impl<J: Naming, D: Disk> Flusher<J, D> {
         gate: &G,
         node: u8,
         image: u64,
+        pages: &mut [[u8; PAGE_BYTES]; PAGES_A_HOLD],
     ) -> Result<bool, FlushFault>
         requires rests { self.old.world.at ≡ Resting }
         requires cleared { self.old.progress.cleared ≡ true }
@@ -134,17 +142,20 @@ impl<J: Naming, D: Disk> Flusher<J, D> {
         if !self.copy_head(rt, shared, node, image)? {
             return Ok(false);
         }
-        let mut bytes = [0; PAGE_BYTES];
-        for page in 0..self.pages_of(node as usize) {
-            if !self.copy_page(rt, shared, gate, node, image, page, &mut bytes)? {
+        let count = self.pages_of(node as usize);
+        let mut done = 0;
+        while done < count {
+            let next = (count - done).min(PAGES_A_HOLD);
+            if !self.copy_pages(rt, shared, gate, node, image, done, &mut pages[..next])? {
                 return Ok(false);
             }
+            done += next;
         }
         Ok(true)
     }
 
-    /// Copies the frozen image of a node that has recorded and isn't out yet, which begins at `image`, and lets its frozen pages go
-    /// behind the last one.
+    /// Copies the frozen image of a node that has recorded and isn't out yet, which begins at `image`, by way of `pages`, and lets its
+    /// frozen pages go behind the last one.
     fn copy_node<R: Wait, G: Gate>(
         &mut self,
         rt: &R,
@@ -153,6 +164,7 @@ impl<J: Naming, D: Disk> Flusher<J, D> {
         look: &Look,
         node: u8,
         image: u64,
+        pages: &mut [[u8; PAGE_BYTES]; PAGES_A_HOLD],
     ) -> Result<Image, FlushFault>
         requires rests { self.old.world.at ≡ Resting }
         requires cleared { self.old.progress.cleared ≡ true }
@@ -171,7 +183,7 @@ impl<J: Naming, D: Disk> Flusher<J, D> {
         if !look.recorded[node as usize] {
             return Ok(Image::Unrecorded);
         }
-        if !self.copy_image(rt, shared, gate, node, image)? {
+        if !self.copy_image(rt, shared, gate, node, image, pages)? {
             return Ok(Image::Lacking);
         }
         self.let_go(rt, shared, node);
@@ -206,8 +218,9 @@ impl<J: Naming, D: Disk> Flusher<J, D> {
         let count = self.nodes().min(shared.nodes() as usize);
         let mut image = FIELDS_BYTES as u64;
         let mut left = self.parts.pages_a_turn;
+        let mut pages = [[0; PAGE_BYTES]; PAGES_A_HOLD];
         for node in 0..count {
-            let done = self.copy_node(rt, shared, gate, look, node as u8, image)?;
+            let done = self.copy_node(rt, shared, gate, look, node as u8, image, &mut pages)?;
             match done.left(node as u8, left) {
                 Ok(rest) => left = rest,
                 Err(images) => return Ok(images),

@@ -4,7 +4,7 @@ ghost use Rattle.std.specs.Prelude.{◌≡◌, ◌+◌, ◌<◌, ◌≤◌, true
 ghost use Rattle.tp_area.specs.Pieces.{piece_length, piece_place};
 ghost use Rattle.tp_area.specs.Tails.{content_beside};
 ghost use Rattle.tp_model.specs.Disk.{written};
-ghost use Rattle.tp_shared.specs.Pieces.{IsFrozenHead, IsFrozenPage};
+ghost use Rattle.tp_shared.specs.Pieces.{AreFrozenPages, IsFrozenHead};
 ghost use Rattle.tp_shared.specs.Frozen.{keeps_pages};
 ghost use Rattle.tp_flush.specs.Copying.{IsGone, IsPartOut};
 ghost use Rattle.tp_flush.specs.Progress.{is_out, with_out};
@@ -41,7 +41,7 @@ impl<J: Naming, D: Disk> Flusher<J, D> {
         let done = parts.store.clear_other();
         parts.progress.cleared = true;
         parts.whole = Whole::of(&*parts);
-        tell_where(rt, shared, parts.store.broken, told);
+        tell_where(rt, shared, parts.store.broken, &mut parts.key, told);
         answer_of(done)
     }
 
@@ -75,7 +75,7 @@ impl<J: Naming, D: Disk> Flusher<J, D> {
         let Flusher { parts, told } = self;
         let done = parts.store.put_at(image + place_in_image(piece), bytes);
         parts.whole = Whole::of(&*parts);
-        tell_where(rt, shared, parts.store.broken, told);
+        tell_where(rt, shared, parts.store.broken, &mut parts.key, told);
         answer_of(done)
     }
 
@@ -101,25 +101,26 @@ impl<J: Naming, D: Disk> Flusher<J, D> {
         found
     }
 
-    /// Reads a page of it. False where the node isn't frozen, or has no such page.
-    pub(crate) fn read_page<R: Wait>(
+    /// Reads pages of it from `first` on, as many as it has and as find room. Answers how many: none where the node isn't frozen.
+    pub(crate) fn read_pages<R: Wait>(
         &mut self,
         rt: &R,
         shared: &Shared<J>,
         node: u8,
-        page: usize,
-        out: &mut [u8; PAGE_BYTES],
-    ) -> bool
+        first: usize,
+        out: &mut [[u8; PAGE_BYTES]],
+    ) -> usize
         requires rests { self.old.world.at ≡ Resting }
         requires there { node < length J.start.nodes }
         ensures went { NothingStored self.old self.new }
         ensures same { (self.new.state ≡ self.old.state) × (self.new.progress ≡ self.old.progress) }
-        ensures page { result ≡ true → IsFrozenPage self.new.world.net node page out.new }
+        ensures few { result ≤ length out.old }
+        ensures pages { AreFrozenPages self.new.world.net node first result out.new }
         ensures goes { FlushedOn D.keeps J.formatted J.before self.old self.new }
     {
         self.known();
         let Flusher { parts, .. } = self;
-        let found = shared.frozen_page(rt, &mut parts.key, node, page, out);
+        let found = shared.frozen_pages(rt, &mut parts.key, node, first, out);
         parts.whole = Whole::of(&*parts);
         found
     }

@@ -23,9 +23,9 @@ fn tell_of<J: Naming>(watch: &Watch, done: &Result<Flushed<J>, FlushFault>) {
 }
 
 /// Makes the flusher's turns while workers make theirs, each once something may have been journalled, until they have ended;
-/// it sleeps until it is woken where nothing was. Where a turn
-/// wants memory, the next one does all; once a call of the device has failed, a turn does nothing. A turn copies about one frozen image of
-/// the largest nodes, so that what is journalled needn't wait for all of them; once the workers have ended, a turn copies all that it may.
+/// where nothing was it sleeps for a bounded time, and no turn wakes it. Where a turn wants memory, the next one does all; once a call of
+/// the device has failed, a turn does nothing. A turn copies about one frozen image of the largest nodes, so that what is journalled needn't
+/// wait for all of them; once the workers have ended, a turn copies all that it may.
 pub(crate) fn flush_meanwhile<J: Naming, D: Disk, R: Wait>(
     rt: &R,
     alloc: Global,

@@ -36,8 +36,8 @@ thawed_all (s ∷ ss) e = let P = and_parts (not s.frozen) (list_all (λ s. not 
 
 -- so it is of what is told then
 pub since_with : (old new : Told) (flag : Bool) → ToldSince old new → ToldSince old (record new { thawed = flag })
-since_with old new flag S = record { acts = S.acts; none = S.none; net = S.net; base = S.base; journal = S.journal; numbered = S.numbered; form = S.form; gone = S.gone }
+since_with old new flag S = record { acts = S.acts; none = S.none; net = S.net; base = S.base; journal = S.journal; numbered = S.numbered; form = S.form; broken = S.broken; gone = S.gone }
 
 -- whatever is told of pages
 pub since_flag : (t : Told) (flag : Bool) → ToldSince (record t { thawed = flag }) t
-since_flag t flag = record { acts = []; none = tt; net = no_act t.net; base = refl; journal = refl; numbered = refl; form = refl; gone = λ i node F none. none }
+since_flag t flag = record { acts = []; none = tt; net = no_act t.net; base = refl; journal = refl; numbered = refl; form = refl; broken = refl; gone = λ i node F none. none }

@@ -1,8 +1,8 @@
 -- The image of a node that recorded, under the book's lock.
-use Rattle.std.proofs.Common.{◌≡◌, ◌≢◌, ℕ, zero, suc, ◌+◌, ◌-◌, ◌*◌, ◌<◌, true, cond, List, [], ◌∷◌, length, get_or, take, drop, refl, sym, ap, ◌∙◌, arith, Option, Some, None, slice_get}
+use Rattle.std.proofs.Common.{◌≡◌, ◌≢◌, inl, inr, ℕ, zero, suc, ◌+◌, ◌-◌, ◌*◌, ◌<◌, true, cond, List, [], ◌∷◌, length, get_or, set, take, drop, refl, sym, ap, subst, ◌∙◌, arith, Option, Some, None, slice_get, get_or-set_other, get_or-set_same}
 use Rattle.std.specs.Prelude.{IfSome, is_some, slice_range}
 use Rattle.std.specs.Option.{option_map}
-use Rattle.std.proofs.lemmas.Bool.{ne_eqb}
+use Rattle.std.proofs.lemmas.Bool.{cases_lt, ne_eqb}
 use Rattle.tp_model.specs.declared.limits.TheConstants.{PAGE_BYTES}
 use Rattle.tp_model.specs.NodeState.{NodeState}
 use Rattle.tp_model.specs.Node.{t414}
@@ -17,7 +17,7 @@ use Rattle.tp_law_network.proofs.Whole.{running}
 use Rattle.tp_book.specs.Needs.{has_recorded_in}
 use Rattle.tp_book.specs.Book.{BookValue, agreed, world_of}
 use Rattle.tp_book.proofs.Remarked.{running_in}
-use Rattle.tp_shared.specs.Pieces.{IsFrozenPage}
+use Rattle.tp_shared.specs.Pieces.{AreFrozenPages, ArePagesOf, IsPageOf}
 use Rattle.tp_shared.proofs.Sealing.{get_within}
 
 node_there : (o : Option NodeState) (n : NodeState) → option_map OfNode o ≡ option_map OfNode (Some n) → o ≡ Some n
@@ -58,15 +58,31 @@ kept_frozen b i node H below recorded kept =
       is = at_some b.frozen i node (I.1 ∙ ap Some (sym (kept I.0 I.1)));
     }
 
--- a page of the frozen node
-pub page_frozen : (o : Option NodeState) (net : MarkedNetwork NodeState) (i page pages : ℕ) (out : List ℕ) → is_some o ≡ true → IfSome o (λ node. out ≡ slice_range node.memory (PAGE_BYTES * page) (PAGE_BYTES * page + PAGE_BYTES))
-    → IfSome o (λ node. length node.memory ≡ PAGE_BYTES * pages) → page < pages → ((node : NodeState) → o ≡ Some node → IsFrozenAs net i node) → IsFrozenPage net i page out
-page_frozen None net i page pages out some is long low frozen = cc
-page_frozen (Some node) net i page pages out some is long low frozen =
-    let size : PAGE_BYTES * page + PAGE_BYTES - PAGE_BYTES * page ≡ PAGE_BYTES = omega arith in
-    record {
-      node = node;
-      frozen = frozen node refl;
-      there = omega (arith, long, low);
-      is = is ∙ ap (λ n. take n (drop (PAGE_BYTES * page) node.memory)) size;
-    }
+-- ## Pages of the frozen node
+
+-- none yet
+pub pages_none : (o : Option NodeState) (first : ℕ) (out : List (List ℕ)) → IfSome o (λ node. ArePagesOf node.memory first 0 out)
+pages_none None first out = tt
+pages_none (Some node) first out = λ k low. absurd (omega (arith, low))
+
+-- one more, behind those that were copied
+pub pages_more : (o : Option NodeState) (first k pages : ℕ) (out : List (List ℕ)) (page : List ℕ) → k < length out → first + k < pages → IfSome o (λ node. length node.memory ≡ PAGE_BYTES * pages)
+    → IfSome o (λ node. ArePagesOf node.memory first k out) → IfSome o (λ node. page ≡ slice_range node.memory (PAGE_BYTES * (first + k)) (PAGE_BYTES * (first + k) + PAGE_BYTES))
+    → IfSome o (λ node. ArePagesOf node.memory first (k + 1) (set out k page))
+pages_more None first k pages out page there low long are is = tt
+pages_more (Some node) first k pages out page there low long are is = λ j last. elim (cases_lt j k) [
+  | inl before ↦ subst (IsPageOf node.memory (first + j)) (sym (get_or-set_other out k j page [] (λ e. omega (arith, e, before)))) (are j before)
+  | inr from ↦
+      let here : j ≡ k = omega (arith, last, from) in
+      let size : PAGE_BYTES * (first + k) + PAGE_BYTES - PAGE_BYTES * (first + k) ≡ PAGE_BYTES = omega arith in
+      subst (λ (n : ℕ). IsPageOf node.memory (first + n) (get_or (set out k page) n [])) (sym here) (record {
+        there = omega (arith, long, low);
+        is = get_or-set_same out k page [] there ∙ is ∙ ap (λ n. take n (drop (PAGE_BYTES * (first + k)) node.memory)) size;
+      })
+]
+
+-- they are those of the node as it is frozen
+pub pages_frozen : (o : Option NodeState) (net : MarkedNetwork NodeState) (i first count : ℕ) (out : List (List ℕ)) → is_some o ≡ true → IfSome o (λ node. ArePagesOf node.memory first count out)
+    → ((node : NodeState) → o ≡ Some node → IsFrozenAs net i node) → AreFrozenPages net i first count out
+pages_frozen None net i first count out some are frozen = cc
+pages_frozen (Some node) net i first count out some are frozen = λ k low. record { node = node; frozen = frozen node refl; there = (are k low).there; is = (are k low).is }

@@ -69,6 +69,7 @@ grown_like One Other b new like G = record {
   room = G.room;
   floor = G.floor;
   form = G.form;
+  broken = G.broken;
 }
 
 pub acted_like : (One Other : List Entry → Type 0) (number : ℕ) (a : Agreement) (b new : BookValue) → ((es : List Entry) → One es → Other es) → NodeActed One number a b new → NodeActed Other number a b new
@@ -93,6 +94,7 @@ module _ (Are : List Entry → Type 0) (number : ℕ) (acts : List Act) (b mid :
     room = A.grew.room;
     floor = A.grew.floor;
     form = A.grew.form;
+    broken = A.grew.broken;
   }
 
   module _ (a : Agreement) (same : a.node ≡ node) where
@@ -128,6 +130,7 @@ module _ (Are : List Entry → Type 0) (number : ℕ) (acts : List Act) (b mid :
         room = A.grew.room;
         floor = A.grew.floor;
         form = A.grew.form;
+        broken = A.grew.broken;
       };
       own = A.own;
       nodes = nodes_are;
@@ -246,6 +249,7 @@ acted_commit b new number opened count n A = record {
     room = A.grew.room;
     floor = A.grew.floor;
     form = A.grew.form;
+    broken = A.grew.broken;
   };
   own = A.own;
   nodes = A.nodes;

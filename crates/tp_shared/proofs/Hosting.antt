@@ -20,7 +20,7 @@ use Rattle.tp_model.specs.Journal.{is_full_for_snapshot}
 use Rattle.tp_model.specs.Snapshot.{Snapshot}
 use Rattle.tp_book.specs.Marked.{after_begin, begin_refusal}
 use Rattle.tp_book.specs.Refusals.{else_if, IsAnswer}
-use Rattle.tp_book.proofs.Stood.{one_act, no_act}
+use Rattle.tp_book.proofs.Stood.{one_act}
 use Rattle.tp_turn.specs.Moments.{entries_among}
 use Rattle.tp_turn.specs.Hosted.{HostAdded, HostDone, HostTurns}
 use Rattle.tp_turn.proofs.Fronted.{collected_recorded}
@@ -68,6 +68,7 @@ hosted_input b new port bytes is same act = record {
     room = ap (λ x. x.room) is;
     floor = ap (λ x. x.floor) is;
     form = ap (λ x. x.form) is;
+    broken = ap (λ x. x.broken) is;
   };
   own = inputs_own b.state.start.wires (length b.state.start.nodes) port bytes;
   nodes = same;
@@ -99,6 +100,7 @@ hosted_confirm b new port upto is same act = go (nat_le upto (port_in b port).ou
         room = ap (λ x. x.room) e;
         floor = ap (λ x. x.floor) e;
         form = ap (λ x. x.form) e;
+        broken = ap (λ x. x.broken) e;
       };
       own = tt;
       nodes = same;
@@ -121,6 +123,7 @@ hosted_confirm b new port upto is same act = go (nat_le upto (port_in b port).ou
         room = ap (λ x. x.room) e;
         floor = ap (λ x. x.floor) e;
         form = ap (λ x. x.form) e;
+        broken = ap (λ x. x.broken) e;
       };
       own = (confirm_own b.state.start.wires (length b.state.start.nodes) port upto, tt);
       nodes = same;
@@ -147,6 +150,7 @@ hosted_by Are acts b new A none are = record {
     room = A.grew.room;
     floor = A.grew.floor;
     form = A.grew.form;
+    broken = A.grew.broken;
   };
   own = A.own;
   nodes = A.nodes;
@@ -205,30 +209,5 @@ begun_grown b new is act = record {
   room = ap (λ x. x.room) is;
   floor = ap (λ x. x.floor) is;
   form = ap (λ x. x.form) is;
-}
-
--- ## The store breaks
-
-pub hosted_broken : (b new : BookValue) → new ≡ record b { broken = true } → HostActed (λ entries. entries ≡ []) b new
-hosted_broken b new is = record {
-  grown = record {
-    acts = [];
-    none = tt;
-    did = no_act (world_of b) ∙ ap (λ x. Some (world_of x)) (sym is);
-    are = refl;
-    start = ap (λ x. x.state.start) is;
-    entries_are = ap (λ x. x.state.entries) is ∙ sym (append-nil b.state.entries);
-    numbers = ap (λ x. x.numbers) is ∙ sym (append-nil b.numbers);
-    history = ap (λ x. x.history) is ∙ sym (append-nil b.history);
-    base = ap (λ x. x.base) is;
-    ready = ap (λ x. x.ready) is;
-    room = ap (λ x. x.room) is;
-    floor = ap (λ x. x.floor) is;
-    form = ap (λ x. x.form) is;
-  };
-  own = tt;
-  nodes = ap (λ x. agreed x.state) is;
-  runs = ap (λ x. x.runs) is;
-  recorded = λ process. ap (λ x. has_recorded_in x.state.snapshot process) is;
-  frozen = ap (λ x. x.frozen) is;
+  broken = ap (λ x. x.broken) is;
 }

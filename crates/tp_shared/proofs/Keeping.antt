@@ -1,5 +1,5 @@
 -- What lies under the book's lock stays together.
-use Rattle.std.proofs.Common.{◌≡◌, ℕ, ◌+◌, ◌<◌, ◌≤◌, Bool, List, [], ◌++◌, length, map, drop, refl, sym, ap, subst, ◌∙◌, arith, Option, Some, get_or, slice_get}
+use Rattle.std.proofs.Common.{◌≡◌, ℕ, ◌+◌, ◌<◌, ◌≤◌, Bool, true, List, [], ◌∷◌, ◌++◌, length, map, drop, refl, sym, ap, subst, ◌∙◌, arith, Option, Some, get_or, slice_get}
 use Rattle.std.proofs.lemmas.Option.{slice_get_read}
 use Rattle.tp_token.specs.declared.roll.Roll.{Roll}
 use Rattle.tp_token.specs.declared.twin.Seal.{Seal}
@@ -9,6 +9,7 @@ use Rattle.tp_model.specs.Network.{Network}
 use Rattle.tp_model.specs.Runs.{World}
 use Rattle.tp_book.specs.Book.{BookValue, next_in_book, world_of}
 use Rattle.tp_shared.specs.BookActs.{Grown, HostActed}
+use Rattle.tp_shared.specs.BrokenSeen.{BrokenSince}
 use Rattle.tp_shared.specs.Frozen.{frozen_in, StayGone}
 use Rattle.tp_shared.specs.Positions.{IsNumberedFrom}
 use Rattle.tp_shared.specs.Seals.{Stage, Sealed}
@@ -17,20 +18,21 @@ use Rattle.tp_shared.specs.Together.{AreTogether}
 use Rattle.tp_shared.specs.Told.{ToldSince, told_of}
 use Rattle.tp_shared.specs.declared.seal.NodeSeal.{NodeSeal}
 use Rattle.tp_shared.specs.declared.told.Told.{Told}
+use Rattle.tp_shared.proofs.BrokenSeen.{ever_since, seen_now}
 use Rattle.tp_shared.proofs.Copying.{since_flag}
 use Rattle.tp_shared.proofs.Positioned.{numbered_grown, numbered_still}
-use Rattle.tp_shared.proofs.Sealing.{all_after, floor_after, sealed_still, tied_after, tied_still}
-use Rattle.tp_shared.proofs.Telling.{since_gone, since_more, since_still, told_fewer}
+use Rattle.tp_shared.proofs.Sealing.{all_after, floor_after, sealed_broken, sealed_still, tied_after, tied_still}
+use Rattle.tp_shared.proofs.Telling.{since_broken, since_gone, since_more, since_still, told_fewer}
 use Rattle.tp_shared.proofs.Writing.{as_many, paired}
 
-module _ {roll_name first : ℕ} {start : Network NodeState} {node : ℕ → ℕ} {flusher : ℕ} {room : Option ℕ} {before : World NodeState} {b : BookValue} {seals : List NodeSeal} {roll : Roll Entry} {told : Seal Told}
-    (T : AreTogether roll_name first start node flusher room before b seals roll told) where
+module _ {roll_name first : ℕ} {start : Network NodeState} {node : ℕ → ℕ} {flusher : ℕ} {room : Option ℕ} {before : World NodeState} {b : BookValue} {seals : List NodeSeal} {roll : Roll Entry} {told : Seal Told} {sights : List BookValue}
+    (T : AreTogether roll_name first start node flusher room before b seals roll told sights) where
   -- the seal that stands at a node's number
   pub seal_at : (i : ℕ) (s : NodeSeal) → i < length start.nodes → s ≡ get_or seals i s → slice_get seals i ≡ Some s
   seal_at i s there is = slice_get_read seals (length seals) i s refl (let count = T.seal_count in omega (arith, count, there)) is
 
   told_so : {now : Seal Told} → now.name ≡ told.name → ToldSince now.value (told_of before first (record { book = b; all = roll.items; numbered_from = now.value.numbered_from; frozen = frozen_in seals })) → ThawedAsTold now.value seals
-      → IsNumberedFrom now.value.numbered_from b → now.value.numbered_from ≤ now.value.base + length now.value.net.entries → AreTogether roll_name first start node flusher room before b seals roll now
+      → IsNumberedFrom now.value.numbered_from b → now.value.numbered_from ≤ now.value.base + length now.value.net.entries → AreTogether roll_name first start node flusher room before b seals roll now sights
   told_so name since thawed numbered reaches = record {
     idle = T.idle;
     seal_count = T.seal_count;
@@ -49,17 +51,18 @@ module _ {roll_name first : ℕ} {start : Network NodeState} {node : ℕ → ℕ
     thawed = thawed;
     numbered = numbered;
     reaches = reaches;
+    seen = T.seen;
   }
 
   -- the flusher is told nothing else
-  pub told_still : {now : Seal Told} → now.name ≡ told.name → now.value ≡ told.value → AreTogether roll_name first start node flusher room before b seals roll now
+  pub told_still : {now : Seal Told} → now.name ≡ told.name → now.value ≡ told.value → AreTogether roll_name first start node flusher room before b seals roll now sights
   told_still name is =
       told_so name (subst (λ (t : Told). ToldSince t (told_of before first (record { book = b; all = roll.items; numbered_from = t.numbered_from; frozen = frozen_in seals }))) (sym is) T.since) (subst (λ t. ThawedAsTold t seals) (sym is) T.thawed)
       (subst (λ (t : Told). IsNumberedFrom t.numbered_from b) (sym is) T.numbered) (subst (λ (t : Told). t.numbered_from ≤ t.base + length t.net.entries) (sym is) T.reaches)
 
   -- it is told of the book as it is
   pub told_anew : {now : Seal Told} (flag : Bool) → now.name ≡ told.name → now.value ≡ record (told_of before first (record { book = b; all = roll.items; numbered_from = told.value.numbered_from; frozen = frozen_in seals })) { thawed = flag }
-      → ThawedAsTold now.value seals → AreTogether roll_name first start node flusher room before b seals roll now
+      → ThawedAsTold now.value seals → AreTogether roll_name first start node flusher room before b seals roll now sights
   told_anew flag name is thawed =
       let stage : Stage = record { book = b; all = roll.items; numbered_from = told.value.numbered_from; frozen = frozen_in seals } in
       let low : told.value.numbered_from ≤ next_in_book b = let more = told_fewer before first told.value stage T.since in let reaches = T.reaches in omega (arith, more, reaches) in
@@ -68,7 +71,7 @@ module _ {roll_name first : ℕ} {start : Network NodeState} {node : ℕ → ℕ
 
   -- the book is as it was, beside other seals
   pub sealed_anew : {others : List NodeSeal} → length others ≡ length seals → Sealed node others b → ThawedAsTold told.value others → StayGone (world_of b) (frozen_in seals) (frozen_in others)
-      → AreTogether roll_name first start node flusher room before b others roll told
+      → AreTogether roll_name first start node flusher room before b others roll told sights
   sealed_anew {others} many sealed thawed gone = record {
     idle = T.idle;
     seal_count = many ∙ T.seal_count;
@@ -87,11 +90,12 @@ module _ {roll_name first : ℕ} {start : Network NodeState} {node : ℕ → ℕ
     thawed = thawed;
     numbered = T.numbered;
     reaches = T.reaches;
+    seen = T.seen;
   }
 
   -- nothing was journalled
   pub acted_still : {new : BookValue} {others : List NodeSeal} → Grown (λ entries. entries ≡ []) b new → length new.runs ≡ length b.runs → length others ≡ length seals → Sealed node others new → ThawedAsTold told.value others
-      → StayGone (world_of b) (frozen_in seals) (frozen_in others) → AreTogether roll_name first start node flusher room before new others roll told
+      → StayGone (world_of b) (frozen_in seals) (frozen_in others) → AreTogether roll_name first start node flusher room before new others roll told sights
   acted_still {new} {others} G runs many sealed thawed gone = record {
     idle = G.ready ∙ T.idle;
     seal_count = many ∙ T.seal_count;
@@ -110,13 +114,14 @@ module _ {roll_name first : ℕ} {start : Network NodeState} {node : ℕ → ℕ
     thawed = thawed;
     numbered = numbered_still told.value.numbered_from b new G T.numbered;
     reaches = T.reaches;
+    seen = subst (λ now. BrokenSince now sights) (sym G.broken) T.seen;
   }
 
   -- what was journalled was written onto the roll
   pub acted_written : {Are : List Entry → Type 0} {new : BookValue} {others : List NodeSeal} {now : Roll Entry} (es : List (Entry × ℕ)) → map (λ (e : Entry × ℕ). e.0) es ≡ b.state.entries → map (λ (e : Entry × ℕ). e.1) es ≡ b.numbers
       → Grown Are b new → length new.runs ≡ length b.runs → length others ≡ length seals → Sealed node others new → ThawedAsTold told.value others → StayGone (world_of b) (frozen_in seals) (frozen_in others)
       → now.name ≡ roll.name → now.first ≡ roll.first → now.items ≡ roll.items ++ drop (length es) new.state.entries
-      → AreTogether roll_name first start node flusher room before new others now told
+      → AreTogether roll_name first start node flusher room before new others now told sights
   acted_written {Are} {new} {others} {now} es entries_are numbers_are G runs many sealed thawed gone name same is =
       let counted = as_many es b.state.entries entries_are in
       record {
@@ -137,15 +142,68 @@ module _ {roll_name first : ℕ} {start : Network NodeState} {node : ℕ → ℕ
         thawed = thawed;
         numbered = numbered_grown Are told.value.numbered_from b new G (paired es b.state.entries b.numbers entries_are numbers_are) T.numbered;
         reaches = T.reaches;
+        seen = subst (λ now. BrokenSince now sights) (sym G.broken) T.seen;
       }
 
   -- acts of the host that journalled nothing
-  pub hosted_still : {new : BookValue} → HostActed (λ entries. entries ≡ []) b new → AreTogether roll_name first start node flusher room before new seals roll told
+  pub hosted_still : {new : BookValue} → HostActed (λ entries. entries ≡ []) b new → AreTogether roll_name first start node flusher room before new seals roll told sights
   hosted_still {new} H = acted_still H.grown (ap length H.runs) refl (sealed_still (λ (entries : List Entry). entries ≡ []) node seals b new T.sealed H) T.thawed (λ i n F none. none)
 
   -- acts of the host, and what was journalled was written onto the roll
   pub hosted_written : {Are : List Entry → Type 0} {new : BookValue} {now : Roll Entry} (es : List (Entry × ℕ)) → map (λ (e : Entry × ℕ). e.0) es ≡ b.state.entries → map (λ (e : Entry × ℕ). e.1) es ≡ b.numbers
       → HostActed Are b new → now.name ≡ roll.name → now.first ≡ roll.first → now.items ≡ roll.items ++ drop (length es) new.state.entries
-      → AreTogether roll_name first start node flusher room before new seals now told
+      → AreTogether roll_name first start node flusher room before new seals now told sights
   hosted_written {Are} {new} es entries_are numbers_are H name same is =
       acted_written es entries_are numbers_are H.grown (ap length H.runs) refl (sealed_still Are node seals b new T.sealed H) T.thawed (λ i n F none. none) name same is
+
+  -- the store breaks, and that is told
+  pub broken_told : {new : BookValue} {now : Seal Told} → new ≡ record b { broken = true } → now.name ≡ told.name → now.value ≡ record told.value { broken = true }
+      → AreTogether roll_name first start node flusher room before new seals roll now sights
+  broken_told {new} {now} is name shows =
+      let broke : BookValue = record b { broken = true } in
+      let t : Told = record told.value { broken = true } in
+      subst (λ book. AreTogether roll_name first start node flusher room before book seals roll now sights) (sym is)
+      (record {
+        idle = T.idle;
+        seal_count = T.seal_count;
+        run_count = T.run_count;
+        sealed = sealed_broken node seals b T.sealed;
+        roll_is = T.roll_is;
+        first_is = T.first_is;
+        tied = record { are = T.tied.are; next = T.tied.next };
+        wires_are = T.wires_are;
+        count_is = T.count_is;
+        flusher_is = name ∙ T.flusher_is;
+        since = subst (λ (x : Told). ToldSince x (told_of before first (record { book = broke; all = roll.items; numbered_from = x.numbered_from; frozen = frozen_in seals }))) (sym shows)
+            (since_broken before first told.value b roll.items told.value.numbered_from (frozen_in seals) T.since);
+        wire_count = T.wire_count;
+        room_is = T.room_is;
+        floor = T.floor;
+        thawed = subst (λ x. ThawedAsTold x seals) (sym shows) (λ h. let H = T.thawed h in record { cut = H.cut; nodes = H.nodes; has = H.has; holds = H.holds; none = H.none });
+        numbered = subst (λ (x : Told). IsNumberedFrom x.numbered_from broke) (sym shows) T.numbered;
+        reaches = subst (λ (x : Told). x.numbered_from ≤ x.base + length x.net.entries) (sym shows) T.reaches;
+        seen = ever_since sights;
+      })
+
+  -- the book was seen as it is
+  pub seen_more : {now : List BookValue} → now ≡ sights ++ b ∷ [] → AreTogether roll_name first start node flusher room before b seals roll told now
+  seen_more {now} is = record {
+    idle = T.idle;
+    seal_count = T.seal_count;
+    run_count = T.run_count;
+    sealed = T.sealed;
+    roll_is = T.roll_is;
+    first_is = T.first_is;
+    tied = T.tied;
+    wires_are = T.wires_are;
+    count_is = T.count_is;
+    flusher_is = T.flusher_is;
+    since = T.since;
+    wire_count = T.wire_count;
+    room_is = T.room_is;
+    floor = T.floor;
+    thawed = T.thawed;
+    numbered = T.numbered;
+    reaches = T.reaches;
+    seen = seen_now b sights now is T.seen;
+  }

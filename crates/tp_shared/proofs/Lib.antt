@@ -20,3 +20,4 @@ pub mod Positioned
 pub mod Keeping
 pub mod Gaining
 pub mod Seen
+pub mod BrokenSeen

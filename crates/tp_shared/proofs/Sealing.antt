@@ -209,6 +209,20 @@ fits_fewer (Some most) floor higher entries fewer fits low few = λ above. let a
 
 -- ## Nothing is journalled
 
+-- the store breaks
+pub sealed_broken : (names : ℕ → ℕ) (seals : List NodeSeal) (b : BookValue) → Sealed names seals b → Sealed names seals (record b { broken = true })
+sealed_broken names seals b S i s e =
+    let was = S i s e in
+    record {
+      named = was.named;
+      node = was.node;
+      recorded = was.recorded;
+      kept = was.kept;
+      reserved = was.reserved;
+      received = λ takes given. let W = was.received takes given in record { form = W.form; fronts = W.fronts };
+      flag = was.flag;
+    }
+
 pub tied_still : (b new : BookValue) (first : ℕ) (all : List Entry) → Grown (λ entries. entries ≡ []) b new → IsTied first all b → IsTied first all new
 tied_still b new first all G T = record {
   are = T.are ∙ sym (append-nil b.history) ∙ ap (λ es. b.history ++ es) (sym G.are) ∙ sym G.history;

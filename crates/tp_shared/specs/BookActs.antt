@@ -26,6 +26,7 @@ pub record Grown (Are : List Entry → Type 0) (old new : BookValue) : Type 0 wh
   pub room : new.room ≡ old.room
   pub floor : new.floor ≡ old.floor
   pub form : new.form ≡ old.form
+  pub broken : new.broken ≡ old.broken
 
 -- Acts of a node were done, and it and whether a turn of it is reserved are then so. The others are as they were: whether they have
 -- recorded, and their frozen images.

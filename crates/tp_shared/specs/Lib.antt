@@ -2,6 +2,7 @@ pub mod Agreement
 pub mod Entries
 pub mod BookActs
 pub mod Positions
+pub mod BrokenSeen
 pub mod Frozen
 pub mod Seals
 pub mod Told

@@ -34,14 +34,15 @@ pub record IsDealt (b : BookValue) (seals : List NodeSeal) (dealt : Dealt) (coun
   pub third : AreOfCell 3 (name_of seals) count dealt.p3.items
 
 -- The parts belong together: no take is made ready, there is a seal and a place for each node, and there is no entry yet that
--- the roll would have. Both halves of what the flusher is told are of one name.
-pub record AreParts (b : BookValue) (seals : List NodeSeal) (dealt : Dealt) (roll_first : ℕ) (all : List Entry) (told_seal told_key : ℕ) : Type 0 where
+-- the roll would have. Both halves of what the flusher is told are of one name, and nothing of the book was seen.
+pub record AreParts {A : Type 0} (b : BookValue) (seals : List NodeSeal) (dealt : Dealt) (roll_first : ℕ) (all : List Entry) (told_seal told_key : ℕ) (sights : List A) : Type 0 where
   pub idle : b.ready ≡ None
   pub runs : length b.runs ≡ length b.state.start.nodes
   pub shares : IsDealt b seals dealt (length b.state.start.nodes)
   pub tied : IsTied roll_first all b
   pub none : all ≡ []
   pub twins : told_seal ≡ told_key
+  pub unseen : sights ≡ []
 
 -- What contracts see of parts: the book, the seals, the name of the roll, the number of its first entry and its entries, the mark, the
 -- name of what the flusher is told, and that of the roll of what is seen of the book.

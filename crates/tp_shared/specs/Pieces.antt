@@ -1,5 +1,5 @@
 -- What is copied of a node that recorded, while a snapshot runs.
-use Rattle.std.specs.Prelude.{◌≡◌, ◌<◌, ℕ, ◌*◌, List, length, take, drop}
+use Rattle.std.specs.Prelude.{◌≡◌, ◌<◌, ℕ, ◌+◌, ◌*◌, List, [], length, get_or, take, drop}
 use Rattle.tp_model.specs.declared.limits.TheConstants.{PAGE_BYTES}
 use Rattle.tp_model.specs.NodeState.{NodeState}
 use Rattle.tp_model.specs.Image.{image_head}
@@ -18,3 +18,16 @@ pub record IsFrozenPage (net : MarkedNetwork NodeState) (i page : ℕ) (bytes : 
   pub frozen : IsFrozenAs net i node
   pub there : PAGE_BYTES * page < length node.memory
   pub is : bytes ≡ take PAGE_BYTES (drop (PAGE_BYTES * page) node.memory)
+
+-- It has `count` pages from `first` on, the first ones of `pages`.
+abbrev pub AreFrozenPages : MarkedNetwork NodeState → ℕ → ℕ → ℕ → List (List ℕ) → Type 0
+AreFrozenPages net i first count pages = (k : ℕ) → k < count → IsFrozenPage net i (first + k) (get_or pages k [])
+
+-- A memory has this page.
+pub record IsPageOf (memory : List ℕ) (page : ℕ) (bytes : List ℕ) : Type 0 where
+  pub there : PAGE_BYTES * page < length memory
+  pub is : bytes ≡ take PAGE_BYTES (drop (PAGE_BYTES * page) memory)
+
+-- It has `count` pages from `first` on, the first ones of `pages`.
+abbrev pub ArePagesOf : List ℕ → ℕ → ℕ → List (List ℕ) → Type 0
+ArePagesOf memory first count pages = (k : ℕ) → k < count → IsPageOf memory (first + k) (get_or pages k [])

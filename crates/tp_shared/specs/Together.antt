@@ -8,6 +8,7 @@ use Rattle.tp_model.specs.NodeState.{NodeState}
 use Rattle.tp_model.specs.Network.{Network}
 use Rattle.tp_model.specs.Runs.{World}
 use Rattle.tp_book.specs.Book.{BookValue}
+use Rattle.tp_shared.specs.BrokenSeen.{BrokenSince}
 use Rattle.tp_shared.specs.Frozen.{frozen_in}
 use Rattle.tp_shared.specs.Positions.{IsNumberedFrom}
 use Rattle.tp_shared.specs.Seals.{Sealed, IsTied}
@@ -16,10 +17,10 @@ use Rattle.tp_shared.specs.Told.{ToldSince, told_of}
 use Rattle.tp_shared.specs.declared.seal.NodeSeal.{NodeSeal}
 use Rattle.tp_shared.specs.declared.told.Told.{Told}
 
--- A book, the seals of its nodes, the roll, and the seal of what the flusher was told, whenever nobody holds the lock. The other
--- arguments say which network, tokens and history they belong to.
+-- A book, the seals of its nodes, the roll, the seal of what the flusher was told, and the books that were seen, whenever nobody holds the
+-- lock. The other arguments say which network, tokens and history they belong to.
 pub record AreTogether (roll_name first : ℕ) (start : Network NodeState) (node : ℕ → ℕ) (flusher : ℕ) (room : Option ℕ) (before : World NodeState)
-    (book : BookValue) (seals : List NodeSeal) (roll : Roll Entry) (told : Seal Told) : Type 0 where
+    (book : BookValue) (seals : List NodeSeal) (roll : Roll Entry) (told : Seal Told) (sights : List BookValue) : Type 0 where
   -- no take is made ready
   pub idle : book.ready ≡ None
   -- there is a seal for each node
@@ -54,3 +55,5 @@ pub record AreTogether (roll_name first : ℕ) (start : Network NodeState) (node
   pub numbered : IsNumberedFrom told.value.numbered_from book
   -- it isn't behind the entries that were told
   pub reaches : told.value.numbered_from ≤ told.value.base + length told.value.net.entries
+  -- whoever saw it broken finds it so
+  pub seen : BrokenSince book.broken sights

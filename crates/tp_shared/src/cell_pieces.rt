@@ -1,14 +1,14 @@
 //! Frozen nodes under their locks.
 
-ghost use Rattle.std.specs.Prelude.{◌≡◌, ◌<◌, ◌%◌, ◌&&◌, true, false, length};
+ghost use Rattle.std.specs.Prelude.{◌≡◌, ◌<◌, ◌≤◌, ◌+◌, ◌%◌, ◌&&◌, ℕ, true, false, length, nat_lt};
 ghost use Rattle.tp_shared.specs.Frozen.{has_page, keeps_pages};
-ghost use Rattle.tp_shared.specs.Pieces.{IsFrozenHead, IsFrozenPage};
+ghost use Rattle.tp_shared.specs.Pieces.{AreFrozenPages, IsFrozenHead};
 ghost use Rattle.tp_shared.specs.Told.{ToldSince};
 
 use crate::cell::Cell;
 use crate::locked::Locked;
 use crate::naming::Naming;
-use crate::pieces::{drop_of, head_of, page_of};
+use crate::pieces::{drop_of, head_of, pages_of};
 use crate::told::Told;
 use std::sync::{Mutex, Wait};
 use tp_model::limits::{IMAGE_HEAD_BYTES, PAGE_BYTES};
@@ -36,26 +36,27 @@ impl<const I: usize, J: Naming> Cell<I, J> {
         head_of(rt, book, place, key, number, out)
     }
 
-    /// A page of its memory.
-    pub(crate) fn frozen_page<R: Wait>(
+    /// Pages of its memory, from `first` on. Answers how many.
+    pub(crate) fn frozen_pages<R: Wait>(
         &mut self,
         rt: &R,
         book: &Mutex<Locked<J>>,
         key: &mut Key<Told>,
         number: u8,
-        page: usize,
-        out: &mut [u8; PAGE_BYTES],
-    ) -> bool
+        first: usize,
+        out: &mut [[u8; PAGE_BYTES]],
+    ) -> usize
         requires name { key.old.name ≡ J.flusher }
         requires there { number < length J.start.nodes }
         requires here { number % 4 ≡ I }
         ensures name { key.new.name ≡ key.old.name }
         ensures since { ToldSince key.old.value key.new.value }
-        ensures kept { result ≡ (keeps_pages key.new.value.frozen number && has_page key.new.value.net number page) }
-        ensures page { result ≡ true → IsFrozenPage key.new.value.net number page out.new }
+        ensures few { result ≤ length out.old }
+        ensures kept { (k : ℕ) → k < length out.old → nat_lt k result ≡ (keeps_pages key.new.value.frozen number && has_page key.new.value.net number (first + k)) }
+        ensures pages { AreFrozenPages key.new.value.net number first result out.new }
     {
         let place = &mut self.places[number as usize / 4];
-        page_of(rt, book, place, key, number, page, out)
+        pages_of(rt, book, place, key, number, first, out)
     }
 
     /// Lets its frozen pages go.

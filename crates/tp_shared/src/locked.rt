@@ -44,6 +44,7 @@ pub struct Locked<J: Naming> {
 }
 
 impl<J: Naming> Model for Locked<J> {
+    ghost use Rattle.std.specs.Prelude.{map};
     ghost use Rattle.tp_shared.specs.Frozen.{frozen_in};
     ghost use Rattle.tp_shared.specs.Seals.{Stage};
     ghost use Rattle.tp_shared.specs.Together.{AreTogether};
@@ -52,11 +53,12 @@ impl<J: Naming> Model for Locked<J> {
 
     ghost view = { λ l. record { book = l.book; all = l.roll.items; numbered_from = l.told.value.numbered_from; frozen = frozen_in l.seals.items } };
 
-    ghost invariant = { λ l. AreTogether J.roll J.first J.start J.node J.flusher J.room J.before l.book l.seals.items l.roll l.told };
+    ghost invariant = { λ l. AreTogether J.roll J.first J.start J.node J.flusher J.room J.before l.book l.seals.items l.roll l.told (map (λ seen. seen.value) l.sights.roll.items) };
 }
 
 impl<J: Naming> Locked<J> {
-    /// A book, with a seal for each node, a roll without an entry yet, the seal of what the flusher was told, and the roll of what is seen.
+    /// A book, with a seal for each node, a roll without an entry yet, the seal of what the flusher was told, and a roll of what is seen
+    /// on which nothing is yet.
     pub(crate) fn new(
         book: Book,
         seals: Vec<NodeSeal>,
@@ -72,6 +74,7 @@ impl<J: Naming> Locked<J> {
         requires tied { IsTied J.first roll.items book }
         requires room { (book.room ≡ J.room) × (book.floor ≤ J.first - book.base) }
         requires told { (told.name ≡ J.flusher) × (told.value ≡ told_of J.before J.first (record { book = book; all = []; numbered_from = J.first; frozen = frozen_in seals.items })) }
+        requires unseen { sights.roll.items ≡ [] }
         ensures { result ≡ record { book = book; all = []; numbered_from = J.first; frozen = frozen_in seals.items } }
     {
         let _count = book.entries().len();

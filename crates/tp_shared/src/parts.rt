@@ -43,7 +43,7 @@ impl Model for Parts {
 
     ghost view = { λ p. record { book = p.book; seals = p.seals.items; roll = p.roll.name; first = p.roll.first; all = p.roll.items; mark = p.mark; flusher = p.told.name; sights = p.sights.name } };
 
-    ghost invariant = { λ p. AreParts p.book p.seals.items p.dealt p.roll.first p.roll.items p.told.name p.key.name };
+    ghost invariant = { λ p. AreParts p.book p.seals.items p.dealt p.roll.first p.roll.items p.told.name p.key.name p.sights.items };
 }
 
 // A node's seal and key.

@@ -1,13 +1,13 @@
 //! Pieces of the image of a node that recorded, while a snapshot runs.
 
-ghost use Rattle.std.specs.Prelude.{◌≡◌, ◌<◌, ◌*◌, ◌&&◌, Some, None, true, false, is_some, length, nat_lt, set, slice_get};
+ghost use Rattle.std.specs.Prelude.{◌≡◌, ◌<◌, ◌≤◌, ◌+◌, ◌*◌, ◌&&◌, ℕ, Some, None, IfSome, IsSome, true, false, is_some, length, nat_lt, set, slice_get};
 ghost use Rattle.tp_model.specs.declared.limits.TheConstants.{PAGE_BYTES};
 ghost use Rattle.tp_model.specs.FrozenAs.{IsFrozenAs};
 ghost use Rattle.tp_model.specs.NodeState.{NodeState};
 ghost use Rattle.tp_book.specs.Book.{world_of};
 ghost use Rattle.tp_shared.specs.Agreement.{at_rest};
 ghost use Rattle.tp_shared.specs.Frozen.{keeps_pages};
-ghost use Rattle.tp_shared.specs.Pieces.{IsFrozenHead, IsFrozenPage};
+ghost use Rattle.tp_shared.specs.Pieces.{AreFrozenPages, ArePagesOf, IsFrozenHead};
 ghost use Rattle.tp_shared.specs.Seals.{KeyShows};
 ghost use Rattle.tp_shared.specs.Told.{ToldSince, told_of};
 
@@ -15,6 +15,7 @@ use crate::locked::Locked;
 use crate::naming::Naming;
 use crate::place::Place;
 use crate::shown::Shown;
+use crate::soon::lock_soon;
 use crate::told::Told;
 use std::sync::{Mutex, Wait};
 use tp_model::limits::{IMAGE_HEAD_BYTES, PAGE_BYTES};
@@ -123,7 +124,7 @@ fn audit<J: Naming, R: Wait>(
     ensures there { slice_get key.new.value.net.live.nodes number ≡ Some place.old.node.live }
     ensures frozen { (node : NodeState) → place.old.node.frozen ≡ Some node → IsFrozenAs key.new.value.net number node }
 {
-    let mut held = book.lock(rt);
+    let mut held = lock_soon(rt, book);
     held.tell_frozen(place, key, number);
 }
 
@@ -157,16 +158,31 @@ pub(crate) fn head_of<J: Naming, R: Wait>(
     true
 }
 
-/// A page of it. False where it isn't frozen, or has no such page.
-pub(crate) fn page_of<J: Naming, R: Wait>(
+// Copies pages of a frozen node, from `first` on: as many as the node has and as find room. Answers how many.
+fn copy_pages(node: &Node, first: usize, out: &mut [[u8; PAGE_BYTES]]) -> usize
+    requires frozen { IsSome node.now.frozen }
+    ensures few { result ≤ length out.old }
+    ensures count { (k : ℕ) → k < length out.old → nat_lt k result ≡ nat_lt (PAGE_BYTES * (first + k)) (length node.now.live.memory) }
+    ensures pages { IfSome node.now.frozen (λ kept. ArePagesOf kept.memory first result out.new) }
+{
+    let count = out.len().min(node.pages().saturating_sub(first));
+    for k in 0..count {
+        node.frozen_page(first + k, &mut out[k]);
+    }
+    count
+}
+
+/// Pages of it from `first` on, as many as it has and as find room. Answers how many: none where it isn't frozen. One short hold of the
+/// book's lock shows that all of them are pages of the frozen node.
+pub(crate) fn pages_of<J: Naming, R: Wait>(
     rt: &R,
     book: &Mutex<Locked<J>>,
     place: &mut Place,
     key: &mut Key<Told>,
     number: u8,
-    page: usize,
-    out: &mut [u8; PAGE_BYTES],
-) -> bool
+    first: usize,
+    out: &mut [[u8; PAGE_BYTES]],
+) -> usize
     requires there { number < length J.start.nodes }
     requires named { place.old.key.name ≡ J.node number }
     requires shows { KeyShows place.old }
@@ -175,18 +191,17 @@ pub(crate) fn page_of<J: Naming, R: Wait>(
     ensures shows { KeyShows place.new }
     ensures name { key.new.name ≡ key.old.name }
     ensures since { ToldSince key.old.value key.new.value }
-    ensures answer { result ≡ is_some place.old.node.frozen && nat_lt (PAGE_BYTES * page) (length place.old.node.live.memory) }
+    ensures few { result ≤ length out.old }
+    ensures answer { (k : ℕ) → k < length out.old → nat_lt k result ≡ (is_some place.old.node.frozen && nat_lt (PAGE_BYTES * (first + k)) (length place.old.node.live.memory)) }
     ensures kept { keeps_pages key.new.value.frozen number ≡ is_some place.old.node.frozen }
     ensures there { slice_get key.new.value.net.live.nodes number ≡ Some place.old.node.live }
-    ensures page { result ≡ true → IsFrozenPage key.new.value.net number page out.new }
-    ensures none { result ≡ false → out.new ≡ out.old }
+    ensures pages { AreFrozenPages key.new.value.net number first result out.new }
 {
     audit(rt, book, place, key, number);
-    if !place.node.is_frozen() || page >= place.node.pages() {
-        return false;
+    if !place.node.is_frozen() {
+        return 0;
     }
-    place.node.frozen_page(page, out);
-    true
+    copy_pages(&place.node, first, out)
 }
 
 /// Lets the frozen pages of a node go whose lock is held, and then says so under the book's; the flusher is told of the book as it is then.
@@ -211,6 +226,6 @@ pub(crate) fn drop_of<J: Naming, R: Wait>(
 {
     let Place { node, key } = place;
     node.drop_frozen();
-    let mut held = book.lock(rt);
+    let mut held = lock_soon(rt, book);
     held.thaw_told(key, told, node, number);
 }

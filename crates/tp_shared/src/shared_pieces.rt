@@ -1,8 +1,8 @@
 //! What the flusher does with a node that recorded, while a snapshot runs.
 
-ghost use Rattle.std.specs.Prelude.{◌≡◌, ◌<◌, ◌&&◌, true, false, length};
+ghost use Rattle.std.specs.Prelude.{◌≡◌, ◌<◌, ◌≤◌, ◌+◌, ◌&&◌, ℕ, true, false, length, nat_lt};
 ghost use Rattle.tp_shared.specs.Frozen.{has_page, keeps_pages};
-ghost use Rattle.tp_shared.specs.Pieces.{IsFrozenHead, IsFrozenPage};
+ghost use Rattle.tp_shared.specs.Pieces.{AreFrozenPages, IsFrozenHead};
 ghost use Rattle.tp_shared.specs.Told.{ToldSince};
 
 use crate::naming::Naming;
@@ -39,29 +39,31 @@ impl<J: Naming> Shared<J> {
         }
     }
 
-    /// The page `page` of its memory, as it recorded. False exactly where no pages of it are kept, or it has no such page. Turns of
-    /// the node may fall between two pages.
-    pub fn frozen_page<R: Wait>(
+    /// Pages of its memory as it recorded, from the page `first` on: as many as it has and as find room in `out`. Answers how many: none
+    /// where no pages of it are kept. They are copied in one hold of the node's lock, so a turn of a node of its cell waits for all of them,
+    /// and turns of the node may fall between two calls.
+    pub fn frozen_pages<R: Wait>(
         &self,
         rt: &R,
         key: &mut Key<Told>,
         number: u8,
-        page: usize,
-        out: &mut [u8; PAGE_BYTES],
-    ) -> bool
+        first: usize,
+        out: &mut [[u8; PAGE_BYTES]],
+    ) -> usize
         requires name { key.old.name ≡ J.flusher }
         requires there { number < length J.start.nodes }
         ensures name { key.new.name ≡ key.old.name }
         ensures since { ToldSince key.old.value key.new.value }
-        ensures kept { result ≡ (keeps_pages key.new.value.frozen number && has_page key.new.value.net number page) }
-        ensures page { result ≡ true → IsFrozenPage key.new.value.net number page out.new }
+        ensures few { result ≤ length out.old }
+        ensures kept { (k : ℕ) → k < length out.old → nat_lt k result ≡ (keeps_pages key.new.value.frozen number && has_page key.new.value.net number (first + k)) }
+        ensures pages { AreFrozenPages key.new.value.net number first result out.new }
     {
         let book = self.book();
         match number % 4 {
-            0 => lock_soon(rt, &self.c0).frozen_page(rt, book, key, number, page, out),
-            1 => lock_soon(rt, &self.c1).frozen_page(rt, book, key, number, page, out),
-            2 => lock_soon(rt, &self.c2).frozen_page(rt, book, key, number, page, out),
-            _ => lock_soon(rt, &self.c3).frozen_page(rt, book, key, number, page, out),
+            0 => lock_soon(rt, &self.c0).frozen_pages(rt, book, key, number, first, out),
+            1 => lock_soon(rt, &self.c1).frozen_pages(rt, book, key, number, first, out),
+            2 => lock_soon(rt, &self.c2).frozen_pages(rt, book, key, number, first, out),
+            _ => lock_soon(rt, &self.c3).frozen_pages(rt, book, key, number, first, out),
         }
     }
 

@@ -11,8 +11,10 @@ ghost use Rattle.tp_turn.specs.Over.{ClosesAll};
 
 use crate::locked::Locked;
 use crate::naming::Naming;
+use crate::told::Told;
 use std::alloc::Global;
 use tp_book::Refusal;
+use tp_token::{Key, turn};
 use tp_turn::close_all;
 
 impl<J: Naming> Locked<J> {
@@ -37,10 +39,17 @@ impl<J: Naming> Locked<J> {
         close_all(&mut self.book);
     }
 
-    /// Nothing is journalled from now on.
-    pub fn break_store(&mut self)
-        ensures { self.new ≡ record self.old { book = record self.old.book { broken = true } } }
+    /// Nothing is journalled from now on. Only the holder of `key`, the flusher's, can ask for that: it shows what it showed, and that the
+    /// store is broken.
+    pub fn break_store(&mut self, key: &mut Key<Told>)
+        requires name { key.old.name ≡ J.flusher }
+        ensures book { self.new ≡ record self.old { book = record self.old.book { broken = true } } }
+        ensures name { key.new.name ≡ key.old.name }
+        ensures key { key.new.value ≡ record key.old.value { broken = true } }
+        ensures was { key.old.value.broken ≡ self.old.book.broken }
     {
+        let now = Told::broken(&*key);
+        turn(&mut self.told, key, &now);
         self.book.break_store();
     }
 }

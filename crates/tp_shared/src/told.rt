@@ -14,8 +14,8 @@ use std::marker::Model;
 use tp_token::Key;
 
 /// A network with its book, how many entries the kept cut holds, and the journal; whether its cut is whole and no node's pages are
-/// kept any more; from which position on the entries have their positions as numbers; the book's form; and of each node whether pages
-/// are kept as they were when it recorded. It has no bytes: contracts alone see it.
+/// kept any more; from which position on the entries have their positions as numbers; the book's form, and whether its store is broken;
+/// and of each node whether pages are kept as they were when it recorded. It has no bytes: contracts alone see it.
 #[derive(Drop)]
 pub struct Told {
     pub ghost net: { MarkedNetwork NodeState },
@@ -24,6 +24,7 @@ pub struct Told {
     pub ghost thawed: { Bool },
     pub ghost numbered_from: { ℕ },
     pub ghost form: { Form },
+    pub ghost broken: { Bool },
     pub ghost frozen: { List Bool },
 }
 
@@ -78,6 +79,13 @@ impl Told {
         } else {
             Told::now(locked)
         }
+    }
+
+    /// What is told once the store is broken, and the rest is as `key` shows that it was told.
+    pub(crate) fn broken(key: &Key<Told>) -> Told
+        ensures { result ≡ record key.now.value { broken = true } }
+    {
+        Told::of(key)
     }
 
     /// What is first told of the book of parts.

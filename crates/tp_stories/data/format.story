@@ -145,10 +145,14 @@ tpnet format none net.txt . 16384
 equal none zeros
 
 story large
-# Above 4 GiB the second area has its gate where an offset that wraps would hit the first image, or read it.
+# Above 4 GiB the second area has its gate where an offset that wraps would hit the first image, or read it. The file is made larger by hand:
+# so it takes no room.
 text net.txt node a 4\nport h\nwire a.0 h\n
 image a.img
-tpnet format large net.txt . 4294967317
+tpnet format large net.txt . 16384
+cut large 16896
+set large 16 15 00 00 00 01
+cut large 8589935146
 length large
 tpnet recover large
 set large 4294967829 A5 01

@@ -22,7 +22,8 @@ use tp_model::limits::MAX_HELD;
 use tp_shared::{Locked, Naming, Shared};
 use tp_stream_files::{Input, Output, Sink, Source, Streams};
 
-/// How many milliseconds input is waited for until it is looked again whether the stream is asked to stop.
+/// How many milliseconds input is waited for until it is looked again whether the stream is asked to stop, or it is told how
+/// far it has come.
 const REST: u64 = 20;
 
 /// What steps of streams came to.

@@ -12,6 +12,8 @@ mod compact_tests;
 #[cfg(test)]
 mod file_tests;
 #[cfg(test)]
+mod filling_tests;
+#[cfg(test)]
 mod format_tests;
 #[cfg(test)]
 mod holding_tests;

@@ -73,22 +73,23 @@ fn trim<J: Naming, R: Wait>(rt: &R, shared: &Shared<J>, key: &mut Key<Told>)
     held.trim(key);
 }
 
-// Adds a page of a node that recorded, where there is one.
-fn add_page<J: Naming, R: Wait>(
+// Adds pages of a node that recorded, from `first` on, three or as many as there are.
+fn add_pages<J: Naming, R: Wait>(
     rt: &R,
     shared: &Shared<J>,
     key: &mut Key<Told>,
     number: u8,
-    page: usize,
+    first: usize,
     bytes: &mut Vec<u8>,
 ) -> Result<(), AllocError>
     requires name { key.old.name ≡ J.flusher }
     requires there { number < length J.start.nodes }
     ensures { key.new.name ≡ key.old.name }
 {
-    let mut out = [0; PAGE_BYTES];
-    if shared.frozen_page(rt, key, number, page, &mut out) {
-        bytes.extend_from_slice(&out)?;
+    let mut out = [[0; PAGE_BYTES]; 3];
+    let count = shared.frozen_pages(rt, key, number, first, &mut out);
+    for page in &out[..count] {
+        bytes.extend_from_slice(page)?;
     }
     Ok(())
 }
@@ -109,11 +110,8 @@ fn add_image<J: Naming, R: Wait>(
     if shared.frozen_head(rt, key, number, &mut head) {
         bytes.extend_from_slice(&head)?;
     }
-    add_page(rt, shared, key, number, 0, bytes)?;
-    add_page(rt, shared, key, number, 1, bytes)?;
-    add_page(rt, shared, key, number, 2, bytes)?;
-    add_page(rt, shared, key, number, 3, bytes)?;
-    add_page(rt, shared, key, number, 4, bytes)
+    add_pages(rt, shared, key, number, 0, bytes)?;
+    add_pages(rt, shared, key, number, 3, bytes)
 }
 
 // The image of a node that recorded.

@@ -13,7 +13,8 @@ use std::sync::Wait;
 use std::test::Fail;
 use tp_model::{Entry, Received, Token};
 use tp_ready::{Pass, Raiser};
-use tp_shared::{Naming, NoGate, Parts, Receipt, Sights};
+use tp_shared::{Naming, NoGate, Parts, Receipt, Sights, Told};
+use tp_token::Key;
 use tp_work::{ConfirmFault, Net, OfferFault, Seat, Session, ShownFault, TurnFault};
 
 /// Each turn of one worker: the process, how many tokens it took, and how many steps it made, where it runs.
@@ -190,11 +191,13 @@ fn play_broken<J: Naming, R: Wait + Abort>(
     net: &Net<J, NoGate>,
     seat: &mut Seat<J>,
     pass: &mut Pass,
+    key: &mut Key<Told>,
 )
     requires seat { seat.old.hand.of ≡ Some net.now.queue }
     requires pass { pass.old.mark ≡ J.mark }
+    requires key { key.old.name ≡ J.flusher }
 {
-    net.shared().book().lock(rt).break_store();
+    net.shared().book().lock(rt).break_store(key);
     play_offers(rt, session, BROKEN_OFFERS);
     assert!(rt; matches!(session.confirm(rt, 1, pass, &mut Sights::new()), Ok(_)));
     for _ in 0..3 {
@@ -212,7 +215,7 @@ fn play<J: Naming, R: Wait + Abort>(
     requires names { Names J.roll J.first J.start J.node J.mark J.flusher J.sights J.room parts }
     requires mark { raiser.mark ≡ J.mark }
 {
-    let (net, seats, _key) = Net::<J, NoGate>::start(rt, alloc, parts, 16, 1, NoGate)?;
+    let (net, seats, mut key) = Net::<J, NoGate>::start(rt, alloc, parts, 16, 1, NoGate)?;
     let mut pass = net.shared().mark().pass(&mut raiser);
     let Some(mut seat) = seat_of(&net, seats) else {
         panic!(rt; "a seat is there")
@@ -225,7 +228,7 @@ fn play<J: Naming, R: Wait + Abort>(
     assert!(rt; is_journalled(rt, &net));
     play_offers(rt, &session, OFFERS);
     play_outputs(rt, alloc, &session, &net, &mut raiser, &mut pass);
-    play_broken(rt, &session, &net, &mut seat, &mut pass);
+    play_broken(rt, &session, &net, &mut seat, &mut pass, &mut key);
     let _slips = seat.into_slips();
     Ok(())
 }

@@ -38,8 +38,7 @@ Refusals (status 1):
 
 /// What `tpnet format` refuses.
 pub const FORMAT_REFUSALS: &str =
-    "formatted doesn't mean that the disk has room for all of DEVICE: its file is sparse, and takes room as it is written. Where that runs
-out, a later command says DeviceFailed, and nothing that was acknowledged is lost: make room, and give it again.
+    "formatted means that the disk has room for all of DEVICE: each byte of its file is written.
 Refusals (status 1); all but DeviceFailed leave a file that is there as it was:
   InUse         another tpnet runs, formats or compacts DEVICE: wait for it (--wait-lock), or end it
   ReadFailed    TOPOLOGY or an image can't be read: look at its path and its rights
@@ -48,8 +47,8 @@ Refusals (status 1); all but DeviceFailed leave a file that is there as it was:
   UnknownNode   a wire names what no line above declares
   TooMany       there are more than 64 nodes or 8 ports
   DeviceExists  with --new: DEVICE is there already
-  DeviceFailed  DEVICE can't be made or written, or standard output can't: look at rights and room; once DEVICE is
-                opened it is emptied, so what was there may be gone: --new or a new path keeps an old device
+  DeviceFailed  DEVICE can't be made or written, or standard output can't: look at rights and room; once there is room
+                for it what was there is written over, and may be gone: --new or a new path keeps an old device
   BadImage      an image is none, has other pages than its node, or a link of it is at work
   AreaFull      AREA is too small: tpnet check says how large it has to be
   Memory        there is no memory left

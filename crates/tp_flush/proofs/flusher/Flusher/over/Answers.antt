@@ -14,6 +14,7 @@ use Rattle.tp_flush.proofs.Begins.{begun, begun_is, first_keeps}
 use Rattle.tp_flush.proofs.Devices.{first_device}
 use Rattle.tp_flush.proofs.Gone.{gone_none}
 use Rattle.tp_flush.proofs.Forms.{holds_same}
+use Rattle.tp_flush.proofs.Breaking.{where_whole}
 use Rattle.tp_flush.proofs.flusher.Flusher.over.Goals as goal
 
 pub invariant_of-result : goal.invariant_of-result
@@ -41,7 +42,7 @@ invariant_of-result g c =
       subst (λ (k : Known). g.J.Naming.first ≤ k.world.stored) (sym c.of-whole.ensures) (omega (arith, c.requires.first, c.requires.next)),
       subst (λ (k : Known). key.numbered_from ≤ k.world.stored) (sym c.of-whole.ensures) (omega (arith, c.requires.numbered, c.requires.first, c.requires.next)),
       holds_same place.form key.form c.requires.form,
-      (λ failed. absurd (true≢false (sym failed ∙ c.requires.unbroken))),
+      where_whole broken key _ c.requires.whole c.requires.unbroken,
       gone_none c.of-whole.result.known.world.net key.frozen c.new.result c.new.ensures,
     )
 

@@ -13,11 +13,12 @@ use Rattle.tp_model.specs.WriteOrder.{Resting}
 use Rattle.tp_area.specs.Other.{OtherIsClosed, PutBehind, other_gate}
 use Rattle.tp_area.specs.Pieces.{piece_length, piece_place}
 use Rattle.tp_shared.specs.Told.{IsFirst}
+use Rattle.tp_shared.specs.declared.told.Told.{Told}
 use Rattle.tp_area.specs.Tails.{content_beside}
 use Rattle.tp_flush.specs.Copying.{IsPartOut}
 use Rattle.tp_flush.specs.Progress.{is_out}
 use Rattle.tp_flush.specs.Known.{Began, Known}
-use Rattle.tp_flush.specs.Flushing.{AreGone, KeepsCopy, Flushing, FlushedOn, HeadSays, IsOfDevice, KeepsWorld}
+use Rattle.tp_flush.specs.Flushing.{AreGone, HoldsAllOf, KeepsCopy, Flushing, FlushedOn, HeadSays, IsOfDevice, KeepsWorld}
 use Rattle.tp_flush.specs.Ends.{Tried}
 use Rattle.tp_flush.proofs.Appends.{opens, rests_unbroken}
 use Rattle.tp_flush.proofs.Closed.{piece_images, piece_room, put_copies}
@@ -27,6 +28,7 @@ use Rattle.tp_area.specs.declared.place.Place.{Place}
 use Rattle.tp_model.specs.Disk.{written}
 use Rattle.tp_flush.proofs.Puts.{if_answered, piece_inside, Answered, after_put, on_ok, on_ok_same, piece_walks, place_from, put_answered, put_keeps, put_known, put_net, put_stored, put_tried, told_put}
 use Rattle.tp_flush.proofs.Forms.{holds_at}
+use Rattle.tp_flush.proofs.Breaking.{first_where, whole_where}
 use Rattle.tp_flush.proofs.flusher.Flusher.put.Given as given
 use Rattle.tp_flush.proofs.flusher.Flusher.put.Goals as goal
 
@@ -90,6 +92,10 @@ put_at-done-requires-clause-inside g c =
     (subst (λ (v : Flushing). c.args.image ≡ piece_place v.topology c.args.node 0) (sym c.self.view_is) c.requires.image) c.place_in_image.ensures.value in
     omega (arith, fits, is, c.requires.whole)
 
+pub tell_where-requires-clause-whole : goal.tell_where-requires-clause-whole
+tell_where-requires-clause-whole g c =
+    whole_where c.self.inside.parts.store.broken c.self.inside.parts.key.value _ _ c.self.invariant.9 c.self.invariant.3.at (ap (λ (v : Flushing). v.world.at) c.self.view_is ∙ c.requires.rests)
+
 pub invariant_of-self : goal.invariant_of-self
 invariant_of-self g c =
     let p = c.self.inside.parts in
@@ -97,9 +103,10 @@ invariant_of-self g c =
     let s : State = g.D.Disk.state p.store.disk in
     let new : State = g.D.Disk.state a.new.self.disk in
     let K = subst (λ broken. KeepsWorld g.D.Disk.keeps g.J.Naming.formatted g.J.Naming.before p.whole.known s p.store.place broken p.raiser.at) (unbroken g c) c.self.invariant.3 in (
-      c.self.invariant.0,
+      c.tell_where.ensures.name ∙ c.self.invariant.0,
       c.self.invariant.1,
-      subst (λ (k : Known). IsFirst p.key.value k.world) (sym c.of-parts.ensures) (told_put p.key.value a.new.self.broken p.whole.known.world new.now c.self.invariant.2),
+      subst (λ (k : Known). IsFirst c.tell_where.new.key.value k.world) (sym c.of-parts.ensures)
+          (first_where p.key.value c.tell_where.new.key.value a.new.self.broken _ c.tell_where.ensures.key (told_put p.key.value a.new.self.broken p.whole.known.world new.now c.self.invariant.2)),
       subst (λ (k : Known). KeepsWorld g.D.Disk.keeps g.J.Naming.formatted g.J.Naming.before k new a.new.self.place a.new.self.broken p.raiser.at) (sym c.of-parts.ensures)
           (subst (λ place. KeepsWorld g.D.Disk.keeps g.J.Naming.formatted g.J.Naming.before (put_known p.whole.known a.new.self.broken new) new place a.new.self.broken p.raiser.at) (sym a.ensures.place)
           (put_keeps g.D.Disk.keeps g.J.Naming.formatted g.J.Naming.before p.whole.known s p.store.place p.raiser.at K new a.new.self.broken (walked g c))),
@@ -118,11 +125,13 @@ invariant_of-self g c =
           (λ P. piece_head p.store.place (piece_place p.topology c.args.node c.args.piece) c.args.bytes.now s new p.topology (omega (arith, p.store.whole, g.met.D.Disk.whole k p.store.disk)) (omega (arith, inside g c, c.requires.whole)) P.called
           (c.self.invariant.5.head k (unbroken g c))) (put_to g c k))),
       subst (λ (k : Known). g.J.Naming.first ≤ k.world.stored) (sym c.of-parts.ensures) (omega (arith, put_stored a.new.self.broken p.whole.known.world new.now, c.self.invariant.6)),
-      subst (λ (k : Known). p.key.value.numbered_from ≤ k.world.stored) (sym c.of-parts.ensures) (omega (arith, put_stored a.new.self.broken p.whole.known.world new.now, c.self.invariant.7)),
-      holds_at p.store.place a.new.self.place p.key.value.form (ap (λ (q : Place). q.form) a.ensures.place) c.self.invariant.8,
-      c.tell_where.ensures,
-      subst (λ (k : Known). AreGone k.world.net p.key.value.frozen p.progress) (sym c.of-parts.ensures)
-          (subst (λ net. AreGone net p.key.value.frozen p.progress) (sym (put_net a.new.self.broken p.whole.known.world new.now)) c.self.invariant.10),
+      subst (λ (t : Told). t.numbered_from ≤ c.of-parts.result.known.world.stored) (sym c.tell_where.ensures.key)
+          (subst (λ (k : Known). p.key.value.numbered_from ≤ k.world.stored) (sym c.of-parts.ensures) (omega (arith, put_stored a.new.self.broken p.whole.known.world new.now, c.self.invariant.7))),
+      subst (λ (t : Told). HoldsAllOf a.new.self.place.form t.form) (sym c.tell_where.ensures.key) (holds_at p.store.place a.new.self.place p.key.value.form (ap (λ (q : Place). q.form) a.ensures.place) c.self.invariant.8),
+      c.tell_where.ensures.told,
+      subst (λ (t : Told). AreGone c.of-parts.result.known.world.net t.frozen p.progress) (sym c.tell_where.ensures.key)
+          (subst (λ (k : Known). AreGone k.world.net p.key.value.frozen p.progress) (sym c.of-parts.ensures)
+          (subst (λ net. AreGone net p.key.value.frozen p.progress) (sym (put_net a.new.self.broken p.whole.known.world new.now)) c.self.invariant.10)),
     )
 
 abbrev behind : (g : given.Over) (c : goal.After-answer_of g) → Flushing
@@ -138,7 +147,7 @@ behind g c =
       place = a.new.self.place;
       topology = p.topology;
       progress = p.progress;
-      frozen = p.key.value.frozen;
+      frozen = c.tell_where.new.key.value.frozen;
     }
 
 abbrev before : (g : given.Over) (c : goal.After-answer_of g) → Flushing

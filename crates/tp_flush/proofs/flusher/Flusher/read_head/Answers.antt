@@ -12,6 +12,7 @@ use Rattle.tp_flush.proofs.Devices.{look_device}
 use Rattle.tp_flush.proofs.Goings.{goes_looked, went_looked}
 use Rattle.tp_flush.proofs.Kept.{learn_keeps, learned_looked}
 use Rattle.tp_flush.proofs.Forms.{holds_since}
+use Rattle.tp_flush.proofs.Breaking.{where_since}
 use Rattle.tp_flush.proofs.flusher.Flusher.read_head.Given as given
 use Rattle.tp_flush.proofs.flusher.Flusher.read_head.Goals as goal
 
@@ -32,7 +33,7 @@ invariant_of-self g c =
       subst (λ (k : Known). g.J.Naming.first ≤ k.world.stored) (sym c.of-parts.ensures) c.self.invariant.6,
       subst (λ (k : Known). now.numbered_from ≤ k.world.stored) (sym c.of-parts.ensures) (omega (arith, c.frozen_head-found.ensures.since.numbered, c.self.invariant.7)),
       holds_since p.store.place.form p.key.value now c.frozen_head-found.ensures.since c.self.invariant.8,
-      c.self.invariant.9,
+      where_since p.store.broken p.key.value now _ c.frozen_head-found.ensures.since c.self.invariant.9,
       subst (λ (k : Known). AreGone k.world.net now.frozen p.progress) (sym c.of-parts.ensures) (gone_told p.whole.known.world p.key.value now p.progress c.self.invariant.2 c.frozen_head-found.ensures.since c.self.invariant.10),
     )
 

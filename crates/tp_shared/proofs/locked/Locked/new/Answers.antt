@@ -5,6 +5,7 @@ use Rattle.tp_shared.specs.Frozen.{frozen_in}
 use Rattle.tp_shared.specs.Positions.{IsNumberedFrom}
 use Rattle.tp_shared.specs.Told.{ToldSince, told_of}
 use Rattle.tp_shared.specs.declared.told.Told.{Told}
+use Rattle.tp_shared.proofs.BrokenSeen.{seen_none}
 use Rattle.tp_shared.proofs.Thawing.{thaws_none}
 use Rattle.tp_shared.proofs.Positioned.{positions_below}
 use Rattle.tp_shared.proofs.Telling.{since_none}
@@ -35,4 +36,5 @@ invariant_of-result g c =
       thawed = thaws_none c.args.told.value c.args.seals.items (ap (λ (t : Told). t.thawed) is);
       numbered = subst (λ (t : Told). IsNumberedFrom t.numbered_from c.args.book) (sym is) (positions_below g.J.Naming.first c.args.book.base c.args.book.numbers (omega (arith, many, last)));
       reaches = subst (λ (t : Told). t.numbered_from ≤ t.base + length t.net.entries) (sym is) (omega (arith, last));
+      seen = seen_none _ _ _ c.requires.unseen;
     }

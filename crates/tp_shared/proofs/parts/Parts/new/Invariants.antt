@@ -4,4 +4,4 @@ use Rattle.tp_model.specs.Runs.{fresh}
 use Rattle.tp_shared.proofs.parts.Parts.new.Given as goal
 
 abbrev pub ghost-pair : goal.ghost-pair
-ghost-pair a = record { net = fresh (record { wires = []; nodes = []; ports = []; lines = [] }); base = 0; journal = []; thawed = false; numbered_from = 0; form = Turns; frozen = [] }
+ghost-pair a = record { net = fresh (record { wires = []; nodes = []; ports = []; lines = [] }); base = 0; journal = []; thawed = false; numbered_from = 0; form = Turns; broken = false; frozen = [] }

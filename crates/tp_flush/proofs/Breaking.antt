@@ -1,0 +1,28 @@
+-- What the flusher knows of the book's store.
+use Rattle.std.proofs.Common.{◌≡◌, Bool, true, false, List, sym, subst, ◌∙◌}
+use Rattle.std.proofs.lemmas.Bool.{true≢false}
+use Rattle.tp_model.specs.NodeState.{NodeState}
+use Rattle.tp_model.specs.Runs.{World}
+use Rattle.tp_model.specs.WriteOrder.{Position, Resting}
+use Rattle.tp_book.specs.Book.{BookValue}
+use Rattle.tp_shared.specs.Told.{IsFirst, ToldSince}
+use Rattle.tp_shared.specs.declared.told.Told.{Told}
+use Rattle.tp_flush.specs.Flushing.{position}
+use Rattle.tp_flush.specs.WasTold.{ToldWhere}
+use Rattle.tp_flush.proofs.Appends.{rests_unbroken}
+
+-- it was told of the book as it is
+pub where_since : (broken : Bool) (old now : Told) (seen : List BookValue) → ToldSince old now → ToldWhere broken old seen → ToldWhere broken now seen
+where_since broken old now seen since W = record { shows = since.broken ∙ W.shows; was = W.was }
+
+-- no call has failed
+pub where_whole : (broken : Bool) (now : Told) (seen : List BookValue) → now.broken ≡ false → broken ≡ false → ToldWhere broken now seen
+where_whole broken now seen whole not = record { shows = whole ∙ sym not; was = λ failed. absurd (true≢false (sym failed ∙ not)) }
+
+-- it rests, so none is
+pub whole_where : (broken : Bool) (told : Told) (seen : List BookValue) (at : Position NodeState) → ToldWhere broken told seen → at ≡ position broken → at ≡ Resting → told.broken ≡ false
+whole_where broken told seen at W is rests = W.shows ∙ rests_unbroken broken (sym is ∙ rests)
+
+-- whether the store is broken is nothing of the world
+pub first_where : (told now : Told) (failed : Bool) (w : World NodeState) → now ≡ record told { broken = failed } → IsFirst told w → IsFirst now w
+first_where told now failed w is F = subst (λ (t : Told). IsFirst t w) (sym is) (record { net = F.net; base = F.base; journal = F.journal })
