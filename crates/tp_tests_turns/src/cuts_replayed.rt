@@ -6,10 +6,10 @@ ghost use Rattle.tp_replay.specs.Flat.{CanCount};
 use crate::cuts_network::{LINES, PROCESSES, flat_of};
 use crate::plain::Plain;
 use crate::playing::Play;
-use crate::replayed::{is_line, is_port};
+use crate::replayed::{are_ports, is_line};
 use std::alloc::Global;
 use std::test::Fail;
-use tp_book::{Cut, NetParts, PortParts};
+use tp_book::{Cut, NetParts};
 use tp_replay::FlatNetwork;
 
 /// Whether the network's one port can count one more byte.
@@ -34,20 +34,6 @@ fn replay(plain: &Plain, wanted: &[bool], flat: &mut FlatNetwork) -> bool {
     true
 }
 
-/// Whether `ports` are as `others`.
-fn are_ports(ports: &[PortParts], others: &[PortParts]) -> bool {
-    ports.len() == others.len()
-        && ports
-            .iter()
-            .zip(others)
-            .all(|(one, other)| is_port(one, other))
-}
-
-/// Whether `images` are the bytes of `others`.
-fn are_images(images: &[Vec<u8>], others: &[Vec<u8>]) -> bool {
-    images.len() == others.len() && images.iter().zip(others).all(|(one, other)| one == other)
-}
-
 /// Whether a cut with the nodes' images as they recorded is a network.
 fn is_network(cut: &Cut, images: &[Vec<u8>], parts: &NetParts) -> bool {
     for (line, tokens) in parts.lines.iter().enumerate() {
@@ -57,14 +43,12 @@ fn is_network(cut: &Cut, images: &[Vec<u8>], parts: &NetParts) -> bool {
     }
     parts.lines.len() == LINES
         && are_ports(cut.ports(), &parts.ports)
-        && are_images(images, &parts.images)
+        && images == parts.images.as_slice()
 }
 
 /// Whether two networks are equal.
 pub(crate) fn are_same(one: &NetParts, other: &NetParts) -> bool {
-    one.lines == other.lines
-        && are_ports(&one.ports, &other.ports)
-        && are_images(&one.images, &other.images)
+    one.lines == other.lines && are_ports(&one.ports, &other.ports) && one.images == other.images
 }
 
 /// The network that the entries lead to which are in the cut or outside, as `wanted` says. None where one isn't possible.
@@ -122,7 +106,8 @@ fn is_led(
     let Some(all) = ordered(alloc, plain, first, second)? else {
         return Ok(false);
     };
-    Ok(now.len() + 1 == PROCESSES && are_images(now, &swapped.images) && are_same(swapped, &all))
+    let is_now = now.len() + 1 == PROCESSES && now == swapped.images.as_slice();
+    Ok(is_now && are_same(swapped, &all))
 }
 
 /// Whether the entries outside the cut lead, behind those in it, to where all lead in their own order, to the nodes as they are `now`.

@@ -1,6 +1,6 @@
 //! Devices in memory, from which a network begins.
 
-use crate::machines::Chance;
+use crate::machines::{Chance, Task, image};
 use arrayvec::ArrayVec;
 use std::alloc::Global;
 use std::test::Fail;
@@ -9,6 +9,7 @@ use tp_disk::MemDisk;
 use tp_model::WireEnd;
 use tp_model::limits::NARROW_HEAD_BYTES;
 use tp_net::{MAX_LINES, Topology};
+use tp_tests_fixtures::{ONE_NODE, letter};
 
 /// The bytes of an area.
 const AREA: u64 = 64_000;
@@ -24,6 +25,30 @@ pub(crate) fn formatted(
     let _rules = topology.pages();
     format(alloc, &mut disk, topology, images, AREA)?;
     Ok(disk)
+}
+
+/// The device of a network of images.
+pub(crate) fn device_of(alloc: Global, text: &[u8], images: &[Vec<u8>]) -> Result<MemDisk, Fail> {
+    let topology = Topology::read(alloc, text)?;
+    let disk = formatted(alloc, &topology, images);
+    disk
+}
+
+/// The device of the node that sends a letter.
+pub(crate) fn letter_device(alloc: Global) -> Result<MemDisk, Fail> {
+    let images = Vec::from_array(alloc, [letter(alloc)?])?;
+    let disk = device_of(alloc, ONE_NODE, &images);
+    disk
+}
+
+/// The device of nodes with tasks.
+pub(crate) fn tasks_device(alloc: Global, text: &[u8], tasks: &[&[Task]]) -> Result<MemDisk, Fail> {
+    let mut images = Vec::new(alloc);
+    for of_node in tasks {
+        images.push(image(alloc, *of_node)?)?;
+    }
+    let disk = device_of(alloc, text, &images);
+    disk
 }
 
 /// The end with a number: the links of `nodes` nodes come first, and then the ports.

@@ -30,7 +30,7 @@ const MOST_ACTS: usize = 24;
 const MOST_ORDERS: u32 = 400_000;
 
 /// How an order ends: it is over and right; no act is left that wasn't tried before; or something is wrong.
-#[derive(Clone, Copy, Debug, PartialEq, Eq)]
+#[derive(Clone, Copy)]
 enum End {
     Right,
     Spent,

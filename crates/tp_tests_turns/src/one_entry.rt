@@ -1,16 +1,15 @@
 //! Turns that are one entry: they lead where their takes and their runs lead, and take fronts of the lines before them alone.
 
-use crate::devices::formatted;
-use crate::machines::{Task, image};
-use crate::replayed::{flat_of, is_port};
+use crate::cuts_replayed::are_same;
+use crate::devices::tasks_device;
+use crate::machines::Task;
+use crate::replayed::flat_of;
 use std::alloc::Global;
 use std::test::Fail;
 use tp_book::NetParts;
-use tp_disk::MemDisk;
 use tp_model::Entry;
 use tp_model::Received::{self, AckThenData, JustAck, JustData, Nothing};
 use tp_model::Token::{Ack, Data};
-use tp_net::Topology;
 use tp_replay::FlatNetwork;
 use tp_tests_opening::possible::can_count;
 
@@ -108,17 +107,6 @@ fn turn(node: u8, takes: [Received; 4], count: u16) -> Entry {
     Entry::Turn { node, takes, count }
 }
 
-/// The device of a network before its first entry.
-fn device(alloc: Global, start: Start) -> Result<MemDisk, Fail> {
-    let mut images = Vec::new(alloc);
-    for tasks in start.tasks {
-        images.push(image(alloc, *tasks)?)?;
-    }
-    let topology = Topology::read(alloc, start.text)?;
-    let disk = formatted(alloc, &topology, &images);
-    disk
-}
-
 /// Whether `entries` are possible one after another. The network is then that behind them.
 fn goes_on(network: &mut FlatNetwork, entries: &[Entry]) -> bool {
     for entry in entries {
@@ -156,27 +144,16 @@ fn behind(
     entries: &[Entry],
     is_possible: bool,
 ) -> Result<Option<NetParts>, Fail> {
-    let mut disk = device(alloc, start)?;
+    let mut disk = tasks_device(alloc, start.text, start.tasks)?;
     let mut network = flat_of(alloc, &mut disk)?;
     let parts = parts_behind(alloc, &mut network, start.before, entries, is_possible);
     parts
 }
 
-/// Whether two networks have one state.
-fn is_one(one: &NetParts, other: &NetParts) -> bool {
-    let ports = one.ports.len() == other.ports.len()
-        && one
-            .ports
-            .iter()
-            .zip(&other.ports)
-            .all(|(a, b)| is_port(a, b));
-    ports && one.images == other.images && one.lines == other.lines
-}
-
 /// Whether both are there, with one state.
 fn are_one(one: &Option<NetParts>, other: &Option<NetParts>) -> bool {
     match (one, other) {
-        (Some(one), Some(other)) => is_one(one, other),
+        (Some(one), Some(other)) => are_same(one, other),
         _ => false,
     }
 }
@@ -222,7 +199,8 @@ fn a_turn_leads_where_its_takes_and_its_run_lead(rt: HostRuntime) -> Result<(), 
         (two_nodes, &heard, &hearing),
         (one_node, &own, &own_turns),
     ];
-    assert_eq!(rt; first_apart(rt.alloc(), &leads)?, None);
+    let apart = first_apart(rt.alloc(), &leads)?;
+    assert!(rt; apart.is_none(), "row {}", apart.unwrap_or(0));
     Ok(())
 }
 
@@ -256,7 +234,8 @@ fn a_turn_takes_what_stood_on_its_lines_before_it(rt: HostRuntime) -> Result<(),
         // the acknowledge that the byte's take sends wasn't on its line before the turn
         (one_node, turn(0, BYTE_AND_ITS_ACKNOWLEDGE, 0)),
     ];
-    assert_eq!(rt; first_possible(rt.alloc(), &refused)?, None);
+    let possible = first_possible(rt.alloc(), &refused)?;
+    assert!(rt; possible.is_none(), "row {}", possible.unwrap_or(0));
     Ok(())
 }
 

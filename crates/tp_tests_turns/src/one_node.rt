@@ -1,14 +1,10 @@
 //! One node that sends a letter on link 0, which is wired to a port.
 
-use crate::devices::formatted;
+use crate::devices::letter_device;
 use crate::network::Net;
-use std::alloc::Global;
 use std::test::Fail;
 use tp_book::Numbered;
-use tp_disk::MemDisk;
 use tp_model::{Entry, Token};
-use tp_net::Topology;
-use tp_tests_fixtures::{ONE_NODE, letter};
 
 /// What four turns make, of the node and the host in turns: the node runs up to the acknowledge that it waits for, the port takes the
 /// letter, and the node takes the acknowledge and goes round.
@@ -24,13 +20,6 @@ const ENTRIES: [Entry; 4] = [
     },
     Entry::Run { node: 0, count: 16 },
 ];
-
-fn device(alloc: Global) -> Result<MemDisk, Fail> {
-    let images = Vec::from_array(alloc, [letter(alloc)?])?;
-    let topology = Topology::read(alloc, ONE_NODE)?;
-    let disk = formatted(alloc, &topology, &images);
-    disk
-}
 
 /// Makes `turns` turns, of the node and the host in turns. Answers whether none was refused.
 fn plays(net: &mut Net, turns: u8) -> bool {
@@ -63,7 +52,7 @@ pub(crate) fn are(entries: &[Numbered], wanted: &[Entry]) -> bool {
 
 #[test]
 fn the_entries_of_four_turns(rt: HostRuntime) -> Result<(), Fail> {
-    let mut disk = device(rt.alloc())?;
+    let mut disk = letter_device(rt.alloc())?;
     let mut net = Net::of_device(rt.alloc(), &mut disk, 4)?;
     let entries = ENTRIES;
     assert!(rt; net.book().entries().is_empty());

@@ -13,10 +13,12 @@ pub(crate) struct PlainLines {
 
 /// The line that comes in on a link of a node.
 pub(crate) fn line_to(node: u8, link: u8) -> Option<u16> {
-    let at = WIRES
-        .iter()
-        .position(|end| *end == Some(WireEnd::Link(node, link)))?;
-    u16::try_from(at).ok()
+    for (at, end) in WIRES.iter().enumerate() {
+        if *end == Some(WireEnd::Link(node, link)) {
+            return u16::try_from(at).ok();
+        }
+    }
+    None
 }
 
 /// The process that receives a line.
@@ -31,7 +33,7 @@ pub(crate) fn taker(line: u16) -> Option<usize> {
 /// Whether a line is one that a process sends on.
 fn is_from(process: usize, line: u16) -> bool {
     let place = usize::from(line);
-    place / 4 == process && WIRES.get(place).is_some_and(|end| end.is_some())
+    place / 4 == process && matches!(WIRES.get(place), Some(Some(_)))
 }
 
 impl PlainLines {
@@ -81,10 +83,12 @@ impl PlainLines {
 
     /// Where the Marker stands on a line.
     pub(crate) fn marker(&self, line: u16) -> Option<usize> {
-        self.lines
-            .get(usize::from(line))?
-            .iter()
-            .position(|token| *token == Token::Marker)
+        for (at, token) in self.lines.get(usize::from(line))?.iter().enumerate() {
+            if *token == Token::Marker {
+                return Some(at);
+            }
+        }
+        None
     }
 
     /// Takes the Marker off a line, wherever it stands. Answers what stood in front of it.

@@ -132,7 +132,7 @@ impl<'a> Game for OverTheTrim<'a> {
         if !may_be(&self.play, *act, &self.case.opens) {
             return Ok(false);
         }
-        if *act == TakeIn && !is_cut(alloc, &self.play, self.images)? {
+        if matches!(*act, TakeIn) && !is_cut(alloc, &self.play, self.images)? {
             return Err(Fail::from("a cut isn't what was gathered"));
         }
         does(alloc, &mut self.play, *act)
@@ -184,7 +184,12 @@ fn each_order_of_open_turns_comes_to_a_right_cut(rt: HostRuntime) -> Result<(), 
             case,
             images: &images,
         };
-        assert_eq!(rt; play_all(rt.alloc(), &turns)?, Some(case.orders));
+        let played = play_all(rt.alloc(), &turns)?;
+        assert!(rt;
+            played == Some(case.orders),
+            "{} orders",
+            played.unwrap_or(0)
+        );
     }
     Ok(())
 }

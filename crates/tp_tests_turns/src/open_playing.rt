@@ -10,7 +10,7 @@ use tp_book::tokens_of;
 use tp_model::{Entry, Received, Token};
 
 /// An act of a node, of the host, or of who keeps the book.
-#[derive(Clone, Copy, Debug, PartialEq, Eq)]
+#[derive(Clone, Copy)]
 pub(crate) enum OpenAct {
     /// A node records where it is asked to, lines are closed at Markers in front, and its turn is opened.
     Open(u8),
@@ -73,8 +73,10 @@ pub(crate) fn is_asked(play: &OpenPlay, number: u8) -> bool {
 
 /// Whether a line has a Marker that its receiver, which has recorded, may take.
 fn is_closable(play: &OpenPlay, line: u16) -> bool {
-    let recorded = taker(line).is_some_and(|process| play.plain.has_recorded(process));
-    recorded && play.lines.marker(line).is_some()
+    match taker(line) {
+        Some(process) => { play.plain.has_recorded(process) && play.lines.marker(line).is_some() }
+        None => false,
+    }
 }
 
 /// Closes a line: what stands in front of its Marker belongs to the cut, and stays.

@@ -139,7 +139,12 @@ fn each_order_comes_to_a_right_cut(rt: HostRuntime) -> Result<(), Fail> {
             case,
             images: &images,
         };
-        assert_eq!(rt; play_all(rt.alloc(), &cuts)?, Some(case.orders));
+        let played = play_all(rt.alloc(), &cuts)?;
+        assert!(rt;
+            played == Some(case.orders),
+            "{} orders",
+            played.unwrap_or(0)
+        );
     }
     Ok(())
 }

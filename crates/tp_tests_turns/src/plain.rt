@@ -9,7 +9,7 @@ use tp_model::{Entry, Token, WireEnd};
 pub(crate) const HOST: usize = 2;
 
 /// An entry: who made it, and whether that process hadn't recorded yet.
-#[derive(Clone, Copy, Debug)]
+#[derive(Clone, Copy)]
 pub(crate) struct Made {
     pub(crate) entry: Entry,
     pub(crate) process: usize,
@@ -134,7 +134,13 @@ impl Plain {
 
     /// How many entries are in the cut.
     fn size(&self) -> u64 {
-        self.made.iter().filter(|made| made.inside).count() as u64
+        let mut size = 0u64;
+        for made in self.made.iter() {
+            if made.inside {
+                size = size.saturating_add(1);
+            }
+        }
+        size
     }
 
     /// Whether `entries` are those outside the cut, each with its place among all as its number.

@@ -6,7 +6,7 @@ use std::alloc::Global;
 use std::test::Fail;
 
 /// An act of a process, or of the host.
-#[derive(Clone, Copy, Debug)]
+#[derive(Clone, Copy)]
 pub(crate) enum Act {
     /// A node runs as far as it can.
     Run(u8),

@@ -3,7 +3,7 @@
 use crate::devices::{drawn_topology, formatted};
 use crate::machines::{Chance, drawn_image};
 use crate::network::Net;
-use crate::replayed::{flat_of, take_in};
+use crate::replayed::{both_of, take_in};
 use std::alloc::{AllocError, Global};
 use std::test::Fail;
 use tp_book::Refusal;
@@ -67,7 +67,7 @@ fn happens(alloc: Global, net: &mut Net, chance: &mut Chance) -> bool {
 }
 
 /// How many cuts were whole, and how many tokens stood on their lines.
-#[derive(Clone, Copy, Debug)]
+#[derive(Clone, Copy)]
 struct Told {
     cuts: u32,
     tokens: usize,
@@ -99,7 +99,10 @@ fn takes_in(
         return Ok(Some(Told::none()));
     }
     let tokens = take_in(alloc, net, flat)?;
-    Ok(tokens.map(|tokens| Told { cuts: 1, tokens }))
+    Ok(match tokens {
+        Some(tokens) => Some(Told { cuts: 1, tokens }),
+        None => None,
+    })
 }
 
 /// Plays a schedule on a network. Answers of its whole cuts; none where one wasn't right, or a turn was refused that may not be.
@@ -124,8 +127,7 @@ fn play_on(
 
 /// Plays a schedule of the network of a device.
 fn play(alloc: Global, disk: &mut MemDisk, chance: &mut Chance) -> Result<Option<Told>, Fail> {
-    let mut net = Net::of_device(alloc, disk, 4)?;
-    let mut flat = flat_of(alloc, disk)?;
+    let (mut net, mut flat) = both_of(alloc, disk, 4)?;
     let told = play_on(alloc, &mut net, &mut flat, chance);
     told
 }
@@ -164,7 +166,7 @@ fn whole_cuts_are_what_their_entries_lead_to(rt: HostRuntime) -> Result<(), Fail
         Some(told) => told.cuts > u32::from(SCHEDULES) && told.tokens > 0,
         None => false,
     };
-    assert!(rt; many, "{told:?}");
+    assert!(rt; many);
     Ok(())
 }
 
@@ -207,8 +209,7 @@ fn snapshots_on(
 
 /// Snapshots of the network of a device.
 fn snapshots_of(alloc: Global, disk: &mut MemDisk, count: u8) -> Result<Option<usize>, Fail> {
-    let mut net = Net::of_device(alloc, disk, 4)?;
-    let mut flat = flat_of(alloc, disk)?;
+    let (mut net, mut flat) = both_of(alloc, disk, 4)?;
     let tokens = snapshots_on(alloc, &mut net, &mut flat, count);
     tokens
 }
@@ -225,8 +226,7 @@ fn snapshots(alloc: Global, nodes: u8, count: u8) -> Result<Option<usize>, Fail>
 fn snapshots_of_some_nodes_come_to_their_end(rt: HostRuntime) -> Result<(), Fail> {
     for nodes in [3, 8] {
         let tokens = snapshots(rt.alloc(), nodes, 20)?;
-        let some = tokens.unwrap_or(0) > 0;
-        assert!(rt; some, "{nodes} nodes: {tokens:?}");
+        assert!(rt; tokens.unwrap_or(0) > 0, "{nodes} nodes");
     }
     Ok(())
 }

@@ -1,22 +1,21 @@
 //! Two nodes, link 0 of each wired to the other's, and link 3 of the first to a port. The first sends one byte, and a snapshot
 //! begins while it is under way.
 
-use crate::devices::formatted;
-use crate::machines::{Task, image};
+use crate::devices::tasks_device;
+use crate::machines::Task;
 use crate::network::Net;
-use crate::replayed::{flat_of, take_in};
-use std::alloc::{AllocError, Global};
+use crate::replayed::{both_of, take_in};
+use std::alloc::Global;
 use std::test::Fail;
 use tp_book::{Book, Numbered};
 use tp_disk::MemDisk;
 use tp_model::{Entry, Token};
-use tp_net::Topology;
 use tp_replay::FlatNetwork;
 
 const TEXT: &[u8] = b"node a 4\nnode b 4\nport h\nwire a.0 b.0\nwire a.3 h\n";
 
 /// What is done: a node's turn, the host's, or a snapshot begins.
-#[derive(Clone, Copy, Debug, PartialEq, Eq)]
+#[derive(Clone, Copy)]
 enum Step {
     Node(u8),
     Host,
@@ -47,21 +46,6 @@ const ENTRIES: [Numbered; 2] = [
         },
     },
 ];
-
-/// The images of both nodes.
-fn images(alloc: Global) -> Result<Vec<Vec<u8>>, AllocError> {
-    let mut images = Vec::new(alloc);
-    images.push(image(alloc, &[Task::Once(0)])?)?;
-    images.push(image(alloc, &[])?)?;
-    Ok(images)
-}
-
-fn device(alloc: Global) -> Result<MemDisk, Fail> {
-    let images = images(alloc)?;
-    let topology = Topology::read(alloc, TEXT)?;
-    let disk = formatted(alloc, &topology, &images);
-    disk
-}
 
 /// Makes a step. Answers how many tokens it took.
 fn does(alloc: Global, net: &mut Net, step: Step) -> Option<u64> {
@@ -146,17 +130,16 @@ fn play(
 
 /// Plays on the network of a device.
 fn play_of(alloc: Global, disk: &mut MemDisk) -> Result<(Option<Step>, bool), Fail> {
-    let mut net = Net::of_device(alloc, disk, 4)?;
-    let mut flat = flat_of(alloc, disk)?;
+    let (mut net, mut flat) = both_of(alloc, disk, 4)?;
     let told = play(alloc, &mut net, &mut flat);
     told
 }
 
 #[test]
 fn a_byte_under_way_is_in_the_cut(rt: HostRuntime) -> Result<(), Fail> {
-    let mut disk = device(rt.alloc())?;
+    let tasks: [&[Task]; 2] = [&[Task::Once(0)], &[]];
+    let mut disk = tasks_device(rt.alloc(), TEXT, &tasks)?;
     let (other, is_taken_in) = play_of(rt.alloc(), &mut disk)?;
-    assert_eq!(rt; other, None);
-    assert!(rt; is_taken_in);
+    assert!(rt; other.is_none() && is_taken_in);
     Ok(())
 }

@@ -1,10 +1,10 @@
 //! Turns that are one entry, made by nodes: their entries, Markers behind what they take, a full journal.
 
-use crate::devices::formatted;
+use crate::devices::{device_of, letter_device, tasks_device};
 use crate::machines::{Task, image};
 use crate::network::Net;
 use crate::one_node::are;
-use crate::replayed::{flat_of, take_in};
+use crate::replayed::{both_of, take_in};
 use std::alloc::Global;
 use std::test::Fail;
 use tp_book::Refusal;
@@ -12,9 +12,8 @@ use tp_disk::MemDisk;
 use tp_model::Entry;
 use tp_model::Received::{JustAck, JustData, Nothing};
 use tp_model::Token::Data;
-use tp_net::Topology;
 use tp_replay::FlatNetwork;
-use tp_tests_fixtures::{ONE_NODE, letter};
+use tp_tests_fixtures::letter;
 
 /// A node that sends the byte 58 on link 0, and one that it is wired to.
 const TWO: &[u8] = b"node a 4\nnode b 4\nport h\nwire a.0 b.0\nwire a.3 h\n";
@@ -37,35 +36,11 @@ const LETTER_ACKNOWLEDGED: Entry = Entry::Turn {
 };
 
 /// What is done: a node's whole turn of at most that many steps, the host's turn, or a snapshot begins.
-#[derive(Clone, Copy, Debug, PartialEq, Eq)]
+#[derive(Clone, Copy)]
 enum Step {
     Node(u8, u16),
     Host,
     Begin,
-}
-
-/// The device of a network of images.
-fn device(alloc: Global, text: &[u8], images: &[Vec<u8>]) -> Result<MemDisk, Fail> {
-    let topology = Topology::read(alloc, text)?;
-    let disk = formatted(alloc, &topology, images);
-    disk
-}
-
-/// The device of the node that sends a letter.
-fn letter_device(alloc: Global) -> Result<MemDisk, Fail> {
-    let images = Vec::from_array(alloc, [letter(alloc)?])?;
-    let disk = device(alloc, ONE_NODE, &images);
-    disk
-}
-
-/// The device of nodes with tasks.
-fn tasks_device(alloc: Global, text: &[u8], tasks: &[&[Task]]) -> Result<MemDisk, Fail> {
-    let mut images = Vec::new(alloc);
-    for of_node in tasks {
-        images.push(image(alloc, *of_node)?)?;
-    }
-    let disk = device(alloc, text, &images);
-    disk
 }
 
 /// Makes a step. Answers whether it wasn't refused.
@@ -144,8 +119,7 @@ fn taken_in_on(
     spare: usize,
     told: &Snapshot,
 ) -> Result<Option<usize>, Fail> {
-    let mut flat = flat_of(alloc, disk)?;
-    let mut net = Net::of_device(alloc, disk, spare)?;
+    let (mut net, mut flat) = both_of(alloc, disk, spare)?;
     let tokens = taken_in(alloc, &mut net, &mut flat, told);
     tokens
 }
@@ -173,7 +147,7 @@ fn a_marker_behind_what_is_taken_waits_for_the_next_turn(rt: HostRuntime) -> Res
     };
     let mut disk = letter_device(rt.alloc())?;
     let tokens = taken_in_on(rt.alloc(), &mut disk, 0, &told)?;
-    assert_eq!(rt; tokens, Some(1));
+    assert!(rt; tokens == Some(1));
     Ok(())
 }
 
@@ -198,7 +172,7 @@ fn a_marker_in_front_is_closed(rt: HostRuntime) -> Result<(), Fail> {
     let tasks: [&[Task]; 2] = [&[Task::Once(0)], &[]];
     let mut disk = tasks_device(rt.alloc(), TWO, &tasks)?;
     let tokens = taken_in_on(rt.alloc(), &mut disk, 4, &told)?;
-    assert_eq!(rt; tokens, Some(0));
+    assert!(rt; tokens == Some(0));
     Ok(())
 }
 
@@ -264,10 +238,8 @@ fn full(alloc: Global, net: &mut Net) -> Option<[u64; 3]> {
 
 /// The device of a node that hears on link 0, and of one that sends letters there.
 fn relay_device(alloc: Global) -> Result<MemDisk, Fail> {
-    let mut images = Vec::new(alloc);
-    images.push(image(alloc, &[Task::Relay(0, 1)])?)?;
-    images.push(letter(alloc)?)?;
-    let disk = device(alloc, TWO, &images);
+    let images = Vec::from_array(alloc, [image(alloc, &[Task::Relay(0, 1)])?, letter(alloc)?])?;
+    let disk = device_of(alloc, TWO, &images);
     disk
 }
 
@@ -275,7 +247,10 @@ fn relay_device(alloc: Global) -> Result<MemDisk, Fail> {
 fn full_on(alloc: Global, disk: &mut MemDisk) -> Result<(Option<[u64; 3]>, Option<Entry>), Fail> {
     let mut net = Net::of_device(alloc, disk, 4)?;
     let numbers = full(alloc, &mut net);
-    let last = net.book().entries().last().map(|last| last.entry);
+    let last = match net.book().entries().last() {
+        Some(last) => Some(last.entry),
+        None => None,
+    };
     Ok((numbers, last))
 }
 
@@ -291,8 +266,8 @@ fn a_full_journal_has_room_for_what_a_snapshot_needs(rt: HostRuntime) -> Result<
     };
     assert!(rt;
         before > 1000 && asked == before && Some(behind) == before.checked_add(1),
-        "{numbers:?}"
+        "{before} {asked} {behind}"
     );
-    assert_eq!(rt; last, Some(wanted));
+    assert!(rt; last == Some(wanted));
     Ok(())
 }
