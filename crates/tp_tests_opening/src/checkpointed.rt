@@ -44,8 +44,11 @@ fn take_step(
         Step::Group(entries) => append(store, entries)?,
         Step::Each(entries) => append_each(store, entries)?,
         Step::Switch(cut) => {
-            let pieces = Pieces::of(alloc, first, &cut)?;
-            switch(store, topology, &pieces)?;
+            let done = {
+                let pieces = Pieces::of(alloc, first, &cut)?;
+                switch(store, topology, &pieces)
+            };
+            done?;
         }
     }
     Ok(())
@@ -67,7 +70,12 @@ fn grow(
 
 /// Whether the bytes of a device are those that ought to stand there.
 fn has_bytes(device: &[u8], bytes: &[(usize, u8)]) -> bool {
-    bytes.iter().all(|(at, byte)| device.get(*at) == Some(byte))
+    for (at, byte) in bytes {
+        if device.get(*at) != Some(byte) {
+            return false;
+        }
+    }
+    true
 }
 
 /// What plain replays of the entries before and after a checkpoint give, over the device with `first`.

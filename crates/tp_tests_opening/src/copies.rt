@@ -52,18 +52,15 @@ fn numbered_of(alloc: Global, tail: &[(Entry, u64)]) -> Result<Vec<Numbered>, Al
 impl Pieces {
     /// The pieces of a cut over the device with `bytes`, which was just formatted.
     pub(crate) fn of(alloc: Global, bytes: &[u8], cut: &Cut<'_>) -> Result<Pieces, Fail> {
-        let held = replayed(alloc, bytes, &[cut.entries])?;
         let mut lines = Lines::new(alloc, 5)?;
         if let Some((line, token)) = cut.token {
             if line < 5 {
                 lines.push(line, token);
             }
         }
-        Ok(Pieces {
-            held,
-            lines,
-            tail: numbered_of(alloc, cut.tail)?,
-        })
+        let tail = numbered_of(alloc, cut.tail)?;
+        let held = replayed(alloc, bytes, &[cut.entries])?;
+        Ok(Pieces { held, lines, tail })
     }
 }
 

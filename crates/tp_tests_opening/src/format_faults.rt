@@ -191,18 +191,19 @@ fn is_none_torn(alloc: Global, made: &Made) -> Result<bool, Fail> {
     Ok(true)
 }
 
+/// Whether a format that stops within its head's write isn't done, and what of it is written says what the device is.
+fn is_said_by_its_head(alloc: Global, made: &Made, whole: &[u8]) -> Result<bool, Fail> {
+    Ok(is_none_torn(alloc, made)? && says_otherwise(alloc, made, whole)?.is_none())
+}
+
 /// Where the run stops within the head's write, what of it is written says what the device is. Written whole, it is formatted;
 /// the format isn't done either way.
 #[test]
 fn a_format_that_stops_in_its_head(rt: HostRuntime) -> Result<(), Fail> {
     let alloc = rt.alloc();
-    let whole = fresh(alloc, AREA)?;
-    assert!(rt; is_none_torn(alloc, &ONE)? && is_none_torn(alloc, &WIDE)?);
-    let otherwise = says_otherwise(alloc, &ONE, &whole)?;
-    assert_eq!(rt; otherwise, None);
-    let whole = seventeen(alloc)?;
-    let otherwise = says_otherwise(alloc, &WIDE, &whole)?;
-    assert_eq!(rt; otherwise, None);
+    let one = is_said_by_its_head(alloc, &ONE, &fresh(alloc, AREA)?)?;
+    let wide = is_said_by_its_head(alloc, &WIDE, &seventeen(alloc)?)?;
+    assert!(rt; one && wide);
     Ok(())
 }
 
@@ -296,8 +297,9 @@ fn are_like(alloc: Global, used: Vec<u8>, fresh: &Held, grown: &Held) -> Result<
     Ok(is_used && gates && ones)
 }
 
-/// Whether formats over other bytes, a device with a group among them, hold `fresh`, and with a group what that device holds.
-fn are_like_over(alloc: Global, disk: MemDisk, fresh: &Held) -> Result<bool, Fail> {
+/// Whether formats over other bytes, a device of `whole` with a group among them, hold `fresh`, and with a group what that device holds.
+fn are_like_over(alloc: Global, whole: Vec<u8>, fresh: &Held) -> Result<bool, Fail> {
+    let disk = grow(alloc, MemDisk::of_bytes(whole))?;
     let grown = what_is_held(alloc, disk.bytes())?;
     let told = are_like(alloc, disk.crash(), fresh, &grown);
     told
@@ -306,9 +308,12 @@ fn are_like_over(alloc: Global, disk: MemDisk, fresh: &Held) -> Result<bool, Fai
 /// Whether formats over other bytes hold what a device does that was just formatted and has the bytes `whole`.
 fn is_like_others(alloc: Global, whole: Vec<u8>) -> Result<bool, Fail> {
     let fresh = what_is_held(alloc, &whole)?;
-    let disk = grow(alloc, MemDisk::of_bytes(whole))?;
-    let told = are_like_over(alloc, disk, &fresh);
-    Ok(told? && fresh.next == 0)
+    let told = if fresh.next == 0 {
+        are_like_over(alloc, whole, &fresh)
+    } else {
+        Ok(false)
+    };
+    told
 }
 
 /// What stood on the device before makes no difference to what it then holds, nor to a group that is appended.

@@ -1,16 +1,14 @@
 //! Areas of both forms: what says an area's form, and which entries each may hold.
 
 use crate::apart::{Content, is_said, play, with_pieces};
-use crate::devices::{LETTER, fresh, held_in, is_network, replayed};
+use crate::devices::{LETTER, fresh, leads_from};
 use crate::opened_books::grown;
 use std::alloc::Global;
 use std::process::Abort;
 use std::test::Fail;
 use std::thread::Threads;
-use tp_disk::MemDisk;
 use tp_model::OpenFault::Damaged;
 use tp_model::{Entry, OpenFault};
-use tp_recover::open;
 use tp_tests_fixtures::{AREA, KEPT};
 
 /// The device of one node with a group of four entries. The base of its first area's cut stands at 525, in six bytes, and the area's form
@@ -241,10 +239,10 @@ fn leads(
     next: u64,
     entries: &[&[Entry]],
 ) -> Result<bool, Fail> {
-    let mut disk = MemDisk::of_bytes(with_pieces(alloc, &grown(alloc)?, pieces)?);
-    let held = held_in(alloc, open(alloc, &mut disk)?)?;
-    let wanted = replayed(alloc, &fresh(alloc, AREA)?, entries)?;
-    Ok(held.next == next && is_network(&held.net, &wanted.net))
+    let bytes = with_pieces(alloc, &grown(alloc)?, pieces)?;
+    let first = fresh(alloc, AREA)?;
+    let told = leads_from(alloc, &bytes, next, &first, entries);
+    told
 }
 
 /// The turn leads where its take and its run lead; with a run behind it; and without steps, with that run.

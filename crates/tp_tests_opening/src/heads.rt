@@ -52,18 +52,28 @@ fn image(alloc: Global, pages: u16) -> Result<Vec<u8>, AllocError> {
     Ok(image)
 }
 
-/// The network of a row.
-fn network(alloc: Global, row: &Row) -> Result<Letter, Fail> {
-    let (nodes, last, _, _) = *row;
+/// The images of nodes, each of four pages but the last.
+fn images(alloc: Global, nodes: u16, last: u16) -> Result<Vec<Vec<u8>>, AllocError> {
+    let mut images = Vec::new(alloc);
+    for node in 1..=nodes {
+        images.push(image(alloc, if node < nodes { 4 } else { last })?)?;
+    }
+    Ok(images)
+}
+
+/// The topology of such nodes and of a port.
+fn topology(alloc: Global, nodes: u16, last: u16) -> Result<Topology, Fail> {
     let mut text = String::new(alloc);
     add_nodes(&mut text, nodes, last)?;
     text.push_str("port h\n")?;
-    let mut images = Vec::new(alloc);
-    for _ in 1..nodes {
-        images.push(idle(alloc)?)?;
-    }
-    images.push(image(alloc, last)?)?;
-    let topology = Topology::read(alloc, text.as_bytes())?;
+    Ok(Topology::read(alloc, text.as_bytes())?)
+}
+
+/// The network of a row.
+fn network(alloc: Global, row: &Row) -> Result<Letter, Fail> {
+    let (nodes, last, _, _) = *row;
+    let images = images(alloc, nodes, last)?;
+    let topology = topology(alloc, nodes, last)?;
     Ok(Letter { topology, images })
 }
 
@@ -111,6 +121,17 @@ const fn says_with_other(is_wide: bool) -> Result<u64, OpenFault> {
     if is_wide { Err(Damaged(0)) } else { Ok(0) }
 }
 
+/// Whether a device opens, and with a head of the other version, where that can say it.
+fn opens_with<R: Threads + Sync>(
+    rt: &R,
+    alloc: Global,
+    device: &[u8],
+    is_wide: bool,
+) -> Result<bool, Fail> {
+    let other = other_head(alloc, device, is_wide)?;
+    Ok(is_said(rt, alloc, device, Ok(0))? && is_said(rt, alloc, &other, says_with_other(is_wide))?)
+}
+
 /// Whether a network is formatted with its head, and opens with it; and with one of the other version, where that can say it.
 fn has_its_head<R: Threads + Sync>(rt: &R, alloc: Global, row: &Row) -> Result<bool, Fail> {
     let (_, _, least, is_wide) = *row;
@@ -119,15 +140,13 @@ fn has_its_head<R: Threads + Sync>(rt: &R, alloc: Global, row: &Row) -> Result<b
     } else {
         (NARROW_HEAD_BYTES, 1)
     };
-    let letter = network(alloc, row)?;
-    let device = letter.device_behind(alloc, head, least)?;
-    let other = other_head(alloc, &device, is_wide)?;
-    Ok(
-        is_of_version(&device, head, version)
-            && are_full(alloc, &letter, head, least)?
-            && is_said(rt, alloc, &device, Ok(0))?
-            && is_said(rt, alloc, &other, says_with_other(is_wide))?,
-    )
+    let (device, is_full) = {
+        let letter = network(alloc, row)?;
+        let device = letter.device_behind(alloc, head, least)?;
+        (device, are_full(alloc, &letter, head, least)?)
+    };
+    let is_made = is_full && is_of_version(&device, head, version);
+    Ok(is_made && opens_with(rt, alloc, &device, is_wide)?)
 }
 
 #[test]

@@ -3,7 +3,7 @@
 
 use crate::apart::is_said;
 use crate::checkpoints::Look;
-use crate::devices::{LETTER, append, holds, is_network, replayed, store_of, what_is_held};
+use crate::devices::{LETTER, append, holds, leads_from, replayed, store_of};
 use crate::switch_faults::look_at;
 use std::alloc::{AllocError, Global};
 use std::test::Fail;
@@ -108,12 +108,11 @@ fn opens_with_turns<R: Threads + Sync>(
     apart: &[&[Entry]],
 ) -> Result<bool, Fail> {
     let bytes = kept.bytes(alloc)?;
-    let held = what_is_held(alloc, &bytes)?;
-    let wanted = replayed(alloc, &KEPT[0].bytes(alloc)?, apart)?;
+    let formatted = KEPT[0].bytes(alloc)?;
     Ok(
         look_at(alloc, &bytes)? == look_of(kept, Turns)
             && is_said(rt, alloc, &bytes, Ok(kept.next))?
-            && is_network(&held.net, &wanted.net),
+            && leads_from(alloc, &bytes, kept.next, &formatted, apart)?,
     )
 }
 

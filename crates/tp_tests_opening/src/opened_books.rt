@@ -66,26 +66,25 @@ pub(crate) fn book_with(alloc: Global, bytes: Vec<u8>, room: u64) -> Result<Book
 }
 
 /// Whether a device that was just formatted leaves no entry, and the image that it was formatted with.
-fn is_fresh(alloc: Global, state: &NetState) -> Result<bool, Fail> {
-    let image = letter(alloc)?;
-    let is_image = state.net.images.len() == 1
-        && state.net.images.iter().all(|bytes| *bytes == image);
-    Ok(
-        is_image
-            && (state.base, state.next, state.generation) == (0, 0, 1)
-            && state.form == Form::Turns
-            && state.kept.is_empty()
-            && state.area == Some(AREA)
-            && state.open_area == 0,
-    )
+fn is_fresh(state: &NetState, image: &[u8]) -> bool {
+    let is_image = match state.net.images.as_slice() {
+        [found] => found.as_slice() == image,
+        _ => false,
+    };
+    is_image
+        && (state.base, state.next, state.generation) == (0, 0, 1)
+        && state.form == Form::Turns
+        && state.kept.is_empty()
+        && state.area == Some(AREA)
+        && state.open_area == 0
 }
 
 #[test]
 fn a_fresh_device_has_nothing_kept(rt: HostRuntime) -> Result<(), Fail> {
     let alloc = rt.alloc();
+    let image = letter(alloc)?;
     let state = state_of(alloc, fresh(alloc, AREA)?)?;
-    let told = is_fresh(alloc, &state)?;
-    assert!(rt; told);
+    assert!(rt; is_fresh(&state, &image));
     Ok(())
 }
 
@@ -136,12 +135,18 @@ fn goes_on(book: &mut Book) -> bool
         && hand_in(book, b"x") == Ok(5)
 }
 
+/// How many entries a device of `bytes` keeps.
+fn keeps(alloc: Global, bytes: Vec<u8>) -> Result<usize, Fail> {
+    let state = state_of(alloc, bytes)?;
+    Ok(state.kept.len())
+}
+
 #[test]
 fn kept_entries_are_in_the_book(rt: HostRuntime) -> Result<(), Fail> {
     let alloc = rt.alloc();
-    let state = state_of(alloc, grown(alloc)?)?;
+    let count = keeps(alloc, grown(alloc)?)?;
     let mut book = book_of(alloc, grown(alloc)?)?;
-    let told = state.kept.len() == 4 && goes_on(&mut book);
-    assert!(rt; told);
+    let told = goes_on(&mut book);
+    assert!(rt; count == 4 && told);
     Ok(())
 }

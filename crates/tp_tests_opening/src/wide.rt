@@ -1,7 +1,7 @@
 //! The device of seventeen nodes, which has a wide head: all its bytes, what changes of them say, and a turn in its journal.
 
 use crate::apart::{Content, is_said, play, with_pieces};
-use crate::devices::{Letter, is_network, replayed, what_is_held};
+use crate::devices::{Letter, leads_from};
 use crate::opened_books::book_with;
 use std::alloc::{AllocError, Global};
 use std::test::Fail;
@@ -255,10 +255,9 @@ fn wide_heads_have_their_bytes(rt: HostRuntime) -> Result<(), Fail> {
 fn the_last_node_turns(rt: HostRuntime) -> Result<(), Fail> {
     let alloc = rt.alloc();
     let device = seventeen(alloc)?;
-    let held = what_is_held(alloc, &with_pieces(alloc, &device, A_TURN)?)?;
+    let turned = with_pieces(alloc, &device, A_TURN)?;
     let apart = APART;
-    let wanted = replayed(alloc, &device, &[&apart])?;
-    assert!(rt; held.next == 3 && is_network(&held.net, &wanted.net));
+    assert!(rt; leads_from(alloc, &turned, 3, &device, &[&apart])?);
     Ok(())
 }
 
