@@ -2,9 +2,9 @@
 
 ghost use Rattle.std.specs.Prelude.{None};
 
-use crate::devices::{ECHO, LETTERS, ONE, TWO, formatted};
-use crate::players::{Asks, Desk, Pieces, QUIET, nobody, play};
-use crate::steps::{Bytes, PLAIN, Step, are_steps};
+use crate::devices::{LETTERS, TWO, formatted};
+use crate::players::{Asks, Pieces, QUIET, nobody, play};
+use crate::steps::{Bytes, PLAIN, Step, are_steps_on};
 use std::alloc::{AllocError, Global};
 use std::process::Abort;
 use std::sync::Wait;
@@ -59,19 +59,10 @@ const LENGTHS: &[Step] = &[
     },
 ];
 
-fn are_accepted<R: Wait + Abort>(rt: &R) -> Result<bool, Fail>
-where
-    R: AllocGlobal,
-{
-    let mut desk = Desk::fresh(rt.alloc(), ONE, ECHO, 16_384)?;
-    let told = are_steps(rt, LENGTHS, &mut desk);
-    told
-}
-
 /// An input of fewer bytes than its port has accepted is refused, behind all outputs.
 #[test]
 fn an_input_has_all_that_its_port_accepted(rt: HostRuntime) -> Result<(), Fail> {
-    assert!(rt; are_accepted(&rt)?);
+    assert!(rt; are_steps_on(&rt, LENGTHS)?);
     Ok(())
 }
 

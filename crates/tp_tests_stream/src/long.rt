@@ -23,18 +23,11 @@ where
     Ok(is_long && left.generation > 2 && played.next() == Some(left.next))
 }
 
-fn goes_round_beside<R: Wait + Abort>(rt: &R) -> Result<bool, Fail>
-where
-    R: AllocGlobal,
-{
-    let mut desk = Desk::fresh(rt.alloc(), BESIDE, LETTERS, 32_768)?;
-    let told = goes_round(rt, &mut desk);
-    told
-}
-
 /// More than any port holds is put out, over at least two checkpoints, in a journal of 500 entries.
 #[test]
 fn a_port_never_fills_up_for_ever(rt: HostRuntime) -> Result<(), Fail> {
-    assert!(rt; goes_round_beside(&rt)?);
+    let mut desk = Desk::fresh(rt.alloc(), BESIDE, LETTERS, 32_768)?;
+    let told = goes_round(&rt, &mut desk)?;
+    assert!(rt; told);
     Ok(())
 }
