@@ -15,8 +15,10 @@ const ONE_ENTRY: [u8; 33] = [
 
 /// How many entries are read, where a group stands there.
 fn count_in(bytes: &[u8]) -> Result<Option<usize>, BadGroup> {
-    let found = read_group(bytes)?;
-    Ok(found.map(|group| group.entries().len()))
+    Ok(match read_group(bytes)? {
+        Some(group) => Some(group.entries().len()),
+        None => None,
+    })
 }
 
 /// The group with the byte at `at` changed.

@@ -43,8 +43,8 @@ fn both_nodes_meet_at_the_gate(rt: HostRuntime) -> Result<(), Fail> {
         &ENTRIES,
         &gate,
     )?;
-    assert_eq!(rt; played.len(), 2);
-    assert_eq!(rt; gate.counts(), [2, 2, 1, 1]);
+    assert!(rt; played.len() == 2);
+    assert!(rt; gate.counts() == [2, 2, 1, 1]);
     Ok(())
 }
 
@@ -68,8 +68,8 @@ fn six_parts_meet_at_the_gate(rt: HostRuntime) -> Result<(), Fail> {
     let alloc = rt.alloc();
     let gate = Meeting::new(6);
     let (played, _) = play_whole(&rt, alloc, three_each(alloc)?, &ENTRIES, &gate)?;
-    assert_eq!(rt; played.len(), 6);
-    assert_eq!(rt; gate.counts(), [6, 6, 3, 3]);
+    assert!(rt; played.len() == 6);
+    assert!(rt; gate.counts() == [6, 6, 3, 3]);
     Ok(())
 }
 
@@ -87,8 +87,8 @@ fn six_parts_meet_at_their_first_entries(rt: HostRuntime) -> Result<(), Fail> {
         })?;
     }
     let (played, _) = play_whole(&rt, alloc, parts, &ENTRIES, &NoGate)?;
-    assert_eq!(rt; played.len(), 6);
-    assert_eq!(rt; crowd.counts(), (6, 6));
+    assert!(rt; played.len() == 6);
+    assert!(rt; crowd.counts() == (6, 6));
     Ok(())
 }
 
@@ -98,8 +98,8 @@ fn the_host_calls_no_gate(rt: HostRuntime) -> Result<(), Fail> {
     let alloc = rt.alloc();
     let watch = Watch::new();
     let (played, _) = play_whole(&rt, alloc, vec![in alloc; Host]?, &ENTRIES, &watch)?;
-    assert_eq!(rt; played[0].stop, 1);
-    assert_eq!(rt; watch.counts(), (0, u32::MAX));
+    assert!(rt; played[0].stop == 1);
+    assert!(rt; watch.counts() == (0, u32::MAX));
     Ok(())
 }
 
@@ -127,7 +127,7 @@ fn the_gate_is_called_before_the_first_entry(rt: HostRuntime) -> Result<(), Fail
         },
     ]?;
     let (played, _) = play_whole(&rt, alloc, parts, &entries, &watch)?;
-    assert_eq!(rt; played[0].stop, 2);
-    assert_eq!(rt; watch.counts(), (2, 0));
+    assert!(rt; played[0].stop == 2);
+    assert!(rt; watch.counts() == (2, 0));
     Ok(())
 }

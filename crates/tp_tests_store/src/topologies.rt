@@ -99,8 +99,12 @@ const FULL: &[Row] = &[Row {
 
 /// The end that receives a line, by what is wired.
 fn receiver(line: usize, wired: &[(usize, WireEnd)]) -> Option<WireEnd> {
-    let found = wired.iter().find(|wire| wire.0 == line)?;
-    Some(found.1)
+    for (at, end) in wired {
+        if *at == line {
+            return Some(*end);
+        }
+    }
+    None
 }
 
 fn is_text(found: &str, want: &str) -> bool {
