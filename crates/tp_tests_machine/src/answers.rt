@@ -100,14 +100,9 @@ fn are_constants() -> bool {
         && !is_alternative(0x8000_0004)
 }
 
-fn are_so(alloc: Global) -> Result<bool, Fail> {
-    let desk = Desk::new(alloc, &[])?;
-    Ok(are_workspaces(&desk) && are_constants())
-}
-
 #[test]
 fn workspaces(rt: HostRuntime) -> Result<(), Fail> {
-    let told = are_so(rt.alloc())?;
-    assert!(rt; told);
+    let desk = Desk::new(rt.alloc(), &[])?;
+    assert!(rt; are_workspaces(&desk) && are_constants());
     Ok(())
 }

@@ -26,27 +26,39 @@ fn run(node: &mut Node) -> (u16, Why) {
     (ran.count(), ran.why())
 }
 
-/// With one spare frame the word in page 0 is written, and the step that writes page 1 isn't counted.
-fn one_spare(alloc: Global) -> Result<bool, Fail> {
-    let mut node = frozen(alloc, 1)?;
-    let first = run(&mut node) == (3, Why::NoFrame);
-    let again = run(&mut node) == (0, Why::NoFrame);
-    node.drop_frozen();
-    Ok(first && again && run(&mut node) == (2, Why::Halted))
+/// How many spare frames a frozen node has, what its runs come to, and what one comes to once its frozen bytes are let go.
+type Row = (usize, &'static [(u16, Why)], (u16, Why));
+
+/// With one spare frame the word in page 0 is written, and the step that writes page 1 isn't counted. With none already the first word wants
+/// a frame; what writes nothing is done.
+const ROWS: &[Row] = &[
+    (1, &[(3, Why::NoFrame), (0, Why::NoFrame)], (2, Why::Halted)),
+    (0, &[(1, Why::NoFrame)], (4, Why::Halted)),
+];
+
+/// Whether a node's runs come to this, one after another.
+fn are_runs(node: &mut Node, wanted: &[(u16, Why)]) -> bool {
+    for one in wanted {
+        if run(node) != *one {
+            return false;
+        }
+    }
+    true
 }
 
-/// With none already the first word wants a frame; what writes nothing is done.
-fn none_spare(alloc: Global) -> Result<bool, Fail> {
-    let mut node = frozen(alloc, 0)?;
-    let first = run(&mut node) == (1, Why::NoFrame);
+fn is_row(alloc: Global, row: &Row) -> Result<bool, Fail> {
+    let (spare, while_frozen, then) = *row;
+    let mut node = frozen(alloc, spare)?;
+    let told = are_runs(&mut node, while_frozen);
     node.drop_frozen();
-    Ok(first && run(&mut node) == (4, Why::Halted))
+    Ok(told && run(&mut node) == then)
 }
 
 #[test]
 fn frozen_pages_want_frames(rt: HostRuntime) -> Result<(), Fail> {
-    let one = one_spare(rt.alloc())?;
-    let none = none_spare(rt.alloc())?;
-    assert!(rt; one && none);
+    for (i, row) in ROWS.iter().enumerate() {
+        let told = is_row(rt.alloc(), row)?;
+        assert!(rt; told, "row {i}");
+    }
     Ok(())
 }

@@ -120,9 +120,10 @@ fn spelled(number: u8) -> Result<Instr, DecodeFault> {
         operand: i32::from(number),
         len: 2,
     };
-    listed(u32::from(number))
-        .map(|_| instr)
-        .ok_or(DecodeFault::UnknownOp)
+    match listed(u32::from(number)) {
+        Some(_) => Ok(instr),
+        None => Err(DecodeFault::UnknownOp),
+    }
 }
 
 /// Each number of two digits is its operation, or unknown. So are larger ones.
@@ -174,10 +175,10 @@ const NOT_READ: &[(&[u8], DecodeFault)] = &[
 
 #[test]
 fn reads_no_instruction(rt: HostRuntime) {
-    for row in NOT_READ {
+    for (i, row) in NOT_READ.iter().enumerate() {
         let (bytes, fault) = *row;
         let told = decode(bytes) == Err(fault);
-        assert!(rt; told, "{fault:?}");
+        assert!(rt; told, "row {i}");
     }
 }
 
@@ -236,9 +237,9 @@ fn is_written(alloc: Global, row: &(Fun, i32, &[u8])) -> Result<bool, Fail> {
 
 #[test]
 fn writes(rt: HostRuntime) -> Result<(), Fail> {
-    for row in WRITTEN {
+    for (i, row) in WRITTEN.iter().enumerate() {
         let told = is_written(rt.alloc(), row)?;
-        assert!(rt; told, "{row:?}");
+        assert!(rt; told, "row {i}");
     }
     Ok(())
 }

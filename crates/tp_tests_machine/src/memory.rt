@@ -1,7 +1,6 @@
 //! A node's memory on its own.
 
 use crate::desk::four_pages;
-use std::alloc::Global;
 use std::test::Fail;
 use tp_mem::{FlatMemory, Freeze, Mem, WriteFault};
 
@@ -172,14 +171,9 @@ fn keeps(mem: &mut FlatMemory) -> bool {
     wrote && kept && !mem.is_frozen() && mem.read_word(0x8000_0400) == Some(6)
 }
 
-fn is_memory(alloc: Global) -> Result<bool, Fail> {
-    let mut mem = four_pages(alloc)?;
-    Ok(are_ranges(&mem) && keeps(&mut mem))
-}
-
 #[test]
 fn ranges_and_frozen_bytes(rt: HostRuntime) -> Result<(), Fail> {
-    let told = is_memory(rt.alloc())?;
-    assert!(rt; told);
+    let mut mem = four_pages(rt.alloc())?;
+    assert!(rt; are_ranges(&mem) && keeps(&mut mem));
     Ok(())
 }

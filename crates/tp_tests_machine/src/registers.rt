@@ -314,10 +314,10 @@ fn is_other(instr: Instr) -> bool {
 #[test]
 fn others(rt: HostRuntime) {
     let before = regs([1, 2, 3], false);
-    for op in OTHERS {
+    for (i, op) in OTHERS.iter().enumerate() {
         assert!(rt;
             is_other(operation(*op)) && op_row(*op, before).is_none(),
-            "{op:?}"
+            "row {i}"
         );
     }
     assert!(rt; OPERATIONS.len() == OTHERS.len() + 31);
@@ -326,10 +326,10 @@ fn others(rt: HostRuntime) {
 #[test]
 fn other_functions(rt: HostRuntime) {
     let before = regs([1, 2, 3], false);
-    for fun in OTHER_FUNCTIONS {
+    for (i, fun) in OTHER_FUNCTIONS.iter().enumerate() {
         assert!(rt;
             is_other(instr(*fun, 5)) && fun_row(*fun, 5, before).is_none(),
-            "{fun:?}"
+            "row {i}"
         );
     }
     assert!(rt; is_other(instr(Fun::Opr, 0x22)));

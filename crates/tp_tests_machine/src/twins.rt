@@ -112,17 +112,20 @@ fn agree(twins: &mut Twins) -> bool {
     same_words(twins) && page(twins, 0) && page(twins, 1) && page(twins, 2) && page(twins, 3)
 }
 
-fn agree_all(alloc: Global) -> Result<bool, Fail> {
-    let mut none = make_twins(alloc, 0)?;
-    let mut one = make_twins(alloc, 1)?;
-    let mut all = make_twins(alloc, 4)?;
-    Ok(agree(&mut none) && agree(&mut one) && agree(&mut all))
+/// Whether they do with `spare` spare frames.
+fn agree_with(alloc: Global, spare: usize) -> Result<bool, AllocError>
+    requires { spare ≤ 4 }
+{
+    let mut twins = make_twins(alloc, spare)?;
+    Ok(agree(&mut twins))
 }
 
 #[test]
 fn two_memories_agree(rt: HostRuntime) -> Result<(), Fail> {
-    let told = agree_all(rt.alloc())?;
-    assert!(rt; told);
+    let none = agree_with(rt.alloc(), 0)?;
+    let one = agree_with(rt.alloc(), 1)?;
+    let all = agree_with(rt.alloc(), 4)?;
+    assert!(rt; none && one && all);
     Ok(())
 }
 
