@@ -1,3 +1,4 @@
+mod Commands
 pub mod Ends
 pub mod Histories
 mod Statuses

@@ -4,24 +4,17 @@ use Rattle.std.specs.Io.KnownBytes.{Appends}
 use Rattle.std.specs.declared.alloc.Global.{Global}
 use Rattle.std.specs.declared.string.String.{String}
 use Rattle.tp_run.specs.Ran.{History}
-use Rattle.tp_words.specs.Args.{WasTyped}
-use Rattle.tp_words.specs.BackupArgs.{WasBackupTyped}
-use Rattle.tp_words.specs.StopArgs.{WasStopTyped}
-use Rattle.tp_words.specs.StreamArgs.{WasStreamTyped}
+use Rattle.tp_words.specs.Commands.{WasCommandTyped}
 use Rattle.tp_words.specs.declared.args.Asked.{Asked}
 use Rattle.tp_words.specs.declared.args.Asked.TheVariants.{Help, Format, Run as Runs, Compact}
-use Rattle.tp_words.specs.declared.backup_args.BackupAsked.{BackupAsked}
-use Rattle.tp_words.specs.declared.backup_args.BackupAsked.TheVariants.{Help as BackupHelp, Make}
-use Rattle.tp_words.specs.declared.stop_args.StopAsked.{StopAsked}
-use Rattle.tp_words.specs.declared.stop_args.StopAsked.TheVariants.{Help as StopHelp, Ask}
-use Rattle.tp_words.specs.declared.stream_args.StreamAsked.{StreamAsked}
-use Rattle.tp_words.specs.declared.stream_args.StreamAsked.TheVariants.{Help as StreamHelp, Run as Streams}
+use Rattle.tp_words.specs.declared.command.Command.{Command}
+use Rattle.tp_words.specs.declared.command.Command.TheVariants.{Stream, Stop, Backup, Other}
 use Rattle.tp_words.specs.declared.stream_args.StreamRun.{StreamRun}
 use Rattle.tp_program.specs.Backups.{PrintsCopied}
 use Rattle.tp_program.specs.CompactFile.{CompactedFile}
 use Rattle.tp_program.specs.Devices.{DeviceCall, Holds, WasRefused}
 use Rattle.tp_program.specs.RunFile.{RanFile}
-use Rattle.tp_program.specs.Stops.{AskedAs}
+use Rattle.tp_program.specs.Stops.{StopAnswered}
 use Rattle.tp_program.specs.StreamFile.{StreamedFile}
 
 -- Help was printed, where the status says so. No device was opened.
@@ -61,49 +54,6 @@ AnsweredAs keeps history asked old new was now status =
     WasRefused (old ++ asking_for asked false) new was now status
     ⊎ AnsweredHeld keeps history asked (old ++ asking_for asked true) new was now status
 
--- What `backup` printed that was asked for.
-abbrev pub BackedUp : BackupAsked → (was now : Option (List ℕ)) → ℕ → Type 0
-BackedUp (BackupHelp text) was now status = status ≡ 0 → Appends was now (string_bytes text)
-BackedUp (Make backup) was now status = status ≡ 0 → PrintsCopied was now
-
--- The words asked for nothing, or standard output is the device's file; or they were read so, and that was printed.
-abbrev pub BackupAnswered : List (String Global) → (was now : Option (List ℕ)) → ℕ → Type 0
-BackupAnswered words was now status = ((1 ≤ status) × (now ≡ was)) ⊎ ((asked : BackupAsked) × WasBackupTyped words asked × BackedUp asked was now status)
-
--- Words of `backup`, for which no device was opened to be written.
-pub record IsOfBackup (words : List (String Global)) (old new : List DeviceCall) (was now : Option (List ℕ)) (status : ℕ) : Type 0 where
-  pub unopened : new ≡ old
-  pub answered : BackupAnswered words was now status
-
--- What `stop` did that was asked for. It opens no device.
-abbrev pub StopCarriedOut : StopAsked → (old new : List DeviceCall) → (was now : Option (List ℕ)) → ℕ → Type 0
-StopCarriedOut (StopHelp text) old new was now status = Helped (string_bytes text) old new was now status
-StopCarriedOut (Ask request) old new was now status = AskedAs request old new was now status
-
--- The words of `stop` were read so, and that was done.
-pub record DidStopAsked (words : List (String Global)) (old new : List DeviceCall) (was now : Option (List ℕ)) (status : ℕ) : Type 0 where
-  pub asked : StopAsked
-  pub typed : WasStopTyped words asked
-  pub did : StopCarriedOut asked old new was now status
-
--- What was done for words of `stop`: it was refused, or they were read so, and that was done.
-abbrev pub StopAnswered : List (String Global) → (old new : List DeviceCall) → (was now : Option (List ℕ)) → ℕ → Type 0
-StopAnswered words old new was now status = WasRefused old new was now status ⊎ DidStopAsked words old new was now status
-
--- The words were read so, and that was done.
-pub record DidAsked (keeps : Type 0) (history : History) (words : List (String Global)) (old new : List DeviceCall) (was now : Option (List ℕ)) (status : ℕ) : Type 0 where
-  pub asked : Asked
-  pub typed : WasTyped words asked
-  pub answered : AnsweredAs keeps history asked old new was now status
-
--- What the program did for the words of a command line: it was refused, or they were of `backup` or of `stop`, or they were read so, and that
--- was done.
-abbrev pub Answered : (keeps : Type 0) → History → List (String Global) → (old new : List DeviceCall) → (was now : Option (List ℕ)) → ℕ → Type 0
-Answered keeps history words old new was now status =
-    WasRefused old new was now status
-    ⊎ (IsOfBackup words old new was now status
-    ⊎ (StopAnswered words old new was now status ⊎ DidAsked keeps history words old new was now status))
-
 -- Another process had the device, and it was refused, before anything was read of standard input (`unread`). Or it was got, before all
 -- else; and then it was streamed.
 abbrev pub StreamedHeld : (keeps : Type 0) → History → (unread : Type 0) → StreamRun → (old new : List DeviceCall) → (was now : Option (List ℕ)) → ℕ → Type 0
@@ -111,17 +61,27 @@ StreamedHeld keeps history unread run old new was now status =
     WasRefused (old ++ Holds (string_bytes run.device) run.wait_lock false ∷ []) new was now status × unread
     ⊎ StreamedFile keeps history run (old ++ Holds (string_bytes run.device) run.wait_lock true ∷ []) new was now status
 
--- What a command line with `--stream` did that was asked for.
-abbrev pub StreamCarriedOut : (keeps : Type 0) → History → (unread : Type 0) → StreamAsked → (old new : List DeviceCall) → (was now : Option (List ℕ)) → ℕ → Type 0
-StreamCarriedOut keeps history unread (StreamHelp text) old new was now status = Helped (string_bytes text) old new was now status
-StreamCarriedOut keeps history unread (Streams run) old new was now status = StreamedHeld keeps history unread run old new was now status
+-- What was done for a command. A stream alone reads standard input, and `backup` and `stop` open no device to write it.
+abbrev pub CommandDone : (keeps : Type 0) → History → (unread : Type 0) → Command → (old new : List DeviceCall) → (was now : Option (List ℕ)) → ℕ → Type 0
+CommandDone keeps history unread (Stream run) old new was now status = StreamedHeld keeps history unread run old new was now status
+CommandDone keeps history unread (Stop request) old new was now status = unread × StopAnswered request old new was now status
+CommandDone keeps history unread (Backup backup) old new was now status = unread × (new ≡ old) × (status ≡ 0 → PrintsCopied was now)
+CommandDone keeps history unread (Other asked) old new was now status = unread × AnsweredAs keeps history asked old new was now status
+
+-- the greatest status of a command: 3 is that of a stream which ended since a node halted
+abbrev pub most_status : Command → ℕ
+most_status (Stream run) = 3
+most_status (Stop request) = 2
+most_status (Backup backup) = 2
+most_status (Other asked) = 2
 
 -- The words were read so, and that was done.
-pub record DidStreamAsked (keeps : Type 0) (history : History) (unread : Type 0) (words : List (String Global)) (old new : List DeviceCall) (was now : Option (List ℕ)) (status : ℕ) : Type 0 where
-  pub asked : StreamAsked
-  pub typed : WasStreamTyped words asked
-  pub did : StreamCarriedOut keeps history unread asked old new was now status
+pub record DidCommand (keeps : Type 0) (history : History) (unread : Type 0) (words : List (String Global)) (old new : List DeviceCall) (was now : Option (List ℕ)) (status : ℕ) : Type 0 where
+  pub command : Command
+  pub typed : WasCommandTyped words command
+  pub few : status ≤ most_status command
+  pub done : CommandDone keeps history unread command old new was now status
 
--- What the program did for the words of a command line with `--stream`: it was refused, or they were read so, and that was done.
-abbrev pub StreamAnswered : (keeps : Type 0) → History → (unread : Type 0) → List (String Global) → (old new : List DeviceCall) → (was now : Option (List ℕ)) → ℕ → Type 0
-StreamAnswered keeps history unread words old new was now status = WasRefused old new was now status ⊎ DidStreamAsked keeps history unread words old new was now status
+-- What the program did for the words of a command line: it was refused, or they were read so, and that was done.
+abbrev pub Answered : (keeps : Type 0) → History → (unread : Type 0) → List (String Global) → (old new : List DeviceCall) → (was now : Option (List ℕ)) → ℕ → Type 0
+Answered keeps history unread words old new was now status = WasRefused old new was now status ⊎ DidCommand keeps history unread words old new was now status

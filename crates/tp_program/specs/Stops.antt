@@ -4,7 +4,7 @@ use Rattle.std.specs.Io.KnownBytes.{Appends}
 use Rattle.tp_words.specs.declared.stop_args.StopRequest.{StopRequest}
 use Rattle.tp_program.specs.declared.asking.Unasked.{Unasked}
 use Rattle.tp_program.specs.declared.asking.Unasked.TheVariants.{Device, NoDevice, NotRunning, Request, StillRunning}
-use Rattle.tp_program.specs.Devices.{DeviceCall, Holds}
+use Rattle.tp_program.specs.Devices.{DeviceCall, Holds, WasRefused}
 
 -- where a stream of a device is asked to stop
 abbrev pub request_path : List ℕ → List ℕ
@@ -72,3 +72,7 @@ pub record WasNotAsked (request : StopRequest) (old new : List DeviceCall) (was 
 -- What `stop` did. It opens no device.
 abbrev pub AskedAs : StopRequest → (old new : List DeviceCall) → (was now : Option (List ℕ)) → ℕ → Type 0
 AskedAs request old new was now status = WasAsked request old new was now status ⊎ WasNotAsked request old new was now status
+
+-- It was refused, since standard output is the device's file; or it was asked.
+abbrev pub StopAnswered : StopRequest → (old new : List DeviceCall) → (was now : Option (List ℕ)) → ℕ → Type 0
+StopAnswered request old new was now status = WasRefused old new was now status ⊎ AskedAs request old new was now status

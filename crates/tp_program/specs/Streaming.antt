@@ -1,5 +1,5 @@
 -- What `run --stream` does.
-use Rattle.std.specs.Prelude.{◌≡◌, ℕ, Bool, true, Result, Ok, Err, ◌||◌, is_some, min, unwrap_or}
+use Rattle.std.specs.Prelude.{◌≡◌, ◌==◌, ℕ, Bool, true, Result, Ok, Err, ◌||◌, if◌then◌else◌, is_some, min, unwrap_or}
 use Rattle.tp_model.specs.NodeState.{NodeState}
 use Rattle.tp_model.specs.Network.{Network}
 use Rattle.tp_model.specs.DiskHistory.{State}
@@ -25,6 +25,7 @@ task_of run = record {
   until_quiet = run.until_quiet;
   stop_on_halt = run.stop_on_halt;
   until_asked = true;
+  workers = unwrap_or run.workers 0;
   quantum = run.quantum;
   spare = min run.spare 65535;
   every = run.every;
@@ -38,10 +39,25 @@ shown_on on_terminal task = record {
   until_quiet = task.until_quiet;
   stop_on_halt = task.stop_on_halt;
   until_asked = task.until_asked;
+  workers = task.workers;
   quantum = task.quantum;
   spare = task.spare;
   every = task.every;
   tells = task.tells || on_terminal;
+}
+
+-- and by how many threads, where nothing was typed: as many as there are processors, up to 4
+abbrev pub spread_over : ℕ → Task → Task
+spread_over processors task = record {
+  turns = task.turns;
+  until_quiet = task.until_quiet;
+  stop_on_halt = task.stop_on_halt;
+  until_asked = task.until_asked;
+  workers = if task.workers == 0 then min processors 4 else task.workers;
+  quantum = task.quantum;
+  spare = task.spare;
+  every = task.every;
+  tells = task.tells;
 }
 
 -- after how many seconds it is said again how far a stream has come

@@ -3,12 +3,13 @@
 ghost use Rattle.std.specs.Prelude.{◌≡◌, ◌≤◌, [], ◌∷◌, ◌++◌, false, true, replicate, IfErr, OnOk, string_bytes};
 ghost use Rattle.std.specs.Io.KnownBytes.{Appends};
 ghost use Rattle.tp_program.specs.Devices.{Holds};
-ghost use Rattle.tp_program.specs.Stops.{AskedAs, GotWithin, HasAsked, IsOfNobody, WasUnasked, stop_line};
+ghost use Rattle.tp_program.specs.Stops.{GotWithin, HasAsked, IsOfNobody, StopAnswered, WasUnasked, stop_line};
 
 use crate::asking_explain::explain_unasked;
 use crate::devices::Devices;
 use crate::files::{disk_to_read, read_refusal};
 use crate::locks::InUse;
+use crate::program::{prints_into, refuse_output};
 use crate::request_file::RequestFile;
 use std::fs::{Files, OpenFile, OpenOptions};
 use std::io;
@@ -17,7 +18,7 @@ use std::os::unix::fs::FileExt;
 use thiserror::Error;
 use tp_recover::read_head;
 use tp_views::{Refusal, is_device_file, put, refuse};
-use tp_words::{StopRequest, has_word};
+use tp_words::StopRequest;
 
 /// Why a request to stop isn't made.
 #[derive(Clone, Copy, Debug, PartialEq, Eq, Error)]
@@ -235,23 +236,28 @@ fn refuse_unasked<E: Write>(err: &mut E, fault: Unasked) -> u8
 }
 
 /// `tpnet stop`: asks the stream that has a device to end, waits for that as long as it is asked, and says so, or why not; more of that
-/// where the words ask for it. Answers the status.
-pub(crate) fn stop_stream<
+/// where `explains`. `devices` says whether another process has the device. Answers the program's status: 0 where the stream is asked,
+/// has ended where that was waited for, and that was printed; 1 where it was refused; or 2 where standard output is the file of the
+/// device; nobody is asked then.
+pub(crate) fn answer_stop<
     R: Files<File = F> + AllocGlobal,
     F: FileExt + OpenFile + Drop,
     S: Devices,
     O: Write,
     E: Write,
->(rt: &R, devices: &mut S, words: &[String], asked: &StopRequest, out: &mut O, err: &mut E) -> u8
-    ensures few { result ≤ 1 }
-    ensures asked { AskedAs asked.now (S.calls devices.old) (S.calls devices.new) (O.contents out.old) (O.contents out.new) result }
+>(rt: &R, devices: &mut S, asked: &StopRequest, explains: bool, out: &mut O, err: &mut E) -> u8
+    ensures few { result ≤ 2 }
+    ensures answered { StopAnswered asked.now (S.calls devices.old) (S.calls devices.new) (O.contents out.old) (O.contents out.new) result }
 {
+    if prints_into(rt, asked.device.as_str()) {
+        return refuse_output(err);
+    }
     let mut system = None;
     match ask_to_stop(rt, devices, asked, &mut system) {
         Ok(()) => report_asked(asked.wait, out, err),
         Err(fault) => {
             let status = refuse_unasked(err, fault);
-            if has_word(words, "--explain") {
+            if explains {
                 explain_unasked(rt, asked, fault, system.as_ref(), err);
             }
             status

@@ -21,7 +21,6 @@ mod request_file;
 mod run_file;
 mod running;
 mod stop_file;
-mod stop_program;
 mod stream_explain;
 mod stream_program;
 mod streaming;
@@ -34,18 +33,16 @@ pub use devices::{Devices, FileDevices};
 pub use formatting::format_on;
 pub use in_use::refuse_in_use;
 pub use locks::{Held, InUse, Locks, NoLock, NoLocks};
-pub use program::{answer, answer_locking, answer_over};
+pub use program::{answer_locking, answer_over};
 pub use running::run_on;
 pub use stop_file::StopFault;
-pub use stream_program::{answer_stream, answer_stream_locking, answer_stream_over};
 pub use streaming::{FilesFault, Streamed, stream_on};
 pub use tp_views::{
     Seen, TRY_QUANTUM, check_on, is_device_file, recover_on, show_on, status_on, trace_on, try_on,
     view_on,
 };
 pub use tp_words::{
-    ArgFault, Asked, Backup, BackupAsked, EndsFault, JournalPart, NewDevice, Run, StopAsked,
-    StopRequest, StreamArgFault, StreamAsked, StreamRun, View, is_backup, is_stop, is_stream,
-    read_args, read_backup_args, read_stop_args, read_stream_args, wants_input,
+    ArgFault, Asked, Backup, Command, CommandFault, CommandLine, EndsFault, JournalPart, NewDevice,
+    Run, StopRequest, StreamRun, View,
 };
 pub use watching::{OneLook, Watch};

@@ -1,10 +1,13 @@
 //! What the program does for the words of its command line.
 
-ghost use Rattle.std.specs.Prelude.{◌≡◌, ◌≤◌, ◌++◌, is_ok, OnOk};
+ghost use Rattle.std.specs.Prelude.{◌≡◌, ◌≤◌, ◌++◌, codes, is_ok, true, OnOk};
 ghost use Rattle.tp_run.specs.Ran.{History};
 ghost use Rattle.tp_words.specs.Args.{IsInRange};
-ghost use Rattle.tp_program.specs.Answers.{Answered, AnsweredAs, AnsweredHeld, CarriedOut, HoldsWritten, asking_for};
+ghost use Rattle.tp_words.specs.Commands.{IsCommandInRange};
+ghost use Rattle.tp_words.specs.Typed.{has_word};
+ghost use Rattle.tp_program.specs.Answers.{Answered, AnsweredAs, AnsweredHeld, CarriedOut, CommandDone, HoldsWritten, asking_for, most_status};
 
+use crate::asking::answer_stop;
 use crate::backup_program::answer_backup;
 use crate::compact_file::compact_file;
 use crate::devices::{Devices, FileDevices};
@@ -13,10 +16,10 @@ use crate::files::{
 };
 use crate::format_file::format_file;
 use crate::in_use::refuse_in_use;
-use crate::locks::{InUse, Locks, NoLocks};
+use crate::locks::{InUse, Locks};
 use crate::run_file::run_file;
-use crate::stop_program::answer_stop;
-use crate::watching::{OneLook, Watch};
+use crate::stream_program::hold_and_stream;
+use crate::watching::Watch;
 use std::fs::{Files, OpenFile};
 use std::io;
 use std::io::Write;
@@ -24,15 +27,15 @@ use std::os::unix::fs::FileExt;
 use std::sync::Wait;
 use std::thread::Threads;
 use tp_disk::Disk;
-use tp_stream_files::is_one_file;
+use tp_stream_files::{Feed, Onlooker, is_one_file};
 use tp_views::{explain, print_help, tell_halted};
-use tp_words::{Asked, has_word, is_backup, is_stop, read_args};
+use tp_words::{Asked, Command, CommandLine};
 
 /// Does what was asked for. Answers the program's status: 0 where it was done, 1 where it was refused, 2 where a node or port
 /// isn't there. The device that is to be written is held. What the system said of a call on a device that failed is put into `system`.
 fn carry_out<
     R: Files<File = F> + AllocGlobal + Threads + Wait + Sync,
-    F: FileExt + OpenFile + Drop,
+    F: FileExt + OpenFile + Drop + Send,
     S: Devices<Device = D>,
     D: Disk + Drop + Send,
     W: Watch,
@@ -119,29 +122,26 @@ pub(crate) fn refuse_output<E: Write>(err: &mut E) -> u8
     2
 }
 
-/// Says more of what a command did, where the words ask for that.
+/// Says more of what a command did.
 fn say_more<R: Files<File = F> + AllocGlobal, F: FileExt + OpenFile + Drop, E: Write>(
     rt: &R,
-    words: &[String],
     asked: &Asked,
     status: u8,
     system: Option<&io::Error>,
     err: &mut E,
 ) {
-    if has_word(words, "--explain") {
-        match status {
-            0 => tell_halted(rt, asked, err),
-            1 => explain(rt, asked, system, err),
-            _ => {}
-        }
+    match status {
+        0 => tell_halted(rt, asked, err),
+        1 => explain(rt, asked, system, err),
+        _ => {}
     }
 }
 
-/// Does what was asked for, unless what is printed would be written over the device. The device that is to be written is held. Answers the
-/// program's status.
+/// Does what was asked for, unless what is printed would be written over the device, and says more of it where `explains`. The device that
+/// is to be written is held. Answers the program's status.
 fn answer_held<
     R: Files<File = F> + AllocGlobal + Threads + Wait + Sync,
-    F: FileExt + OpenFile + Drop,
+    F: FileExt + OpenFile + Drop + Send,
     S: Devices<Device = D>,
     D: Disk + Drop + Send,
     W: Watch,
@@ -151,8 +151,8 @@ fn answer_held<
     rt: &R,
     devices: &mut S,
     watch: &mut W,
-    words: &[String],
     asked: &Asked,
+    explains: bool,
     out: &mut O,
     err: &mut E,
 ) -> u8
@@ -167,7 +167,9 @@ fn answer_held<
     }
     let mut system = None;
     let status = carry_out(rt, devices, watch, asked, &mut system, out, err);
-    say_more(rt, words, asked, status, system.as_ref(), err);
+    if explains {
+        say_more(rt, asked, status, system.as_ref(), err);
+    }
     status
 }
 
@@ -194,7 +196,7 @@ fn hold_written<S: Devices>(devices: &mut S, asked: &Asked) -> Result<(), InUse>
 /// Does what was asked for, unless another process has the device that is to be written. Answers the program's status.
 fn answer_asked<
     R: Files<File = F> + AllocGlobal + Threads + Wait + Sync,
-    F: FileExt + OpenFile + Drop,
+    F: FileExt + OpenFile + Drop + Send,
     S: Devices<Device = D>,
     D: Disk + Drop + Send,
     W: Watch,
@@ -204,8 +206,8 @@ fn answer_asked<
     rt: &R,
     devices: &mut S,
     watch: &mut W,
-    words: &[String],
     asked: &Asked,
+    explains: bool,
     out: &mut O,
     err: &mut E,
 ) -> u8
@@ -215,36 +217,85 @@ fn answer_asked<
     ensures answered { AnsweredAs D.keeps history asked.now (S.calls devices.old) (S.calls devices.new) (O.contents out.old) (O.contents out.new) result }
 {
     match hold_written(devices, asked) {
-        Ok(()) => answer_held(rt, devices, watch, words, asked, out, err),
-        Err(InUse) => refuse_in_use(words, err),
+        Ok(()) => answer_held(rt, devices, watch, asked, explains, out, err),
+        Err(InUse) => refuse_in_use(explains, err),
     }
 }
 
-/// Does what the words of a command line ask for, the program's name first. Answers the program's status: that of the
-/// command, or 2 where the words ask for nothing; no file is opened then. Asking for help is no fault.
-/// `devices` holds and opens a device that is written, and says whether another process has one whose stream is asked to stop; `watch` says
-/// who holds one that `status` looks at.
-pub fn answer_over<
+/// Does what a command asks for, and says more of it where `explains`. Answers the program's status.
+fn answer_command<
     R: Files<File = F> + AllocGlobal + Threads + Wait + Sync,
-    F: FileExt + OpenFile + Drop,
+    F: FileExt + OpenFile + Drop + Send,
     S: Devices<Device = D>,
     D: Disk + Drop + Send,
     W: Watch,
+    I: Feed,
     O: Write,
     E: Write,
->(rt: &R, devices: &mut S, watch: &mut W, words: &[String], out: &mut O, err: &mut E) -> u8
+    V: Onlooker,
+>(
+    rt: &R,
+    devices: &mut S,
+    watch: &mut W,
+    command: &Command,
+    explains: bool,
+    feed: &mut I,
+    out: &mut O,
+    err: &mut E,
+    onlooker: &mut V,
+) -> u8
     ghost history: { History }
-    ensures few { result ≤ 2 }
-    ensures answered { Answered D.keeps history words.now (S.calls devices.old) (S.calls devices.new) (O.contents out.old) (O.contents out.new) result }
+    requires { IsCommandInRange command.now }
+    ensures few { result ≤ most_status command.now }
+    ensures done { CommandDone D.keeps history (feed.new ≡ feed.old) command.now (S.calls devices.old) (S.calls devices.new) (O.contents out.old) (O.contents out.new) result }
 {
-    if is_backup(words) {
-        return answer_backup(rt, words, out, err);
+    match command {
+        Command::Stream(run) => {
+            hold_and_stream(rt, devices, run, explains, feed, out, err, onlooker)
+        }
+        Command::Stop(request) => answer_stop(rt, devices, request, explains, out, err),
+        Command::Backup(backup) => answer_backup(rt, backup, explains, out, err),
+        Command::Other(asked) => answer_asked(rt, devices, watch, asked, explains, out, err),
     }
-    if is_stop(words) {
-        return answer_stop(rt, devices, words, out, err);
-    }
-    match read_args(rt.alloc(), words) {
-        Ok(asked) => answer_asked(rt, devices, watch, words, &asked, out, err),
+}
+
+/// Does what the words of a command line ask for, the program's name first; they are read once. Answers the program's status: that of the
+/// command, 3 where a stream ended since a node halted, or 2 where the words ask for nothing; no file is opened then. Asking for help is no
+/// fault. `devices` holds and opens a device that is written, and says whether another process has one whose stream is asked to stop;
+/// `watch` says who holds one that `status` looks at. `feed` is standard input, which a stream alone reads; `onlooker` looks at `err` and
+/// has the time.
+pub fn answer_over<
+    R: Files<File = F> + AllocGlobal + Threads + Wait + Sync,
+    F: FileExt + OpenFile + Drop + Send,
+    S: Devices<Device = D>,
+    D: Disk + Drop + Send,
+    W: Watch,
+    I: Feed,
+    O: Write,
+    E: Write,
+    V: Onlooker,
+>(
+    rt: &R,
+    devices: &mut S,
+    watch: &mut W,
+    words: &[String],
+    feed: &mut I,
+    out: &mut O,
+    err: &mut E,
+    onlooker: &mut V,
+) -> u8
+    ghost history: { History }
+    ensures few { result ≤ 3 }
+    ensures three { result ≡ 3 → has_word (codes "--stream") words.now ≡ true }
+    ensures answered { Answered D.keeps history (feed.new ≡ feed.old) words.now (S.calls devices.old) (S.calls devices.new) (O.contents out.old) (O.contents out.new) result }
+{
+    match CommandLine::read(rt.alloc(), words) {
+        Ok(line) => {
+            let (command, explains) = (&line.command, line.explains);
+            answer_command(
+                rt, devices, watch, command, explains, feed, out, err, onlooker,
+            )
+        }
         Err(fault) => {
             let _ = write!(err, "{fault}");
             2
@@ -255,16 +306,28 @@ pub fn answer_over<
 /// Does what the words ask for, as `answer_over`, over devices that tell nothing of what was called.
 fn answer_untold<
     R: Files<File = F> + AllocGlobal + Threads + Wait + Sync,
-    F: FileExt + OpenFile + Drop,
+    F: FileExt + OpenFile + Drop + Send,
     S: Devices<Device = D>,
     D: Disk + Drop + Send,
     W: Watch,
+    I: Feed,
     O: Write,
     E: Write,
->(rt: &R, devices: &mut S, watch: &mut W, words: &[String], out: &mut O, err: &mut E) -> u8
-    ensures { result ≤ 2 }
+    V: Onlooker,
+>(
+    rt: &R,
+    devices: &mut S,
+    watch: &mut W,
+    words: &[String],
+    feed: &mut I,
+    out: &mut O,
+    err: &mut E,
+    onlooker: &mut V,
+) -> u8
+    ensures few { result ≤ 3 }
+    ensures three { result ≡ 3 → has_word (codes "--stream") words.now ≡ true }
 {
-    answer_over(rt, devices, watch, words, out, err)
+    answer_over(rt, devices, watch, words, feed, out, err, onlooker)
 }
 
 /// Does what the words ask for, as `answer_over`, with the devices in files of the system, whose locks `locks` takes.
@@ -274,23 +337,23 @@ pub fn answer_locking<
     L: Locks<Lock = K> + Drop,
     K: Drop,
     W: Watch,
+    I: Feed,
     O: Write,
     E: Write,
->(rt: &R, locks: L, watch: &mut W, words: &[String], out: &mut O, err: &mut E) -> u8
-    ensures { result ≤ 2 }
+    V: Onlooker,
+>(
+    rt: &R,
+    locks: L,
+    watch: &mut W,
+    words: &[String],
+    feed: &mut I,
+    out: &mut O,
+    err: &mut E,
+    onlooker: &mut V,
+) -> u8
+    ensures few { result ≤ 3 }
+    ensures three { result ≡ 3 → has_word (codes "--stream") words.now ≡ true }
 {
     let mut devices = FileDevices::new(rt, locks);
-    answer_untold(rt, &mut devices, watch, words, out, err)
-}
-
-/// Does what the words ask for, as `answer_over`, where nobody else has a device, and `status` takes one look.
-pub fn answer<
-    R: Files<File = F> + AllocGlobal + Threads + Wait + Sync,
-    F: FileExt + OpenFile + Drop + Send,
-    O: Write,
-    E: Write,
->(rt: &R, words: &[String], out: &mut O, err: &mut E) -> u8
-    ensures { result ≤ 2 }
-{
-    answer_locking(rt, NoLocks, &mut OneLook, words, out, err)
+    answer_untold(rt, &mut devices, watch, words, feed, out, err, onlooker)
 }

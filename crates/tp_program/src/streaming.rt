@@ -9,7 +9,7 @@ ghost use Rattle.tp_recover.specs.declared.unopened.Unopened.{Unopened};
 ghost use Rattle.tp_run.specs.Ran.{History};
 ghost use Rattle.tp_stream.specs.Quiet.{IsAsked};
 ghost use Rattle.tp_stream.specs.Streamed.{StaysUnstreamed, Streamed as StreamLeft};
-ghost use Rattle.tp_program.specs.Streaming.{IsOfEnds, IsUnopened, FindsNothingNew, StreamedOn, end_status, ending_status, fault_status, seconds_of, shown_on, stream_status, task_of};
+ghost use Rattle.tp_program.specs.Streaming.{IsOfEnds, IsUnopened, FindsNothingNew, StreamedOn, end_status, ending_status, fault_status, seconds_of, shown_on, spread_over, stream_status, task_of};
 ghost use Rattle.tp_words.specs.StreamArgs.{IsStreamRun};
 
 use crate::request_file::RequestFile;
@@ -18,6 +18,8 @@ use std::fs::{Files, OpenFile};
 use std::io::Write;
 use std::os::unix::fs::FileExt;
 use std::sync::Wait;
+use std::thread;
+use std::thread::Threads;
 use thiserror::Error;
 use tp_disk::Disk;
 use tp_stream::{Ended, Ending, Sink, Source, StreamFault, Streams, Task, stream};
@@ -28,6 +30,9 @@ use tp_words::StreamRun;
 
 /// After how many seconds it is said again how far a stream has come, where none were typed.
 const SECONDS_TOLD: u32 = 10;
+
+/// How many threads make turns at most, where nothing was typed of that.
+const MOST_WORKERS: usize = 4;
 
 /// Why a stream on files ends early.
 #[derive(Clone, Copy, Debug, PartialEq, Eq, Error)]
@@ -62,6 +67,10 @@ fn task_of(asked: &StreamRun) -> Task
         until_quiet: asked.until_quiet,
         stop_on_halt: asked.stop_on_halt,
         until_asked: true,
+        workers: match asked.workers {
+            Some(workers) => workers as u8,
+            None => 0,
+        },
         quantum: asked.quantum,
         spare: asked.spare.min(u16::MAX as u64) as u16,
         every: asked.every,
@@ -78,6 +87,28 @@ fn shown_on(task: Task, on_terminal: bool) -> Task
     Task {
         tells: task.tells || on_terminal,
         ..task
+    }
+}
+
+/// The task, where nothing was typed of how many threads make turns: as many as there are processors, up to [`MOST_WORKERS`].
+fn spread_over(task: Task, processors: usize) -> Task
+    requires { task.quantum ≤ MAX_STEPS }
+    ensures value { result ≡ spread_over processors task }
+    ensures quantum { result.quantum ≤ MAX_STEPS }
+{
+    let workers = if task.workers == 0 {
+        processors.min(MOST_WORKERS) as u8
+    } else {
+        task.workers
+    };
+    Task { workers, ..task }
+}
+
+/// How many processors there are, where that can be said.
+fn processors<R: Threads>(rt: &R) -> usize {
+    match thread::available_parallelism(rt) {
+        Ok(count) => count.get(),
+        Err(_) => 1,
     }
 }
 
@@ -180,8 +211,8 @@ fn report<E: Write>(err: &mut E, done: Result<Ended, FilesFault>) -> u8
 /// how far it has come, at the end each node that has stopped, and `next M`, with how much standard output was given and how much of
 /// that is confirmed, and why it ended.
 fn stream_opened<
-    R: Files + AllocGlobal + Wait,
-    D: Disk + Drop,
+    R: Files + AllocGlobal + Threads + Wait + Sync,
+    D: Disk + Drop + Send,
     S: Sink,
     I: Source,
     E: Write,
@@ -204,7 +235,8 @@ fn stream_opened<
     ensures unopened { D.keeps → IsErr (verdict (D.state disk).now.bytes) → (unopened : Unopened) × (result.1 ≡ Err (StreamFault.Opening unopened)) }
     ensures why { IfOk result.1 (λ ended. IsAsked (task_of asked.now) ended.why) }
 {
-    let task = shown_on(task_of(asked), onlooker.is_terminal());
+    let shown = shown_on(task_of(asked), onlooker.is_terminal());
+    let task = spread_over(shown, processors(rt));
     let standard_out = asked.ends.standard_out();
     let standard_in = asked.ends.standard_in();
     let seconds = seconds_of(asked);
@@ -230,7 +262,7 @@ fn stream_opened<
 fn open_ports<
     'a,
     R: Files<File = F> + AllocGlobal,
-    F: FileExt + OpenFile + Drop,
+    F: FileExt + OpenFile + Drop + Send,
     I: Feed,
     O: Write,
 >(
@@ -258,9 +290,9 @@ fn open_ports<
 /// Opens the ends of a device's ports, and streams its network on them. A request to stop is taken away behind that, whyever it ended: it was
 /// for this process, which holds the device.
 fn stream_files<
-    R: Files<File = F> + AllocGlobal + Wait,
-    F: FileExt + OpenFile + Drop,
-    D: Disk + Drop,
+    R: Files<File = F> + AllocGlobal + Threads + Wait + Sync,
+    F: FileExt + OpenFile + Drop + Send,
+    D: Disk + Drop + Send,
     I: Feed,
     O: Write,
     E: Write,
@@ -301,9 +333,9 @@ fn stream_files<
 /// `tpnet run --stream`, on a device: opens the ends of its ports, lets its network run, and puts, makes safe and confirms what ports
 /// show as it comes, until it is over as it was asked to be. Answers the device, the program's status and what came of it.
 pub fn stream_on<
-    R: Files<File = F> + AllocGlobal + Wait,
-    F: FileExt + OpenFile + Drop,
-    D: Disk + Drop,
+    R: Files<File = F> + AllocGlobal + Threads + Wait + Sync,
+    F: FileExt + OpenFile + Drop + Send,
+    D: Disk + Drop + Send,
     I: Feed,
     O: Write,
     E: Write,

@@ -9,7 +9,7 @@ use std::os::unix::fs::FileExt;
 use std::sync::Wait;
 use std::thread::Threads;
 use std::{fs, io};
-use tp_program::{OneLook, answer_locking, answer_stream_locking, is_stream, wants_input};
+use tp_program::{OneLook, answer_locking};
 use tp_stream_files::Plain;
 use tp_tests_files::standing::Standing;
 
@@ -96,15 +96,13 @@ impl<'a, R: Files> Write for Reader<'a, R> {
     }
 }
 
-/// Streams as a command asks.
-fn stream<R: Files<File = F> + AllocGlobal + Wait, F: FileExt + OpenFile + Drop>(
-    rt: &R,
-    stage: &Stage,
-    words: &[String],
-    input: &[u8],
-) -> Done {
+/// Does what a command asks for, as the program does.
+fn carry_out<
+    R: Files<File = F> + AllocGlobal + Threads + Wait + Sync,
+    F: FileExt + OpenFile + Drop + Send,
+>(rt: &R, stage: &Stage, words: &[String], input: &[u8]) -> Done {
     let files = Standing::new(rt, stage.streams.as_slice());
-    let mut feed = Plain::new(if wants_input(words) { input } else { &[] });
+    let mut feed = Plain::new(input);
     let mut err = Vec::new(rt.alloc());
     let mut out = Reader {
         rt,
@@ -113,33 +111,16 @@ fn stream<R: Files<File = F> + AllocGlobal + Wait, F: FileExt + OpenFile + Drop>
         bytes: Vec::new(rt.alloc()),
     };
     let (other, mut steps) = (stage.holding.other(rt), stage.looks.steps());
-    let status = answer_stream_locking(
-        &files, other, words, &mut feed, &mut out, &mut err, &mut steps,
+    let status = answer_locking(
+        &files,
+        other,
+        &mut OneLook,
+        words,
+        &mut feed,
+        &mut out,
+        &mut err,
+        &mut steps,
     );
-    Done {
-        status,
-        out: out.bytes,
-        err,
-    }
-}
-
-/// Does what a command asks for, as the program does. Standard streams that are files are seen by a stream alone.
-fn carry_out<
-    R: Files<File = F> + AllocGlobal + Threads + Wait + Sync,
-    F: FileExt + OpenFile + Drop + Send,
->(rt: &R, stage: &Stage, words: &[String], input: &[u8]) -> Done {
-    if is_stream(words) {
-        return stream(rt, stage, words, input);
-    }
-    let mut err = Vec::new(rt.alloc());
-    let mut out = Reader {
-        rt,
-        made: None,
-        refuses: stage.refuses,
-        bytes: Vec::new(rt.alloc()),
-    };
-    let other = stage.holding.other(rt);
-    let status = answer_locking(rt, other, &mut OneLook, words, &mut out, &mut err);
     Done {
         status,
         out: out.bytes,

@@ -9,7 +9,7 @@ use Rattle.tp_stream.specs.declared.task.Task.{Task}
 use Rattle.tp_stream_files.specs.declared.ending.Ending.{Ending}
 use Rattle.tp_stream_files.specs.declared.ending.Ending.TheVariants.{Quiet, Turns, Gone, Halted, Stopped}
 use Rattle.tp_stream.specs.declared.fault.StreamFault.{StreamFault}
-use Rattle.tp_stream.specs.Looks.{HaveLooked, LooksOnce, is_stopped, looked}
+use Rattle.tp_stream.specs.Looks.{HaveLooked, LooksAtMostOnce, is_stopped, looked}
 use Rattle.tp_stream.specs.Quiet.{IsWhyEnded}
 
 abbrev IsNo : Bool → Type 0
@@ -68,18 +68,18 @@ one_look : (answer : Bool) (start : Network NodeState) (task : Task) (old mid ne
 one_look true start task old mid new ended is why H grew = one_yes task old mid new ended (stopped_until start task ended why is) is H grew
 one_look false start task old mid new ended isnt why H grew = one_no task.until_asked task old mid new ended refl isnt H grew
 
--- what comes in a cycle
-looks_more : (start : Network NodeState) (task : Task) (made later : ℕ) (old mid new : List Bool) (ended : Option Ending) → IfSome ended (IsWhyEnded start task)
-    → HaveLooked task old mid None → LooksOnce task made later mid new ended → HaveLooked task old new ended
-looks_more start task made later old mid new ended why H once =
+-- what comes in a cycle, and behind it
+looks_more : (start : Network NodeState) (task : Task) (old mid new : List Bool) (ended : Option Ending) → IfSome ended (IsWhyEnded start task)
+    → HaveLooked task old mid None → LooksAtMostOnce task mid new ended → HaveLooked task old new ended
+looks_more start task old mid new ended why H once =
     elim once [
       | inl grew ↦ one_look (is_stopped ended) start task old mid new ended refl why H grew
       | inr still ↦ subst (λ e. HaveLooked task old new e) (sym still.0) (subst (λ n. HaveLooked task old n None) (sym still.1) H)
     ]
 
-pub looks_then : (start : Network NodeState) (task : Task) (made later : ℕ) (old mid new : List Bool) (last now : Result (Option Ending) StreamFault) → last ≡ Ok None
-    → IfOk last (HaveLooked task old mid) → IfOk now (λ ended. IfSome ended (IsWhyEnded start task)) → IfOk now (LooksOnce task made later mid new)
+pub looks_then : (start : Network NodeState) (task : Task) (old mid new : List Bool) (last now : Result (Option Ending) StreamFault) → last ≡ Ok None
+    → IfOk last (HaveLooked task old mid) → IfOk now (λ ended. IfSome ended (IsWhyEnded start task)) → IfOk now (LooksAtMostOnce task mid new)
     → IfOk now (HaveLooked task old new)
-looks_then start task made later old mid new last (Ok ended) is H why once =
-    looks_more start task made later old mid new ended why (subst (λ r. IfOk r (HaveLooked task old mid)) is H) once
-looks_then start task made later old mid new last (Err fault) is H why once = tt
+looks_then start task old mid new last (Ok ended) is H why once =
+    looks_more start task old mid new ended why (subst (λ r. IfOk r (HaveLooked task old mid)) is H) once
+looks_then start task old mid new last (Err fault) is H why once = tt

@@ -1,5 +1,5 @@
 -- What streams leave of a device.
-use Rattle.std.proofs.Common.{◌≡◌, ◌≤◌, ◌+◌, inl, inr, List, [], ◌∷◌, length, map, ℕ, Result, Ok, Err, ap, subst, ◌∙◌, arith}
+use Rattle.std.proofs.Common.{◌≡◌, ◌≤◌, ◌+◌, inl, inr, List, [], ◌∷◌, length, map, ℕ, Result, Ok, Err, refl, ap, subst, ◌∙◌, arith}
 use Rattle.std.specs.Prelude.{IfErr, IfOk}
 use Rattle.std.proofs.lemmas.Result.{IfOk-weaker}
 use Rattle.tp_model.specs.declared.entry.Entry.{Entry}
@@ -14,6 +14,7 @@ use Rattle.tp_flush.specs.Known.{Began, Reached}
 use Rattle.tp_flush.specs.Flushing.{Flushing, Walked}
 use Rattle.tp_flush.specs.Follows.{Follows}
 use Rattle.tp_flush.proofs.Follows.{read_alone, read_first, stored_follows, walked_either, walked_follows}
+use Rattle.tp_recover.proofs.Leaving.{none_leaves}
 use Rattle.tp_stream_files.specs.Held.{HasPut}
 use Rattle.tp_stream_files.specs.Outputs.{Given, OutputValue, given_of}
 use Rattle.tp_stream_files.specs.declared.ending.Ended.{Ended}
@@ -24,8 +25,9 @@ use Rattle.tp_stream.specs.Put.{ArePut, EachWith, Got, PutPiece, ServedInto, Str
 use Rattle.tp_stream.specs.Standing.{from_of, stands_opened}
 use Rattle.tp_stream.specs.Steps.{AllStepped, IsSetOut}
 use Rattle.tp_stream.specs.Streamed.{CameBegun, StaysUnstreamed, Streamed}
-use Rattle.tp_stream.proofs.Puts.{each_then}
+use Rattle.tp_stream.proofs.Puts.{each_same, each_then}
 use Rattle.tp_stream.proofs.Stepping.{all_got}
+use Rattle.tp_stream_files.proofs.StreamEndsSinks.{none_put}
 
 -- a device that was opened, and whose flusher walked on from there, with steps of outputs on the way
 pub served : (start : Network NodeState) (before : World NodeState) (o : Opened) (old new : Flushing) (result : Result Ended StreamFault) → Began start before old.state.now.bytes
@@ -51,6 +53,15 @@ unwritten start fault old new L = record { journal = []; leaves = read_alone sta
 pub unput : (start : Network NodeState) (fault : StreamFault) (was now : List OutputValue) (old new : State) → LeavesNothingNew old new → map given_of now ≡ map given_of was
     → StreamedInto start (Err fault) was now old new
 unput start fault was now old new L same = record { streamed = unwritten start fault old new L; outputs = inl same }
+
+-- where nothing was begun, and nothing was put
+pub unserved : (start : Network NodeState) (fault : StreamFault) (outputs : List OutputValue) (old : State) → ServedInto start (Err fault) outputs outputs old old
+unserved start fault outputs old = record {
+  streamed = record { journal = []; leaves = read_alone start [] old old (none_leaves old); stored = tt; last = tt };
+  outputs =
+      each_same (λ a b. Got start [] a.next old old a b)
+      (λ a. let none : a.next ≡ a.next + 0 = omega arith in record { port = refl; pieces = []; each = tt; next = none; holds = none_put a.next [] a.held refl }) outputs;
+}
 
 -- ## A device that was read first
 

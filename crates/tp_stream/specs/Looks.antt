@@ -26,6 +26,10 @@ last_yes ended = if is_stopped ended then true ∷ [] else []
 abbrev pub LooksOnce : Task → ℕ → ℕ → List Bool → List Bool → Option Ending → Type 0
 LooksOnce task made later old new ended = (new ≡ old ++ looked task (is_stopped ended)) ⊎ ((ended ≡ None) × (new ≡ old) × (later ≡ made))
 
+-- So it was, or not at all, whatever was made behind that.
+abbrev pub LooksAtMostOnce : Task → List Bool → List Bool → Option Ending → Type 0
+LooksAtMostOnce task old new ended = (new ≡ old ++ looked task (is_stopped ended)) ⊎ ((ended ≡ None) × (new ≡ old))
+
 -- Each look answered no, but for the last one where it is over since it was asked to stop: that one answered yes. None was made where the
 -- task doesn't say so.
 pub record HaveLooked (task : Task) (old new : List Bool) (ended : Option Ending) : Type 0 where

@@ -2,6 +2,7 @@
 #![tactic(auto)]
 
 mod beginning;
+mod beside;
 mod endings;
 mod fault;
 mod flushing;
@@ -14,6 +15,7 @@ mod rooms;
 mod rounds;
 mod serving;
 mod settling;
+mod shift;
 mod standing;
 mod stopping;
 mod streaming;

@@ -7,7 +7,7 @@ use crate::rooms::Rooms;
 use crate::task::Task;
 
 /// How a device's turns are made: as it was asked, after how many entries a snapshot begins, how much room a turn and the confirms
-/// behind it need, and how many confirms there are.
+/// behind it need, how many confirms there are, and how many workers.
 #[derive(Clone, Copy)]
 pub(crate) struct Pace {
     pub(crate) task: Task,
@@ -15,5 +15,6 @@ pub(crate) struct Pace {
     pub(crate) rooms: Rooms,
     pub(crate) need: u32,
     pub(crate) confirms: u32,
+    pub(crate) workers: u8,
     pub ghost few: { task.quantum ≤ MAX_STEPS },
 }

@@ -18,7 +18,7 @@ use tp_book::Refusal;
 use tp_node::Why;
 use tp_shared::{Locked, Naming, NoGate, NodeTurn, Seat, Shared, Sights};
 
-/// How many turns are made at most between two flushes.
+/// How many turns are made at most between two flushes, where no workers make any.
 const ROUND: u32 = 1024;
 
 /// Whether a run ended since there is no step, and whether that is since the node has halted. One that lacks a frame has a step left.
@@ -42,6 +42,7 @@ fn did_of(turn: &NodeTurn) -> Did
     Did {
         nothing: turn.taken == 0 && turn.ran.count() == 0 && rests,
         halted,
+        steps: turn.ran.count(),
     }
 }
 
@@ -75,6 +76,7 @@ fn host_turn<J: Naming, R: Wait>(
         Ok(takes) => Ok(Did {
             nothing: takes == 0,
             halted: false,
+            steps: 0,
         }),
         Err(refusal) => Err(refusal),
     }
@@ -173,6 +175,15 @@ fn one_turn<J: Naming, R: Wait>(
     }
 }
 
+/// How many turns a round has at most: one for each process where workers make others behind it.
+fn turns_of(turns: &Turns, nodes: u8) -> u32 {
+    if turns.is_busy {
+        u32::from(nodes) + 1
+    } else {
+        ROUND
+    }
+}
+
 /// A round of turns, of all processes in order, until the journal has no room for one more, no turn may be made, or nothing is left to
 /// do. While a snapshot runs each process has one, and the flusher's turn comes next.
 ///
@@ -193,9 +204,11 @@ pub(crate) fn round<J: Naming, R: Wait>(
     ensures begun { IfErr result CameOfTurns }
 {
     let nodes = shared.nodes();
+    let most = turns_of(turns, nodes);
     turns.begin();
-    for _ in 0..ROUND {
+    for _ in 0..most {
         if turns.is_round_over(pace.task, nodes) {
+            turns.end(pace.task, nodes, false, pace.workers > 1);
             return Ok(());
         }
         let seen = look(rt, alloc, shared, pace);
@@ -205,5 +218,6 @@ pub(crate) fn round<J: Naming, R: Wait>(
         }
         one_turn(rt, shared, pace, seat, turns, seen)?;
     }
+    turns.end(pace.task, nodes, true, pace.workers > 1);
     Ok(())
 }

@@ -1,19 +1,20 @@
 //! What a stream does with a network, and its flusher.
 
 ghost use Rattle.std.specs.List.{list_all};
-ghost use Rattle.std.specs.Prelude.{◌≡◌, ◌≤◌, length, Some, IfOk, IfSome, IfErr, OnOk};
+ghost use Rattle.std.specs.Prelude.{◌≡◌, ◌≤◌, length, All, Some, IfOk, IfSome, IfErr, OnOk};
 ghost use Rattle.tp_model.specs.WriteOrder.{Resting};
 ghost use Rattle.tp_flush.specs.Known.{Began};
 ghost use Rattle.tp_flush.specs.Flushing.{IsSameProcess, Walked};
 ghost use Rattle.tp_stream_files.specs.Inputs.{is_over};
 ghost use Rattle.tp_stream.specs.Failures.{FailedWhere, answer_failed};
-ghost use Rattle.tp_stream.specs.Looks.{HaveLooked, LooksOnce};
+ghost use Rattle.tp_stream.specs.Looks.{HaveLooked, LooksAtMostOnce, LooksOnce};
 ghost use Rattle.tp_stream.specs.Over.{LeavesNoInput};
 ghost use Rattle.tp_stream.specs.Quiet.{HaveRested, IsWhyEnded};
 ghost use Rattle.tp_stream.specs.Steps.{AllStepped};
 ghost use Rattle.tp_stream.specs.Streamed.{CameBegun, CameBetween, CameOfTurns};
 ghost use Rattle.tp_stream.specs.Told.{ToldLater};
 
+use crate::beside::go_beside;
 use crate::endings::{are_over, ending, is_asked, may_wait};
 use crate::fault::StreamFault;
 use crate::flushing::{finish, flush};
@@ -26,10 +27,12 @@ use crate::telling::tell;
 use crate::turns::Turns;
 use std::alloc::Global;
 use std::sync::Wait;
+use std::thread::Threads;
 use tp_disk::Disk;
 use tp_flush::Flusher;
-use tp_shared::{Naming, Seat, Shared};
+use tp_shared::{Naming, NoGate, Seat, Shared};
 use tp_stream_files::{Ended, Ending, Input, Listener, Sink, Source, Stop, Streams};
+use tp_work::Net;
 
 /// How a stream goes on: its turns, and the slips of what they journalled.
 #[derive(Drop)]
@@ -152,17 +155,88 @@ fn cycle<J: Naming, D: Disk, S: Sink, I: Source, L: Listener, P: Stop, R: Wait>(
     go_on(rt, alloc, shared, pace, going, flusher, streams, stop)
 }
 
-/// All cycles, until nothing more is to be done or one is refused; and whether each process had nothing to do in its last turn.
-fn cycles<J: Naming, D: Disk, S: Sink, I: Source, L: Listener, P: Stop, R: Wait>(
+/// A cycle; and behind it, where it isn't over and there is more to do than a round did, workers make turns, with the flusher's beside them.
+fn lap<
+    J: Naming + Send + Sync,
+    D: Disk + Send + Drop,
+    S: Sink,
+    I: Source,
+    L: Listener,
+    P: Stop,
+    R: Threads + Wait + Sync,
+>(
     rt: &R,
     alloc: Global,
-    shared: &Shared<J>,
+    net: &Net<J, NoGate>,
+    pace: Pace,
+    going: &mut Going<J>,
+    seats: Vec<tp_work::Seat<J>>,
+    flusher: Flusher<J, D>,
+    streams: &mut Streams<S, I>,
+    listener: &mut L,
+    stop: &mut P,
+) -> (
+    Flusher<J, D>,
+    Vec<tp_work::Seat<J>>,
+    Result<Option<Ending>, StreamFault>,
+)
+    requires rested { HaveRested J.start going.old.turns.whose going.old.turns.idle }
+    requires seats { All (λ seat. seat.hand.of ≡ Some net.now.queue) seats.items }
+    ensures walks { D.keeps → Began J.formatted J.before flusher.opened → Walked flusher result.0 }
+    ensures process { IsSameProcess flusher result.0 }
+    ensures put { D.keeps → Began J.formatted J.before flusher.opened
+        → AllStepped J.formatted flusher result.0 streams.old.outputs.items streams.new.outputs.items }
+    ensures why { IfOk result.2 (λ ended. IfSome ended (IsWhyEnded J.start pace.task)) }
+    ensures inputs { IfOk result.2 (λ ended. IfSome ended (LeavesNoInput (list_all (λ i. is_over i.ended i.is_blocked) streams.new.inputs.items))) }
+    ensures looks { IfOk result.2 (LooksAtMostOnce pace.task (P.answers stop.old) (P.answers stop.new)) }
+    ensures told { ToldLater (length J.start.nodes) (L.told listener.old) (L.told listener.new) }
+    ensures rested { OnOk result.2 (HaveRested J.start going.new.turns.whose going.new.turns.idle) }
+    ensures failures { flusher.world.at ≡ Resting → FailedWhere (answer_failed result.2) flusher result.0 }
+    ensures begun { IfErr result.2 CameBegun }
+    ensures seats { All (λ seat. seat.hand.of ≡ Some net.now.queue) result.1.items }
+{
+    let mut flusher = flusher;
+    let done = cycle(
+        rt,
+        alloc,
+        net.shared(),
+        pace,
+        going,
+        &mut flusher,
+        streams,
+        listener,
+        stop,
+    );
+    let goes_on = going.turns.is_busy && !going.turns.is_full;
+    if let Ok(None) = done
+        && goes_on
+    {
+        return go_beside(rt, alloc, net, pace, &mut going.turns, seats, flusher);
+    }
+    (flusher, seats, done)
+}
+
+/// All cycles, until nothing more is to be done or one is refused; and whether each process had nothing to do in its last turn.
+fn cycles<
+    J: Naming + Send + Sync,
+    D: Disk + Send + Drop,
+    S: Sink,
+    I: Source,
+    L: Listener,
+    P: Stop,
+    R: Threads + Wait + Sync,
+>(
+    rt: &R,
+    alloc: Global,
+    net: &Net<J, NoGate>,
+    seats: Vec<tp_work::Seat<J>>,
     pace: Pace,
     first: Flusher<J, D>,
     streams: &mut Streams<S, I>,
     listener: &mut L,
     stop: &mut P,
 ) -> (Flusher<J, D>, Result<Option<Ending>, StreamFault>, bool)
+    requires { All (λ seat. seat.hand.of ≡ Some net.now.queue) seats.items }
     ensures walks { D.keeps → Began J.formatted J.before first.opened → Walked first result.0 }
     ensures process { IsSameProcess first result.0 }
     ensures put { D.keeps → Began J.formatted J.before first.opened
@@ -175,7 +249,9 @@ fn cycles<J: Naming, D: Disk, S: Sink, I: Source, L: Listener, P: Stop, R: Wait>
     ensures begun { IfErr result.1 CameBegun }
 {
     first.known();
+    let shared = net.shared();
     let mut flusher = first;
+    let mut seats = seats;
     let has_halted = pace.task.stop_on_halt && find_halted(rt, shared);
     let mut going = Going {
         turns: Turns::new(has_halted),
@@ -186,17 +262,12 @@ fn cycles<J: Naming, D: Disk, S: Sink, I: Source, L: Listener, P: Stop, R: Wait>
         let Ok(None) = last else {
             break;
         };
-        last = cycle(
-            rt,
-            alloc,
-            shared,
-            pace,
-            &mut going,
-            &mut flusher,
-            streams,
-            listener,
-            stop,
+        let (there, freed, done) = lap(
+            rt, alloc, net, pace, &mut going, seats, flusher, streams, listener, stop,
         );
+        flusher = there;
+        seats = freed;
+        last = done;
     }
     let rests = going.turns.is_quiet(shared.nodes());
     (flusher, last, rests)
@@ -204,16 +275,26 @@ fn cycles<J: Naming, D: Disk, S: Sink, I: Source, L: Listener, P: Stop, R: Wait>
 
 /// Makes turns, and lets each stream make its steps, until that ends. Answers the number that the next entry gets, all below
 /// being stored, and why it is over; which nodes have stopped is told before.
-pub(crate) fn serve<J: Naming, D: Disk, S: Sink, I: Source, L: Listener, P: Stop, R: Wait>(
+pub(crate) fn serve<
+    J: Naming + Send + Sync,
+    D: Disk + Send + Drop,
+    S: Sink,
+    I: Source,
+    L: Listener,
+    P: Stop,
+    R: Threads + Wait + Sync,
+>(
     rt: &R,
     alloc: Global,
-    shared: &Shared<J>,
+    net: &Net<J, NoGate>,
+    seats: Vec<tp_work::Seat<J>>,
     pace: Pace,
     flusher: Flusher<J, D>,
     streams: &mut Streams<S, I>,
     listener: &mut L,
     stop: &mut P,
 ) -> (Flusher<J, D>, Result<Ended, StreamFault>)
+    requires { All (λ seat. seat.hand.of ≡ Some net.now.queue) seats.items }
     ensures walks { D.keeps → Began J.formatted J.before flusher.opened → Walked flusher result.0 }
     ensures process { IsSameProcess flusher result.0 }
     ensures put { D.keeps → Began J.formatted J.before flusher.opened
@@ -227,8 +308,9 @@ pub(crate) fn serve<J: Naming, D: Disk, S: Sink, I: Source, L: Listener, P: Stop
     ensures failures { flusher.world.at ≡ Resting → FailedWhere (answer_failed result.1) flusher result.0 }
     ensures begun { IfErr result.1 CameBegun }
 {
+    let shared = net.shared();
     let (mut there, last, rests) = cycles(
-        rt, alloc, shared, pace, flusher, streams, listener, stop,
+        rt, alloc, net, seats, pace, flusher, streams, listener, stop,
     );
     let why = match last {
         Ok(Some(why)) => why,

@@ -30,6 +30,7 @@ ghost use Rattle.tp_stream.specs.Standing.{AllHaveAccepted, AllMayBegin, IsFirst
 ghost use Rattle.tp_stream.specs.Streamed.{CameBegun, StaysUnstreamed, Streamed};
 ghost use Rattle.tp_stream.specs.Told.{ToldFirst, ToldLater, input_begins, output_begins};
 ghost use Rattle.tp_recover.specs.declared.unopened.Unopened.{Unopened};
+ghost use Rattle.tp_work.specs.declared.start.TheConstants.{MAX_WORKERS};
 
 use crate::beginning::task_fault;
 use crate::fault::StreamFault;
@@ -42,15 +43,26 @@ use std::alloc::Global;
 use std::marker::Brand;
 use std::snapshot::Snapshot;
 use std::sync::Wait;
+use std::thread::Threads;
 use tp_area::Store;
 use tp_disk::Disk;
 use tp_flush::{Flusher, topology_of};
 use tp_net::Topology;
 use tp_ready::Raiser;
 use tp_recover::{Opened, open};
-use tp_shared::{Naming, Parts, Shared};
+use tp_shared::{Naming, NoGate, Parts};
 use tp_stream_files::{Ended, Listener, Sink, Source, Stop, Streams};
 use tp_turn::{TAKES, TURN_ENTRIES};
+use tp_work::{MAX_WORKERS, Net};
+
+/// How many workers make turns on a device of this topology: as many as are asked for, at least one, and no more than there are processes.
+fn workers_of(task: Task, topology: &Topology) -> u8
+    ensures some { 0 < result }
+    ensures few { result ≤ MAX_WORKERS }
+{
+    let processes = (topology.pages().len() as u8).saturating_add(1);
+    task.workers.min(processes).min(MAX_WORKERS).max(1)
+}
 
 /// How turns are made on a device of this topology. Each needs room for a node's turn, or for the host's with [`TAKES`] entries a port,
 /// whichever is more, and for a confirm a port.
@@ -61,6 +73,7 @@ fn pace_of(task: Task, topology: &Topology, area: u64) -> Pace
     ensures every { result.every ≡ every_of (journal_of topology.now area) task.every }
     ensures need { result.need ≡ need_of topology.now.ports }
     ensures confirms { result.confirms ≡ topology.now.ports }
+    ensures workers { (0 < result.workers) × (result.workers ≤ MAX_WORKERS) }
 {
     let ports = topology.port_count() as u32;
     let rooms = Rooms::of(topology, area);
@@ -70,11 +83,20 @@ fn pace_of(task: Task, topology: &Topology, area: u64) -> Pace
         rooms,
         need: (TURN_ENTRIES as u32).max(TAKES as u32 * ports) + ports,
         confirms: ports,
+        workers: workers_of(task, topology),
     }
 }
 
 /// A stream over the store of a device that was opened, with the parts that were made of it.
-fn stream_parts<J: Naming, D: Disk + Drop, S: Sink, I: Source, L: Listener, P: Stop, R: Wait>(
+fn stream_parts<
+    J: Naming + Send + Sync,
+    D: Disk + Send + Drop,
+    S: Sink,
+    I: Source,
+    L: Listener,
+    P: Stop,
+    R: Threads + Wait + Sync,
+>(
     rt: &R,
     alloc: Global,
     task: Task,
@@ -110,11 +132,22 @@ fn stream_parts<J: Naming, D: Disk + Drop, S: Sink, I: Source, L: Listener, P: S
     ensures failures { D.failures_of result.0 ≡ calls_failed (answer_failed result.1) (D.failures_of store.disk) }
     ensures begun { IfErr result.1 CameBegun }
 {
-    let (shared, key) = Shared::<J>::start(parts);
     let pace = pace_of(task, &topology, store.place.areas.length);
+    let Ok((net, seats, key)) = Net::<J, NoGate>::start(
+        rt,
+        alloc,
+        parts,
+        task.quantum.max(1),
+        pace.workers,
+        NoGate,
+    ) else {
+        return (store.into_disk(), Err(StreamFault::Memory));
+    };
     let flusher = Flusher::over(opened, topology, store, key, raiser);
     flusher.known();
-    let (flusher, done) = serve(rt, alloc, &shared, pace, flusher, streams, listener, stop);
+    let (flusher, done) = serve(
+        rt, alloc, &net, seats, pace, flusher, streams, listener, stop,
+    );
     (flusher.into_disk(), done)
 }
 
@@ -127,7 +160,14 @@ fn stream_parts<J: Naming, D: Disk + Drop, S: Sink, I: Source, L: Listener, P: S
 /// crash leaves from then on has. That all that was put is safe, and no more is confirmed, is said by `Output`, of each moment. It ends as
 /// stopped just where the last look whether it is asked to stop has answered yes, and no look before that has. A fault of the opening is
 /// what that answers, and that a call of the device failed, as it was opened or in a flush, is answered just where one has.
-pub fn stream<D: Disk + Drop, S: Sink, I: Source, L: Listener, P: Stop, R: Wait>(
+pub fn stream<
+    D: Disk + Send + Drop,
+    S: Sink,
+    I: Source,
+    L: Listener,
+    P: Stop,
+    R: Threads + Wait + Sync,
+>(
     rt: &R,
     alloc: Global,
     task: Task,

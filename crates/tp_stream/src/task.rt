@@ -12,6 +12,9 @@ pub struct Task {
     pub stop_on_halt: bool,
     /// Whether it ends once it is asked to stop. It is looked for that behind each flush, and while input is waited for.
     pub until_asked: bool,
+    /// How many threads make turns at most, 1 to 16, and no more than there are processes. With 1 all is done in the thread that calls; with
+    /// more, the flusher's turns are made beside them.
+    pub workers: u8,
     /// How many steps a turn may run, 1 to 4,096.
     pub quantum: u16,
     /// How many spare frames each node has, at most its pages, for pages that it writes while it is frozen.

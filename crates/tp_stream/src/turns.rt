@@ -8,11 +8,15 @@ use crate::task::Task;
 /// How often the journal is settled in a row before it counts as full for ever.
 const MOST_SETTLED: u32 = 64;
 
-/// What a process did in its turn: whether there was nothing that it could do, and whether it is a node that has halted.
+/// How many steps in a turn, in the mean of a round, make it worth a thread.
+const HEAVY: u64 = 64;
+
+/// What a process did in its turn: whether there was nothing that it could do, whether it is a node that has halted, and how many steps it made.
 #[derive(Clone, Copy)]
 pub(crate) struct Did {
     pub(crate) nothing: bool,
     pub(crate) halted: bool,
+    pub(crate) steps: u16,
 }
 
 impl Did {
@@ -23,21 +27,26 @@ impl Did {
         Did {
             nothing: false,
             halted: false,
+            steps: 0,
         }
     }
 }
 
 /// How far turns have come: how many were made, whose turn is next, how many of the last ones in a row had nothing to do while no
-/// snapshot ran, how many of this round were made while one ran, whether a node has halted, whether the journal had no room for one more,
-/// and how often it was settled since one did something.
+/// snapshot ran, how many of this round were made while one ran, how many it had, and with how many steps, whether a node has halted, whether the journal
+/// had no room for one more, whether there is more to do than the last round did, for which threads are worth it, and how often the journal was settled
+/// since a turn did something.
 #[derive(Drop)]
 pub(crate) struct Turns {
     pub(crate) made: u64,
     pub(crate) whose: u8,
     pub(crate) idle: u32,
     beside: u32,
+    round: u32,
+    steps: u64,
     pub(crate) has_halted: bool,
     pub(crate) is_full: bool,
+    pub(crate) is_busy: bool,
     settled: u32,
 }
 
@@ -59,8 +68,11 @@ impl Turns {
             whose: 0,
             idle: 0,
             beside: 0,
+            round: 0,
+            steps: 0,
             has_halted,
             is_full: false,
+            is_busy: false,
             settled: 0,
         }
     }
@@ -72,7 +84,20 @@ impl Turns {
     {
         self.idle = 0;
         self.beside = 0;
+        self.round = 0;
+        self.steps = 0;
         self.is_full = false;
+    }
+
+    /// A round ends, in which all turns were made that it may have, or fewer. Where all were, and had [`HEAVY`] steps in the mean, there is more to
+    /// do that is worth threads, if `may_be` says that there may be any. One that ends since a snapshot runs says nothing of that.
+    pub(crate) fn end(&mut self, task: Task, nodes: u8, were_all: bool, may_be: bool)
+        ensures whose { self.new.whose ≡ self.old.whose }
+        ensures idle { self.new.idle ≡ self.old.idle }
+    {
+        let more = may_be && !self.is_done(task, nodes);
+        let heavy = self.steps / HEAVY >= u64::from(self.round);
+        self.is_busy = more && (were_all && heavy || !were_all && self.is_busy);
     }
 
     /// The journal has no room for one more.
@@ -111,10 +136,24 @@ impl Turns {
         if is_running {
             self.beside = self.beside.saturating_add(1);
         }
+        self.round = self.round.saturating_add(1);
+        self.steps = self.steps.saturating_add(u64::from(did.steps));
         self.has_halted = self.has_halted || did.halted;
         if !did.nothing {
             self.settled = 0;
         }
+    }
+
+    /// Workers made `count` turns, in which a node has halted, or none has; `is_idle` says whether they ended since there was nothing to do.
+    /// None of them is one of those that had nothing to do.
+    pub(crate) fn add(&mut self, count: u64, has_halted: bool, is_idle: bool)
+        ensures whose { self.new.whose ≡ self.old.whose }
+        ensures idle { self.new.idle ≡ 0 }
+    {
+        self.made = self.made.saturating_add(count);
+        self.idle = 0;
+        self.has_halted = self.has_halted || has_halted;
+        self.is_busy = self.is_busy && !is_idle;
     }
 
     /// A stream has moved, so that settling isn't in vain.
@@ -154,12 +193,14 @@ impl Turns {
         task.stop_on_halt && self.has_halted
     }
 
+    /// Whether no turn may be made, or nothing is left to do.
+    fn is_done(&self, task: Task, nodes: u8) -> bool {
+        self.are_out(task) || self.is_stopped(task) || self.is_quiet(nodes)
+    }
+
     /// Whether the round is over: no turn may be made, nothing is left to do, or each process has had its turn beside a snapshot, which
     /// goes on in the flusher's next turn.
     pub(crate) fn is_round_over(&self, task: Task, nodes: u8) -> bool {
-        self.are_out(task)
-            || self.is_stopped(task)
-            || self.is_quiet(nodes)
-            || self.beside > u32::from(nodes)
+        self.is_done(task, nodes) || self.beside > u32::from(nodes)
     }
 }

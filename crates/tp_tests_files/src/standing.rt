@@ -75,6 +75,10 @@ impl<'a, R: Files> Files for Standing<'a, R> {
         self.below.remove_file(path)
     }
 
+    fn hard_link(&self, original: &str, link: &str) -> io::Result<()> {
+        self.below.hard_link(original, link)
+    }
+
     fn create_dir(&self, path: &str) -> io::Result<()> {
         self.below.create_dir(path)
     }

@@ -2,13 +2,13 @@
 
 use crate::file_tests::network;
 use crate::holding_tests::Busy;
+use crate::program::answer;
 use std::fs;
 use std::fs::{Files, OpenFile};
 use std::os::unix::fs::FileExt;
 use std::sync::Wait;
 use std::test::Fail;
 use std::thread::Threads;
-use tp_program::{OneLook, answer_locking};
 use tp_tests_files::faults::{Faults, FaultyFiles};
 use tp_tests_files::scratch::{Output, Scratch};
 
@@ -18,9 +18,7 @@ fn stopped<
     F: FileExt + OpenFile + Drop + Send,
 >(rt: &R, scratch: &Scratch) -> Result<Output, Fail> {
     let line = scratch.line(rt.alloc(), &["stop", "@device"])?;
-    let (mut out, mut err) = (Vec::new(rt.alloc()), Vec::new(rt.alloc()));
-    let status = answer_locking(rt, Busy, &mut OneLook, line.as_slice(), &mut out, &mut err);
-    Ok(Output { status, out, err })
+    Ok(answer(rt, Busy, line.as_slice()))
 }
 
 /// Whether the request stands there.

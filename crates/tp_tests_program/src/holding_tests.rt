@@ -7,8 +7,9 @@ use std::fs::{Files, OpenFile};
 use std::os::unix::fs::FileExt;
 use std::sync::Wait;
 use std::test::Fail;
+use std::thread::Threads;
 use tp_model::limits::MAX_HELD;
-use tp_program::{Held, InUse, Locks, NoLock, answer_stream_locking};
+use tp_program::{Held, InUse, Locks, NoLock, OneLook, answer_locking};
 use tp_stream_files::{Feed, Onlooker, SourceFailed, Times, Trace};
 use tp_tests_files::scratch::{Output, Scratch};
 
@@ -48,8 +49,17 @@ impl Feed for Asked {
 
 /// Who looks: at a clock that stands, and at no terminal.
 #[derive(Drop)]
-struct Onlooking {
+pub(crate) struct Onlooking {
     times: Times,
+}
+
+impl Onlooking {
+    /// No time was asked for.
+    pub(crate) fn new() -> Onlooking {
+        Onlooking {
+            times: Times::new(),
+        }
+    }
 }
 
 impl Onlooker for Onlooking {
@@ -77,10 +87,10 @@ impl Onlooker for Onlooking {
 const IN_USE: &str = "tpnet: InUse\n";
 
 /// Whether a stream is refused since another process has the device, and asks nothing of standard input.
-fn is_stream_refused<R: Files<File = F> + AllocGlobal + Wait, F: FileExt + OpenFile + Drop>(
-    rt: &R,
-    scratch: &Scratch,
-) -> Result<bool, Fail> {
+fn is_stream_refused<
+    R: Files<File = F> + AllocGlobal + Threads + Wait + Sync,
+    F: FileExt + OpenFile + Drop + Send,
+>(rt: &R, scratch: &Scratch) -> Result<bool, Fail> {
     let line = scratch.line(rt.alloc(), &["run", "@device", "--stream", "--in", "0=-"])?;
     let (mut out, mut err) = (Vec::new(rt.alloc()), Vec::new(rt.alloc()));
     let trace = Trace::new();
@@ -88,10 +98,16 @@ fn is_stream_refused<R: Files<File = F> + AllocGlobal + Wait, F: FileExt + OpenF
         was_asked: false,
         trace,
     };
-    let times = Times::new();
-    let mut looks = Onlooking { times };
-    let words = line.as_slice();
-    let status = answer_stream_locking(rt, Busy, words, &mut feed, &mut out, &mut err, &mut looks);
+    let status = answer_locking(
+        rt,
+        Busy,
+        &mut OneLook,
+        line.as_slice(),
+        &mut feed,
+        &mut out,
+        &mut err,
+        &mut Onlooking::new(),
+    );
     Ok(Output { status, out, err }.is(1, "", IN_USE) && !feed.was_asked)
 }
 

@@ -1,6 +1,7 @@
 //! Commands whose standard output is the device's file: nothing is done, nor printed over it.
 
 use crate::holding_tests::Busy;
+use crate::program::answer;
 use crate::run_tests::device;
 use std::fs;
 use std::fs::{Files, OpenFile};
@@ -8,7 +9,6 @@ use std::os::unix::fs::FileExt;
 use std::sync::Wait;
 use std::test::Fail;
 use std::thread::Threads;
-use tp_program::{OneLook, answer_locking};
 use tp_tests_files::scratch::Scratch;
 use tp_tests_files::standing::Standing;
 use tp_tests_fixtures::letter;
@@ -26,11 +26,9 @@ fn is_refused<
 >(files: &R, scratch: &Scratch, words: &[&str], file: &str) -> Result<bool, Fail> {
     let line = scratch.line(files.alloc(), words)?;
     let made = scratch.path(files.alloc(), file)?;
-    let (mut out, mut err) = (Vec::new(files.alloc()), Vec::new(files.alloc()));
-    let words = line.as_slice();
-    let status = answer_locking(files, Busy, &mut OneLook, words, &mut out, &mut err);
+    let done = answer(files, Busy, line.as_slice());
     let is_made = fs::symlink_metadata(files, made.as_str()).is_ok();
-    Ok(status == 2 && out.is_empty() && !err.is_empty() && !is_made)
+    Ok(done.status == 2 && done.out.is_empty() && !done.err.is_empty() && !is_made)
 }
 
 #[test]

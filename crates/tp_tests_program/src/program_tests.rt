@@ -1,5 +1,6 @@
 //! What is asked where words were typed, and what is said of words that no story can type.
 
+use crate::program::answer;
 use std::alloc::Global;
 use std::fs::{Files, OpenFile};
 use std::os::unix::fs::FileExt;
@@ -7,8 +8,7 @@ use std::sync::Wait;
 use std::test::Fail;
 use std::thread::Threads;
 use tp_program::{
-    ArgFault, Asked, BackupAsked, NewDevice, Run, StopAsked, answer, is_backup, is_stop, read_args,
-    read_backup_args, read_stop_args, refuse_in_use,
+    ArgFault, Asked, Command, CommandFault, CommandLine, NewDevice, NoLocks, Run, refuse_in_use,
 };
 
 fn is_device(new: &NewDevice) -> bool {
@@ -29,13 +29,22 @@ fn line_of(alloc: Global, words: &[&str]) -> Result<Vec<String>, Fail> {
     Ok(line)
 }
 
+/// What words ask for, where they ask for anything.
+fn command_of(alloc: Global, line: &[String]) -> Option<Command> {
+    match CommandLine::read(alloc, line) {
+        Ok(line) => Some(line.command),
+        Err(_fault) => None,
+    }
+}
+
 /// Whether words ask for a try of that many turns, or for a device of that many bytes.
 fn asks_greatest(alloc: Global, line: &[String]) -> bool {
-    match read_args(alloc, line) {
-        Ok(Asked::Try { image, turns }) => image.as_str() == "a.img" && turns == 4_294_967_295,
-        Ok(Asked::Format(new)) => is_device(&new),
-        Ok(_other) => false,
-        Err(_fault) => false,
+    match command_of(alloc, line) {
+        Some(Command::Other(Asked::Try { image, turns })) => {
+            image.as_str() == "a.img" && turns == 4_294_967_295
+        }
+        Some(Command::Other(Asked::Format(new))) => is_device(&new),
+        _ => false,
     }
 }
 
@@ -114,10 +123,9 @@ fn asks_run(
     let mut words = Vec::from_slice(alloc, &["run"])?;
     words.extend_from_slice(options)?;
     let line = line_of(alloc, words.as_slice())?;
-    Ok(match read_args(alloc, line.as_slice()) {
-        Ok(Asked::Run(run)) => is_run(&run, wanted),
-        Ok(_other) => false,
-        Err(_fault) => false,
+    Ok(match command_of(alloc, line.as_slice()) {
+        Some(Command::Other(Asked::Run(run))) => is_run(&run, wanted),
+        _ => false,
     })
 }
 
@@ -139,24 +147,21 @@ const BACKUPS: &[&[&str]] = &[
 
 /// Whether words ask for that backup.
 fn asks_backup(alloc: Global, line: &[String]) -> bool {
-    match read_backup_args(alloc, line) {
-        Ok(BackupAsked::Make(backup)) => {
+    match command_of(alloc, line) {
+        Some(Command::Backup(backup)) => {
             backup.device.as_str() == "d" && backup.copy.as_str() == "c"
         }
-        Ok(_other) => false,
-        Err(_fault) => false,
+        _ => false,
     }
 }
 
-/// The device comes first, and the copy behind it. Words that are none of `backup` are such nowhere.
+/// The device comes first, and the copy behind it.
 #[test]
 fn the_words_of_a_backup(rt: HostRuntime) -> Result<(), Fail> {
     for words in BACKUPS {
         let line = line_of(rt.alloc(), words)?;
-        assert!(rt; asks_backup(rt.alloc(), line.as_slice()) && is_backup(line.as_slice()));
+        assert!(rt; asks_backup(rt.alloc(), line.as_slice()));
     }
-    let line = line_of(rt.alloc(), &["show", "backup"])?;
-    assert!(rt; !is_backup(line.as_slice()));
     Ok(())
 }
 
@@ -170,55 +175,44 @@ const STOPS: &[(&[&str], Option<u32>)] = &[
 
 /// Whether words ask for a stop that waits so long.
 fn asks_stop(alloc: Global, line: &[String], wait: Option<u32>) -> bool {
-    match read_stop_args(alloc, line) {
-        Ok(StopAsked::Ask(asked)) => asked.device.as_str() == "d" && asked.wait == wait,
-        Ok(_other) => false,
-        Err(_fault) => false,
+    match command_of(alloc, line) {
+        Some(Command::Stop(asked)) => asked.device.as_str() == "d" && asked.wait == wait,
+        _ => false,
     }
 }
 
-/// It waits as long as was typed, and else not at all. Words that are none of `stop` are such nowhere.
+/// It waits as long as was typed, and else not at all.
 #[test]
 fn the_words_of_a_stop(rt: HostRuntime) -> Result<(), Fail> {
     for (words, wait) in STOPS {
         let line = line_of(rt.alloc(), words)?;
-        assert!(rt; asks_stop(rt.alloc(), line.as_slice(), *wait) && is_stop(line.as_slice()));
+        assert!(rt; asks_stop(rt.alloc(), line.as_slice(), *wait));
     }
-    let line = line_of(rt.alloc(), &["show", "stop"])?;
-    assert!(rt; !is_stop(line.as_slice()));
     Ok(())
 }
 
-/// A line of 257 words, the program's name first and then this one.
-fn long_line(alloc: Global, first: &str) -> Result<Vec<String>, Fail> {
-    let mut words = Vec::from_elem(alloc, "d", 256)?;
-    words[0] = first;
-    line_of(alloc, words.as_slice())
-}
+/// Words of commands that are read in several ways.
+const READ: &[&[&str]] = &[&["backup"], &["stop"], &["show"], &["run", "--stream"]];
 
-/// Whether words are too many for a backup.
-fn are_many(alloc: Global, line: &[String]) -> bool {
-    match read_backup_args(alloc, line) {
-        Err(ArgFault::Many) => true,
-        _ => false,
+/// Whether these words, and as many `d` behind them as make 257 in all, are too many.
+fn are_many(alloc: Global, first: &[&str]) -> Result<bool, Fail> {
+    let mut words = Vec::from_slice(alloc, first)?;
+    while words.len() < 256 {
+        words.push("d")?;
     }
-}
-
-/// Whether they are for a stop.
-fn are_many_of_stop(alloc: Global, line: &[String]) -> bool {
-    match read_stop_args(alloc, line) {
-        Err(ArgFault::Many) => true,
+    let line = line_of(alloc, words.as_slice())?;
+    Ok(match CommandLine::read(alloc, line.as_slice()) {
+        Err(CommandFault::Arg(ArgFault::Many)) => true,
         _ => false,
-    }
+    })
 }
 
 /// More than 256 words are too many.
 #[test]
 fn words_may_be_too_many(rt: HostRuntime) -> Result<(), Fail> {
-    let line = long_line(rt.alloc(), "backup")?;
-    assert!(rt; line.len() == 257 && are_many(rt.alloc(), line.as_slice()));
-    let line = long_line(rt.alloc(), "stop")?;
-    assert!(rt; line.len() == 257 && are_many_of_stop(rt.alloc(), line.as_slice()));
+    for first in READ {
+        assert!(rt; are_many(rt.alloc(), first)?);
+    }
     Ok(())
 }
 
@@ -233,9 +227,9 @@ fn said_of<
     for _ in 1..count {
         line.push(String::from_str(alloc, "run")?)?;
     }
-    let (mut out, mut err) = (Vec::new(alloc), Vec::new(alloc));
-    match answer(rt, line.as_slice(), &mut out, &mut err) {
-        2 => Ok(String::from_utf8(err)?),
+    let done = answer(rt, NoLocks, line.as_slice());
+    match done.status {
+        2 => Ok(String::from_utf8(done.err)?),
         _ => Err(Fail::new("these words ask for something")),
     }
 }
@@ -249,22 +243,21 @@ fn words_that_are_refused_are_told(rt: HostRuntime) -> Result<(), Fail> {
     Ok(())
 }
 
-/// What is said where another process holds the device that these words name.
-fn refused_as(alloc: Global, words: &[&str]) -> Result<Vec<u8>, Fail> {
-    let line = line_of(alloc, words)?;
+/// What is said where another process holds the device.
+fn refused_as(alloc: Global, explains: bool) -> Result<Vec<u8>, Fail> {
     let mut err = Vec::new(alloc);
-    match refuse_in_use(line.as_slice(), &mut err) {
+    match refuse_in_use(explains, &mut err) {
         1 => Ok(err),
         _ => Err(Fail::new("another status")),
     }
 }
 
-/// One line is said there, and more where the words ask for it.
+/// One line is said there, and more where that is asked for.
 #[test]
 fn a_device_in_use_is_told(rt: HostRuntime) -> Result<(), Fail> {
-    let short = refused_as(rt.alloc(), &[])?;
+    let short = refused_as(rt.alloc(), false)?;
     assert!(rt; short.as_slice() == b"tpnet: InUse\n".as_slice());
-    let long = refused_as(rt.alloc(), &["--explain"])?;
+    let long = refused_as(rt.alloc(), true)?;
     assert!(rt;
         long.as_slice()
             .starts_with(b"tpnet: InUse\n  Another tpnet ")

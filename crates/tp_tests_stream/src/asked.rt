@@ -5,6 +5,7 @@ use crate::players::{Asked, Desk, NO_INPUT, Played, QUIET, look, play_desk};
 use std::process::Abort;
 use std::sync::Wait;
 use std::test::Fail;
+use std::thread::Threads;
 use tp_stream::{Ending, Task};
 
 /// A stream that ends once it is asked to, and else not.
@@ -31,7 +32,11 @@ struct Seen {
     put: usize,
 }
 
-fn see_on<R: Wait + Abort>(rt: &R, asked: Asked, desk: &mut Desk) -> Result<Seen, Fail>
+fn see_on<R: Threads + Wait + Abort + Sync>(
+    rt: &R,
+    asked: Asked,
+    desk: &mut Desk,
+) -> Result<Seen, Fail>
 where
     R: AllocGlobal,
 {
@@ -45,7 +50,7 @@ where
     })
 }
 
-fn see<R: Wait + Abort>(rt: &R, code: &[u8], asked: Asked) -> Result<Seen, Fail>
+fn see<R: Threads + Wait + Abort + Sync>(rt: &R, code: &[u8], asked: Asked) -> Result<Seen, Fail>
 where
     R: AllocGlobal,
 {
@@ -64,7 +69,7 @@ fn a_stream_that_is_asked_at_once_makes_no_turn(rt: HostRuntime) -> Result<(), F
 }
 
 /// Whether a stream that is asked behind `looks` looks leaves what one leaves that makes as many rounds of turns.
-fn is_stopped_behind<R: Wait + Abort>(rt: &R, looks: u32) -> Result<bool, Fail>
+fn is_stopped_behind<R: Threads + Wait + Abort + Sync>(rt: &R, looks: u32) -> Result<bool, Fail>
 where
     R: AllocGlobal,
 {
@@ -101,7 +106,7 @@ fn no_turn_is_made_behind_a_yes(rt: HostRuntime) -> Result<(), Fail> {
 }
 
 /// Whether all that was put by a stream that was asked to stop is confirmed, and the next one goes on behind it.
-fn goes_on<R: Wait + Abort>(rt: &R, desk: &mut Desk) -> Result<bool, Fail>
+fn goes_on<R: Threads + Wait + Abort + Sync>(rt: &R, desk: &mut Desk) -> Result<bool, Fail>
 where
     R: AllocGlobal,
 {
@@ -125,7 +130,7 @@ where
     Ok(stopped.put as u64 == stopped.played.put && is_confirmed && again.put > stopped.put)
 }
 
-fn goes_on_behind<R: Wait + Abort>(rt: &R) -> Result<bool, Fail>
+fn goes_on_behind<R: Threads + Wait + Abort + Sync>(rt: &R) -> Result<bool, Fail>
 where
     R: AllocGlobal,
 {

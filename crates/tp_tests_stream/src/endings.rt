@@ -5,6 +5,7 @@ use crate::players::{Asked, Desk, NO_INPUT, QUIET, play_desk};
 use std::process::Abort;
 use std::sync::Wait;
 use std::test::Fail;
+use std::thread::Threads;
 use tp_model::Fault;
 use tp_stream::{Ending, MemSink, Stopped, Task};
 
@@ -106,7 +107,11 @@ const ROWS: &[Row] = &[
 ];
 
 /// Whether a stream with an empty sink ends as a row says, and the node is told of as it says.
-fn is_ended<R: Wait + Abort>(rt: &R, row: &Row, desk: &mut Desk) -> Result<bool, Fail>
+fn is_ended<R: Threads + Wait + Abort + Sync>(
+    rt: &R,
+    row: &Row,
+    desk: &mut Desk,
+) -> Result<bool, Fail>
 where
     R: AllocGlobal,
 {
@@ -129,7 +134,11 @@ where
 }
 
 /// Whether streams one after another do.
-fn are_ended<R: Wait + Abort>(rt: &R, rows: &[Row], desk: &mut Desk) -> Result<bool, Fail>
+fn are_ended<R: Threads + Wait + Abort + Sync>(
+    rt: &R,
+    rows: &[Row],
+    desk: &mut Desk,
+) -> Result<bool, Fail>
 where
     R: AllocGlobal,
 {
@@ -142,7 +151,11 @@ where
 }
 
 /// Whether streams do so one after another, on a device of a node with this code.
-fn are_ended_by<R: Wait + Abort>(rt: &R, code: &[u8], rows: &[Row]) -> Result<bool, Fail>
+fn are_ended_by<R: Threads + Wait + Abort + Sync>(
+    rt: &R,
+    code: &[u8],
+    rows: &[Row],
+) -> Result<bool, Fail>
 where
     R: AllocGlobal,
 {

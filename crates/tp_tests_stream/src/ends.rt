@@ -9,6 +9,7 @@ use std::alloc::{AllocError, Global};
 use std::process::Abort;
 use std::sync::Wait;
 use std::test::Fail;
+use std::thread::Threads;
 use tp_stream::{Ending, MemSink, Output, Sink, SinkFault, Source, StreamFault, Streams, Task};
 
 /// Nine numbered bytes. The source says that they are nine.
@@ -59,7 +60,7 @@ const LENGTHS: &[Step] = &[
     },
 ];
 
-fn are_accepted<R: Wait + Abort>(rt: &R) -> Result<bool, Fail>
+fn are_accepted<R: Threads + Wait + Abort + Sync>(rt: &R) -> Result<bool, Fail>
 where
     R: AllocGlobal,
 {
@@ -156,7 +157,7 @@ fn ends_of<S: Sink, I: Source>(streams: &Streams<S, I>, port: u8) -> Option<(u64
 
 /// Up to where the outputs of two ports whose nodes send letters were put, where the stream ended as a taker has gone, and all that
 /// was put is confirmed. The first port's sink takes `pieces` pieces, and the second one's stays.
-fn leaves<R: Wait + Abort>(
+fn leaves<R: Threads + Wait + Abort + Sync>(
     rt: &R,
     device: &mut Vec<u8>,
     pieces: u32,
@@ -190,7 +191,7 @@ where
 }
 
 /// Whether the next stream puts more behind what was put in front of the sink that had gone.
-fn goes_on<R: Wait + Abort>(
+fn goes_on<R: Threads + Wait + Abort + Sync>(
     rt: &R,
     device: &mut Vec<u8>,
     gone: u64,
@@ -220,7 +221,11 @@ where
 
 /// Whether a stream ends once the taker of one of its sinks has gone with `pieces` pieces: all of them are confirmed and none more, and
 /// the other sink's outputs are put and confirmed. What wasn't put comes in the next stream.
-fn is_gone<R: Wait + Abort>(rt: &R, device: &mut Vec<u8>, pieces: u32) -> Result<bool, Fail>
+fn is_gone<R: Threads + Wait + Abort + Sync>(
+    rt: &R,
+    device: &mut Vec<u8>,
+    pieces: u32,
+) -> Result<bool, Fail>
 where
     R: AllocGlobal,
 {
@@ -231,7 +236,7 @@ where
 }
 
 /// Whether such a stream ends so on a device that is freshly formatted.
-fn is_gone_behind<R: Wait + Abort>(rt: &R, pieces: u32) -> Result<bool, Fail>
+fn is_gone_behind<R: Threads + Wait + Abort + Sync>(rt: &R, pieces: u32) -> Result<bool, Fail>
 where
     R: AllocGlobal,
 {

@@ -5,6 +5,7 @@ use crate::players::{Asked, Desk, NO_INPUT, Played, are_numbered, look, play_des
 use std::process::Abort;
 use std::sync::Wait;
 use std::test::Fail;
+use std::thread::Threads;
 use tp_stream::StreamFault;
 
 /// How many bytes go through.
@@ -21,7 +22,11 @@ fn handed(calls: u32) -> Asked {
 }
 
 /// Plays a stream with a sink whose call fails. None where it ends otherwise than it may, or nothing is journalled.
-fn play_fault<R: Wait + Abort>(rt: &R, desk: &mut Desk, calls: u32) -> Result<Option<Played>, Fail>
+fn play_fault<R: Threads + Wait + Abort + Sync>(
+    rt: &R,
+    desk: &mut Desk,
+    calls: u32,
+) -> Result<Option<Played>, Fail>
 where
     R: AllocGlobal,
 {
@@ -37,7 +42,11 @@ where
 
 /// Whether the next stream, with that sink, puts all the rest, where the first `safe` bytes were put and were safe: no more than those
 /// were confirmed.
-fn goes_on<R: Wait + Abort>(rt: &R, desk: &mut Desk, safe: u64) -> Result<bool, Fail>
+fn goes_on<R: Threads + Wait + Abort + Sync>(
+    rt: &R,
+    desk: &mut Desk,
+    safe: u64,
+) -> Result<bool, Fail>
 where
     R: AllocGlobal,
 {
@@ -49,7 +58,11 @@ where
 
 /// Whether no more is confirmed than was put before a call fails and was safe, and the next stream puts all the rest: none where that isn't
 /// so, and else whether a call failed.
-fn is_failed<R: Wait + Abort>(rt: &R, desk: &mut Desk, calls: u32) -> Result<Option<bool>, Fail>
+fn is_failed<R: Threads + Wait + Abort + Sync>(
+    rt: &R,
+    desk: &mut Desk,
+    calls: u32,
+) -> Result<Option<bool>, Fail>
 where
     R: AllocGlobal,
 {
@@ -65,7 +78,7 @@ where
 }
 
 /// What becomes of a call that fails on a device that is freshly formatted.
-fn is_failed_at<R: Wait + Abort>(rt: &R, calls: u32) -> Result<Option<bool>, Fail>
+fn is_failed_at<R: Threads + Wait + Abort + Sync>(rt: &R, calls: u32) -> Result<Option<bool>, Fail>
 where
     R: AllocGlobal,
 {
@@ -75,7 +88,7 @@ where
 }
 
 /// Of how many numbers of calls one fails. None where something doesn't go on as it should.
-fn count_failed<R: Wait + Abort>(rt: &R) -> Result<Option<u32>, Fail>
+fn count_failed<R: Threads + Wait + Abort + Sync>(rt: &R) -> Result<Option<u32>, Fail>
 where
     R: AllocGlobal,
 {

@@ -10,6 +10,7 @@ use std::cell::Cell;
 use std::process::Abort;
 use std::sync::Wait;
 use std::test::Fail;
+use std::thread::Threads;
 use tp_stream::{Ending, Input, Output, Streams, Task};
 
 /// How many spare frames there are, where twelve pages are written.
@@ -17,7 +18,11 @@ const SPARES: &[u16] = &[0, 1, 4, 11, 12, 16];
 
 /// Whether the byte comes behind the writes of a node with `spare` frames, and the stream is quiet then, where each entry begins a
 /// snapshot that may.
-fn is_sent<R: Wait + Abort>(rt: &R, spare: u16, desk: &mut Desk) -> Result<bool, Fail>
+fn is_sent<R: Threads + Wait + Abort + Sync>(
+    rt: &R,
+    spare: u16,
+    desk: &mut Desk,
+) -> Result<bool, Fail>
 where
     R: AllocGlobal,
 {
@@ -33,7 +38,7 @@ where
 }
 
 /// Whether the byte comes so on a device that is freshly formatted.
-fn is_sent_with<R: Wait + Abort>(rt: &R, spare: u16) -> Result<bool, Fail>
+fn is_sent_with<R: Threads + Wait + Abort + Sync>(rt: &R, spare: u16) -> Result<bool, Fail>
 where
     R: AllocGlobal,
 {
@@ -64,7 +69,7 @@ fn asking<'a>(
 
 /// Whether a host that waits for each of its answers gets forty of them from a node that writes pages before it answers. Without a
 /// bound on turns the stream ends once the input has.
-fn is_answered<R: Wait + Abort>(
+fn is_answered<R: Threads + Wait + Abort + Sync>(
     rt: &R,
     spare: u16,
     turns: Option<u32>,
@@ -102,7 +107,11 @@ where
 }
 
 /// Whether the host gets its answers on a device that is freshly formatted.
-fn is_answered_with<R: Wait + Abort>(rt: &R, spare: u16, turns: Option<u32>) -> Result<bool, Fail>
+fn is_answered_with<R: Threads + Wait + Abort + Sync>(
+    rt: &R,
+    spare: u16,
+    turns: Option<u32>,
+) -> Result<bool, Fail>
 where
     R: AllocGlobal,
 {

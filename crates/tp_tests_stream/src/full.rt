@@ -82,7 +82,10 @@ fn a_journal_that_a_run_filled_lets_a_stream_go_on(rt: HostRuntime) -> Result<()
 }
 
 /// What a stream is refused for that is handed `input` bytes, where the empty journal has no room for any.
-fn refused<R: Wait + Abort>(rt: &R, input: usize) -> Result<Option<StreamFault>, Fail>
+fn refused<R: Threads + Wait + Abort + Sync>(
+    rt: &R,
+    input: usize,
+) -> Result<Option<StreamFault>, Fail>
 where
     R: AllocGlobal,
 {

@@ -9,6 +9,7 @@ use std::mem;
 use std::process::Abort;
 use std::sync::Wait;
 use std::test::Fail;
+use std::thread::Threads;
 use tp_disk::{Disk, MemDisk};
 use tp_model::Form;
 use tp_recover::open;
@@ -23,6 +24,7 @@ pub(crate) const QUIET: Task = Task {
     until_quiet: true,
     stop_on_halt: false,
     until_asked: false,
+    workers: 1,
     quantum: 64,
     spare: 4,
     every: None,
@@ -193,7 +195,7 @@ fn streams(
 }
 
 // A stream, where as many steps are asked for as may be.
-fn play_within<D: Disk + Drop, S: Sink, I: Source, L: Listener, R: Wait>(
+fn play_within<D: Disk + Send + Drop, S: Sink, I: Source, L: Listener, R: Threads + Wait + Sync>(
     rt: &R,
     alloc: Global,
     task: Task,
@@ -208,7 +210,7 @@ fn play_within<D: Disk + Drop, S: Sink, I: Source, L: Listener, R: Wait>(
 }
 
 /// A stream on the device with these bytes, which are then what a crash leaves.
-pub(crate) fn play<S: Sink, I: Source, L: Listener, R: Wait + Abort>(
+pub(crate) fn play<S: Sink, I: Source, L: Listener, R: Threads + Wait + Abort + Sync>(
     rt: &R,
     alloc: Global,
     task: Task,
@@ -341,7 +343,7 @@ fn failing(sink: MemSink, fails: Option<u32>) -> MemSink {
 }
 
 /// A stream on a desk.
-pub(crate) fn play_desk<R: Wait + Abort>(
+pub(crate) fn play_desk<R: Threads + Wait + Abort + Sync>(
     rt: &R,
     asked: Asked,
     desk: &mut Desk,

@@ -8,17 +8,24 @@ use crate::steps::{Bytes, PLAIN, Step, are_steps};
 use std::process::Abort;
 use std::sync::Wait;
 use std::test::Fail;
+use std::thread::Threads;
 use tp_stream::{MemSink, StreamFault, Streams, Task};
 
 /// How many bytes a long input has: far more than a port holds.
 const LONG: usize = 6000;
 
-/// Whether a long input, `most` bytes at a time, comes back, in an area that is switched again and again.
-fn comes_back<R: Wait + Abort>(rt: &R, most: usize, desk: &mut Desk) -> Result<bool, Fail>
+/// Whether a long input, `most` bytes at a time, comes back, in an area that is switched again and again, where so many workers make turns.
+fn comes_back<R: Threads + Wait + Abort + Sync>(
+    rt: &R,
+    workers: u8,
+    most: usize,
+    desk: &mut Desk,
+) -> Result<bool, Fail>
 where
     R: AllocGlobal,
 {
     let asked = Asked {
+        task: Task { workers, ..QUIET },
         input: LONG,
         most,
         ..NO_INPUT
@@ -32,20 +39,32 @@ where
 }
 
 /// Whether a long input comes back on a device with areas of `area` bytes.
-fn comes_back_in<R: Wait + Abort>(rt: &R, most: usize, area: u32) -> Result<bool, Fail>
+fn comes_back_in<R: Threads + Wait + Abort + Sync>(
+    rt: &R,
+    workers: u8,
+    most: usize,
+    area: u32,
+) -> Result<bool, Fail>
 where
     R: AllocGlobal,
 {
     let mut desk = Desk::fresh(rt.alloc(), ONE, ECHO, area)?;
-    let came = comes_back(rt, most, &mut desk);
+    let came = comes_back(rt, workers, most, &mut desk);
     came
 }
 
 /// Far more bytes than a port holds, in pieces of different sizes: all come back, in an area that is switched again and again.
 #[test]
 fn a_long_input_comes_back(rt: HostRuntime) -> Result<(), Fail> {
-    for (most, area) in [(4096usize, 65_536u32), (7, 16_384)] {
-        assert!(rt; comes_back_in(&rt, most, area)?);
+    for (workers, most, area) in [
+        (1u8, 4096usize, 65_536u32),
+        (1, 7, 16_384),
+        (3, 4096, 65_536),
+    ] {
+        assert!(rt;
+            comes_back_in(&rt, workers, most, area)?,
+            "{workers} workers"
+        );
     }
     Ok(())
 }
@@ -56,7 +75,7 @@ const FEW: usize = 300;
 const PROCESSES: u32 = 60;
 
 /// Whether a process of fifty turns is done, puts nothing but what is wanted, and leaves a device that opens.
-fn goes_on<R: Wait + Abort>(rt: &R, desk: &mut Desk) -> Result<bool, Fail>
+fn goes_on<R: Threads + Wait + Abort + Sync>(rt: &R, desk: &mut Desk) -> Result<bool, Fail>
 where
     R: AllocGlobal,
 {
@@ -76,7 +95,7 @@ where
 }
 
 /// Whether all such processes do, and all is put then.
-fn all_go_on<R: Wait + Abort>(rt: &R, desk: &mut Desk) -> Result<bool, Fail>
+fn all_go_on<R: Threads + Wait + Abort + Sync>(rt: &R, desk: &mut Desk) -> Result<bool, Fail>
 where
     R: AllocGlobal,
 {
@@ -88,7 +107,7 @@ where
     Ok(desk.sink.bytes().len() == FEW)
 }
 
-fn come_to_the_same<R: Wait + Abort>(rt: &R) -> Result<bool, Fail>
+fn come_to_the_same<R: Threads + Wait + Abort + Sync>(rt: &R) -> Result<bool, Fail>
 where
     R: AllocGlobal,
 {
@@ -105,7 +124,7 @@ fn few_turns_at_a_time_come_to_the_same(rt: HostRuntime) -> Result<(), Fail> {
 }
 
 /// Whether a network that never rests ends with its turns, is told of on the way, and puts its letters.
-fn runs_out<R: Wait + Abort>(rt: &R, desk: &mut Desk) -> Result<bool, Fail>
+fn runs_out<R: Threads + Wait + Abort + Sync>(rt: &R, desk: &mut Desk) -> Result<bool, Fail>
 where
     R: AllocGlobal,
 {
@@ -123,7 +142,7 @@ where
     Ok(played.done.is_ok() && played.told.progress > 2 && are_letters)
 }
 
-fn runs_out_of_turns<R: Wait + Abort>(rt: &R) -> Result<bool, Fail>
+fn runs_out_of_turns<R: Threads + Wait + Abort + Sync>(rt: &R) -> Result<bool, Fail>
 where
     R: AllocGlobal,
 {
@@ -140,7 +159,7 @@ fn turns_run_out(rt: HostRuntime) -> Result<(), Fail> {
 }
 
 /// Whether a wired port without a sink is refused.
-fn is_unnamed<R: Wait + Abort>(rt: &R, device: &mut Vec<u8>) -> bool
+fn is_unnamed<R: Threads + Wait + Abort + Sync>(rt: &R, device: &mut Vec<u8>) -> bool
 where
     R: AllocGlobal,
 {
@@ -202,7 +221,7 @@ const REFUSED: &[Step] = &[
     },
 ];
 
-fn are_all_refused<R: Wait + Abort>(rt: &R, desk: &mut Desk) -> Result<bool, Fail>
+fn are_all_refused<R: Threads + Wait + Abort + Sync>(rt: &R, desk: &mut Desk) -> Result<bool, Fail>
 where
     R: AllocGlobal,
 {
@@ -212,7 +231,7 @@ where
     are_steps(rt, REFUSED, desk)
 }
 
-fn are_refused<R: Wait + Abort>(rt: &R) -> Result<bool, Fail>
+fn are_refused<R: Threads + Wait + Abort + Sync>(rt: &R) -> Result<bool, Fail>
 where
     R: AllocGlobal,
 {
@@ -265,7 +284,7 @@ const LONGER: &[Step] = &[
     },
 ];
 
-fn are_longer<R: Wait + Abort>(rt: &R) -> Result<bool, Fail>
+fn are_longer<R: Threads + Wait + Abort + Sync>(rt: &R) -> Result<bool, Fail>
 where
     R: AllocGlobal,
 {

@@ -5,6 +5,7 @@ use std::alloc::{AllocError, Global};
 use std::process::Abort;
 use std::sync::Wait;
 use std::test::Fail;
+use std::thread::Threads;
 use tp_stream::{MemSink, StreamFault};
 
 /// The bytes of a sink: the first numbered ones, or something else.
@@ -55,7 +56,11 @@ pub(crate) const PLAIN: Step = Step {
 };
 
 /// Whether a stream goes as its step says.
-fn is_step<R: Wait + Abort>(rt: &R, step: &Step, desk: &mut Desk) -> Result<bool, Fail>
+fn is_step<R: Threads + Wait + Abort + Sync>(
+    rt: &R,
+    step: &Step,
+    desk: &mut Desk,
+) -> Result<bool, Fail>
 where
     R: AllocGlobal,
 {
@@ -77,7 +82,7 @@ where
 }
 
 /// Whether all go so, one after another.
-pub(crate) fn are_steps<R: Wait + Abort>(
+pub(crate) fn are_steps<R: Threads + Wait + Abort + Sync>(
     rt: &R,
     steps: &[Step],
     desk: &mut Desk,

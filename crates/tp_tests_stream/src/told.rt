@@ -8,6 +8,7 @@ use std::alloc::{AllocError, Global};
 use std::process::Abort;
 use std::sync::Wait;
 use std::test::Fail;
+use std::thread::Threads;
 use tp_stream::{Ended, Input, MemSink, Output, Source, SourceFailed, StreamFault, Streams, Task};
 
 /// How many times it is asked whether the input has come, until it has. A question that waits for it doesn't count.
@@ -60,7 +61,7 @@ fn late_streams(alloc: Global) -> Result<Streams<MemSink, Late>, AllocError> {
 }
 
 /// How a stream of such a port ended until nothing was left to do, and what was told.
-fn ended<R: Wait + Abort>(
+fn ended<R: Threads + Wait + Abort + Sync>(
     rt: &R,
     tells: bool,
     device: &mut Vec<u8>,
@@ -86,7 +87,7 @@ where
 
 /// Whether a stream that is told waits in no read, is told each time that it looks for input, and at last what the device then opens to;
 /// and one that isn't told is told nothing, and waits in a read.
-fn is_told<R: Wait + Abort>(rt: &R, device: &mut Vec<u8>) -> Result<bool, Fail>
+fn is_told<R: Threads + Wait + Abort + Sync>(rt: &R, device: &mut Vec<u8>) -> Result<bool, Fail>
 where
     R: AllocGlobal,
 {
@@ -107,7 +108,7 @@ where
     Ok(is_silent && done.is_ok() && told.progress > QUESTIONS / 2 && is_last)
 }
 
-fn is_told_on<R: Wait + Abort>(rt: &R) -> Result<bool, Fail>
+fn is_told_on<R: Threads + Wait + Abort + Sync>(rt: &R) -> Result<bool, Fail>
 where
     R: AllocGlobal,
 {

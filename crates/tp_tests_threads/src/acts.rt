@@ -70,7 +70,10 @@ pub(crate) fn turn(node: u8, first: Received, count: u16) -> Entry {
 
 /// Whether a turn is one of the process `number`, took `takes` tokens and ran so.
 fn is_as_told(turn: &Turn, number: u8, takes: u64, ran: Option<(u16, Why)>) -> bool {
-    let made = turn.ran.as_ref().map(|ran| (ran.count(), ran.why()));
+    let made = match &turn.ran {
+        Some(ran) => Some((ran.count(), ran.why())),
+        None => None,
+    };
     turn.process == number && turn.takes == takes && made == ran
 }
 

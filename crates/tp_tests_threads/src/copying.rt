@@ -70,29 +70,40 @@ fn is_left(
 /// Whether a copy of the device is made, and is left so; the device has the bytes that it had.
 fn is_copied(alloc: Global, bytes: &[u8], start: usize, end: usize) -> Result<bool, Fail> {
     let (next, _, _) = look(alloc, bytes)?;
-    let mut source = MemDisk::of_bytes(Vec::from_slice(alloc, bytes)?);
-    let mut copy = MemDisk::of_bytes(Vec::from_elem(alloc, OLD, bytes.len())?);
-    let answer = copies(alloc, bytes, &mut source, &mut copy)?;
-    if answer != Ok(Some(next)) || source.bytes() != bytes {
-        return Ok(false);
-    }
-    let left = copy.crash();
-    let told = is_left(alloc, bytes, &left, start, end);
+    let (answer, left, is_same) = {
+        let mut source = MemDisk::of_bytes(Vec::from_slice(alloc, bytes)?);
+        let mut copy = MemDisk::of_bytes(Vec::from_elem(alloc, OLD, bytes.len())?);
+        let answer = copies(alloc, bytes, &mut source, &mut copy);
+        (answer, copy.crash(), source.bytes() == bytes)
+    };
+    let is_made = answer? == Ok(Some(next)) && is_same;
+    Ok(is_made && is_left(alloc, bytes, &left, start, end)?)
+}
+
+/// Devices that are copied, and where their open areas begin: the first area of one, the second one of another, that of a device that was
+/// kept, and that behind a wide head.
+fn device_of(alloc: Global, number: u8) -> Result<(Vec<u8>, usize), Fail> {
+    Ok(match number {
+        0 => (turned(alloc)?, FIRST),
+        1 => (turned_second(alloc)?, SECOND),
+        2 => (KEPT[1].bytes(alloc)?, FIRST),
+        _ => (turned_behind_a_wide_head(alloc)?, WIDE_HEAD_BYTES),
+    })
+}
+
+/// Whether the device of that number is copied.
+fn is_copied_of(alloc: Global, number: u8) -> Result<bool, Fail> {
+    let (bytes, start) = device_of(alloc, number)?;
+    let end = BEHIND.wrapping_add(start).wrapping_sub(FIRST);
+    let told = is_copied(alloc, &bytes, start, end);
     told
 }
 
 #[test]
 fn the_open_area_is_copied(rt: HostRuntime) -> Result<(), Fail> {
-    let first = turned(rt.alloc())?;
-    assert!(rt; is_copied(rt.alloc(), &first, FIRST, BEHIND)?);
-    let second = turned_second(rt.alloc())?;
-    let end = BEHIND.wrapping_add(SECOND).wrapping_sub(FIRST);
-    assert!(rt; is_copied(rt.alloc(), &second, SECOND, end)?);
-    let kept = KEPT[1].bytes(rt.alloc())?;
-    assert!(rt; is_copied(rt.alloc(), &kept, FIRST, BEHIND)?);
-    let wide = turned_behind_a_wide_head(rt.alloc())?;
-    let end = BEHIND.wrapping_add(WIDE_HEAD_BYTES).wrapping_sub(FIRST);
-    assert!(rt; is_copied(rt.alloc(), &wide, WIDE_HEAD_BYTES, end)?);
+    for number in 0..4u8 {
+        assert!(rt; is_copied_of(rt.alloc(), number)?, "device {number}");
+    }
     Ok(())
 }
 
@@ -171,11 +182,13 @@ fn meanwhile_of(
     at: u64,
     writes: &[(usize, u8)],
 ) -> Result<(Answer, u64), Fail> {
-    let mut source = changing(alloc, bytes, at, writes)?;
-    let mut copy = blank(alloc)?;
-    let answer = copies(alloc, bytes, &mut source, &mut copy)?;
-    let calls = source.into_raw().calls();
-    let left = copy.crash();
+    let (answer, calls, left) = {
+        let mut source = changing(alloc, bytes, at, writes)?;
+        let mut copy = blank(alloc)?;
+        let answer = copies(alloc, bytes, &mut source, &mut copy);
+        (answer, source.into_raw().calls(), copy.crash())
+    };
+    let answer = answer?;
     if opens(alloc, &left)? != (answer == Ok(Some(4))) {
         return Err(Fail::new("a copy that isn't one opens, or one that is doesn't"));
     }
@@ -279,12 +292,18 @@ fn sized(alloc: Global, source: usize, copy: usize) -> Result<Answer, Fail> {
     answer
 }
 
+/// How many bytes the device has, and the copy, and what copying then answers.
+const SIZES: &[(usize, usize, Answer)] = &[
+    (SIZE, SIZE, Ok(Some(4))),
+    (SIZE - 1, SIZE, Err(CopyFault::ReadFailed)),
+    (SIZE, SIZE - 1, Err(CopyFault::DeviceFailed)),
+    (0, SIZE, Err(CopyFault::ReadFailed)),
+];
+
 #[test]
 fn both_have_room_for_both_areas(rt: HostRuntime) -> Result<(), Fail> {
-    let short = SIZE.wrapping_sub(1);
-    assert!(rt; sized(rt.alloc(), SIZE, SIZE)? == Ok(Some(4)));
-    assert!(rt; sized(rt.alloc(), short, SIZE)? == Err(CopyFault::ReadFailed));
-    assert!(rt; sized(rt.alloc(), SIZE, short)? == Err(CopyFault::DeviceFailed));
-    assert!(rt; sized(rt.alloc(), 0, SIZE)? == Err(CopyFault::ReadFailed));
+    for (source, copy, wanted) in SIZES {
+        assert!(rt; sized(rt.alloc(), *source, *copy)? == *wanted);
+    }
     Ok(())
 }

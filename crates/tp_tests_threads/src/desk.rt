@@ -95,10 +95,14 @@ impl<J: Naming> Desk<J> {
     pub(crate) fn turn<R: Wait>(&mut self, rt: &R) -> Result<Did, TurnFault> {
         let Desk { net, seat, .. } = self;
         let turn = net.turn(rt, seat)?;
+        let steps = match &turn.ran {
+            Some(ran) => Some(ran.count()),
+            None => None,
+        };
         Ok(Did {
             process: turn.process,
             takes: turn.takes,
-            steps: turn.ran.map(|ran| ran.count()),
+            steps,
         })
     }
 

@@ -6,6 +6,8 @@ ghost use Rattle.tp_shared.specs.Named.{Names};
 use crate::copied::formatted;
 use crate::desk::seat_of;
 use crate::opening::opening_of;
+use crate::plain::are_entries;
+use crate::script::offer;
 use std::alloc::Global;
 use std::marker::Brand;
 use std::process::Abort;
@@ -51,10 +53,7 @@ fn play_offers<J: Naming, R: Wait + Abort>(
     offers: &[(u64, &[u8], Result<u64, OfferFault>)],
 ) {
     for (at, bytes, wanted) in offers {
-        let answer = session
-            .offer(rt, *at, bytes, &mut Sights::new())
-            .map(|receipt| receipt.number());
-        assert!(rt; answer == *wanted);
+        assert!(rt; offer(rt, session, *at, bytes) == *wanted);
     }
 }
 
@@ -83,8 +82,11 @@ fn play_turns<J: Naming, R: Wait + Abort>(rt: &R, net: &Net<J, NoGate>, seat: &m
     for (process, takes, steps) in TURNS {
         match net.turn(rt, seat) {
             Ok(turn) => {
-                assert!(rt; turn.process == *process && turn.takes == *takes);
-                assert!(rt; turn.ran.map(|ran| ran.count()) == *steps);
+                let ran = match &turn.ran {
+                    Some(ran) => Some(ran.count()),
+                    None => None,
+                };
+                assert!(rt; turn.process == *process && turn.takes == *takes && ran == *steps);
             }
             Err(_) => panic!(rt; "the turn is made"),
         }
@@ -112,12 +114,7 @@ fn is_journalled<J: Naming, R: Wait>(rt: &R, net: &Net<J, NoGate>) -> bool {
         },
     ];
     let held = net.shared().book().lock(rt);
-    let entries = held.book().entries();
-    entries.len() == wanted.len()
-        && entries
-            .iter()
-            .zip(&wanted)
-            .all(|(one, other)| one.entry == *other)
+    are_entries(held.book().entries(), &wanted)
 }
 
 /// Shows nothing until the mark is above the letter's Take, and confirms nothing.

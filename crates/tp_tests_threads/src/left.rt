@@ -13,9 +13,7 @@ use tp_shared::{Naming, Shared};
 /// Whether what was opened is the book's journal: the next number, and each entry under its number.
 pub(crate) fn is_journal(book: &Book, opened: &Opened) -> bool {
     let (entries, kept) = (book.entries(), opened.kept());
-    opened.next() == book.next()
-        && kept.len() == entries.len()
-        && kept.iter().zip(entries).all(|(one, other)| one == other)
+    opened.next() == book.next() && kept == entries
 }
 
 /// What a device opens to.

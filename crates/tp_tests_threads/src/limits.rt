@@ -21,7 +21,10 @@ const STARTS: &[(u16, u8)] = &[(1, 1), (4096, 1), (1, 32)];
 /// Whether it is the turn of the process `number`: the host's without a run; that of the first node, which sends a letter; and that of
 /// another, which goes round, of a whole quantum.
 fn is_whole(turn: &Turn, number: u8, quantum: u16) -> bool {
-    let steps = turn.ran.as_ref().map(|ran| ran.count());
+    let steps = match &turn.ran {
+        Some(ran) => Some(ran.count()),
+        None => None,
+    };
     let wanted = if number == NODES {
         None
     } else if number == 0 {

@@ -148,5 +148,5 @@ pub fn stays_stored<J: Naming + Send + Sync, D: Disk + Drop, R: Threads + Wait +
         },
         move || flush_meanwhile(rt, alloc, shared, flusher, &NoGate, told),
     );
-    (flusher, is_early && is_done && stored.is_ok_and(|all| all))
+    (flusher, is_early && is_done && matches!(stored, Ok(true)))
 }

@@ -12,6 +12,7 @@ use std::marker::Brand;
 use std::sync::Wait;
 use std::test::Fail;
 use std::thread::{Threads, join, map_vec};
+use tp_book::Numbered;
 use tp_model::Entry;
 use tp_shared::gate::RUN_DONE;
 use tp_shared::{Naming, NoGate, Parts, Shared};
@@ -40,7 +41,7 @@ fn turn_others<J: Naming + Send + Sync, R: Threads + Wait + Sync>(
     let came = hold.wait();
     let made = map_vec(rt, numbers, &|number| is_turned(rt, shared, number));
     hold.open();
-    came && made.is_ok_and(|all| all.iter().all(|one| *one))
+    came && matches!(made, Ok(all) if !all.as_slice().contains(&false))
 }
 
 /// The nodes whose turns `count` threads make.
@@ -52,23 +53,26 @@ fn numbers_of(alloc: Global, count: usize) -> Result<Vec<u8>, AllocError> {
     Ok(numbers)
 }
 
+/// How many of `entries` are runs.
+fn runs_of(entries: &[Numbered]) -> usize {
+    let mut runs = 0usize;
+    for numbered in entries {
+        if matches!(numbered.entry, Entry::Run { .. }) {
+            runs = runs.saturating_add(1);
+        }
+    }
+    runs
+}
+
 /// Whether the journal has `count` runs, and that of the node which was held is the last one.
 fn is_last<J: Naming, R: Wait>(rt: &R, shared: &Shared<J>, count: usize) -> bool {
     let held = shared.book().lock(rt);
     let entries = held.book().entries();
-    let last = entries.last().map(|numbered| numbered.entry);
-    let runs = entries
-        .iter()
-        .filter(|numbered| matches!(numbered.entry, Entry::Run { .. }))
-        .count();
-    runs == count
-        && matches!(
-            last,
-            Some(Entry::Run {
-                node: HELD,
-                count: QUANTUM
-            })
-        )
+    let last = Entry::Run {
+        node: HELD,
+        count: QUANTUM,
+    };
+    runs_of(entries) == count && matches!(entries.last(), Some(found) if found.entry == last)
 }
 
 /// Turns of `numbers` while one is held. Answers whether all were made, and the run of the one that was held is the last in the journal.

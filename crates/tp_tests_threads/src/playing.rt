@@ -76,10 +76,12 @@ fn are_gone<J: Naming, R: Wait>(rt: &R, alloc: Global, desk: &mut Desk<J>, story
 /// Whether just the entries of `wanted` are kept, with numbers behind `offered`.
 fn are_kept(opened: &Opened, offered: u64, wanted: &[(u64, Entry)]) -> bool {
     let kept = opened.kept();
+    for (one, (number, entry)) in kept.iter().zip(wanted) {
+        if one.entry != *entry || one.number != number.wrapping_add(offered) {
+            return false;
+        }
+    }
     kept.len() == wanted.len()
-        && kept.iter().zip(wanted).all(|(one, (number, entry))| {
-            one.entry == *entry && one.number == number.wrapping_add(offered)
-        })
 }
 
 /// Whether what opened is what the story leaves.

@@ -126,7 +126,10 @@ pub(crate) fn ended<R: Wait>(
     } else {
         None
     };
-    Ok(next.map(|next| (left, next)))
+    Ok(match next {
+        Some(next) => Some((left, next)),
+        None => None,
+    })
 }
 
 /// How many calls of the device the steps make, with those that open it.

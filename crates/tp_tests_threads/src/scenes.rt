@@ -97,8 +97,10 @@ fn work_all<J: Naming + Send + Sync, R: Threads + Wait + Sync>(
     let Some((one, others)) = parted(net, seats) else {
         return false;
     };
-    let worked = work_as_team(rt, net, TURNS, one, others);
-    worked.is_ok_and(|work| !work.is_refused())
+    match work_as_team(rt, net, TURNS, one, others) {
+        Ok(work) => !work.is_refused(),
+        Err(_) => false,
+    }
 }
 
 /// Waits until someone is held, and has a team make its turns then. Answers whether someone was, and no turn was refused.

@@ -111,9 +111,8 @@ impl Script {
 
     /// Whether a call is one of a checkpoint.
     fn is_of_a_checkpoint(&self, call: u64) -> bool {
-        self.switches
-            .iter()
-            .any(|(from, to)| *from <= call && call < *to)
+        let [(first, second), (third, fourth)] = self.switches;
+        (first <= call && call < second) || (third <= call && call < fourth)
     }
 
     /// Goes on with what the script left as it ended at a call, and where that was in a checkpoint begins another, which stops at each of its

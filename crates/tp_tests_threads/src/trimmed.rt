@@ -9,6 +9,7 @@ use crate::flushing::flush;
 use crate::hold::Hold;
 use crate::left::{both, is_left};
 use crate::opening::{Opening, begin, opening_of};
+use crate::plain::are_entries;
 use crate::turns::{QUANTUM, turn_host, turn_node, turn_nodes};
 use std::alloc::Global;
 use std::marker::Brand;
@@ -80,14 +81,7 @@ fn ends_with<J: Naming, R: Wait>(rt: &R, shared: &Shared<J>, wanted: &[Entry]) -
     let held = shared.book().lock(rt);
     let entries = held.book().entries();
     let last = entries.len().saturating_sub(wanted.len());
-    let is_long = entries.len() >= wanted.len();
-    is_long
-        && held.book().form() == Form::Turns
-        && entries
-            .iter()
-            .skip(last)
-            .zip(wanted)
-            .all(|(one, other)| one.entry == *other)
+    held.book().form() == Form::Turns && are_entries(entries.get(last..).unwrap_or(&[]), wanted)
 }
 
 /// Whether a turn that is open while the book is trimmed ends the journal with `wanted`, and the device opens to that.

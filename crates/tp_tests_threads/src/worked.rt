@@ -20,20 +20,27 @@ use tp_tests_fixtures::SECOND;
 
 /// Whether a piece stands at a place.
 fn stands(bytes: &[u8], at: usize, piece: &[u8]) -> bool {
-    bytes
-        .get(at..)
-        .is_some_and(|there| there.starts_with(piece))
+    match bytes.get(at..) {
+        Some(there) => there.starts_with(piece),
+        None => false,
+    }
 }
 
 /// Whether just the entries of `wanted` are kept, under their numbers there.
 fn are_kept(kept: &[Numbered], wanted: &[(Entry, u64)]) -> bool {
-    let same = |(one, other): (&Numbered, &(Entry, u64))| one.entry == other.0
-        && one.number == other.1;
-    kept.len() == wanted.len() && kept.iter().zip(wanted).all(same)
+    for (one, (entry, number)) in kept.iter().zip(wanted) {
+        if one.entry != *entry || one.number != *number {
+            return false;
+        }
+    }
+    kept.len() == wanted.len()
 }
 
-/// Whether opening says what it should.
-fn is_opened(opened: &Opened, left: &Left<'_>) -> bool {
+/// Whether opening says what it should, where that is told.
+fn is_opened(opened: &Opened, left: Option<&Left<'_>>) -> bool {
+    let Some(left) = left else {
+        return true;
+    };
     opened.second() == left.device.second
         && opened.generation() == left.device.generation
         && opened.base() == left.device.base
@@ -41,21 +48,31 @@ fn is_opened(opened: &Opened, left: &Left<'_>) -> bool {
         && are_kept(opened.kept(), left.kept)
 }
 
-/// Whether the device has the pieces.
-fn has_pieces(bytes: &[u8], device: &Device) -> bool {
-    device
-        .bytes
-        .iter()
-        .all(|(at, piece)| stands(bytes, *at, piece))
+/// Whether the device has the pieces, where these are told.
+fn has_pieces(bytes: &[u8], left: Option<&Left<'_>>) -> bool {
+    let Some(left) = left else {
+        return true;
+    };
+    for (at, piece) in left.device.bytes {
+        if !stands(bytes, *at, piece) {
+            return false;
+        }
+    }
+    true
 }
 
-/// Whether the images have the words.
-fn has_words(net: &NetParts, device: &Device) -> bool {
-    device.words.iter().all(|(node, at, word)| {
-        net.images
-            .get(*node)
-            .is_some_and(|image| stands(image, *at, word))
-    })
+/// Whether the images have the words, where these are told.
+fn has_words(net: &NetParts, left: Option<&Left<'_>>) -> bool {
+    let Some(left) = left else {
+        return true;
+    };
+    for (node, at, word) in left.device.words {
+        match net.images.get(*node) {
+            Some(image) if stands(image, *at, word) => {}
+            _ => return false,
+        }
+    }
+    true
 }
 
 /// The device of a story, where a call may stop it within a write that leaves one byte.
@@ -91,7 +108,7 @@ fn net_of(
     left: Option<&Left<'_>>,
 ) -> Result<Option<NetParts>, Fail> {
     let opened = opened(alloc, MemDisk::of_bytes(bytes))?;
-    if !left.is_none_or(|left| is_opened(&opened, left)) {
+    if !is_opened(&opened, left) {
         return Ok(None);
     }
     let NetState { net, .. } = opened.into_state(alloc)?;
@@ -100,14 +117,17 @@ fn net_of(
 
 /// The network of a device that opens as it should.
 fn opens(alloc: Global, bytes: Vec<u8>, left: Option<&Left<'_>>) -> Result<Option<NetParts>, Fail> {
-    if !left.is_none_or(|left| has_pieces(&bytes, left.device)) {
+    if !has_pieces(&bytes, left) {
         return Ok(None);
     }
     let Some(net) = net_of(alloc, bytes, left)? else {
         return Ok(None);
     };
-    let has_words = left.is_none_or(|left| has_words(&net, left.device));
-    Ok(if has_words { Some(net) } else { None })
+    Ok(if has_words(&net, left) {
+        Some(net)
+    } else {
+        None
+    })
 }
 
 /// Whether a story goes as it was told, and leaves what it should.
@@ -123,7 +143,7 @@ fn gate_call<R: Wait>(rt: &R, alloc: Global, story: &Story) -> Result<Option<u64
     for behind in 0..CALLS {
         let call = CALLS - behind;
         let left = left_by(rt, alloc, story, Some((call, 0x5A)), false)?;
-        if left.is_some_and(|bytes| stands(&bytes, SECOND, &[0x5A])) {
+        if matches!(&left, Some(bytes) if stands(bytes, SECOND, &[0x5A])) {
             return Ok(Some(call));
         }
     }
@@ -138,7 +158,10 @@ fn opens_to(
     other: &NetParts,
 ) -> Result<bool, Fail> {
     let one = opens(alloc, bytes, Some(left))?;
-    Ok(one.is_some_and(|one| is_network(&one, other)))
+    Ok(match &one {
+        Some(one) => is_network(one, other),
+        None => false,
+    })
 }
 
 /// Whether what a story leaves is torn as it should be, and opens to the network `other`.
@@ -153,7 +176,10 @@ fn is_torn_to<R: Wait>(
     let Some(bytes) = left_by(rt, alloc, story, stop, false)? else {
         return Ok(false);
     };
-    let is_torn = stop.is_none_or(|(_, byte)| stands(&bytes, SECOND, &[byte]));
+    let is_torn = match stop {
+        Some((_, byte)) => stands(&bytes, SECOND, &[byte]),
+        None => true,
+    };
     Ok(opens_to(alloc, bytes, left, other)? && is_torn)
 }
 

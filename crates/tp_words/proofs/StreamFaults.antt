@@ -7,8 +7,8 @@ use Rattle.clap.specs.declared.parser.matches.ArgMatches.{ArgMatches}
 use Rattle.tp_words.specs.declared.arg_fault.ArgFault.{ArgFault}
 use Rattle.tp_words.specs.declared.arg_fault.ArgFault.TheVariants.{Words, Range, Area, Size, Number, Order, Many, Stream, Missing, Memory}
 use Rattle.tp_words.specs.declared.args.TheConstants.{MAX_WORDS}
-use Rattle.tp_words.specs.declared.stream_args.StreamArgFault.{StreamArgFault}
-use Rattle.tp_words.specs.declared.stream_args.StreamArgFault.TheVariants.{Arg, Ends}
+use Rattle.tp_words.specs.declared.command.CommandFault.{CommandFault}
+use Rattle.tp_words.specs.declared.command.CommandFault.TheVariants.{Arg, Ends}
 use Rattle.tp_words.specs.Numbers.{IsFirstNumberFault, IsNumberFault, NumberOption}
 use Rattle.tp_words.specs.Parsing.{IsUnparsed}
 use Rattle.tp_words.specs.StreamRefused.{IsMatchRefused, IsRunRefused, IsStreamRefused, IsWordFault, number_options}
@@ -43,7 +43,7 @@ never found words fault number word (inl first) = never_first found words number
 never found words fault number word (inr other) = word other.1
 
 -- what is told of what `clap` found is told of the words
-pub of_match : (words : List (String Global)) (fault : StreamArgFault) → length words ≤ MAX_WORDS → IsMatchRefused words fault → IsStreamRefused words fault
+pub of_match : (words : List (String Global)) (fault : CommandFault) → length words ≤ MAX_WORDS → IsMatchRefused words fault → IsStreamRefused words fault
 of_match words (Arg Memory) few is = few
 of_match words (Arg Missing) few is = few
 of_match words (Arg Many) few (inl missing) = absurd (cc)

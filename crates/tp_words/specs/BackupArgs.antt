@@ -2,11 +2,9 @@
 use Rattle.std.specs.Prelude.{◌≡◌, true, List, string_bytes}
 use Rattle.std.specs.declared.alloc.Global.{Global}
 use Rattle.std.specs.declared.string.String.{String}
-use Rattle.tp_words.specs.declared.backup_args.BackupAsked.{BackupAsked}
-use Rattle.tp_words.specs.declared.backup_args.BackupAsked.TheVariants.{Help, Make}
+use Rattle.tp_words.specs.declared.backup_args.Backup.{Backup}
 use Rattle.tp_words.specs.Typed.{has_word}
 
 -- the device's file and the copy's are words that were typed
-abbrev pub WasBackupTyped : List (String Global) → BackupAsked → Type 0
-WasBackupTyped words (Help text) = Unit {0}
-WasBackupTyped words (Make backup) = (has_word (string_bytes backup.device) words ≡ true) × (has_word (string_bytes backup.copy) words ≡ true)
+abbrev pub WasBackupTyped : List (String Global) → Backup → Type 0
+WasBackupTyped words backup = (has_word (string_bytes backup.device) words ≡ true) × (has_word (string_bytes backup.copy) words ≡ true)

@@ -10,3 +10,4 @@ pub mod StreamArgs
 pub mod StreamRefused
 pub mod BackupArgs
 pub mod StopArgs
+pub mod Commands

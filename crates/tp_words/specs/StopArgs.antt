@@ -5,8 +5,7 @@ use Rattle.std.specs.Option.{option_map}
 use Rattle.std.specs.declared.alloc.Global.{Global}
 use Rattle.std.specs.declared.string.String.{String}
 use Rattle.tp_words.specs.declared.args.TheConstants.{MAX_WAIT}
-use Rattle.tp_words.specs.declared.stop_args.StopAsked.{StopAsked}
-use Rattle.tp_words.specs.declared.stop_args.StopAsked.TheVariants.{Help, Ask}
+use Rattle.tp_words.specs.declared.stop_args.StopRequest.{StopRequest}
 use Rattle.tp_words.specs.Given.{given}
 use Rattle.tp_words.specs.Typed.{has_word}
 
@@ -15,11 +14,6 @@ abbrev pub IsWait : Option ℕ → Type 0
 IsWait None = Unit {0}
 IsWait (Some seconds) = (0 < seconds) × (seconds ≤ MAX_WAIT)
 
-abbrev pub IsStopInRange : StopAsked → Type 0
-IsStopInRange (Help text) = Unit {0}
-IsStopInRange (Ask request) = IsWait request.wait
-
 -- the device's file is a word that was typed, and it is waited for just where seconds were typed, for as many
-abbrev pub WasStopTyped : List (String Global) → StopAsked → Type 0
-WasStopTyped words (Help text) = Unit {0}
-WasStopTyped words (Ask request) = (has_word (string_bytes request.device) words ≡ true) × (given (codes "wait") words ≡ option_map decimal request.wait)
+abbrev pub WasStopTyped : List (String Global) → StopRequest → Type 0
+WasStopTyped words request = (has_word (string_bytes request.device) words ≡ true) × (given (codes "wait") words ≡ option_map decimal request.wait)

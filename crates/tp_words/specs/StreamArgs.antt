@@ -5,7 +5,7 @@ use Rattle.std.specs.Option.{option_map}
 use Rattle.std.specs.declared.alloc.Global.{Global}
 use Rattle.std.specs.declared.string.String.{String}
 use Rattle.tp_model.specs.declared.limits.TheConstants.{MAX_STEPS}
-use Rattle.tp_words.specs.declared.args.TheConstants.{QUANTUM}
+use Rattle.tp_words.specs.declared.args.TheConstants.{MAX_WORKERS, QUANTUM}
 use Rattle.tp_words.specs.declared.stream_args.StreamAsked.{StreamAsked}
 use Rattle.tp_words.specs.declared.stream_args.StreamAsked.TheVariants.{Help, Run}
 use Rattle.tp_words.specs.declared.stream_args.StreamNumbers.{StreamNumbers}
@@ -26,9 +26,14 @@ abbrev pub IsProgressEvery : Option ℕ → Type 0
 IsProgressEvery None = Unit {0}
 IsProgressEvery (Some seconds) = (0 < seconds) × (seconds ≤ 3600)
 
+-- the threads that make turns are in theirs, where some were typed
+abbrev pub IsTeam : Option ℕ → Type 0
+IsTeam None = Unit {0}
+IsTeam (Some workers) = (0 < workers) × (workers ≤ MAX_WORKERS)
+
 -- each number of a stream is in its range
 unfoldable pub IsStreamRun : StreamRun → Type 0
-IsStreamRun run = IsBound run.turns × (0 < run.quantum) × (run.quantum ≤ MAX_STEPS) × IsEvery run.every × IsProgressEvery run.progress_every
+IsStreamRun run = IsBound run.turns × (0 < run.quantum) × (run.quantum ≤ MAX_STEPS) × IsEvery run.every × IsProgressEvery run.progress_every × IsTeam run.workers
 
 -- and each port
 abbrev pub IsStreamInRange : StreamAsked → Type 0
@@ -42,6 +47,7 @@ IsTypedStream words run = (has_word (string_bytes run.device) words ≡ true)
     × (given (codes "turns") words ≡ option_map decimal run.turns)
     × (given (codes "stop-file") words ≡ option_map string_bytes run.stop_file)
     × (given (codes "progress-every") words ≡ option_map decimal run.progress_every)
+    × (given (codes "workers") words ≡ option_map decimal run.workers)
     × IsGivenOr QUANTUM run.quantum (given (codes "quantum") words)
     × IsGivenOr 4 run.spare (given (codes "spare") words)
     × (given (codes "every") words ≡ option_map decimal run.every)
@@ -57,6 +63,7 @@ WasStreamTyped words (Run run) = IsTypedStream words run
 pub record AreInRange (numbers : StreamNumbers) : Type 0 where
   pub turns : IsBound numbers.turns
   pub progress_every : IsProgressEvery numbers.progress_every
+  pub workers : IsTeam numbers.workers
   pub quantum : (0 < numbers.quantum) × (numbers.quantum ≤ MAX_STEPS)
   pub every : IsEvery numbers.every
 
@@ -64,6 +71,7 @@ pub record AreInRange (numbers : StreamNumbers) : Type 0 where
 pub record AreTyped (words : List (String Global)) (numbers : StreamNumbers) : Type 0 where
   pub turns : given (codes "turns") words ≡ option_map decimal numbers.turns
   pub progress_every : given (codes "progress-every") words ≡ option_map decimal numbers.progress_every
+  pub workers : given (codes "workers") words ≡ option_map decimal numbers.workers
   pub quantum : IsGivenOr QUANTUM numbers.quantum (given (codes "quantum") words)
   pub spare : IsGivenOr 4 numbers.spare (given (codes "spare") words)
   pub every : given (codes "every") words ≡ option_map decimal numbers.every

@@ -7,9 +7,9 @@ use Rattle.clap.specs.declared.parser.matches.ArgMatches.{ArgMatches}
 use Rattle.tp_model.specs.declared.limits.TheConstants.{MAX_STEPS}
 use Rattle.tp_words.specs.declared.arg_fault.ArgFault.{ArgFault}
 use Rattle.tp_words.specs.declared.arg_fault.ArgFault.TheVariants.{Words, Many, Missing, Memory}
-use Rattle.tp_words.specs.declared.args.TheConstants.{MAX_TURNS, MAX_WORDS}
-use Rattle.tp_words.specs.declared.stream_args.StreamArgFault.{StreamArgFault}
-use Rattle.tp_words.specs.declared.stream_args.StreamArgFault.TheVariants.{Arg, Ends}
+use Rattle.tp_words.specs.declared.args.TheConstants.{MAX_TURNS, MAX_WORDS, MAX_WORKERS}
+use Rattle.tp_words.specs.declared.command.CommandFault.{CommandFault}
+use Rattle.tp_words.specs.declared.command.CommandFault.TheVariants.{Arg, Ends}
 use Rattle.tp_words.specs.declared.stream_args.TheConstants.{MAX_PROGRESS}
 use Rattle.tp_words.specs.Ends.{IsRefused}
 use Rattle.tp_words.specs.Numbers.{AllFit, FoundOther, IsFirstNumberFault, NumberOption, every_option, wait_option}
@@ -21,6 +21,7 @@ abbrev pub number_options : List NumberOption
 number_options =
     record { id = codes "turns"; least = 0; most = MAX_TURNS }
     ∷ record { id = codes "progress-every"; least = 1; most = MAX_PROGRESS }
+    ∷ record { id = codes "workers"; least = 1; most = MAX_WORKERS }
     ∷ record { id = codes "quantum"; least = 1; most = MAX_STEPS }
     ∷ record { id = codes "spare"; least = 0; most = 18446744073709551615 }
     ∷ every_option
@@ -39,18 +40,18 @@ IsWordFault found words _ = ⊥
 
 -- Why what `clap` found asks for no stream. First its numbers are looked at, one behind the other, then its words, and then the ends of its ports:
 -- what is wrong with one of these is told where nothing is with those in front of it.
-abbrev pub IsRunRefused : ArgMatches → List (String Global) → StreamArgFault → Type 0
+abbrev pub IsRunRefused : ArgMatches → List (String Global) → CommandFault → Type 0
 IsRunRefused found words (Arg fault) =
     IsFirstNumberFault found words number_options fault ⊎ (AllFit words number_options × IsWordFault found words fault)
 IsRunRefused found words (Ends fault) = AllFit words number_options × IsRefused found words fault
 
 -- why what `clap` found among the words is refused: it found no command, or that one is
-abbrev pub IsMatchRefused : List (String Global) → StreamArgFault → Type 0
+abbrev pub IsMatchRefused : List (String Global) → CommandFault → Type 0
 IsMatchRefused words fault = (fault ≡ Arg Missing) ⊎ ((found : ArgMatches) × IsRunRefused found words fault)
 
 -- Why words ask for no stream. First they are counted; then `clap` reads them; and then it is looked at what it found. Memory may be refused
 -- at any place behind the count, and `clap` may find other values than those that were typed.
-abbrev pub IsStreamRefused : List (String Global) → StreamArgFault → Type 0
+abbrev pub IsStreamRefused : List (String Global) → CommandFault → Type 0
 IsStreamRefused words (Arg Many) = MAX_WORDS < length words
 IsStreamRefused words (Arg (Words error)) = (length words ≤ MAX_WORDS) × IsMistake error
 IsStreamRefused words (Arg Memory) = length words ≤ MAX_WORDS

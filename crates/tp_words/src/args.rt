@@ -1,19 +1,16 @@
-//! What the command line asks for.
+//! What a command line asks for that is none of a stream, of `stop` or of `backup`.
 
 ghost use Rattle.std.specs.Prelude.{IfOk};
 ghost use Rattle.tp_words.specs.Args.{IsInRange, WasTyped};
 
 use crate::arg_fault::ArgFault;
 use crate::device_args::{asked_compact, asked_format, asked_run};
-use crate::parsing::{Parsed, parse};
-use crate::stream_words::stream_option;
 use crate::view_args::{asked_check, asked_to_read, asked_trace, asked_try};
 use crate::views::View;
-use crate::words::COMMANDS;
 use clap::ArgMatches;
 use std::alloc::Global;
 
-/// What the command line asks for.
+/// What a command line asks for that is none of a stream, of `stop` or of `backup`.
 #[derive(Drop)]
 pub enum Asked {
     /// How to call the program, or which version it is.
@@ -121,8 +118,8 @@ pub const MAX_WAIT: u64 = 4_294_967;
 /// The most words of a command line. Each port has four options at most, each of two words.
 pub const MAX_WORDS: usize = 256;
 
-/// What a command of that name asks for.
-fn asked_by(
+/// What a command of that name asks for; those of a stream, of `stop` and of `backup` are none here.
+pub fn asked_by(
     alloc: Global,
     words: &[String],
     name: &str,
@@ -139,40 +136,5 @@ fn asked_by(
         "check" => asked_check(alloc, words, found),
         "compact" => asked_compact(alloc, words, found),
         _ => asked_to_read(alloc, words, name, found),
-    }
-}
-
-/// What a command line asks for that names a command.
-fn asked_in(alloc: Global, words: &[String], matches: &ArgMatches) -> Result<Asked, ArgFault>
-    ensures range { IfOk result IsInRange }
-    ensures typed { IfOk result (WasTyped words.now) }
-{
-    match matches.subcommand() {
-        Some((name, found)) => asked_by(alloc, words, name, found),
-        None => Err(ArgFault::Missing),
-    }
-}
-
-/// What is told of words that `clap` doesn't take: that an option goes with `--stream`, where one of them is such.
-fn fault_in(words: &[String], fault: ArgFault) -> ArgFault {
-    match fault {
-        ArgFault::Words(error) => match stream_option(words) {
-            Some(id) => ArgFault::Stream(id),
-            None => ArgFault::Words(error),
-        },
-        fault => fault,
-    }
-}
-
-/// Reads the words of a command line, the program's name first. Each number is the decimal that was typed, and in its range;
-/// each text is one of the words. Those of `backup` and `stop` are read by functions of their own, and are none here.
-pub fn read_args(alloc: Global, words: &[String]) -> Result<Asked, ArgFault>
-    ensures range { IfOk result IsInRange }
-    ensures typed { IfOk result (WasTyped words.now) }
-{
-    match parse(alloc, words, COMMANDS) {
-        Ok(Parsed::Help(text)) => Ok(Asked::Help(text)),
-        Ok(Parsed::Found(matches)) => asked_in(alloc, words, &matches),
-        Err(fault) => Err(fault_in(words, fault)),
     }
 }

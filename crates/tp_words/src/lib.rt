@@ -4,6 +4,7 @@
 mod arg_fault;
 mod args;
 mod backup_args;
+mod command;
 mod device_args;
 mod forms;
 mod found;
@@ -21,12 +22,10 @@ mod views;
 mod words;
 
 pub use arg_fault::ArgFault;
-pub use args::{Asked, MAX_AREA, MAX_WORKERS, NewDevice, Run, read_args};
-pub use backup_args::{Backup, BackupAsked, is_backup, read_backup_args};
-pub use numbers::has_word;
-pub use stop_args::{StopAsked, StopRequest, is_stop, read_stop_args};
-pub use stream_args::{
-    StreamArgFault, StreamAsked, StreamRun, is_stream, read_stream_args, wants_input,
-};
+pub use args::{Asked, MAX_AREA, MAX_WORKERS, NewDevice, Run};
+pub use backup_args::Backup;
+pub use command::{Command, CommandFault, CommandLine};
+pub use stop_args::StopRequest;
+pub use stream_args::{StreamAsked, StreamRun, read_stream_args};
 pub use stream_ends::{EndsFault, FileOption};
 pub use views::{JournalPart, View};

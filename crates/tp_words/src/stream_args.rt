@@ -1,22 +1,20 @@
 //! What a command line with `--stream` asks for.
 
-ghost use Rattle.std.specs.Prelude.{◌≡◌, IfErr, IfOk, OnOk};
+ghost use Rattle.std.specs.Prelude.{IfErr, IfOk, OnOk};
 ghost use Rattle.tp_words.specs.Numbers.{AllFit, IsFirstNumberFault};
 ghost use Rattle.tp_words.specs.StreamArgs.{AreInRange, AreTyped, IsStreamInRange, WasStreamTyped};
 ghost use Rattle.tp_words.specs.StreamRefused.{IsMatchRefused, IsRunRefused, IsStreamRefused, number_options};
-ghost use Rattle.tp_words.specs.declared.stream_args.StreamArgFault.TheVariants.{Arg, Ends};
 
 use crate::arg_fault::ArgFault;
-use crate::args::{MAX_TURNS, QUANTUM};
+use crate::args::{MAX_TURNS, MAX_WORKERS, QUANTUM};
+use crate::command::CommandFault;
 use crate::device_args::{every_of, wait_of};
 use crate::found::{option_or, option_short, option_string, text_of};
-use crate::numbers::has_word;
 use crate::parsing::{Parsed, parse};
-use crate::stream_ends::{EndsFault, ends_of};
+use crate::stream_ends::ends_of;
 use crate::words::STREAM_COMMANDS;
 use clap::ArgMatches;
 use std::alloc::Global;
-use std::fmt;
 use tp_model::limits::MAX_STEPS;
 use tp_stream_files::Ends;
 
@@ -48,6 +46,8 @@ pub struct StreamRun {
     pub has_progress: bool,
     /// How many seconds lie between two lines, where that was typed, which asks for lines, too; `None`: 10, if `has_progress` asks for any.
     pub progress_every: Option<u32>,
+    /// How many threads make turns at most; `None`: as many as there are processors, up to 4.
+    pub workers: Option<u32>,
     /// The most steps of a turn.
     pub quantum: u16,
     /// The spare frames of each node.
@@ -64,65 +64,11 @@ pub struct StreamRun {
 struct StreamNumbers {
     turns: Option<u32>,
     progress_every: Option<u32>,
+    workers: Option<u32>,
     quantum: u16,
     spare: u64,
     every: Option<u32>,
     wait_lock: u32,
-}
-
-/// Why the words ask for no stream. Each ends the program with status 2.
-#[derive(Drop)]
-pub enum StreamArgFault {
-    Arg(ArgFault),
-    Ends(EndsFault),
-}
-
-impl fmt::Display for StreamArgFault {
-    fn fmt<W: fmt::Write>(&self, f: &mut fmt::Formatter<W>) -> fmt::Result {
-        match self {
-            StreamArgFault::Arg(fault) => write!(f, "{fault}"),
-            StreamArgFault::Ends(fault) => write!(f, "{fault}"),
-        }
-    }
-}
-
-impl From<ArgFault> for StreamArgFault {
-    ghost from_gives = { λ fault told. told ≡ Arg fault };
-
-    fn from(fault: ArgFault) -> StreamArgFault {
-        StreamArgFault::Arg(fault)
-    }
-}
-
-impl From<EndsFault> for StreamArgFault {
-    ghost from_gives = { λ fault told. told ≡ Ends fault };
-
-    fn from(fault: EndsFault) -> StreamArgFault {
-        StreamArgFault::Ends(fault)
-    }
-}
-
-/// Whether the words ask for a stream: they are those of `run`, and `--stream` is one of them.
-pub fn is_stream(words: &[String]) -> bool {
-    let is_run = words.get(1).is_some_and(|word| word.as_str() == "run");
-    is_run && has_word(words, "--stream")
-}
-
-/// Whether a word, behind the one before it, says that a port's input comes from standard input.
-fn is_standard_input(before: &str, word: &str) -> bool {
-    word.ends_with("=-") && (before == "--in" || word.starts_with("--in="))
-}
-
-/// Whether the words of a stream say that a port's input comes from standard input.
-pub fn wants_input(words: &[String]) -> bool {
-    let mut before = "";
-    for word in words {
-        if is_standard_input(before, word.as_str()) {
-            return true;
-        }
-        before = word.as_str();
-    }
-    false
 }
 
 /// The numbers of a stream that were found among the words.
@@ -139,6 +85,7 @@ fn numbers_of(
     let steps = MAX_STEPS as u64;
     let turns = option_short(alloc, words, found, "turns", 0, MAX_TURNS)?;
     let seconds = option_short(alloc, words, found, "progress-every", 1, MAX_PROGRESS)?;
+    let workers = option_short(alloc, words, found, "workers", 1, MAX_WORKERS as u64)?;
     let quantum = option_or(alloc, words, found, "quantum", 1, steps, QUANTUM as u64)?;
     let spare = option_or(alloc, words, found, "spare", 0, u64::MAX, 4)?;
     let every = every_of(alloc, words, found)?;
@@ -146,6 +93,7 @@ fn numbers_of(
     Ok(StreamNumbers {
         turns,
         progress_every: seconds,
+        workers,
         quantum: quantum as u16,
         spare,
         every,
@@ -155,11 +103,7 @@ fn numbers_of(
 
 /// The stream that was found among the words.
 #[tactic(auto, unfolding(crate::specs::StreamArgs::IsStreamRun))]
-fn run_of(
-    alloc: Global,
-    words: &[String],
-    found: &ArgMatches,
-) -> Result<StreamAsked, StreamArgFault>
+fn run_of(alloc: Global, words: &[String], found: &ArgMatches) -> Result<StreamAsked, CommandFault>
     ensures range { IfOk result IsStreamInRange }
     ensures typed { IfOk result (WasStreamTyped words.now) }
     ensures refused { IfErr result (IsRunRefused found.now words.now) }
@@ -172,6 +116,7 @@ fn run_of(
         stop_file: option_string(alloc, words, found, "stop-file")?,
         has_progress: found.get_flag("progress"),
         progress_every: numbers.progress_every,
+        workers: numbers.workers,
         quantum: numbers.quantum,
         spare: numbers.spare,
         every: numbers.every,
@@ -186,20 +131,20 @@ fn stream_in(
     alloc: Global,
     words: &[String],
     matches: &ArgMatches,
-) -> Result<StreamAsked, StreamArgFault>
+) -> Result<StreamAsked, CommandFault>
     ensures range { IfOk result IsStreamInRange }
     ensures typed { IfOk result (WasStreamTyped words.now) }
     ensures refused { IfErr result (IsMatchRefused words.now) }
 {
     match matches.subcommand() {
         Some((_, found)) => run_of(alloc, words, found),
-        None => Err(StreamArgFault::Arg(ArgFault::Missing)),
+        None => Err(CommandFault::Arg(ArgFault::Missing)),
     }
 }
 
 /// Reads the words of a command line with `--stream`, the program's name first. Each number is the decimal that was typed, and in its
 /// range, the path of a file that ends it is what was typed for it, and the device is one of the words.
-pub fn read_stream_args(alloc: Global, words: &[String]) -> Result<StreamAsked, StreamArgFault>
+pub fn read_stream_args(alloc: Global, words: &[String]) -> Result<StreamAsked, CommandFault>
     ensures range { IfOk result IsStreamInRange }
     ensures typed { IfOk result (WasStreamTyped words.now) }
     ensures refused { IfErr result (IsStreamRefused words.now) }

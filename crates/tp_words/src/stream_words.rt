@@ -111,6 +111,11 @@ pub const STREAM: Form = Form {
         ),
         Word::Value("progress-every", "S", "say so each S seconds, 1 to 3600"),
         Word::Value(
+            "workers",
+            "W",
+            "threads that make turns at most, 1 to 16 (as many as there are processors, up to 4)",
+        ),
+        Word::Value(
             "quantum",
             "Q",
             "steps that a turn may run, 1 to 4096 (1024)",

@@ -15,7 +15,7 @@ use std::io::{IsTerminal, Write};
 use std::process::ExitCode;
 use std::rt::Env;
 use std::{env, io};
-use tp_program::{answer_locking, answer_stream_locking, is_stream};
+use tp_program::answer_locking;
 use watching::Watcher;
 
 fn words_of<R: Env + AllocGlobal>(rt: &R) -> io::Result<Vec<String>> {
@@ -44,21 +44,18 @@ fn main(rt: HostRuntime) -> ExitCode {
         Err(error) => return refuse_words(&mut err, &error),
     };
     let locks = SystemLocks::new(&rt);
-    if is_stream(words.as_slice()) {
-        let mut feed = Late::new(rt);
-        let mut looker = Looker::new(&rt, err.is_terminal(), out.is_terminal());
-        let status = answer_stream_locking(
-            &rt,
-            locks,
-            words.as_slice(),
-            &mut feed,
-            &mut out,
-            &mut err,
-            &mut looker,
-        );
-        return ExitCode::from(status);
-    }
     let mut watch = Watcher::new(&rt);
-    let status = answer_locking(&rt, locks, &mut watch, words.as_slice(), &mut out, &mut err);
+    let mut feed = Late::new(rt);
+    let mut looker = Looker::new(&rt, err.is_terminal(), out.is_terminal());
+    let status = answer_locking(
+        &rt,
+        locks,
+        &mut watch,
+        words.as_slice(),
+        &mut feed,
+        &mut out,
+        &mut err,
+        &mut looker,
+    );
     ExitCode::from(status)
 }

@@ -1,5 +1,18 @@
 use Rattle.std.proofs.Common.{inr}
+use Rattle.tp_program.proofs.Commands.{at_most_3, of_a_stream}
 use Rattle.tp_program.proofs.program.answer_over.Goals as goal
 
+pub returns-in-Ok-clause-few : goal.returns-in-Ok-clause-few
+returns-in-Ok-clause-few g c = at_most_3 c.in-Ok.line.command c.answer_command.result c.answer_command.ensures.few
+
+pub returns-in-Ok-clause-three : goal.returns-in-Ok-clause-three
+returns-in-Ok-clause-three g c =
+    of_a_stream c.args.words.now c.in-Ok.line.command c.answer_command.result c.in-Ok.ensures.typed c.answer_command.ensures.few
+
 pub returns-in-Ok-clause-answered : goal.returns-in-Ok-clause-answered
-returns-in-Ok-clause-answered g c = inr (inr (inr (record { asked = c.in-Ok.asked; typed = c.in-Ok.ensures.typed; answered = c.answer_asked.ensures.answered })))
+returns-in-Ok-clause-answered g c = inr (record {
+  command = c.in-Ok.line.command;
+  typed = c.in-Ok.ensures.typed;
+  few = c.answer_command.ensures.few;
+  done = c.answer_command.ensures.done;
+})

@@ -20,4 +20,4 @@ stream-disk-requires g c κs within =
     let path = ⊑_meet μ _ _ (⊑_meet μ _ _ own nothing) nothing in
     let request = ⊑_meet μ _ _ (⊑_meet μ _ _ own nothing) path in
     let stop = ⊑_meet μ _ _ (⊑_meet μ _ _ rt nothing) (⊑_meet μ _ _ (⊑_meet μ _ _ own rt) request) in
-    (within.0, (within.1.0, (within.1.1.0, (teller, (stop, (within.1.1.1.1.1.1, c.shown_on-task.ensures.quantum))))))
+    (within.0, (within.1.0, (within.1.1.0, (teller, (stop, (within.1.1.1.1.1.1, c.spread_over-task.ensures.quantum))))))

@@ -21,32 +21,34 @@ loop-init g c = record {
   rested = none_rested g.J.Naming.start c.new.result.whose c.new.result.idle (omega arith) c.new.ensures.idle;
   failures = λ rests. none_failed c.args.first rests;
   begun = tt;
+  seats = c.requires;
 }
 
 pub loop-preserved : goal.loop-preserved
 loop-preserved g c =
     let P = c.loop.invariant.process in
-    let Q = c.cycle-last.ensures.process in
+    let Q = c.lap-there.ensures.process in
     let going : c.loop.last ≡ Ok None = c.in-Ok-None.is ∙ ap Ok (rw c.in-Ok-None.is at c.in-Ok-None.field-0-is) in
     record {
       process = record { opened = Q.opened ∙ P.opened; size = Q.size ∙ P.size; topology = Q.topology ∙ P.topology };
       walks = λ k began.
-          walked_then c.args.first c.loop.flusher c.cycle-last.new.flusher (c.loop.invariant.walks k began)
-          (c.cycle-last.ensures.walks k (subst (Began g.J.Naming.formatted g.J.Naming.before) (sym P.opened) began));
+          walked_then c.args.first c.loop.flusher c.lap-there.result.0 (c.loop.invariant.walks k began)
+          (c.lap-there.ensures.walks k (subst (Began g.J.Naming.formatted g.J.Naming.before) (sym P.opened) began));
       put = λ k began.
           let there = subst (Began g.J.Naming.formatted g.J.Naming.before) (sym P.opened) began in
-          all_then g.J.Naming.formatted c.args.first c.loop.flusher c.cycle-last.new.flusher (c.loop.invariant.walks k began) (c.cycle-last.ensures.walks k there)
-          c.args.streams.now.outputs.items c.loop.streams.outputs.items c.cycle-last.new.streams.outputs.items (c.loop.invariant.put k began) (c.cycle-last.ensures.put k there);
-      why = c.cycle-last.ensures.why;
-      inputs = c.cycle-last.ensures.inputs;
-      told = later_then (length g.J.Naming.start.nodes) _ _ _ c.loop.invariant.told c.cycle-last.ensures.told;
+          all_then g.J.Naming.formatted c.args.first c.loop.flusher c.lap-there.result.0 (c.loop.invariant.walks k began) (c.lap-there.ensures.walks k there)
+          c.args.streams.now.outputs.items c.loop.streams.outputs.items c.lap-there.new.streams.outputs.items (c.loop.invariant.put k began) (c.lap-there.ensures.put k there);
+      why = c.lap-there.ensures.why;
+      inputs = c.lap-there.ensures.inputs;
+      told = later_then (length g.J.Naming.start.nodes) _ _ _ c.loop.invariant.told c.lap-there.ensures.told;
       looks =
-          looks_then g.J.Naming.start c.args.pace.task c.loop.going.turns.made c.cycle-last.new.going.turns.made (g.P.Stop.answers c.args.stop.now)
-          (g.P.Stop.answers c.loop.stop) (g.P.Stop.answers c.cycle-last.new.stop) c.loop.last c.cycle-last.result going c.loop.invariant.looks c.cycle-last.ensures.why
-          c.cycle-last.ensures.looks;
-      rested = c.cycle-last.ensures.rested;
+          looks_then g.J.Naming.start c.args.pace.task (g.P.Stop.answers c.args.stop.now)
+          (g.P.Stop.answers c.loop.stop) (g.P.Stop.answers c.lap-there.new.stop) c.loop.last c.lap-there.result.2 going c.loop.invariant.looks c.lap-there.ensures.why
+          c.lap-there.ensures.looks;
+      rested = c.lap-there.ensures.rested;
       failures = λ rests.
           let F = subst (λ last. FailedWhere (answer_failed last) c.args.first c.loop.flusher) going (c.loop.invariant.failures rests) in
-          failed_then (answer_failed c.cycle-last.result) c.args.first c.loop.flusher c.cycle-last.new.flusher F (c.cycle-last.ensures.failures F.at);
-      begun = c.cycle-last.ensures.begun;
+          failed_then (answer_failed c.lap-there.result.2) c.args.first c.loop.flusher c.lap-there.result.0 F (c.lap-there.ensures.failures F.at);
+      begun = c.lap-there.ensures.begun;
+      seats = c.lap-there.ensures.seats;
     }

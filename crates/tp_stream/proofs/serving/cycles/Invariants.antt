@@ -1,5 +1,5 @@
 use Rattle.std.specs.List.{list_all}
-use Rattle.std.specs.Prelude.{◌≡◌, IfErr, IfOk, IfSome, OnOk, length}
+use Rattle.std.specs.Prelude.{◌≡◌, All, IfErr, IfOk, IfSome, OnOk, Some, length}
 use Rattle.tp_model.specs.WriteOrder.{Resting}
 use Rattle.tp_flush.specs.Known.{Began}
 use Rattle.tp_flush.specs.Flushing.{IsSameProcess, Walked}
@@ -27,4 +27,5 @@ invariant-loop g l = record {
   rested : OnOk l.last (HaveRested g.J.Naming.start l.going.turns.whose l.going.turns.idle);
   failures : l.fn.first.world.at ≡ Resting → FailedWhere (answer_failed l.last) l.fn.first l.flusher;
   begun : IfErr l.last CameBegun;
+  seats : All (λ seat. seat.hand.of ≡ Some l.net.queue) l.seats.items;
 }

@@ -1,4 +1,4 @@
-use Rattle.std.proofs.Common.{◌≡◌, Ok, Some, sym, ap, subst, ◌∙◌}
+use Rattle.std.proofs.Common.{◌≡◌, Ok, Err, Some, false, length, refl, sym, ap, subst, ◌∙◌}
 use Rattle.tp_model.specs.NodeState.{NodeState}
 use Rattle.std.specs.Prelude.{IfOk}
 use Rattle.tp_model.specs.DiskHistory.{State}
@@ -12,7 +12,10 @@ use Rattle.tp_stream.specs.Put.{ServedInto}
 use Rattle.tp_stream.specs.Quiet.{IsWhyEnded, LeavesNothingToDo}
 use Rattle.tp_stream.specs.Told.{ToldLater}
 use Rattle.tp_stream.proofs.Quiets.{all_asked, all_left}
-use Rattle.tp_stream.proofs.Runs.{served}
+use Rattle.tp_stream.specs.declared.fault.StreamFault.TheVariants.{Memory}
+use Rattle.tp_stream.proofs.Failures.{uncounted}
+use Rattle.tp_stream.proofs.Notices.{later_none}
+use Rattle.tp_stream.proofs.Runs.{served, unserved}
 use Rattle.tp_stream.proofs.Started.{nodes_of, ports_of, wires_of}
 use Rattle.tp_stream.proofs.streaming.stream_parts.Goals as goal
 
@@ -32,7 +35,7 @@ returns-clause-streamed g c k began =
     let was = c.args.streams.now.outputs.items in
     let now = c.serve-flusher.new.streams.outputs.items in
     let S = c.serve-flusher.ensures in
-    subst (λ s. ServedInto start done was now (g.D.Disk.state c.args.store.disk) s) (sym c.into_disk.ensures.state)
+    subst (λ s. ServedInto start done was now (g.D.Disk.state c.args.store.disk) s) (sym c.into_disk-2.ensures.state)
     (subst (λ s. ServedInto start done was now s new.state) c.over-flusher.ensures.device.0
     (served start before o old new done there reads world (c.known.ensures.reached k first) (S.walks k first) S.stored (S.last k first) was now (S.put k first)))
 
@@ -67,4 +70,18 @@ pub returns-clause-failures : goal.returns-clause-failures
 returns-clause-failures g c =
     let done = c.serve-flusher.result.1 in
     let F = c.serve-flusher.ensures.failures (ap (λ (w : World NodeState). w.at) c.over-flusher.ensures.world) in
-    c.into_disk.ensures.failures ∙ F.calls ∙ ap (λ n. calls_failed (answer_failed done) n) c.over-flusher.ensures.device.2
+    c.into_disk-2.ensures.failures ∙ F.calls ∙ ap (λ n. calls_failed (answer_failed done) n) c.over-flusher.ensures.device.2
+
+-- ## Where there is no memory for workers
+
+pub returns-in_default-clause-streamed : goal.returns-in_default-clause-streamed
+returns-in_default-clause-streamed g c k began =
+    let outputs = c.args.streams.now.outputs.items in
+    subst (λ d. ServedInto g.J.Naming.formatted (Err Memory) outputs outputs (g.D.Disk.state c.args.store.disk) (g.D.Disk.state d)) (sym c.into_disk.ensures)
+    (unserved g.J.Naming.formatted Memory outputs (g.D.Disk.state c.args.store.disk))
+
+pub returns-in_default-clause-told : goal.returns-in_default-clause-told
+returns-in_default-clause-told g c = later_none (node_count c.args.topology) (g.L.Listener.told c.args.listener.now)
+
+pub returns-in_default-clause-failures : goal.returns-in_default-clause-failures
+returns-in_default-clause-failures g c = uncounted _ _ false refl (ap g.D.Disk.failures_of c.into_disk.ensures)

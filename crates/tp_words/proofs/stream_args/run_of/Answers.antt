@@ -6,8 +6,8 @@ use Rattle.tp_words.specs.Numbers.{FoundOther}
 use Rattle.tp_words.specs.StreamRefused.{IsRunRefused, IsWordFault}
 use Rattle.tp_words.specs.declared.arg_fault.ArgFault.{ArgFault}
 use Rattle.tp_words.specs.declared.arg_fault.ArgFault.TheVariants.{Missing, Memory}
-use Rattle.tp_words.specs.declared.stream_args.StreamArgFault.{StreamArgFault}
-use Rattle.tp_words.specs.declared.stream_args.StreamArgFault.TheVariants.{Arg}
+use Rattle.tp_words.specs.declared.command.CommandFault.{CommandFault}
+use Rattle.tp_words.specs.declared.command.CommandFault.TheVariants.{Arg}
 use Rattle.tp_words.proofs.StreamFaults.{on_told}
 use Rattle.tp_words.proofs.stream_args.run_of.Goals as goal
 
@@ -21,5 +21,5 @@ returns-in_err-option_string-clause-refused c =
     let found = c.args.found.now in
     let words = c.args.words.now in
     let fault = c.in_err-option_string.field-0.0 in
-    on_told c.from_residual-in_err-option_string.result (Arg fault) (λ (told : StreamArgFault). IsRunRefused found words told)
+    on_told c.from_residual-in_err-option_string.result (Arg fault) (λ (told : CommandFault). IsRunRefused found words told)
     c.from_residual-in_err-option_string.ensures.1 (inr (c.in_ok-numbers.ensures.fit, by_file found words fault c.in_err-option_string.ensures.refused))

@@ -1,0 +1,13 @@
+use Rattle.std.specs.Prelude.{◌≡◌, false}
+use Rattle.tp_model.specs.WriteOrder.{Resting}
+use Rattle.tp_flush.specs.Known.{Began}
+use Rattle.tp_flush.specs.Flushing.{IsSameProcess, Walked}
+use Rattle.tp_stream.specs.Failures.{FailedWhere}
+use Rattle.tp_stream.proofs.beside.flush_beside.Given as goal
+
+abbrev pub invariant-loop : goal.invariant-loop
+invariant-loop g l = record {
+  process : IsSameProcess l.fn.first l.flusher;
+  failures : l.fn.first.world.at ≡ Resting → FailedWhere false l.fn.first l.flusher;
+  walks : g.D.Disk.keeps → Began g.J.Naming.formatted g.J.Naming.before l.fn.first.opened → Walked l.fn.first l.flusher;
+}

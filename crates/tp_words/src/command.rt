@@ -1,0 +1,162 @@
+//! What a command line asks for, whatever its command.
+
+ghost use Rattle.std.specs.Prelude.{◌≡◌, true, IfErr, IfOk, codes};
+ghost use Rattle.tp_words.specs.Commands.{IsCommandInRange, WasCommandTyped};
+ghost use Rattle.tp_words.specs.StreamRefused.{IsStreamRefused};
+ghost use Rattle.tp_words.specs.Typed.{has_word};
+ghost use Rattle.tp_words.specs.declared.command.CommandFault.TheVariants.{Arg, Ends};
+
+use crate::arg_fault::ArgFault;
+use crate::args::{Asked, asked_by};
+use crate::backup_args::{Backup, backup_of};
+use crate::numbers::has_word;
+use crate::parsing::{Parsed, parse};
+use crate::stop_args::{StopRequest, request_of};
+use crate::stream_args::{StreamAsked, StreamRun, read_stream_args};
+use crate::stream_ends::EndsFault;
+use crate::stream_words::stream_option;
+use crate::words::COMMANDS;
+use clap::ArgMatches;
+use std::alloc::Global;
+use std::fmt;
+
+/// What a command line asks for.
+#[derive(Drop)]
+pub enum Command {
+    /// A stream of a device's network.
+    Stream(StreamRun),
+    /// That a stream is asked to end.
+    Stop(StopRequest),
+    /// A copy of a device.
+    Backup(Backup),
+    /// What any other command does, or how the program is called.
+    Other(Asked),
+}
+
+/// A command line that was read.
+#[derive(Drop)]
+pub struct CommandLine {
+    pub command: Command,
+    /// Whether more is to be said of a refusal, and of nodes that have halted.
+    pub explains: bool,
+}
+
+/// Why a command line asks for nothing. Each ends the program with status 2.
+#[derive(Drop)]
+pub enum CommandFault {
+    Arg(ArgFault),
+    Ends(EndsFault),
+}
+
+impl fmt::Display for CommandFault {
+    fn fmt<W: fmt::Write>(&self, f: &mut fmt::Formatter<W>) -> fmt::Result {
+        match self {
+            CommandFault::Arg(fault) => write!(f, "{fault}"),
+            CommandFault::Ends(fault) => write!(f, "{fault}"),
+        }
+    }
+}
+
+impl From<ArgFault> for CommandFault {
+    ghost from_gives = { λ fault told. told ≡ Arg fault };
+
+    fn from(fault: ArgFault) -> CommandFault {
+        CommandFault::Arg(fault)
+    }
+}
+
+impl From<EndsFault> for CommandFault {
+    ghost from_gives = { λ fault told. told ≡ Ends fault };
+
+    fn from(fault: EndsFault) -> CommandFault {
+        CommandFault::Ends(fault)
+    }
+}
+
+/// Whether the words are those of a stream: of `run`, with `--stream` among them.
+fn are_of_a_stream(words: &[String]) -> bool
+    ensures { result ≡ true → has_word (codes "--stream") words.now ≡ true }
+{
+    let is_run = words.get(1).is_some_and(|word| word.as_str() == "run");
+    is_run && has_word(words, "--stream")
+}
+
+/// Reads the words of a stream.
+fn read_stream(alloc: Global, words: &[String]) -> Result<Command, CommandFault>
+    requires { has_word (codes "--stream") words.now ≡ true }
+    ensures range { IfOk result IsCommandInRange }
+    ensures typed { IfOk result (WasCommandTyped words.now) }
+    ensures refused { IfErr result (IsStreamRefused words.now) }
+{
+    match read_stream_args(alloc, words) {
+        Ok(StreamAsked::Run(run)) => Ok(Command::Stream(run)),
+        Ok(StreamAsked::Help(text)) => Ok(Command::Other(Asked::Help(text))),
+        Err(fault) => Err(fault),
+    }
+}
+
+/// What a command asks for that is no stream, and that `clap` found.
+fn command_in(alloc: Global, words: &[String], matches: &ArgMatches) -> Result<Command, ArgFault>
+    ensures range { IfOk result IsCommandInRange }
+    ensures typed { IfOk result (WasCommandTyped words.now) }
+{
+    match matches.subcommand() {
+        Some(("stop", found)) => Ok(Command::Stop(request_of(alloc, words, found)?)),
+        Some(("backup", found)) => Ok(Command::Backup(backup_of(alloc, words, found)?)),
+        Some((name, found)) => Ok(Command::Other(asked_by(alloc, words, name, found)?)),
+        None => Err(ArgFault::Missing),
+    }
+}
+
+/// What is told of words that `clap` doesn't take: that an option goes with `--stream`, where one of them is such.
+fn fault_in(words: &[String], fault: ArgFault) -> ArgFault {
+    match fault {
+        ArgFault::Words(error) => match stream_option(words) {
+            Some(id) => ArgFault::Stream(id),
+            None => ArgFault::Words(error),
+        },
+        fault => fault,
+    }
+}
+
+/// Reads the words of a command that is no stream.
+fn read_other(alloc: Global, words: &[String]) -> Result<Command, ArgFault>
+    ensures range { IfOk result IsCommandInRange }
+    ensures typed { IfOk result (WasCommandTyped words.now) }
+{
+    match parse(alloc, words, COMMANDS) {
+        Ok(Parsed::Help(text)) => Ok(Command::Other(Asked::Help(text))),
+        Ok(Parsed::Found(matches)) => command_in(alloc, words, &matches),
+        Err(fault) => Err(fault_in(words, fault)),
+    }
+}
+
+/// What the words of a command line ask for.
+fn read_command(alloc: Global, words: &[String]) -> Result<Command, CommandFault>
+    ensures range { IfOk result IsCommandInRange }
+    ensures typed { IfOk result (WasCommandTyped words.now) }
+{
+    if are_of_a_stream(words) {
+        return read_stream(alloc, words);
+    }
+    match read_other(alloc, words) {
+        Ok(command) => Ok(command),
+        Err(fault) => Err(CommandFault::Arg(fault)),
+    }
+}
+
+impl CommandLine {
+    /// Reads a command line, the program's name first. Each number is the decimal that was typed, and in its range; each text is one of
+    /// the words.
+    pub fn read(alloc: Global, words: &[String]) -> Result<CommandLine, CommandFault>
+        ensures range { IfOk result (λ line. IsCommandInRange line.command) }
+        ensures typed { IfOk result (λ line. WasCommandTyped words.now line.command) }
+        ensures explains { IfOk result (λ line. line.explains ≡ has_word (codes "--explain") words.now) }
+    {
+        let command = read_command(alloc, words)?;
+        Ok(CommandLine {
+            command,
+            explains: has_word(words, "--explain"),
+        })
+    }
+}
