@@ -15,7 +15,7 @@ use tp_disk::{MemDisk, PlannedFault};
 use tp_stream::{Ended, MemSink, Output, StreamFault, Streams, Task};
 
 /// How many bytes are sent.
-const COUNT: usize = 20;
+const COUNT: usize = 5;
 
 /// How many turns are made at most between two times that it is told how far the stream has come, where no workers make any.
 const ROUND: u64 = 1024;
@@ -168,7 +168,7 @@ fn light_turns_leave_the_bytes_of_one_worker(rt: HostRuntime) -> Result<(), Fail
 }
 
 /// Which calls of the device fail: the first flush with entries comes behind a round, beside workers.
-const CALLS: &[u64] = &[20, 30, 50, 80];
+const CALLS: &[u64] = &[20, 40, 60];
 
 /// A sink alone.
 fn streams_of(alloc: Global, sink: MemSink) -> Result<Streams<MemSink, Pieces>, AllocError> {
