@@ -158,3 +158,100 @@ tpnet run device --stream --turns 0 --discard 0 --every 0 2>err
 tpnet run device --stream --turns 0 --discard 8 2>err
 tpnet run device --stream --turns 0 --out 0= 2>err
 equal device before
+
+story workers_of_a_stream
+# How many threads make a stream's turns is a decimal from 1 to 16, told as that of `run` is; no device is looked for before. Of several numbers
+# that are none the first is told, in the order of the help's list but for --turns and --progress-every, which come first.
+tpnet run device --stream --discard 0 --workers 0
+tpnet run device --stream --discard 0 --workers 17
+tpnet run device --stream --discard 0 --workers=256
+tpnet run device --stream --discard 0 --workers=257
+tpnet run device --stream --discard 0 --workers 4294967297
+tpnet run device --stream --discard 0 --workers x
+tpnet run device --stream --discard 0 --workers +1
+tpnet run device --stream --discard 0 --workers=-1
+tpnet run device --stream --discard 0 --workers 02
+tpnet run device --stream --discard 0 --workers ''
+tpnet run device --stream --discard 0 --workers 2>err
+empty err
+tpnet run device --stream --discard 0 --workers 2 --workers 2 2>err
+empty err
+tpnet run device --stream --workers 0 --progress-every 0
+tpnet run device --stream --quantum 0 --workers 0
+# Both ends of the range are taken, also where there are fewer processes. Short turns leave, byte for byte, what they leave by one.
+text net.txt node a 4\nport h\nwire a.0 h\n
+image a.img 11 24 F2 54 41 F7 11 24 F2 41 FB 60 03
+tpnet format one net.txt . 16384
+copy one sixteen
+text given abc
+tpnet run one --stream --until-quiet --workers 1 --in 0=given --out 0=out 2>err
+equal given out
+tpnet run sixteen --stream --until-quiet --workers 16 --in 0=given --out 0=then 2>said
+equal given then
+equal err said
+equal one sixteen
+ends err  quiet\n
+
+story long_turns
+# A process counts down from 16,384, sends the next number, and again, 20 times: its turns have a thousand steps, so workers make them. What comes
+# out is what comes out by one, and nothing is left to do then.
+text net.txt node a 4\nport h\nwire a.0 h\n
+image a.img 24 20 20 40 D2 72 60 8F D2 72 A2 60 08 27 2F 2F 2F 2F 2F 6F 40 71 FE 71 81 D1 71 21 C4 61 A1 21 F5
+tpnet format one net.txt . --area 256K
+copy one three
+tpnet run one --stream --until-quiet --workers 1 --out 0=out 2>err
+ends err  quiet\n
+length out
+show out 0 20
+tpnet run three --stream --until-quiet --workers 3 --out 0=then 2>err
+ends err  quiet\n
+equal out then
+tpnet recover three >next
+tpnet run three --stream --until-quiet --workers 16 --out 0=then 2>err
+ends err  quiet\n
+tpnet recover three >later
+equal next later
+equal out then
+
+story read_once
+# The first word is the command. The name of another one behind it is a word as any other, an option of another one is none, and no file is made.
+tpnet stop backup
+tpnet stop stop --wait 1
+tpnet backup stop run
+tpnet run stop --turns 0
+tpnet run backup --stream --discard 0
+tpnet stop run device 2>err
+empty err
+tpnet backup stop device copy 2>err
+empty err
+tpnet stop device --turns 4 2>err
+empty err
+tpnet stop device --stream 2>err
+empty err
+tpnet stop device --stop-file at 2>err
+empty err
+tpnet backup device copy --stream 2>err
+empty err
+tpnet backup device copy --wait 1 2>err
+empty err
+tpnet run device --turns 1 --wait 1 2>err
+empty err
+tpnet run device --stream --wait 1 2>err
+empty err
+tpnet run device --stream --discard 0 --port 0 2>err
+empty err
+tpnet compact device --stream 2>err
+empty err
+tpnet stop device --wait=4294967297
+tpnet stop device --wait ''
+tpnet stop device --wait 1 --wait 1 2>err
+empty err
+# A word behind the dashes is a name, but --stream is looked for among all words.
+tpnet stop -- --wait
+tpnet backup -- --explain copy 2>err
+starts err tpnet: ReadFailed\n  --explain: 
+tpnet run -- --stream
+there copy
+there run
+there stop.stop
+there backup.stop

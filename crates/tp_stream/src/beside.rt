@@ -24,6 +24,10 @@ use tp_shared::{Locked, Naming, NoGate, Shared};
 use tp_stream_files::Ending;
 use tp_work::{Net, Seat};
 
+/// How many turns a shift has at most for each of its workers: as many as a round has where nobody makes others, so that the ports wait for a
+/// shift about as long as for a round.
+const SHIFT: u64 = 1024;
+
 /// Makes turns until none is left in this shift.
 fn work<J: Naming, R: Wait>(rt: &R, net: &Net<J, NoGate>, shift: &Shift, seat: &mut Seat<J>)
     requires queue { seat.old.hand.of ≡ Some net.now.queue }
@@ -126,9 +130,6 @@ fn make_shift<J: Naming + Send + Sync, D: Disk + Send + Drop, R: Threads + Wait 
     );
     (flusher, seats, flushed)
 }
-
-/// How many turns a worker makes at most until the next step of the ports.
-const SHIFT: u64 = 1024;
 
 /// How many turns the journal has room for, and for a confirm a port behind them, under the book's lock: at most `most`.
 fn turns_in<J: Naming>(held: &Locked<J>, pace: Pace, most: u64) -> u64

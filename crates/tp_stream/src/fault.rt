@@ -43,7 +43,7 @@ pub enum StreamFault {
     #[error("DeviceFailed")]
     FlushFailed,
     /// The book or the area takes no entries, or the book has some that a flush hasn't stored, though no call of the device failed in a
-    /// flush. As one thread makes all turns and flushes none of that comes, which no clause says.
+    /// flush. As a flush that fails is told first, and the last one comes behind all turns, none of that comes, which no clause says.
     #[error("DeviceFailed")]
     NotStored,
     /// There is no room on the device, and no checkpoint frees any.

@@ -151,7 +151,8 @@ fn stream_parts<
     (flusher.into_disk(), done)
 }
 
-/// Opens a device, and lets its network run, in this one thread: turns of all processes in order, flushes, and steps of each stream.
+/// Opens a device, and lets its network run: flushes, steps of each stream, and turns of all processes in order, in this one thread; and
+/// between two cycles of these, where more than one worker is asked for and there is much to do, turns and flushes in threads of their own.
 /// Answers the device, and the number that the next entry gets.
 ///
 /// Whatever a crash leaves at any moment of the call is what one just before might have left, or opens to where a prefix of the journal

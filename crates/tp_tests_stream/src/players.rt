@@ -70,14 +70,24 @@ impl Source for Pieces {
     }
 }
 
-/// Who is told: it counts, and keeps how far the stream had come at last, and how the first nodes have stopped.
+/// Who is told: it counts, and keeps how far the stream had come at last, how many turns were made at most since the time before, and how the
+/// first nodes have stopped.
 #[derive(Clone, Copy)]
 pub(crate) struct Told {
     pub(crate) output: Option<u64>,
     pub(crate) input: Option<u64>,
     pub(crate) progress: u32,
     pub(crate) last: Option<Progress>,
+    pub(crate) most_turns: u64,
     pub(crate) stopped: [Option<Stopped>; 2],
+}
+
+/// How many turns had been made when this was told.
+fn turns_at(progress: Option<Progress>) -> u64 {
+    match progress {
+        Some(progress) => progress.turns,
+        None => 0,
+    }
 }
 
 impl Listener for Told {
@@ -90,7 +100,9 @@ impl Listener for Told {
     }
 
     fn progress(&mut self, progress: Progress) {
+        let more = progress.turns.saturating_sub(turns_at(self.last));
         self.progress = self.progress.saturating_add(1);
+        self.most_turns = self.most_turns.max(more);
         self.last = Some(progress);
     }
 
@@ -107,6 +119,7 @@ pub(crate) fn nobody() -> Told {
         input: None,
         progress: 0,
         last: None,
+        most_turns: 0,
         stopped: [None, None],
     }
 }
@@ -209,6 +222,21 @@ fn play_within<D: Disk + Send + Drop, S: Sink, I: Source, L: Listener, R: Thread
     stream(rt, alloc, task, disk, streams, told, asks)
 }
 
+/// A stream on a device, of which what a crash leaves is told.
+pub(crate) fn play_on<S: Sink, I: Source, L: Listener, R: Threads + Wait + Abort + Sync>(
+    rt: &R,
+    alloc: Global,
+    task: Task,
+    disk: MemDisk,
+    streams: &mut Streams<S, I>,
+    told: &mut L,
+    asks: &mut Asks,
+) -> (Vec<u8>, Result<Ended, StreamFault>) {
+    assert!(rt; task.quantum <= 4096);
+    let (disk, done) = play_within(rt, alloc, task, disk, streams, told, asks);
+    (disk.crash(), done)
+}
+
 /// A stream on the device with these bytes, which are then what a crash leaves.
 pub(crate) fn play<S: Sink, I: Source, L: Listener, R: Threads + Wait + Abort + Sync>(
     rt: &R,
@@ -219,10 +247,9 @@ pub(crate) fn play<S: Sink, I: Source, L: Listener, R: Threads + Wait + Abort + 
     told: &mut L,
     asks: &mut Asks,
 ) -> Result<Ended, StreamFault> {
-    assert!(rt; task.quantum <= 4096);
     let disk = MemDisk::of_bytes(mem::replace(device, Vec::new(alloc)));
-    let (disk, done) = play_within(rt, alloc, task, disk, streams, told, asks);
-    *device = disk.crash();
+    let (left, done) = play_on(rt, alloc, task, disk, streams, told, asks);
+    *device = left;
     done
 }
 
@@ -325,7 +352,7 @@ impl Played {
 }
 
 /// The sink of the only output, and up to where it was put.
-fn sink_of(alloc: Global, streams: Streams<MemSink, Pieces>) -> (u64, MemSink) {
+pub(crate) fn sink_of(alloc: Global, streams: Streams<MemSink, Pieces>) -> (u64, MemSink) {
     let Streams { outputs, .. } = streams;
     let mut outputs = outputs;
     match outputs.pop() {

@@ -1,4 +1,5 @@
-use Rattle.std.proofs.Common.{inr}
+use Rattle.std.proofs.Common.{inr, rules}
+use denote.Param.Send.{sendable}
 use Rattle.tp_program.proofs.Commands.{at_most_3, of_a_stream}
 use Rattle.tp_program.proofs.program.answer_over.Goals as goal
 
@@ -16,3 +17,7 @@ returns-in-Ok-clause-answered g c = inr (record {
   few = c.answer_command.ensures.few;
   done = c.answer_command.ensures.done;
 })
+
+pub answer_command-requires : goal.answer_command-requires
+answer_command-requires g c κs within =
+    (within.0, (within.1.0, (within.1.1.0, (within.1.1.1.0, (within.1.1.1.1.0, (within.1.1.1.1.1.0, (within.1.1.1.1.1.1.0, (within.1.1.1.1.1.1.1.0, (within.1.1.1.1.1.1.1.1.0, (within.1.1.1.1.1.1.1.1.1, (search (rules, sendable), (search (rules, sendable), (search (rules, sendable), c.in-Ok.ensures.range)))))))))))))

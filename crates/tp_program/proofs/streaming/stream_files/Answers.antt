@@ -1,4 +1,5 @@
-use Rattle.std.proofs.Common.{◌≡◌, ◌∙◌, [], ap, sym, subst, Ok, Err, Result}
+use Rattle.std.proofs.Common.{◌≡◌, ◌∙◌, [], ap, rules, sym, subst, Ok, Err, Result}
+use denote.Param.Send.{sendable}
 use contract.BorrowLft.{◌⊑◌, ⊑_meet, ⊑_static}
 use Rattle.tp_recover.specs.declared.unopened.Unopened.{Unopened}
 use Rattle.tp_stream_files.specs.declared.ending.Ended.{Ended}
@@ -37,7 +38,9 @@ stream_opened-disk-requires g c κs within =
     let pipe = ⊑_meet μ _ _ (⊑_meet μ _ _ within.0.1.0 feed) nothing in
     let piped = ⊑_meet μ _ _ (⊑_meet μ _ _ (⊑_meet μ _ _ (⊑_meet μ _ _ feed nothing) pipe) nothing) nothing in
     let sources = ⊑_meet μ _ _ (⊑_meet μ _ _ given (⊑_meet μ _ _ feed nothing)) (⊑_meet μ _ _ (⊑_meet μ _ _ given nothing) piped) in
-    (within.1.0, (within.1.1.0, (sinks, (sources, (within.1.1.1.1.1.1.1.0, (within.1.1.1.1.1.1.1.1.0, (within.1.1.1.1.1.1.1.1.1.0, (within.1.1.1.1.1.1.1.1.1.1.0, c.requires.1.1.1.1.1.1.1.1))))))))
+    let crosses = c.requires.1.1.1.1.1.1.1.1.1.0 in
+    let shared = c.requires.1.1.1.1.1.1.1.1.1.1.0 in
+    (within.1.0, (within.1.1.0, (sinks, (sources, (within.1.1.1.1.1.1.1.0, (within.1.1.1.1.1.1.1.1.0, (within.1.1.1.1.1.1.1.1.1.0, (within.1.1.1.1.1.1.1.1.1.1.0, (search (rules, sendable, crosses), (search (rules, sendable, shared), c.requires.1.1.1.1.1.1.1.1.1.1.1))))))))))
 
 pub returns-in-Err-clause-streamed : goal.returns-in-Err-clause-streamed
 returns-in-Err-clause-streamed g c keeps began = ends_streamed g.history.formatted c.in-Err.fault (g.D.Disk.state c.args.disk) c.in-Err.ensures

@@ -1,5 +1,6 @@
 use contract.BorrowLft.{◌⊑◌, ⊑_meet, ⊑_static}
-use Rattle.std.proofs.Common.{[]}
+use Rattle.std.proofs.Common.{[], rules}
+use denote.Param.Send.{sendable}
 use Rattle.tp_program.proofs.streaming.stream_opened.Goals as goal
 
 -- what is said, and what looks for the file that ends the stream, is outlived by what each is lent
@@ -20,4 +21,6 @@ stream-disk-requires g c κs within =
     let path = ⊑_meet μ _ _ (⊑_meet μ _ _ own nothing) nothing in
     let request = ⊑_meet μ _ _ (⊑_meet μ _ _ own nothing) path in
     let stop = ⊑_meet μ _ _ (⊑_meet μ _ _ rt nothing) (⊑_meet μ _ _ (⊑_meet μ _ _ own rt) request) in
-    (within.0, (within.1.0, (within.1.1.0, (teller, (stop, (within.1.1.1.1.1.1, c.spread_over-task.ensures.quantum))))))
+    let crosses = c.requires.1.1.1.1.1.1.1.1.0 in
+    let shared = c.requires.1.1.1.1.1.1.1.1.1.0 in
+    (within.0, (within.1.0, (within.1.1.0, (teller, (stop, (within.1.1.1.1.1.1, (search (rules, sendable, crosses), (search (rules, sendable, shared), c.spread_over-task.ensures.quantum))))))))
