@@ -1,6 +1,6 @@
 -- What the device had as the mark was raised stays, as the flusher walks on.
-use Rattle.std.proofs.Common.{◌≡◌, ℕ, ◌≤◌, ◌⊎◌, inl, inr, List, [], ◌∷◌, ◌++◌, length, take, sym, ap, subst, ◌∙◌, arith, le_refl, length-append}
-use Rattle.std.specs.Prelude.{drop, max}
+use Rattle.std.proofs.Common.{◌≡◌, ℕ, ◌≤◌, ◌⊎◌, inl, inr, List, [], ◌∷◌, ◌++◌, sym, ap, subst, ◌∙◌, arith, le_refl, length-append}
+use Rattle.std.specs.Prelude.{drop}
 use Rattle.std.specs.List.{AllByRecursion}
 use Rattle.std.proofs.lemmas.List.{take-append-le}
 use Rattle.std.proofs.Math.Seq.{drop-length}
@@ -10,7 +10,7 @@ use Rattle.tp_model.specs.Node.{t414, t414_ends}
 use Rattle.tp_model.specs.Network.{Network}
 use Rattle.tp_model.specs.Order.{after}
 use Rattle.tp_model.specs.Areas.{next_number}
-use Rattle.tp_model.specs.Disk.{Moment, MayBe}
+use Rattle.tp_model.specs.Disk.{MayBe}
 use Rattle.tp_model.specs.DiskHistory.{State, LeavesOnly, MayHaveLeft, SomeMay, moment}
 use Rattle.tp_model.specs.DeviceAreas.{device_areas}
 use Rattle.tp_model.specs.Runs.{World}
