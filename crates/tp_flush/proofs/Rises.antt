@@ -32,18 +32,18 @@ all_then : {P Q : Rise → Type 0} → ((rise : Rise) → P rise → Q rise) →
 all_then then [] all = tt
 all_then then (rise ∷ rises) all = (then rise all.0, all_then then rises all.1)
 
-all_front : {P : Rise → Type 0} → (rises more : List Rise) → AllByRecursion P (rises ++ more) → AllByRecursion P rises
-all_front [] more all = tt
-all_front (rise ∷ rises) more all = (all.0, all_front rises more all.1)
+all_front : (P : Rise → Type 0) (rises more : List Rise) → AllByRecursion P (rises ++ more) → AllByRecursion P rises
+all_front P [] more all = tt
+all_front P (rise ∷ rises) more all = (all.0, all_front P rises more all.1)
 
-all_push : {P : Rise → Type 0} → (rises : List Rise) (rise : Rise) → AllByRecursion P rises → P rise → AllByRecursion P (rises ++ rise ∷ [])
-all_push [] rise all last = (last, tt)
-all_push (r ∷ rises) rise all last = (all.0, all_push rises rise all.1 last)
+all_push : (P : Rise → Type 0) (rises : List Rise) (rise : Rise) → AllByRecursion P rises → P rise → AllByRecursion P (rises ++ rise ∷ [])
+all_push P [] rise all last = (last, tt)
+all_push P (r ∷ rises) rise all last = (all.0, all_push P rises rise all.1 last)
 
 -- behind the first
-later_push : {P : Rise → Type 0} → (rises : List Rise) (rise : Rise) → AllByRecursion P (drop 1 rises) → P rise → AllByRecursion P (drop 1 (rises ++ rise ∷ []))
-later_push [] rise all last = tt
-later_push (r ∷ rises) rise all last = all_push rises rise all last
+later_push : (P : Rise → Type 0) (rises : List Rise) (rise : Rise) → AllByRecursion P (drop 1 rises) → P rise → AllByRecursion P (drop 1 (rises ++ rise ∷ []))
+later_push P [] rise all last = tt
+later_push P (r ∷ rises) rise all last = all_push P rises rise all last
 
 -- ## One rise
 
@@ -108,13 +108,14 @@ module _ (start : Network NodeState) (w : World NodeState) (mark : ℕ) (state :
   -- one more, as the device is now
   pub rises_raise : (to : ℕ) (rises : List Rise) → to ≤ mark → HaveRisen start w state rises → HaveRisen start (record w { mark = mark }) state (rises ++ record { to = to; moment = moment state } ∷ [])
   rises_raise to rises low have =
-      later_push rises (record { to = to; moment = moment state })
+      later_push (λ rise. (rise.to ≤ mark) × WasStored start w.journal state rise) rises (record { to = to; moment = moment state })
       (all_then (λ rise was. ((let least = was.0 in omega (arith, least, up)), was.1)) (drop 1 rises) have) (low, raised_now to low)
 
 -- ## What a pass saw
 
 -- each rise that it saw, behind the first, was stored
 pub rises_seen : (start : Network NodeState) (w : World NodeState) (state : State) (seen all : List Rise) → RisesOn seen all → HaveRisen start w state all → AllByRecursion (WasStored start w.journal state) (drop 1 seen)
-rises_seen start w state [] all on have = tt
-rises_seen start w state (rise ∷ seen) all on have =
-    all_then (λ r was. was.1) seen (all_front seen on.0 (subst (HaveRisen start w state) on.1 have))
+rises_seen start w state [] all goes have = tt
+rises_seen start w state (rise ∷ seen) all goes have =
+    let P : Rise → Type 0 = λ r. (r.to ≤ w.mark) × WasStored start w.journal state r in
+    all_then (λ r was. was.1) seen (all_front P seen goes.0 (subst (HaveRisen start w state) goes.1 have))
