@@ -17,7 +17,9 @@ use Rattle.tp_model.specs.Runs.{World, Reopens, CrashLeaves, reopened}
 use Rattle.tp_law_device.proofs.Verdicts.{verdict_leads}
 use Rattle.tp_law_network.proofs.Walks.{run_then}
 use Rattle.tp_area.specs.declared.place.Place.{Place}
+use Rattle.tp_ready.specs.Seen.{RaiserValue, unrisen}
 use Rattle.tp_flush.specs.Known.{Began, Reached}
+use Rattle.tp_flush.specs.Risen.{HaveRisen}
 use Rattle.tp_flush.specs.Flushing.{KeepsWorld, position}
 
 next_of_held : (o : Opened) → next_of o ≡ next_number (held_of o)
@@ -71,10 +73,10 @@ module _ (before : World NodeState) (net : MarkedNetwork NodeState) (base : ℕ)
     seen = before.seen;
   }
 
-  pub first_keeps : (keeps : Type 0) (start : Network NodeState) (s : State) (place : Place) (broken : Bool) (mark : ℕ) → s.now.bytes ≡ bytes → place.next ≡ next → broken ≡ false → mark ≡ next
+  pub first_keeps : (keeps : Type 0) (start : Network NodeState) (s : State) (place : Place) (broken : Bool) (mark : RaiserValue) → s.now.bytes ≡ bytes → place.next ≡ next → broken ≡ false → mark.at ≡ next → mark.rises ≡ unrisen next
       → (keeps → verdict s.now.bytes ≡ Ok o) → (keeps → s.now.unsynced ≡ [])
       → KeepsWorld keeps start before (record { world = begun before net base journal bytes next; opened = bytes }) s place broken mark
-  first_keeps keeps start s place broken mark are at unbroken marked read synced = record {
+  first_keeps keeps start s place broken mark are at unbroken marked unraised read synced = record {
     next = at;
     cut = omega (arith, base_is, next_is);
     ends = omega (arith, base_is, next_is, next_of_held o, ap (λ (n : MarkedNetwork NodeState). length n.entries) net_is);
@@ -82,4 +84,5 @@ module _ (before : World NodeState) (net : MarkedNetwork NodeState) (base : ℕ)
     at = ap position (sym unbroken);
     disk = λ k. λ i. record { bytes = sym are i; unsynced = sym (synced k) i };
     reached = λ k began. subst (Reached start) (sym begun_is) (first_reached start before bytes began o (ap verdict (sym are) ∙ read k));
+    rises = λ k began. subst (HaveRisen start (begun before net base journal bytes next) s) (sym unraised) tt;
   }

@@ -10,7 +10,7 @@ use Rattle.tp_model.specs.Node.{t414}
 use Rattle.tp_model.specs.Network.{Network}
 use Rattle.tp_model.specs.Topology.{Topology}
 use Rattle.tp_model.specs.Snapshot.{MarkedNetwork}
-use Rattle.tp_model.specs.DiskHistory.{State}
+use Rattle.tp_model.specs.DiskHistory.{State, moment}
 use Rattle.tp_model.specs.WriteOrder.{Resting}
 use Rattle.tp_model.specs.DeviceAreas.{device_areas, numbered}
 use Rattle.tp_model.specs.Runs.{World}
@@ -19,11 +19,13 @@ use Rattle.tp_area.specs.declared.place.Place.{Place}
 use Rattle.tp_area.specs.Appended.{unnumbered}
 use Rattle.tp_area.proofs.Behind.{length-entries}
 use Rattle.tp_law_network.proofs.Walks.{run_then, still_walks}
+use Rattle.tp_ready.specs.Seen.{RaiserValue, risen}
 use Rattle.tp_flush.specs.declared.progress.Progress.{Progress}
-use Rattle.tp_flush.specs.Known.{Known, Reached}
+use Rattle.tp_flush.specs.Known.{Began, Known, Reached}
 use Rattle.tp_flush.specs.Flushing.{Flushing, IsBacklog, KeepsWorld, OnlyLooked, Walked}
 use Rattle.tp_shared.specs.declared.told.Told.{Told}
 use Rattle.tp_shared.specs.Told.{IsFirst, ToldSince}
+use Rattle.tp_flush.proofs.Rises.{rises_raise, rises_walk}
 use Rattle.tp_flush.proofs.Looks.{base_is, copied, entries_stay, learned, learns, looks, raised, raises}
 
 -- a run goes on
@@ -62,8 +64,8 @@ module _ (keeps : Type 0) (start : Network NodeState) (before : World NodeState)
   abbrev pub raised_known : Known → Known
   raised_known k = record { world = raised k.world; opened = k.opened }
 
-  pub raise_keeps : (k : Known) (s : State) (place : Place) (broken : Bool) (mark : ℕ) → KeepsWorld keeps start before k s place broken mark
-      → KeepsWorld keeps start before (raised_known k) s place broken (max mark place.next)
+  pub raise_keeps : (k : Known) (s : State) (place : Place) (broken : Bool) (mark : RaiserValue) → KeepsWorld keeps start before k s place broken mark
+      → KeepsWorld keeps start before (raised_known k) s place broken (risen mark place.next (moment s))
   raise_keeps k s place broken mark K = record {
     next = K.next;
     cut = K.cut;
@@ -71,13 +73,17 @@ module _ (keeps : Type 0) (start : Network NodeState) (before : World NodeState)
     mark = ap (λ m. max m place.next) K.mark ∙ ap (max k.world.mark) K.next;
     at = K.at;
     disk = K.disk;
-    reached = λ kept began. reached_then start k.world (raised k.world) (K.reached kept began) (raises k.world);
+    reached = λ kept began. up_to kept began;
+    rises = λ kept began. rises_raise start k.world (max k.world.mark k.world.stored) s (up_to kept began) (K.disk kept) (omega arith) (max mark.at place.next) mark.rises (omega (arith, K.mark, K.next)) (K.rises kept began);
   }
+    where
+      up_to : keeps → Began start before k.opened → Reached start (raised k.world)
+      up_to kept began = reached_then start k.world (raised k.world) (K.reached kept began) (raises k.world)
 
   abbrev pub copied_known : Known → Told → Known
   copied_known k told = record { world = copied k.world told; opened = k.opened }
 
-  pub copy_keeps : (k : Known) (s : State) (place : Place) (broken : Bool) (mark : ℕ) → KeepsWorld keeps start before k s place broken mark
+  pub copy_keeps : (k : Known) (s : State) (place : Place) (broken : Bool) (mark : RaiserValue) → KeepsWorld keeps start before k s place broken mark
       → (old now : Told) → IsFirst old k.world → ToldSince old now → k.world.at ≡ Resting → KeepsWorld keeps start before (copied_known k now) s place broken mark
   copy_keeps k s place broken mark K old now told since rests =
       let base : now.base ≡ k.world.base = base_is k.world old now told since in
@@ -89,12 +95,15 @@ module _ (keeps : Type 0) (start : Network NodeState) (before : World NodeState)
         at = K.at;
         disk = K.disk;
         reached = λ kept began. reached_then start k.world (copied k.world now) (K.reached kept began) (looks k.world old now told since rests);
+        rises = λ kept began.
+            rises_walk start k.world (copied k.world now) s s (K.reached kept began) (still_walks t414 device_areas k.world (copied k.world now) s (looks k.world old now told since rests) (K.disk kept)) mark.rises
+            (K.rises kept began);
       }
 
   abbrev pub learned_known : Known → Told → Known
   learned_known k told = record { world = learned k.world told; opened = k.opened }
 
-  pub learn_keeps : (k : Known) (s : State) (place : Place) (broken : Bool) (mark : ℕ) → KeepsWorld keeps start before k s place broken mark
+  pub learn_keeps : (k : Known) (s : State) (place : Place) (broken : Bool) (mark : RaiserValue) → KeepsWorld keeps start before k s place broken mark
       → (old now : Told) → IsFirst old k.world → ToldSince old now → KeepsWorld keeps start before (learned_known k now) s place broken mark
   learn_keeps k s place broken mark K old now told since =
       let base : now.base ≡ k.world.base = base_is k.world old now told since in
@@ -106,17 +115,20 @@ module _ (keeps : Type 0) (start : Network NodeState) (before : World NodeState)
         at = K.at;
         disk = K.disk;
         reached = λ kept began. reached_then start k.world (learned k.world now) (K.reached kept began) (learns k.world old now told since);
+        rises = λ kept began.
+            rises_walk start k.world (learned k.world now) s s (K.reached kept began) (still_walks t414 device_areas k.world (learned k.world now) s (learns k.world old now told since) (K.disk kept)) mark.rises
+            (K.rises kept began);
       }
 
   -- where the copy begins
-  pub copy_from : (k : Known) (s : State) (place : Place) (broken : Bool) (mark : ℕ) → KeepsWorld keeps start before k s place broken mark
+  pub copy_from : (k : Known) (s : State) (place : Place) (broken : Bool) (mark : RaiserValue) → KeepsWorld keeps start before k s place broken mark
       → (told : Told) → IsFirst told k.world → (told.base ≤ place.next) × (place.next ≤ told.base + length told.net.entries)
   copy_from k s place broken mark K told F =
       let entries : length told.net.entries ≡ length k.world.net.entries = ap (λ (n : MarkedNetwork NodeState). length n.entries) F.net in
       (omega (arith, F.base, K.cut, K.next), omega (arith, F.base, K.ends, K.next, entries))
 
   -- what was copied is the backlog
-  pub copied_backlog : (k : Known) (s : State) (place : Place) (broken : Bool) (mark : ℕ) → KeepsWorld keeps start before k s place broken mark
+  pub copied_backlog : (k : Known) (s : State) (place : Place) (broken : Bool) (mark : RaiserValue) → KeepsWorld keeps start before k s place broken mark
       → (old now : Told) → IsFirst old k.world → ToldSince old now → now.base + length now.net.entries < NUMBER_LIMIT
       → (entries : List (Entry × ℕ)) (upto : ℕ) → (unnumbered entries ≡ drop (place.next - now.base) now.net.entries) × (upto ≡ now.base + length now.net.entries)
       → AllByRecursion (λ e. IsSpelt e.0 e.1) entries → entries ≡ numbered place.next (unnumbered entries) → IsBacklog (copied k.world now) entries upto

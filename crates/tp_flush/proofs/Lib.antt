@@ -2,6 +2,7 @@ mod Looks
 pub mod Kept
 pub mod Made
 pub mod Recovers
+mod Rises
 mod Appends
 mod Begins
 pub mod Turns

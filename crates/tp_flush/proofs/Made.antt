@@ -15,7 +15,7 @@ use Rattle.tp_model.specs.declared.entry.Entry.{Entry}
 use Rattle.tp_book.specs.declared.state.NetState.{NetState}
 use Rattle.tp_book.specs.Book.{BookValue, next_in_book, world_of}
 use Rattle.tp_book.specs.Opened.{kept_entries, now_of, opened_book}
-use Rattle.tp_ready.specs.Seen.{RaiserValue}
+use Rattle.tp_ready.specs.Seen.{RaiserValue, unrisen}
 use Rattle.tp_shared.specs.Parted.{PartsValue}
 use Rattle.tp_flush.specs.Made.{IsMadeOf}
 
@@ -38,7 +38,7 @@ ports_are s o now cut leads =
 pub stands : (s : NetState) (o : Opened) (room : Option ℕ) (parts : PartsValue) (raiser : RaiserValue) → now_of s ≡ o.now → s.base ≡ o.base → (opened_book s room).form ≡ o.form → s.next ≡ next_of o
     → s.kept.items ≡ o.kept → IsCut t414_ends o.head.topology o.base o.cut → after t414 o.cut (map (λ e. e.0) o.kept) ≡ Some o.now
     → world_of (opened_book s room) ≡ book_of o → parts.book ≡ opened_book s room → parts.first ≡ next_in_book (opened_book s room)
-    → raiser ≡ record { mark = parts.mark; at = s.next } → IsMadeOf o parts raiser
+    → raiser ≡ record { mark = parts.mark; at = s.next; rises = unrisen s.next } → IsMadeOf o parts raiser
 stands s o room parts raiser now base form next kept cut leads world book first raised = record {
   book = ap world_of book ∙ world;
   base = ap (λ (b : BookValue). b.base) book ∙ base;
@@ -46,5 +46,5 @@ stands s o room parts raiser now base form next kept cut leads world book first 
   whole = ap (λ (b : BookValue). b.broken) book;
   first = first ∙ next_is s o room base kept;
   ports = ap (λ (b : BookValue). length b.state.ports) book ∙ ports_are s o now cut leads;
-  raised = raised ∙ ap (λ n. record { mark = parts.mark; at = n }) next;
+  raised = raised ∙ ap (λ n. record { mark = parts.mark; at = n; rises = unrisen n }) next;
 }

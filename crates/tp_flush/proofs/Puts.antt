@@ -34,11 +34,13 @@ use Rattle.tp_shared.specs.Told.{IsFirst}
 use Rattle.tp_law_device.proofs.Holds.{areas_keep}
 use Rattle.tp_law_network.proofs.Planned.{clear_walks, pieces_walk}
 use Rattle.tp_law_network.proofs.Walks.{chain_leads}
+use Rattle.tp_ready.specs.Seen.{RaiserValue}
 use Rattle.tp_flush.specs.declared.fault.FlushFault.{FlushFault}
 use Rattle.tp_flush.specs.declared.fault.FlushFault.TheVariants.{DeviceFailed}
 use Rattle.tp_flush.specs.Known.{Known, Began}
 use Rattle.tp_flush.specs.Flushing.{Flushing, KeepsWorld}
 use Rattle.tp_flush.specs.Ends.{Failed, Tried, NothingStored}
+use Rattle.tp_flush.proofs.Rises.{rises_walk}
 use Rattle.tp_flush.proofs.Appends.{failed_at}
 use Rattle.tp_flush.proofs.Kept.{reached_then}
 
@@ -88,7 +90,7 @@ module _ (w : World NodeState) (old new : State) (place : Place) (rests : w.at �
 abbrev pub put_known : Known → Bool → State → Known
 put_known k broke s = record { world = after_put broke k.world s.now; opened = k.opened }
 
-module _ (keeps : Type 0) (start : Network NodeState) (before : World NodeState) (k : Known) (s : State) (place : Place) (mark : ℕ) (K : KeepsWorld keeps start before k s place false mark) where
+module _ (keeps : Type 0) (start : Network NodeState) (before : World NodeState) (k : Known) (s : State) (place : Place) (mark : RaiserValue) (K : KeepsWorld keeps start before k s place false mark) where
   pub put_keeps : (new : State) (broke : Bool) → (keeps → Began start before k.opened → Walks t414 device_areas k.world (after_put broke k.world new.now) s new)
       → KeepsWorld keeps start before (put_known k broke new) new place broke mark
   put_keeps new true walks = record {
@@ -99,6 +101,7 @@ module _ (keeps : Type 0) (start : Network NodeState) (before : World NodeState)
     at = refl;
     disk = λ h. refl;
     reached = λ h began. let W = walks h began in reached_then start k.world (failed_at k.world new.now) (K.reached h began) (chain_leads t414 device_areas k.world (failed_at k.world new.now) W.worlds W.chain);
+    rises = λ h began. rises_walk start k.world (failed_at k.world new.now) s new (K.reached h began) (walks h began) mark.rises (K.rises h began);
   }
   put_keeps new false walks = record {
     next = K.next;
@@ -108,6 +111,7 @@ module _ (keeps : Type 0) (start : Network NodeState) (before : World NodeState)
     at = K.at;
     disk = λ h. refl;
     reached = λ h began. let W = walks h began in reached_then start k.world (written_at k.world new.now) (K.reached h began) (chain_leads t414 device_areas k.world (written_at k.world new.now) W.worlds W.chain);
+    rises = λ h began. rises_walk start k.world (written_at k.world new.now) s new (K.reached h began) (walks h began) mark.rises (K.rises h began);
   }
 
 pub told_put : (told : Told) (broke : Bool) (w : World NodeState) (disk : Moment) → IsFirst told w → IsFirst told (after_put broke w disk)

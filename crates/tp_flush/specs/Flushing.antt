@@ -18,6 +18,7 @@ use Rattle.tp_model.specs.WriteOrder.{Position, Resting, Broken}
 use Rattle.tp_model.specs.DeviceAreas.{device_areas, numbered}
 use Rattle.tp_model.specs.Runs.{World}
 use Rattle.tp_model.specs.Walks.{RunLeads, Walks}
+use Rattle.tp_ready.specs.Seen.{RaiserValue}
 use Rattle.tp_area.specs.declared.place.Place.{Place}
 use Rattle.tp_area.specs.Appended.{unnumbered}
 use Rattle.tp_area.specs.Other.{OtherIsClosed}
@@ -28,6 +29,7 @@ use Rattle.tp_flush.specs.Copying.{IsGone, IsPartOut}
 use Rattle.tp_flush.specs.Progress.{is_out}
 use Rattle.tp_flush.specs.declared.progress.Progress.{Progress}
 use Rattle.tp_flush.specs.Known.{Known, Began, Reached}
+use Rattle.tp_flush.specs.Risen.{HaveRisen}
 
 -- The world as the flusher knows it; what has become of its device, how many bytes that has, and how many of its calls have
 -- failed; the bytes that this process opened; the place of the next group, in the open area; the device's topology; how far the
@@ -48,15 +50,17 @@ abbrev pub position : Bool → Position NodeState
 position broken = if broken then Broken else Resting
 
 -- What the flusher keeps of the world, beside the mark: the place of its store is the world's number; what was copied of the
--- book ends where the book did then; and the world is reached by a run, whose device is the flusher's.
-pub record KeepsWorld (keeps : Type 0) (start : Network NodeState) (before : World NodeState) (known : Known) (state : State) (place : Place) (broken : Bool) (raised : ℕ) : Type 0 where
+-- book ends where the book did then; the world is reached by a run, whose device is the flusher's; and that device had all below each
+-- number to which the mark was raised from the moment on at which it was.
+pub record KeepsWorld (keeps : Type 0) (start : Network NodeState) (before : World NodeState) (known : Known) (state : State) (place : Place) (broken : Bool) (raiser : RaiserValue) : Type 0 where
   pub next : place.next ≡ known.world.stored
   pub cut : known.world.base ≤ known.world.stored
   pub ends : known.world.stored + length known.world.backlog ≤ known.world.base + length known.world.net.entries
-  pub mark : raised ≡ known.world.mark
+  pub mark : raiser.at ≡ known.world.mark
   pub at : known.world.at ≡ position broken
   pub disk : keeps → known.world.disk ≡ state.now
   pub reached : keeps → Began start before known.opened → Reached start known.world
+  pub rises : keeps → Began start before known.opened → HaveRisen start known.world state raiser.rises
 
 -- What it keeps for the copy of a snapshot: its areas have room for any cut of its topology; the other area's gate is closed once
 -- that was done for the snapshot; and each frozen image that is out stands there.

@@ -4,6 +4,7 @@ pub mod CopiedIn
 pub mod WasTold
 pub mod Images
 pub mod Known
+pub mod Risen
 pub mod Flushing
 pub mod Ends
 pub mod Unswitched

@@ -1,6 +1,6 @@
 -- What is made of a device that opened, before its flusher begins.
 use Rattle.std.specs.Prelude.{◌≡◌, false, length}
-use Rattle.tp_ready.specs.Seen.{RaiserValue}
+use Rattle.tp_ready.specs.Seen.{RaiserValue, unrisen}
 use Rattle.tp_model.specs.Opening.{Opened, next_of}
 use Rattle.tp_model.specs.OpensTo.{book_of}
 use Rattle.tp_book.specs.Book.{world_of}
@@ -14,4 +14,4 @@ pub record IsMadeOf (o : Opened) (parts : PartsValue) (raiser : RaiserValue) : T
   pub whole : parts.book.broken ≡ false
   pub first : parts.first ≡ next_of o
   pub ports : length parts.book.state.ports ≡ o.head.topology.ports
-  pub raised : raiser ≡ record { mark = parts.mark; at = next_of o }
+  pub raised : raiser ≡ record { mark = parts.mark; at = next_of o; rises = unrisen (next_of o) }

@@ -9,6 +9,7 @@ ghost use Rattle.tp_model.specs.Node.{t414_ends};
 ghost use Rattle.tp_model.specs.Opening.{held_of, next_of, verdict};
 ghost use Rattle.tp_model.specs.Runs.{reopened};
 ghost use Rattle.tp_model.specs.Spelling.{IsCut};
+ghost use Rattle.tp_ready.specs.Seen.{unrisen};
 ghost use Rattle.tp_shared.specs.Told.{IsFirst};
 ghost use Rattle.tp_flush.specs.Known.{Began, Reached};
 ghost use Rattle.tp_flush.specs.Flushing.{AreGone, position};
@@ -58,7 +59,7 @@ impl<J: Naming, D: Disk> Model for Flusher<J, D> {
 
     ghost view = { λ f. record { world = f.parts.whole.known.world; state = D.state f.parts.store.disk; size = D.size_of f.parts.store.disk; failures = D.failures_of f.parts.store.disk; opened = f.parts.whole.known.opened; place = f.parts.store.place; topology = f.parts.topology; progress = f.parts.progress; frozen = f.parts.key.value.frozen } };
 
-    ghost invariant = { λ f. (f.parts.key.name ≡ J.flusher) × (f.parts.raiser.mark ≡ J.mark) × IsFirst f.parts.key.value f.parts.whole.known.world × KeepsWorld D.keeps J.formatted J.before f.parts.whole.known (D.state f.parts.store.disk) f.parts.store.place f.parts.store.broken f.parts.raiser.at × KeepsCopy D.keeps f.parts.whole.known.world.net (D.state f.parts.store.disk) f.parts.store.place f.parts.store.broken f.parts.topology f.parts.progress × IsOfDevice D.keeps J.room f.parts.whole.known.world (D.state f.parts.store.disk) f.parts.store.place f.parts.store.broken f.parts.topology × (J.first ≤ f.parts.whole.known.world.stored) × (f.parts.key.value.numbered_from ≤ f.parts.whole.known.world.stored) × HoldsAllOf f.parts.store.place.form f.parts.key.value.form × ToldWhere f.parts.store.broken f.parts.key.value f.told × AreGone f.parts.whole.known.world.net f.parts.key.value.frozen f.parts.progress };
+    ghost invariant = { λ f. (f.parts.key.name ≡ J.flusher) × (f.parts.raiser.mark ≡ J.mark) × IsFirst f.parts.key.value f.parts.whole.known.world × KeepsWorld D.keeps J.formatted J.before f.parts.whole.known (D.state f.parts.store.disk) f.parts.store.place f.parts.store.broken f.parts.raiser × KeepsCopy D.keeps f.parts.whole.known.world.net (D.state f.parts.store.disk) f.parts.store.place f.parts.store.broken f.parts.topology f.parts.progress × IsOfDevice D.keeps J.room f.parts.whole.known.world (D.state f.parts.store.disk) f.parts.store.place f.parts.store.broken f.parts.topology × (J.first ≤ f.parts.whole.known.world.stored) × (f.parts.key.value.numbered_from ≤ f.parts.whole.known.world.stored) × HoldsAllOf f.parts.store.place.form f.parts.key.value.form × ToldWhere f.parts.store.broken f.parts.key.value f.told × AreGone f.parts.whole.known.world.net f.parts.key.value.frozen f.parts.progress };
 }
 
 impl<J: Naming, D: Disk> Flusher<J, D> {
@@ -78,7 +79,7 @@ impl<J: Naming, D: Disk> Flusher<J, D> {
         requires unbroken { store.broken ≡ false }
         requires whole { key.value.broken ≡ false }
         requires next { store.place.next ≡ next_of opened.now }
-        requires raiser { raiser ≡ record { mark = J.mark; at = next_of opened.now } }
+        requires raiser { raiser ≡ record { mark = J.mark; at = next_of opened.now; rises = unrisen (next_of opened.now) } }
         requires read { D.keeps → verdict (D.state store.disk).now.bytes ≡ Ok opened.now }
         requires synced { D.keeps → IsSynced (D.state store.disk) }
         requires topology { topology ≡ opened.now.head.topology }
@@ -110,7 +111,7 @@ impl<J: Naming, D: Disk> Flusher<J, D> {
         requires unbroken { store.broken ≡ false }
         requires whole { key.value.broken ≡ false }
         requires next { store.place.next ≡ next_of opened.value }
-        requires raiser { raiser ≡ record { mark = J.mark; at = next_of opened.value } }
+        requires raiser { raiser ≡ record { mark = J.mark; at = next_of opened.value; rises = unrisen (next_of opened.value) } }
         requires read { D.keeps → verdict (D.state store.disk).now.bytes ≡ Ok opened.value }
         requires synced { D.keeps → IsSynced (D.state store.disk) }
         requires topology { topology ≡ opened.value.head.topology }

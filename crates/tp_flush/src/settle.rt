@@ -1,6 +1,7 @@
 //! What passes and receipts are worth: what a pass saw beside the flusher's mark, and slips beside its journal.
 
-ghost use Rattle.std.specs.Prelude.{◌≡◌, ◌≤◌, ℕ, List};
+ghost use Rattle.std.specs.Prelude.{◌≡◌, ◌≤◌, ℕ, List, drop};
+ghost use Rattle.std.specs.List.{AllByRecursion};
 ghost use Rattle.tp_model.specs.NodeState.{NodeState};
 ghost use Rattle.tp_model.specs.Node.{t414};
 ghost use Rattle.tp_model.specs.Network.{Network};
@@ -9,7 +10,9 @@ ghost use Rattle.tp_model.specs.DeviceAreas.{device_areas};
 ghost use Rattle.tp_model.specs.Walks.{RecoversTo};
 ghost use Rattle.tp_model.specs.declared.entry.Entry.{Entry};
 ghost use Rattle.tp_shared.specs.Receipted.{AreBelow};
+ghost use Rattle.tp_ready.specs.Seen.{number_of};
 ghost use Rattle.tp_flush.specs.Known.{Began};
+ghost use Rattle.tp_flush.specs.Risen.{WasStored};
 ghost use Rattle.tp_flush.specs.Settled.{RecoversWith, SlipsStand};
 
 use crate::flusher::Flusher;
@@ -19,11 +22,17 @@ use tp_ready::Pass;
 use tp_shared::{Locked, Naming, Receipt, Seat, Shared};
 
 impl<J: Naming, D: Disk> Flusher<J, D> {
-    /// Changes nothing. What `pass` saw is at most the flusher's mark.
+    /// Changes nothing. What `pass` saw is at most the flusher's mark, and whatever it loaded, at whatever moment, also while a turn went on:
+    /// that is the last of its rises, each dated by a moment that the device had come to. Of each but the first, with which the mark began,
+    /// whatever a crash left of the device at that moment or at any since opens to what leads where a prefix of the journal leads, and the
+    /// prefix has each entry below the number.
     pub fn settle_pass(&mut self, shared: &Shared<J>, pass: &mut Pass)
         requires { pass.old.mark ≡ J.mark }
         ensures same { (self.new ≡ self.old) × (pass.new ≡ pass.old) }
         ensures mark { pass.old.at ≤ self.old.world.mark }
+        ensures number { pass.old.at ≡ number_of pass.old.rises }
+        ensures rises { D.keeps → Began J.formatted J.before self.old.opened
+            → AllByRecursion (WasStored J.formatted self.old.world.journal self.old.state) (drop 1 pass.old.rises) }
     {
         let Flusher { parts, .. } = self;
         parts.raiser.settle(shared, pass);

@@ -1,6 +1,8 @@
 //! The mark's raiser in the flusher's hand.
 
-ghost use Rattle.std.specs.Prelude.{◌≡◌, ◌≤◌, max};
+ghost use Rattle.std.specs.Prelude.{◌≡◌, ◌≤◌};
+ghost use Rattle.tp_model.specs.DiskHistory.{moment};
+ghost use Rattle.tp_ready.specs.Seen.{RisesOn, number_of, risen};
 ghost use Rattle.tp_flush.specs.Known.{Began, Reached};
 
 use crate::whole::Whole;
@@ -41,7 +43,7 @@ impl StoredMark {
 
     /// Raises the mark to the number of the next group of `store`. Whoever calls it shows that a run leads to a world that has stored
     /// so far, and whose device is the store's as it is at this moment: so whoever loads the mark, at whatever moment, loads a number
-    /// that the device had when the mark was raised to it.
+    /// that the device had when the mark was raised to it. The rise is dated by the store's device.
     pub(crate) fn raise<J: Naming, D: Disk>(
         &mut self,
         shared: &Shared<J>,
@@ -52,16 +54,19 @@ impl StoredMark {
         requires stored { store.now.place.next ≡ whole.now.known.world.stored }
         requires disk { D.keeps → whole.now.known.world.disk ≡ (D.state store.now.disk).now }
         requires reached { D.keeps → Began J.formatted J.before whole.now.known.opened → Reached J.formatted whole.now.known.world }
-        ensures { self.new ≡ record self.old { at = max self.old.at store.now.place.next } }
+        ensures { self.new ≡ risen self.old store.now.place.next (moment (D.state store.now.disk)) }
     {
-        shared.mark().raise(&mut self.raiser, store.place.next);
+        shared
+            .mark()
+            .raise(&mut self.raiser, store.place.next, &store.disk);
     }
 
-    /// Changes nothing. What `pass` saw is at most the mark's number.
+    /// Changes nothing. What `pass` saw is at most the mark's number: the last of the rises that it saw, from which the raiser's go on.
     pub(crate) fn settle<J: Naming>(&mut self, shared: &Shared<J>, pass: &mut Pass)
         requires marks { (self.old.mark ≡ J.mark) × (pass.old.mark ≡ J.mark) }
         ensures same { (self.new ≡ self.old) × (pass.new ≡ pass.old) }
         ensures settled { pass.old.at ≤ self.old.at }
+        ensures risen { RisesOn pass.old.rises self.old.rises × (pass.old.at ≡ number_of pass.old.rises) }
     {
         shared.mark().settle(&mut self.raiser, pass);
     }

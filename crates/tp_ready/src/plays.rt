@@ -1,10 +1,11 @@
 //! The rule of the word, and what each step on it tells. Its types are for the proofs alone.
-ghost use Rattle.std.specs.Prelude.{◌≡◌};
+ghost use Rattle.std.specs.Prelude.{◌≡◌, ℕ, []};
 ghost use Rattle.tp_ready.specs.MarkView.{raiser, reader, Marks, Loaded, Audited, Raised, informed};
 
 use crate::mark_view::View;
 use atomic_table::{Join, Play, Seat, Split, Table, TableRule};
 use std::alloc::Global;
+use std::marker::{Brand, PhantomData};
 
 /// One word, whose first number is the key.
 pub type Word = Table<(), View, u64, Rising, Global>;
@@ -16,7 +17,7 @@ pub struct Rising;
 impl TableRule<(), View, u64> for Rising {
     ghost holds = { λ first s. Marks s.words s.views };
 
-    ghost first = { λ first. raiser first 0 };
+    ghost first = { raiser };
 }
 
 /// A load by a pass.
@@ -33,10 +34,23 @@ impl Play<(), View> for Audits {
     ghost then = { λ step me found now. Audited me.0 found now.0 × (now.1 ≡ me.1) };
 }
 
-pub struct Raises;
+/// The number of a device's moment.
+pub trait Dated {
+    ghost moment: { ℕ };
+}
 
-impl Play<(), View> for Raises {
-    ghost then = { λ step me found now. Raised step.first me.0 found now.0 × (now.1 ≡ me.1) };
+/// It is picked at each call.
+impl Dated for Brand {
+    ghost moment = { 0 };
+}
+
+/// A rise at a moment of the device.
+pub struct Raises<A: Dated> {
+    at: PhantomData<A>,
+}
+
+impl<A: Dated> Play<(), View> for Raises<A> {
+    ghost then = { λ step me found now. Raised A.moment step.first me.0 found now.0 × (now.1 ≡ me.1) };
 }
 
 /// A reader that has seen as much.
@@ -45,14 +59,14 @@ pub struct Twin;
 impl Split<View> for Twin {
     ghost left = { λ v. v };
 
-    ghost right = { λ v. reader v.at 0 };
+    ghost right = { λ v. reader v.at v.rises };
 }
 
 /// A reader is told what another one saw.
 pub struct Tells;
 
 impl Join<View> for Tells {
-    ghost both = { λ v w. informed v w.at };
+    ghost both = { λ v w. informed v w.at w.rises };
 
-    ghost spent = { reader 0 0 };
+    ghost spent = { reader 0 [] };
 }

@@ -13,13 +13,13 @@ pub struct Raiser {
 
 impl Model for Raiser {
     ghost use Rattle.std.specs.Prelude.{◌≡◌, true, []};
-    ghost use Rattle.tp_ready.specs.Seen.{RaiserValue};
+    ghost use Rattle.tp_ready.specs.Seen.{RaiserValue, number_of};
 
     ghost Value = { RaiserValue };
 
-    ghost view = { λ r. record { mark = r.place.table_id; at = r.raised } };
+    ghost view = { λ r. record { mark = r.place.table_id; at = r.raised; rises = r.place.me.0.rises } };
 
-    ghost invariant = { λ r. (r.place.me.0.raises ≡ true) × (r.place.me.0.at ≡ r.raised) × (r.place.me.1 ≡ []) };
+    ghost invariant = { λ r. (r.place.me.0.raises ≡ true) × (r.place.me.0.at ≡ r.raised) × (r.place.me.1 ≡ []) × (r.raised ≡ number_of r.place.me.0.rises) };
 }
 
 impl Raiser {

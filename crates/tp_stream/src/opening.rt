@@ -5,6 +5,7 @@ ghost use Rattle.tp_model.specs.Journal.{room};
 ghost use Rattle.tp_book.specs.Book.{next_in_book};
 ghost use Rattle.tp_book.specs.Opened.{IsWellOpen, opened_book};
 ghost use Rattle.tp_flush.specs.Made.{IsMadeOf};
+ghost use Rattle.tp_ready.specs.Seen.{unrisen};
 ghost use Rattle.tp_stream.specs.declared.fault.StreamFault.TheVariants.{Memory};
 ghost use Rattle.tp_stream_files.specs.Inputs.{given_input};
 ghost use Rattle.tp_stream_files.specs.Notices.{Noticed};
@@ -35,7 +36,7 @@ fn parts_with(
     requires book { book ≡ opened_book state book.room }
     ensures book { IfOk result (λ made. made.0.book ≡ book) }
     ensures first { IfOk result (λ made. made.0.first ≡ next_in_book book) }
-    ensures raiser { IfOk result (λ made. made.1 ≡ record { mark = made.0.mark; at = state.next }) }
+    ensures raiser { IfOk result (λ made. made.1 ≡ record { mark = made.0.mark; at = state.next; rises = unrisen state.next }) }
 {
     let (mark, raiser, _) = Mark::start(alloc, state.next, 0)?;
     let nodes = nodes_of(alloc, state, spare as usize)?;

@@ -1,9 +1,11 @@
 //! One thread raises the mark, another watches it.
 ghost use Rattle.std.specs.Prelude.{◌≡◌, ◌≤◌, max, All, IfSome};
 
+use std::alloc::Global;
 use std::sync::Wait;
 use std::test::Fail;
 use std::thread::{Threads, join, yield_now};
+use tp_disk::MemDisk;
 use tp_ready::{Mark, Pass, Raiser};
 
 const FIRST: u64 = 7;
@@ -13,15 +15,16 @@ const NUMBER: u64 = 500;
 const LAST: u64 = 1000;
 
 // Raises the mark to each number below `last` and then to `last`.
-fn raise_all(mark: &Mark, mut raiser: Raiser, last: u64) -> Raiser
+fn raise_all(alloc: Global, mark: &Mark, mut raiser: Raiser, last: u64) -> Raiser
     requires { raiser.mark ≡ mark.now }
     ensures { (result.mark ≡ mark.now) × (last ≤ result.at) }
 {
+    let disk = MemDisk::of_bytes(Vec::new(alloc));
     for number in 0..last {
-        mark.raise(&mut raiser, number);
+        mark.raise(&mut raiser, number, &disk);
         yield_now();
     }
-    mark.raise(&mut raiser, last);
+    mark.raise(&mut raiser, last, &disk);
     raiser
 }
 
@@ -48,7 +51,13 @@ fn watch<R: Wait>(rt: &R, mark: &Mark, mut pass: Pass, number: u64, last: u64) -
 }
 
 // Whether the mark stays at its number, and whoever is told of it shows it.
-fn is_settled(mark: &Mark, raiser: &mut Raiser, first: &mut Pass, second: &mut Pass) -> bool
+fn is_settled(
+    alloc: Global,
+    mark: &Mark,
+    raiser: &mut Raiser,
+    first: &mut Pass,
+    second: &mut Pass,
+) -> bool
     requires { (raiser.old.mark ≡ mark.now) × (first.old.mark ≡ mark.now) × (second.old.mark ≡ mark.now) }
     ensures { first.old.at ≤ raiser.old.at }
 {
@@ -56,7 +65,7 @@ fn is_settled(mark: &Mark, raiser: &mut Raiser, first: &mut Pass, second: &mut P
     mark.settle(raiser, first);
     mark.inform(raiser, second);
     let told = mark.load(second);
-    mark.raise(raiser, number / 2);
+    mark.raise(raiser, number / 2, &MemDisk::of_bytes(Vec::new(alloc)));
     let mut third = mark.pass(raiser);
     let found = third.seen();
     let loaded = mark.load(&mut third);
@@ -66,6 +75,7 @@ fn is_settled(mark: &Mark, raiser: &mut Raiser, first: &mut Pass, second: &mut P
 // What a thread that raises and a thread that watches leave, and whether what was stored stayed so.
 fn race<R: Threads + Wait + Sync>(
     rt: &R,
+    alloc: Global,
     mark: &Mark,
     raiser: Raiser,
     pass: Pass,
@@ -79,7 +89,7 @@ fn race<R: Threads + Wait + Sync>(
         move || -> Raiser
             requires { raiser.mark ≡ mark.now }
             ensures { result.mark ≡ mark.entry.now }
-        { raise_all(mark, raiser, LAST) },
+        { raise_all(alloc, mark, raiser, LAST) },
         move || -> (Pass, bool)
             requires { pass.mark ≡ mark.now }
             ensures { (result.0.mark ≡ mark.entry.now) × (LAST ≤ result.0.at) }
@@ -101,6 +111,7 @@ fn next_pass(mark: &Mark, passes: &mut Vec<Pass>) -> Option<Pass>
 // Whether both passes see the first number, then one of them the last, as the race leaves it, and the mark stays there.
 fn stays<R: Threads + Wait + Sync>(
     rt: &R,
+    alloc: Global,
     mark: &Mark,
     raiser: Raiser,
     first: Pass,
@@ -111,15 +122,16 @@ fn stays<R: Threads + Wait + Sync>(
 {
     let mut second = second;
     let begun = (raiser.raised(), first.seen(), second.seen()) == (FIRST, FIRST, FIRST);
-    let (mut raiser, mut first, stays) = race(rt, mark, raiser, first);
+    let (mut raiser, mut first, stays) = race(rt, alloc, mark, raiser, first);
     let ended = (raiser.raised(), first.seen(), second.seen()) == (LAST, LAST, FIRST);
-    let settled = is_settled(mark, &mut raiser, &mut first, &mut second);
+    let settled = is_settled(alloc, mark, &mut raiser, &mut first, &mut second);
     begun && stays && ended && settled
 }
 
 // Whether there are two passes, with which it stays so.
 fn two_stay<R: Threads + Wait + Sync>(
     rt: &R,
+    alloc: Global,
     mark: &Mark,
     raiser: Raiser,
     passes: &mut Vec<Pass>,
@@ -133,13 +145,13 @@ fn two_stay<R: Threads + Wait + Sync>(
     let Some(first) = next_pass(mark, passes) else {
         return false;
     };
-    passes.is_empty() && stays(rt, mark, raiser, first, second)
+    passes.is_empty() && stays(rt, alloc, mark, raiser, first, second)
 }
 
 #[test]
 fn stored_stays_stored_while_another_thread_raises(rt: HostRuntime) -> Result<(), Fail> {
     let (mark, raiser, mut passes) = Mark::start(rt.alloc(), FIRST, 2)?;
-    let told = two_stay(&rt, &mark, raiser, &mut passes);
+    let told = two_stay(&rt, rt.alloc(), &mark, raiser, &mut passes);
     assert!(rt; told);
     Ok(())
 }

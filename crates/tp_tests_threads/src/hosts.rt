@@ -13,6 +13,7 @@ use std::marker::Brand;
 use std::process::Abort;
 use std::sync::Wait;
 use std::test::Fail;
+use tp_disk::MemDisk;
 use tp_model::{Entry, Received, Token};
 use tp_ready::{Pass, Raiser};
 use tp_shared::{Naming, NoGate, Parts, Receipt, Sights, Told};
@@ -142,6 +143,7 @@ fn play_stored<J: Naming, R: Wait + Abort>(
     rt: &R,
     session: &Session<'_, J>,
     net: &Net<J, NoGate>,
+    disk: &MemDisk,
     raiser: &mut Raiser,
     receipt: &Receipt<J>,
     pass: &mut Pass,
@@ -150,9 +152,9 @@ fn play_stored<J: Naming, R: Wait + Abort>(
     ensures { (pass.new.mark ≡ J.mark) × (raiser.new.mark ≡ J.mark) }
 {
     assert!(rt; !session.is_stored(receipt, pass));
-    net.shared().mark().raise(raiser, 5);
+    net.shared().mark().raise(raiser, 5, disk);
     assert!(rt; !session.is_stored(receipt, pass));
-    net.shared().mark().raise(raiser, 6);
+    net.shared().mark().raise(raiser, 6, disk);
     assert!(rt; session.is_stored(receipt, pass));
 }
 
@@ -169,13 +171,14 @@ fn play_outputs<J: Naming, R: Wait + Abort>(
     ensures { (pass.new.mark ≡ J.mark) × (raiser.new.mark ≡ J.mark) }
 {
     play_unshown(rt, alloc, session, pass);
-    net.shared().mark().raise(raiser, 2);
+    let disk = MemDisk::of_bytes(Vec::new(alloc));
+    net.shared().mark().raise(raiser, 2, &disk);
     assert!(rt; is_shown(rt, alloc, session, pass, 0, Ok(b"A")));
     let Ok(receipt) = session.confirm(rt, 1, pass, &mut Sights::new()) else {
         panic!(rt; "the letter is confirmed")
     };
     assert!(rt; receipt.number() == 6);
-    play_stored(rt, session, net, raiser, &receipt, pass);
+    play_stored(rt, session, net, &disk, raiser, &receipt, pass);
     assert!(rt; is_shown(rt, alloc, session, pass, 0, Err(ShownFault::TooOld)));
     assert!(rt; is_shown(rt, alloc, session, pass, 1, Ok(b"")));
     assert!(rt; matches!(session.confirm(rt, 1, pass, &mut Sights::new()), Ok(_)));

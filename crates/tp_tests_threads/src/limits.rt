@@ -11,6 +11,7 @@ use std::alloc::Global;
 use std::marker::Brand;
 use std::sync::Wait;
 use std::test::Fail;
+use tp_disk::MemDisk;
 use tp_ready::Mark;
 use tp_shared::{Naming, NoGate, Parts};
 use tp_work::{Net, Seat, Turn};
@@ -142,7 +143,7 @@ fn a_mark_gives_as_many_passes_as_are_asked_for(rt: HostRuntime) -> Result<(), F
     for count in [0, 1, 32, 33, 255] {
         let (mark, mut raiser, mut passes) = Mark::start(rt.alloc(), 7, count)?;
         assert!(rt; passes.len() == count as usize);
-        mark.raise(&mut raiser, 9);
+        mark.raise(&mut raiser, 9, &MemDisk::of_bytes(Vec::new(rt.alloc())));
         for pass in &mut passes {
             assert!(rt; pass.seen() == 7 && mark.load(pass) == 9);
         }

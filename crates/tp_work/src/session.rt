@@ -2,6 +2,7 @@
 
 ghost use Rattle.std.specs.Prelude.{◌≡◌, ◌<◌, ◌≤◌, ◌⊎◌, ◌∷◌, [], ◌↔◌, IsTrue, length, map, Some, None, IsSome, IfSome, IfOk, IfErr, MatchResult};
 ghost use Rattle.tp_model.specs.declared.entry.Entry.TheVariants.{HostIn, Confirm};
+ghost use Rattle.tp_ready.specs.Seen.{RisesOn, number_of};
 ghost use Rattle.tp_work.specs.Receipts.{IsFor};
 ghost use Rattle.tp_work.specs.Offers.{IsReason};
 ghost use Rattle.tp_work.specs.Sessions.{ConfirmedIn, OfferedIn, ShownIn};
@@ -56,9 +57,10 @@ impl<'a, J: Naming> Session<'a, J> {
     pub fn is_stored(&self, receipt: &Receipt<J>, pass: &mut Pass) -> bool
         requires { pass.old.mark ≡ J.mark }
         ensures stored { IsTrue result ↔ (receipt.now.number ≤ pass.new.at) }
-        ensures pass { pass.new ≡ record pass.old { at = pass.new.at } }
+        ensures pass { pass.new ≡ record pass.old { at = pass.new.at; rises = pass.new.rises } }
         ensures rises { pass.old.at ≤ pass.new.at }
         ensures told { pass.old.least ≤ pass.new.at }
+        ensures risen { RisesOn pass.old.rises pass.new.rises × (pass.new.at ≡ number_of pass.new.rises) }
     {
         receipt.number() <= self.shared.mark().load(pass)
     }
@@ -75,9 +77,10 @@ impl<'a, J: Naming> Session<'a, J> {
     ) -> Result<Vec<u8>, ShownFault>
         requires { pass.old.mark ≡ J.mark }
         ensures shown { ShownIn J.start self.now.port pass.new.at from result seen.old seen.new }
-        ensures pass { pass.new ≡ record pass.old { at = pass.new.at } }
+        ensures pass { pass.new ≡ record pass.old { at = pass.new.at; rises = pass.new.rises } }
         ensures rises { pass.old.at ≤ pass.new.at }
         ensures told { pass.old.least ≤ pass.new.at }
+        ensures risen { RisesOn pass.old.rises pass.new.rises × (pass.new.at ≡ number_of pass.new.rises) }
     {
         let mark = self.shared.mark().load(pass);
         let mut held = self.shared.book().lock(rt);
@@ -96,9 +99,10 @@ impl<'a, J: Naming> Session<'a, J> {
         requires { pass.old.mark ≡ J.mark }
         ensures confirmed { ConfirmedIn J.start self.now.port pass.new.at upto result seen.old seen.new }
         ensures receipt { IfOk result (λ receipt. IsFor [] receipt ⊎ IsFor (Confirm self.now.port upto ∷ []) receipt) }
-        ensures pass { pass.new ≡ record pass.old { at = pass.new.at } }
+        ensures pass { pass.new ≡ record pass.old { at = pass.new.at; rises = pass.new.rises } }
         ensures rises { pass.old.at ≤ pass.new.at }
         ensures told { pass.old.least ≤ pass.new.at }
+        ensures risen { RisesOn pass.old.rises pass.new.rises × (pass.new.at ≡ number_of pass.new.rises) }
     {
         let mark = self.shared.mark().load(pass);
         let mut held = self.shared.book().lock(rt);

@@ -1,6 +1,7 @@
 use Rattle.std.proofs.Common.{Some, sym, ap, ◌∙◌}
 use Rattle.tp_book.specs.Book.{BookValue, next_in_book}
 use Rattle.tp_book.specs.Opened.{opened_book}
+use Rattle.tp_ready.specs.Seen.{unrisen}
 use Rattle.tp_flush.proofs.Made.{kept_is, stands}
 use Rattle.tp_tests_threads.proofs.opening.parts_of.Goals as goal
 
@@ -13,7 +14,7 @@ returns-clause-parts c =
     let P = c.in_ok-parts.ensures in
     stands s o room c.in_ok-parts.parts c.in_ok-mark.raiser E.now E.base E.form E.next E.kept c.known.ensures.cut c.known.ensures.leads
     (c.opened_books_begin.ensures.runs s room o E.opened E.cut (kept_is s o E.kept) E.now) (P.book ∙ c.in_ok-book.ensures) (P.roll.0 ∙ ap next_in_book c.in_ok-book.ensures)
-    (c.in_ok-mark.ensures.raiser ∙ ap (λ m. record { mark = m; at = s.next }) (sym P.mark))
+    (c.in_ok-mark.ensures.raiser ∙ ap (λ m. record { mark = m; at = s.next; rises = unrisen s.next }) (sym P.mark))
 
 pub returns-clause-bound : goal.returns-clause-bound
 returns-clause-bound c = ap (λ (b : BookValue). b.room) (c.in_ok-parts.ensures.book ∙ c.in_ok-book.ensures) ∙ ap Some c.journal_room-room.ensures

@@ -75,14 +75,14 @@ invariant_of-self-2 g c =
     let a = c.clear_other-done in
     let s : State = g.D.Disk.state p.store.disk in
     let new : State = g.D.Disk.state a.new.self.disk in
-    let K = subst (λ broken. KeepsWorld g.D.Disk.keeps g.J.Naming.formatted g.J.Naming.before p.whole.known s p.store.place broken p.raiser.at) (unbroken g c) c.self.invariant.3 in (
+    let K = subst (λ broken. KeepsWorld g.D.Disk.keeps g.J.Naming.formatted g.J.Naming.before p.whole.known s p.store.place broken p.raiser) (unbroken g c) c.self.invariant.3 in (
       c.tell_where.ensures.name ∙ c.self.invariant.0,
       c.self.invariant.1,
       subst (λ (k : Known). IsFirst c.tell_where.new.key.value k.world) (sym c.of-parts.ensures)
           (first_where p.key.value c.tell_where.new.key.value a.new.self.broken _ c.tell_where.ensures.key (told_put p.key.value a.new.self.broken p.whole.known.world new.now c.self.invariant.2)),
-      subst (λ (k : Known). KeepsWorld g.D.Disk.keeps g.J.Naming.formatted g.J.Naming.before k new a.new.self.place a.new.self.broken p.raiser.at) (sym c.of-parts.ensures)
-          (subst (λ place. KeepsWorld g.D.Disk.keeps g.J.Naming.formatted g.J.Naming.before (put_known p.whole.known a.new.self.broken new) new place a.new.self.broken p.raiser.at) (sym a.ensures.place)
-          (put_keeps g.D.Disk.keeps g.J.Naming.formatted g.J.Naming.before p.whole.known s p.store.place p.raiser.at K new a.new.self.broken (walked g c))),
+      subst (λ (k : Known). KeepsWorld g.D.Disk.keeps g.J.Naming.formatted g.J.Naming.before k new a.new.self.place a.new.self.broken p.raiser) (sym c.of-parts.ensures)
+          (subst (λ place. KeepsWorld g.D.Disk.keeps g.J.Naming.formatted g.J.Naming.before (put_known p.whole.known a.new.self.broken new) new place a.new.self.broken p.raiser) (sym a.ensures.place)
+          (put_keeps g.D.Disk.keeps g.J.Naming.formatted g.J.Naming.before p.whole.known s p.store.place p.raiser K new a.new.self.broken (walked g c))),
       subst (λ (k : Known). KeepsCopy g.D.Disk.keeps k.world.net new a.new.self.place a.new.self.broken p.topology (record p.progress { cleared = true })) (sym c.of-parts.ensures)
           (subst (λ net. KeepsCopy g.D.Disk.keeps net new a.new.self.place a.new.self.broken p.topology (record p.progress { cleared = true })) (sym (put_net a.new.self.broken p.whole.known.world new.now))
           (put_copies g.D.Disk.keeps p.whole.known.world.net new p.store.place a.new.self.place p.topology (record p.progress { cleared = true }) a.result a.new.self.broken (g.D.Disk.failures_of p.store.disk) (g.D.Disk.failures_of a.new.self.disk) c.self.invariant.4.roomy (answered g c) a.ensures.place

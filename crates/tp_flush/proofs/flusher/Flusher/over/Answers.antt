@@ -1,5 +1,5 @@
 use Rattle.std.proofs.Common.{◌≡◌, true, refl, sym, subst, ap, ◌∙◌, ◌≤◌, arith}
-use Rattle.tp_ready.specs.Seen.{RaiserValue}
+use Rattle.tp_ready.specs.Seen.{RaiserValue, unrisen}
 use Rattle.tp_shared.specs.Told.{IsFirst}
 use Rattle.tp_model.specs.Journal.{is_roomy}
 use Rattle.tp_flush.specs.declared.progress.Progress.{Progress}
@@ -28,9 +28,9 @@ invariant_of-result g c =
       c.requires.name,
       ap (λ (r : RaiserValue). r.mark) raised,
       subst (λ (k : Known). IsFirst key k.world) (sym c.of-whole.ensures) (record { net = refl; base = refl; journal = refl }),
-      subst (λ (k : Known). KeepsWorld g.D.Disk.keeps g.J.Naming.formatted g.J.Naming.before k s place broken raiser.at) (sym c.of-whole.ensures)
+      subst (λ (k : Known). KeepsWorld g.D.Disk.keeps g.J.Naming.formatted g.J.Naming.before k s place broken raiser) (sym c.of-whole.ensures)
           (first_keeps g.J.Naming.before key.net key.base key.journal c.args.opened.value s.now.bytes place.next c.requires.told.net c.requires.told.base c.requires.told.journal c.requires.next
-          g.D.Disk.keeps g.J.Naming.formatted s place broken raiser.at refl refl c.requires.unbroken (ap (λ (r : RaiserValue). r.at) raised ∙ sym c.requires.next) c.requires.read c.requires.synced),
+          g.D.Disk.keeps g.J.Naming.formatted s place broken raiser refl refl c.requires.unbroken (ap (λ (r : RaiserValue). r.at) raised ∙ sym c.requires.next) (ap (λ (r : RaiserValue). r.rises) raised ∙ ap unrisen (sym c.requires.next)) c.requires.read c.requires.synced),
       record {
         roomy = (λ i. is_roomy (c.requires.topology i) (c.requires.areas i).length) ∙ c.requires.roomy;
         closed = λ k unbroken cleared. let no : not_begun.cleared ≡ true = subst (λ (p : Progress). p.cleared ≡ true) c.new.ensures cleared in cc;

@@ -21,14 +21,14 @@ raise-requires g c =
     record { mark = c.self.invariant.1; stored = W.next; disk = W.disk; reached = W.reached }
 
 kept : (g : given.Over) (c : goal.After-raised g)
-    → KeepsWorld g.D.Disk.keeps g.J.Naming.formatted g.J.Naming.before c.of-parts.result.known (g.D.Disk.state c.self.inside.parts.store.disk) c.self.inside.parts.store.place c.self.inside.parts.store.broken c.raise.new.self.at
+    → KeepsWorld g.D.Disk.keeps g.J.Naming.formatted g.J.Naming.before c.of-parts.result.known (g.D.Disk.state c.self.inside.parts.store.disk) c.self.inside.parts.store.place c.self.inside.parts.store.broken c.raise.new.self
 kept g c =
     let p = c.self.inside.parts in
     let s : State = g.D.Disk.state p.store.disk in
-    subst (λ (k : Known). KeepsWorld g.D.Disk.keeps g.J.Naming.formatted g.J.Naming.before k s p.store.place p.store.broken c.raise.new.self.at) (sym c.of-parts.ensures)
+    subst (λ (k : Known). KeepsWorld g.D.Disk.keeps g.J.Naming.formatted g.J.Naming.before k s p.store.place p.store.broken c.raise.new.self) (sym c.of-parts.ensures)
     (subst (KeepsWorld g.D.Disk.keeps g.J.Naming.formatted g.J.Naming.before (record { world = record p.whole.known.world { mark = max p.whole.known.world.mark p.whole.known.world.stored }; opened = p.whole.known.opened }) s p.store.place p.store.broken)
-    (sym (ap (λ (r : RaiserValue). r.at) c.raise.ensures))
-    (raise_keeps g.D.Disk.keeps g.J.Naming.formatted g.J.Naming.before p.whole.known s p.store.place p.store.broken p.raiser.at c.self.invariant.3))
+    (sym c.raise.ensures)
+    (raise_keeps g.D.Disk.keeps g.J.Naming.formatted g.J.Naming.before p.whole.known s p.store.place p.store.broken p.raiser c.self.invariant.3))
 
 pub invariant_of-self : goal.invariant_of-self
 invariant_of-self g c =

@@ -24,8 +24,8 @@ invariant_of-self g c =
       c.frozen_pages-found.ensures.name ∙ c.self.invariant.0,
       c.self.invariant.1,
       subst (λ (k : Known). IsFirst now k.world) (sym c.of-parts.ensures) (record { net = refl; base = refl; journal = refl }),
-      subst (λ (k : Known). KeepsWorld g.D.Disk.keeps g.J.Naming.formatted g.J.Naming.before k s p.store.place p.store.broken p.raiser.at) (sym c.of-parts.ensures)
-          (learn_keeps g.D.Disk.keeps g.J.Naming.formatted g.J.Naming.before p.whole.known s p.store.place p.store.broken p.raiser.at c.self.invariant.3 p.key.value now c.self.invariant.2 c.frozen_pages-found.ensures.since),
+      subst (λ (k : Known). KeepsWorld g.D.Disk.keeps g.J.Naming.formatted g.J.Naming.before k s p.store.place p.store.broken p.raiser) (sym c.of-parts.ensures)
+          (learn_keeps g.D.Disk.keeps g.J.Naming.formatted g.J.Naming.before p.whole.known s p.store.place p.store.broken p.raiser c.self.invariant.3 p.key.value now c.self.invariant.2 c.frozen_pages-found.ensures.since),
       subst (λ (k : Known). KeepsCopy g.D.Disk.keeps k.world.net s p.store.place p.store.broken p.topology p.progress) (sym c.of-parts.ensures)
           (look_copies g.D.Disk.keeps p.whole.known.world p.key.value now s p.store.place p.store.broken p.topology p.progress c.self.invariant.2 c.frozen_pages-found.ensures.since c.self.invariant.4),
       subst (λ (k : Known). IsOfDevice g.D.Disk.keeps g.J.Naming.room k.world s p.store.place p.store.broken p.topology) (sym c.of-parts.ensures)

@@ -1,0 +1,22 @@
+-- What the device had as the mark was raised, and has since.
+use Rattle.std.specs.Prelude.{◌≤◌, ℕ, List, drop}
+use Rattle.std.specs.List.{AllByRecursion}
+use Rattle.tp_model.specs.declared.entry.Entry.{Entry}
+use Rattle.tp_model.specs.NodeState.{NodeState}
+use Rattle.tp_model.specs.Node.{t414}
+use Rattle.tp_model.specs.Network.{Network}
+use Rattle.tp_model.specs.DiskHistory.{State, MayHaveLeft, moment}
+use Rattle.tp_model.specs.DeviceAreas.{device_areas}
+use Rattle.tp_model.specs.Runs.{World}
+use Rattle.tp_model.specs.Walks.{RecoversTo}
+use Rattle.tp_ready.specs.declared.mark_view.Rise.{Rise}
+
+-- The device had come to the moment at which the mark was raised, and whatever a crash left at that moment or later opens to what leads where a
+-- prefix of the journal leads, which has each entry below the number that the mark was raised to.
+pub record WasStored (start : Network NodeState) (journal : List Entry) (state : State) (rise : Rise) : Type 0 where
+  pub past : rise.moment ≤ moment state
+  pub since : (left : List ℕ) → MayHaveLeft state rise.moment left → RecoversTo t414 device_areas start journal rise.to left
+
+-- Each number that the mark was raised to is at most the world's mark, and was stored then. The first is the one that the mark began with.
+abbrev pub HaveRisen : Network NodeState → World NodeState → State → List Rise → Type 0
+HaveRisen start w state rises = AllByRecursion (λ rise. (rise.to ≤ w.mark) × WasStored start w.journal state rise) (drop 1 rises)
