@@ -3,6 +3,7 @@
 use crate::checkpointed::Known;
 use crate::devices::{LETTER, Letter, MORE, append, disk_of, fresh, held_in, is_same, store_of};
 use crate::filled_areas::each_filled;
+use crate::gates::Meeting;
 use crate::opened_books::grown;
 use crate::stories::{after_a_group, beyond_the_groups, over_old_groups};
 use std::alloc::{AllocError, Global};
@@ -14,7 +15,6 @@ use tp_model::OpenFault;
 use tp_model::OpenFault::Damaged;
 use tp_recover::{Opened, Unopened, open, open_parallel};
 use tp_tests_fixtures::{AREA, place};
-use tp_tests_store::Meeting;
 
 /// How many workers open each device: one; two; more than there are nodes; and as many as there may be.
 const WORKERS: [u8; 4] = [1, 2, 16, 64];
