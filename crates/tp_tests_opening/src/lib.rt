@@ -8,6 +8,8 @@ mod apart;
 #[cfg(test)]
 mod append_faults;
 #[cfg(test)]
+mod appendable;
+#[cfg(test)]
 mod calls;
 #[cfg(test)]
 mod checkpointed;
