@@ -1,2 +1,5 @@
 pub mod CanCount
+pub mod Lone
+pub mod Member
+pub mod Pair
 pub mod TailOf

@@ -1,8 +1,9 @@
 //! Devices that are opened each node by itself, by several workers, and in one thread: both calls agree.
 
 use crate::checkpointed::Known;
-use crate::devices::{LETTER, Letter, MORE, append, disk_of, fresh, held_in, is_same, store_of};
+use crate::devices::{Held, LETTER, Letter, MORE, disk_of, fresh, grown_by, held_in, is_same};
 use crate::filled_areas::each_filled;
+use crate::gates::Meeting;
 use crate::opened_books::grown;
 use crate::stories::{after_a_group, beyond_the_groups, over_old_groups};
 use std::alloc::{AllocError, Global};
@@ -14,7 +15,6 @@ use tp_model::OpenFault;
 use tp_model::OpenFault::Damaged;
 use tp_recover::{Opened, Unopened, open, open_parallel};
 use tp_tests_fixtures::{AREA, place};
-use tp_tests_store::Meeting;
 
 /// How many workers open each device: one; two; more than there are nodes; and as many as there may be.
 const WORKERS: [u8; 4] = [1, 2, 16, 64];
@@ -176,15 +176,26 @@ fn pair(alloc: Global) -> Result<Vec<u8>, Fail> {
     Ok(bytes)
 }
 
-/// Whether two devices, each opened by one of both calls, hold equal things.
-fn hold_same(alloc: Global, one: Opened, other: Opened) -> Result<bool, Fail> {
-    let same = one.second() == other.second()
+/// Whether the open areas of two devices are alike.
+fn are_alike(one: &Opened, other: &Opened) -> bool {
+    one.second() == other.second()
         && (one.generation(), one.base(), one.end())
             == (other.generation(), other.base(), other.end())
-        && one.kept() == other.kept();
+        && one.kept() == other.kept()
+}
+
+/// Whether an opened device holds what is wanted.
+fn is_held(alloc: Global, opened: Opened, wanted: &Held) -> Result<bool, Fail> {
+    let held = held_in(alloc, opened)?;
+    Ok(is_same(&held, wanted))
+}
+
+/// Whether two devices, each opened by one of both calls, hold equal things.
+fn hold_same(alloc: Global, one: Opened, other: Opened) -> Result<bool, Fail> {
+    let same = are_alike(&one, &other);
     let one = held_in(alloc, one)?;
-    let other = held_in(alloc, other)?;
-    Ok(same && is_same(&one, &other))
+    let told = is_held(alloc, other, &one)?;
+    Ok(same && told)
 }
 
 /// Whether both calls agree.
@@ -335,33 +346,32 @@ fn are_said_by_both<R: Threads + Sync>(
 
 /// The device of one node with two groups.
 fn appended(alloc: Global) -> Result<Vec<u8>, Fail> {
-    let mut store = store_of(alloc, &fresh(alloc, AREA)?)?;
     let (letter, more) = (LETTER, MORE);
-    let first = append(&mut store, &letter).is_ok();
-    let both = first && append(&mut store, &more).is_ok();
-    let bytes = store.into_disk().crash();
-    if !both {
-        return Err(Fail::new("not appended"));
-    }
-    Ok(bytes)
+    let first = fresh(alloc, AREA)?;
+    let both = grown_by(alloc, &first, &[&letter, &more]);
+    both
+}
+
+/// Adds a device, where there is one.
+fn add(devices: &mut Vec<Vec<u8>>, device: Result<Vec<u8>, Fail>) -> Result<(), Fail> {
+    devices.push(device?)?;
+    Ok(())
 }
 
 /// Adds a device in front of its checkpoint, and behind it.
-fn add_ends(devices: &mut Vec<Vec<u8>>, known: Known) -> Result<(), AllocError> {
-    let (start, end) = known.into_ends();
+fn add_ends(devices: &mut Vec<Vec<u8>>, known: Result<Known, Fail>) -> Result<(), Fail> {
+    let (start, end) = known?.into_ends();
     devices.push(start)?;
-    devices.push(end)?;
-    Ok(())
+    add(devices, Ok(end))
 }
 
 /// Adds the devices of the other tables here: with groups, filled, and with checkpoints.
 fn add_others(alloc: Global, devices: &mut Vec<Vec<u8>>) -> Result<(), Fail> {
-    devices.push(fresh(alloc, AREA)?)?;
-    devices.push(appended(alloc)?)?;
-    add_ends(devices, after_a_group(alloc)?)?;
-    add_ends(devices, beyond_the_groups(alloc)?)?;
-    add_ends(devices, over_old_groups(alloc)?)?;
-    Ok(())
+    add(devices, fresh(alloc, AREA))?;
+    add(devices, appended(alloc))?;
+    add_ends(devices, after_a_group(alloc))?;
+    add_ends(devices, beyond_the_groups(alloc))?;
+    add_ends(devices, over_old_groups(alloc))
 }
 
 /// Whether both calls agree on each of these devices.

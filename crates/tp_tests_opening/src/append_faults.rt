@@ -1,8 +1,8 @@
 //! Groups appended to a device whose calls fail, or on which the run stops: what the device then opens as.
 
 use crate::devices::{
-    CALLS_OF_OPEN, Held, LETTER, MORE, append, disk_of, fresh, holds, outputs, replayed, store_of,
-    what_is_held,
+    CALLS_OF_OPEN, Held, LETTER, MORE, append, faulty_store, fresh, holds, outputs, replayed,
+    store_of, what_is_held,
 };
 use crate::faults::{Case, ENDINGS, Ending, Torn};
 use std::alloc::{AllocError, Global};
@@ -62,29 +62,41 @@ impl Known {
     }
 
     fn learn_of(&mut self, alloc: Global, first: &[u8]) -> Result<(), Fail> {
+        self.replay_both(alloc, first)?;
+        self.grow_both(alloc, first)
+    }
+
+    /// Replays no group, the first, and both.
+    fn replay_both(&mut self, alloc: Global, first: &[u8]) -> Result<(), Fail> {
         let (letter, more) = (LETTER, MORE);
         let groups = [letter.as_slice(), more.as_slice()];
         for count in 0..3 {
             let entries = groups.get(..count).unwrap_or(&[]);
             self.held.push(replayed(alloc, first, entries)?)?;
         }
-        let mut store = store_of(alloc, first)?;
-        let grown = self.grow(alloc, &mut store);
-        let last = store.into_disk().crash();
-        grown?;
-        self.bytes.push(last)?;
         Ok(())
     }
 
-    /// Appends both groups, and copies the device in front of each.
+    /// Appends both groups to a device, and copies it in front of each and behind the last.
+    fn grow_both(&mut self, alloc: Global, first: &[u8]) -> Result<(), Fail> {
+        let mut store = store_of(alloc, first)?;
+        let grown = self.grow(alloc, &mut store);
+        grown
+    }
+
     fn grow(&mut self, alloc: Global, store: &mut Store<MemDisk>) -> Result<(), Fail> {
         let (letter, more) = (LETTER, MORE);
-        self.bytes
-            .push(Vec::from_slice(alloc, store.disk.bytes())?)?;
+        self.copy(alloc, store)?;
         append(store, &letter)?;
-        self.bytes
-            .push(Vec::from_slice(alloc, store.disk.bytes())?)?;
+        self.copy(alloc, store)?;
         append(store, &more)?;
+        Ok(self.copy(alloc, store)?)
+    }
+
+    /// Copies the bytes of a device: a crash leaves just these.
+    fn copy(&mut self, alloc: Global, store: &Store<MemDisk>) -> Result<(), AllocError> {
+        let bytes = Vec::from_slice(alloc, store.disk.bytes())?;
+        self.bytes.push(bytes)?;
         Ok(())
     }
 
@@ -118,10 +130,9 @@ impl Known {
     /// A store on the device without a group, with the fault of a case behind the calls of opening.
     fn store(&self, alloc: Global, case: Case) -> Result<Store<MemDisk>, Fail> {
         let first = self.bytes.first().ok_or("no bytes")?;
-        let fault = case.fault(self.torn(alloc, case)?);
+        let torn = self.torn(alloc, case)?;
         let call = CALLS_OF_OPEN.saturating_add(case.call as u64);
-        let (_, store) = open_store(alloc, disk_of(alloc, first)?.with_fault(call, fault))?;
-        Ok(store)
+        faulty_store(alloc, first, call, case.ending.fault(torn))
     }
 }
 

@@ -43,16 +43,18 @@ pub(crate) struct Case {
     pub(crate) torn: Torn,
 }
 
-impl Case {
+impl Ending {
     /// The fault of the call, where `torn` is what a write leaves.
     pub(crate) fn fault(self, torn: Vec<u8>) -> PlannedFault {
-        match self.ending {
+        match self {
             Ending::Before => PlannedFault::StopsBefore,
             Ending::Within => PlannedFault::StopsWithin { torn },
             Ending::Fails => PlannedFault::Fails { torn },
         }
     }
+}
 
+impl Case {
     /// Whether the gate is open then that call `gate` writes, once it was reached.
     pub(crate) fn opens(self, gate: usize) -> bool {
         let from = match self.ending {

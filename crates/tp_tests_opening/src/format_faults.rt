@@ -3,6 +3,7 @@
 use crate::devices::{
     CALLS_OF_FORMAT, Held, LETTER, Letter, append, disk_of, fresh, holds, what_is_held,
 };
+use crate::faults::Ending;
 use crate::wide::{LEAST, SEVENTEEN, seventeen};
 use std::alloc::{AllocError, Global};
 use std::process::Abort;
@@ -60,6 +61,9 @@ const WIDE: Made = Made {
     whole: 287,
 };
 
+/// Each way in which a call ends.
+const EACH: [Ending; 3] = [Ending::Before, Ending::Within, Ending::Fails];
+
 /// The number of the next entry on a device that opens, or why it doesn't.
 fn opens_as(alloc: Global, bytes: &[u8]) -> Result<Result<u64, Unopened>, AllocError> {
     let mut disk = disk_of(alloc, bytes)?;
@@ -112,14 +116,27 @@ fn is_none(
     told
 }
 
+/// Whether the device isn't formatted where a call ends so, and what is torn, `len` bytes, is `byte`.
+fn is_none_where(
+    alloc: Global,
+    made: &Made,
+    call: u64,
+    ending: Ending,
+    len: usize,
+    byte: u8,
+) -> Result<bool, Fail> {
+    let torn = Vec::from_elem(alloc, byte, len)?;
+    is_none(alloc, made, call, ending.fault(torn), byte)
+}
+
 /// Whether the device isn't formatted however a call ends, where what is torn is `byte`.
 fn is_none_however(alloc: Global, made: &Made, call: u64, byte: u8) -> Result<bool, Fail> {
-    let torn = Vec::from_elem(alloc, byte, 4268)?;
-    let within = is_none(alloc, made, call, PlannedFault::StopsWithin { torn }, byte)?;
-    let torn = Vec::from_elem(alloc, byte, 4268)?;
-    let fails = is_none(alloc, made, call, PlannedFault::Fails { torn }, byte)?;
-    let before = is_none(alloc, made, call, PlannedFault::StopsBefore, byte)?;
-    Ok(within && fails && before)
+    for ending in EACH {
+        if !is_none_where(alloc, made, call, ending, 4268, byte)? {
+            return Ok(false);
+        }
+    }
+    Ok(true)
 }
 
 /// Whether the device isn't formatted however a call ends, whichever byte is torn there.
@@ -182,9 +199,8 @@ fn says_otherwise(alloc: Global, made: &Made, whole: &[u8]) -> Result<Option<usi
 /// Whether the device isn't formatted where its head's write fails and leaves one byte.
 fn is_none_torn(alloc: Global, made: &Made) -> Result<bool, Fail> {
     for byte in [0x00, 0xA5, 0xFF] {
-        let torn = Vec::from_elem(alloc, byte, made.head)?;
         let head = made.calls.saturating_sub(2);
-        if !is_none(alloc, made, head, PlannedFault::Fails { torn }, byte)? {
+        if !is_none_where(alloc, made, head, Ending::Fails, made.head, byte)? {
             return Ok(false);
         }
     }
@@ -220,8 +236,9 @@ fn are_none(alloc: Global, bytes: &mut [u8]) -> Result<bool, Fail> {
 
 /// Whether a format that a fault stops behind its head's write isn't done, and leaves the whole device, or none where the head is
 /// torn to one byte.
-fn is_torn(alloc: Global, whole: &[u8], fault: PlannedFault) -> Result<bool, Fail> {
+fn is_torn(alloc: Global, whole: &[u8], ending: Ending) -> Result<bool, Fail> {
     let last = CALLS_OF_FORMAT.saturating_sub(1);
+    let fault = ending.fault(Vec::new(alloc));
     let (done, mut bytes) = formatted(alloc, &ONE, last, fault)?;
     let told = if done || bytes.as_slice() != whole {
         Ok(false)
@@ -233,12 +250,12 @@ fn is_torn(alloc: Global, whole: &[u8], fault: PlannedFault) -> Result<bool, Fai
 
 /// Whether that is so where the last sync isn't reached, where it fails, and where the run stops within it.
 fn are_torn(alloc: Global, whole: &[u8]) -> Result<bool, Fail> {
-    let before = is_torn(alloc, whole, PlannedFault::StopsBefore)?;
-    let torn = Vec::new(alloc);
-    let fails = is_torn(alloc, whole, PlannedFault::Fails { torn })?;
-    let torn = Vec::new(alloc);
-    let within = is_torn(alloc, whole, PlannedFault::StopsWithin { torn })?;
-    Ok(before && fails && within)
+    for ending in EACH {
+        if !is_torn(alloc, whole, ending)? {
+            return Ok(false);
+        }
+    }
+    Ok(true)
 }
 
 /// Where the last sync fails or isn't reached the format isn't done, and the head may be torn.
@@ -289,12 +306,19 @@ fn is_like(alloc: Global, before: Vec<u8>, fresh: &Held, grown: &Held) -> Result
     told
 }
 
+/// Whether a format over one byte everywhere holds that.
+fn is_like_over(alloc: Global, byte: u8, fresh: &Held, grown: &Held) -> Result<bool, Fail> {
+    let before = Vec::from_elem(alloc, byte, SIZE)?;
+    is_like(alloc, before, fresh, grown)
+}
+
 /// Whether formats over `used`, which has a group, over opened gates and over ones hold that.
 fn are_like(alloc: Global, used: Vec<u8>, fresh: &Held, grown: &Held) -> Result<bool, Fail> {
-    let is_used = is_like(alloc, used, fresh, grown)?;
-    let gates = is_like(alloc, Vec::from_elem(alloc, 0xA5, SIZE)?, fresh, grown)?;
-    let ones = is_like(alloc, Vec::from_elem(alloc, 0xFF, SIZE)?, fresh, grown)?;
-    Ok(is_used && gates && ones)
+    Ok(
+        is_like(alloc, used, fresh, grown)?
+            && is_like_over(alloc, 0xA5, fresh, grown)?
+            && is_like_over(alloc, 0xFF, fresh, grown)?,
+    )
 }
 
 /// Whether formats over other bytes, a device of `whole` with a group among them, hold `fresh`, and with a group what that device holds.

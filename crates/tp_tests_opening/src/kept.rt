@@ -3,7 +3,7 @@
 
 use crate::apart::is_said;
 use crate::checkpoints::Look;
-use crate::devices::{LETTER, append, holds, leads_from, replayed, store_of};
+use crate::devices::{LETTER, grown_by, holds, leads_from, replayed};
 use crate::switch_faults::look_at;
 use std::alloc::{AllocError, Global};
 use std::test::Fail;
@@ -60,21 +60,25 @@ fn opens<R: Threads + Sync>(rt: &R, alloc: Global, kept: &Kept) -> Result<bool, 
     )
 }
 
+/// Whether a device with `bytes` is a kept one that took `more` in the area that it has.
+fn has_gone_on(alloc: Global, kept: &Kept, bytes: &[u8], more: &[Entry]) -> Result<bool, Fail> {
+    let look = look_at(alloc, bytes)?;
+    Ok(
+        (look.0, look.1, look.5) == (kept.second, kept.generation, Plain)
+            && is_replayed(alloc, bytes, kept.next, more)?,
+    )
+}
+
 /// Whether a kept device takes a further group in that area, and then opens to a plain replay.
 fn goes_on(alloc: Global, kept: &Kept) -> Result<bool, Fail> {
     let more = [Entry::HostIn {
         port: 0,
         byte: 0x78,
     }];
-    let mut store = store_of(alloc, &kept.bytes(alloc)?)?;
-    let is_done = append(&mut store, &more).is_ok();
-    let bytes = store.into_disk().crash();
-    let look = look_at(alloc, &bytes)?;
-    Ok(
-        is_done
-            && (look.0, look.1, look.5) == (kept.second, kept.generation, Plain)
-            && is_replayed(alloc, &bytes, kept.next, &more)?,
-    )
+    let before = kept.bytes(alloc)?;
+    let bytes = grown_by(alloc, &before, &[&more])?;
+    let told = has_gone_on(alloc, kept, &bytes, &more);
+    told
 }
 
 #[test]

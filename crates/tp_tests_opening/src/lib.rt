@@ -1,5 +1,6 @@
-//! Tests of devices in memory that are formatted, written and opened: worked examples and values computed by hand. They say
-//! what no proof can: that the definitions mean what was meant.
+//! Tests of what is stored: topology texts, entries and groups as bytes, a book's calls for the host, parts of a network; and devices in
+//! memory that are formatted, written and opened. They are worked examples and values computed by hand, and say what no proof can: that the
+//! definitions mean what was meant.
 #![tactic(auto)]
 
 #[cfg(test)]
@@ -7,33 +8,76 @@ mod apart;
 #[cfg(test)]
 mod append_faults;
 #[cfg(test)]
+mod appendable;
+#[cfg(test)]
+mod calls;
+#[cfg(test)]
 mod checkpointed;
 #[cfg(test)]
 mod checkpoints;
 #[cfg(test)]
 mod copies;
 #[cfg(test)]
+mod crowd;
+#[cfg(test)]
 mod devices;
+#[cfg(test)]
+mod entries;
 #[cfg(test)]
 mod faults;
 #[cfg(test)]
 mod filled_areas;
 #[cfg(test)]
+mod fixture;
+#[cfg(test)]
 mod format_faults;
 #[cfg(test)]
 mod forms;
 #[cfg(test)]
+mod gates;
+#[cfg(test)]
+mod groups;
+mod halted;
+#[cfg(test)]
 mod heads;
 #[cfg(test)]
+mod host;
+#[cfg(test)]
+mod host_calls;
+#[cfg(test)]
 mod kept;
+#[cfg(test)]
+mod member;
+#[cfg(test)]
+mod node;
 #[cfg(test)]
 mod opened_books;
 pub mod possible;
 #[cfg(test)]
 mod reserve;
 #[cfg(test)]
+mod side;
+#[cfg(test)]
+mod stops;
+#[cfg(test)]
 mod stories;
 #[cfg(test)]
 mod switch_faults;
 #[cfg(test)]
+mod threads;
+#[cfg(test)]
+mod topologies;
+#[cfg(test)]
+mod topology_faults;
+#[cfg(test)]
+mod turns;
+#[cfg(test)]
+mod waiting;
+#[cfg(test)]
+mod watched;
+#[cfg(test)]
+mod whole;
+#[cfg(test)]
 mod wide;
+
+pub use halted::{HaltedNode, Host, Member, Side};

@@ -2,8 +2,9 @@
 
 ghost use Rattle.std.specs.Prelude.{IfOk};
 ghost use Rattle.tp_book.specs.Opened.{IsWellOpen};
-ghost use Rattle.tp_tests_store.specs.Lone.{IsUsable};
+ghost use Rattle.tp_tests_opening.specs.Lone.{IsUsable};
 
+use crate::calls::{hand_in, is_shown};
 use crate::devices::fresh;
 use std::alloc::Global;
 use std::test::Fail;
@@ -12,7 +13,6 @@ use tp_disk::MemDisk;
 use tp_model::Form;
 use tp_recover::open;
 use tp_tests_fixtures::{AREA, GROUPS, letter, place};
-use tp_tests_store::calls::{hand_in, is_shown};
 
 /// How many bytes groups may fill: those of an area less the 12,508 of its cut image and the 14 beside it.
 const ROOM: u64 = 3_862;

@@ -3,8 +3,9 @@
 
 ghost use Rattle.std.specs.Prelude.{◌≡◌, ◌<◌, length, true};
 ghost use Rattle.tp_book.specs.Marked.{taker_of};
-ghost use Rattle.tp_tests_store.specs.Lone.{IsUsable};
+ghost use Rattle.tp_tests_opening.specs.Lone.{IsUsable};
 
+use crate::calls::hand_in;
 use crate::devices::fresh;
 use crate::opened_books::book_of;
 use std::alloc::Global;
@@ -14,7 +15,6 @@ use tp_book::Refusal::{JournalFull, NothingToTake, SnapshotRunning};
 use tp_book::{Book, Refusal};
 use tp_model::WireEnd;
 use tp_tests_fixtures::{AREA, GROUPS, place};
-use tp_tests_store::calls::hand_in;
 
 /// A call on the book. A take that was made ready is given back.
 #[derive(Clone, Copy)]

@@ -3,7 +3,7 @@
 use crate::checkpointed::Known;
 use crate::checkpoints::Look;
 use crate::copies::switch;
-use crate::devices::{Held, disk_of, holds};
+use crate::devices::{Held, disk_of, faulty_store, holds};
 use crate::faults::{Case, ENDINGS, Torn};
 use crate::stories::{
     after_a_group, behind_a_stop, behind_kept, beyond_the_groups, over_old_groups, with_turns,
@@ -13,17 +13,16 @@ use std::process::Abort;
 use std::test::Fail;
 use tp_area::{Store, StoreFault};
 use tp_disk::{Disk, MemDisk};
-use tp_recover::{open, open_store};
+use tp_recover::open;
 use tp_tests_fixtures::{SECOND, place};
 
 impl Known {
     /// A store in front of the checkpoint, with the fault of a case behind the calls of opening.
     fn store(&self, alloc: Global, case: Case) -> Result<Store<MemDisk>, Fail> {
         let range = self.calls.range(case.call);
-        let fault = case.fault(self.torn(alloc, case.torn, range)?);
+        let torn = self.torn(alloc, case.torn, range)?;
         let call = self.calls.opening.saturating_add(case.call as u64);
-        let (_, store) = open_store(alloc, disk_of(alloc, &self.start)?.with_fault(call, fault))?;
-        Ok(store)
+        faulty_store(alloc, &self.start, call, case.ending.fault(torn))
     }
 
     /// What stands in a range. The gate was closed before it is opened.

@@ -1,6 +1,7 @@
 //! The device of seventeen nodes, which has a wide head: all its bytes, what changes of them say, and a turn in its journal.
 
 use crate::apart::{Content, is_said, play, with_pieces};
+use crate::calls::hand_in;
 use crate::devices::{Letter, leads_from};
 use crate::opened_books::book_with;
 use std::alloc::{AllocError, Global};
@@ -12,7 +13,6 @@ use tp_model::limits::WIDE_HEAD_BYTES;
 use tp_model::{Entry, OpenFault, Token};
 use tp_recover::open;
 use tp_tests_fixtures::{letter, place};
-use tp_tests_store::calls::hand_in;
 
 /// Seventeen nodes. The last is wired to the port and to the first.
 pub(crate) const SEVENTEEN: &[u8] =

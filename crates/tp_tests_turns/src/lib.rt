@@ -1,21 +1,36 @@
-//! Tests of turns on whole networks in memory, in one thread. They say what no proof can: that turns take and close as many
-//! as they may, and that snapshots come to their end.
+//! Tests of turns on whole networks in memory, in one thread: that turns take and close as many as they may, and that snapshots come to their
+//! end. And tests with two real threads: tokens, a journal under a lock, the mark and the ready queue; turns of two nodes over what they share.
+//! They say what no proof can.
 #![tactic(auto)]
 
 #[cfg(test)]
 mod acts;
 #[cfg(test)]
+mod checkpoint;
+#[cfg(test)]
+mod counts;
+#[cfg(test)]
 mod cuts_network;
 #[cfg(test)]
 mod cuts_replayed;
+#[cfg(test)]
+mod day;
 #[cfg(test)]
 mod devices;
 #[cfg(test)]
 mod each_order;
 #[cfg(test)]
+mod journal;
+#[cfg(test)]
 mod machines;
 #[cfg(test)]
+mod marks;
+#[cfg(test)]
+mod naming;
+#[cfg(test)]
 mod network;
+#[cfg(test)]
+mod numbers;
 #[cfg(test)]
 mod one_entry;
 #[cfg(test)]
@@ -42,8 +57,20 @@ mod rows;
 mod schedules;
 mod seat;
 #[cfg(test)]
+mod shared;
+#[cfg(test)]
+mod shared_pair;
+#[cfg(test)]
+mod token_tests;
+#[cfg(test)]
 mod two_nodes;
 #[cfg(test)]
+mod two_threads;
+#[cfg(test)]
 mod whole_turns;
+#[cfg(test)]
+mod workers;
+#[cfg(test)]
+mod written;
 
 pub use seat::{Away, Seat};

@@ -1,4 +1,4 @@
-use Rattle.tp_tests_store.specs.Lone.{IsUsable}
+use Rattle.tp_tests_opening.specs.Lone.{IsUsable}
 use Rattle.tp_tests_opening.proofs.opened_books.the_journal_of_a_device_fills.Given as goal
 
 -- the book can be used

@@ -1,3 +1,0 @@
-pub mod Lone
-pub mod Member
-pub mod Pair
