@@ -19,7 +19,10 @@ pub(crate) struct Holding {
 fn asks_of(word: &str) -> io::Result<u32> {
     match word {
         "" => Ok(0),
-        _ => word.parse::<u32>().map_err(|_| malformed()),
+        _ => match word.parse::<u32>() {
+            Ok(asks) => Ok(asks),
+            Err(_) => Err(malformed()),
+        },
     }
 }
 

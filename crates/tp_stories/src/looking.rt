@@ -68,6 +68,29 @@ fn says<R: Files + AllocGlobal>(rt: &R, verb: &str, file: &str, text: &str) -> i
     }
 }
 
+/// What is answered to a question of a file.
+fn is_so<R: Files + AllocGlobal>(rt: &R, verb: &str, file: &str, rest: &str) -> io::Result<bool> {
+    match verb {
+        "there" => Ok(fs::metadata(rt, file).is_ok()),
+        "equal" => are_equal(rt, file, rest),
+        "begins" => begins(rt, file, rest),
+        "empty" => Ok(fs::metadata(rt, file)?.len() == 0),
+        _ => says(rt, verb, file, rest),
+    }
+}
+
+/// Prints what is answered to a question of a file.
+fn answer<R: Files + AllocGlobal>(
+    rt: &R,
+    stage: &mut Stage,
+    verb: &str,
+    words: &str,
+) -> io::Result<()> {
+    let (file, rest) = parted(words);
+    let is_so = is_so(rt, verb, file, rest)?;
+    print_answer(&mut stage.transcript, is_so)
+}
+
 /// Prints what a line asks for.
 pub(crate) fn look<R: Files<File = F> + AllocGlobal, F: FileExt + Drop>(
     rt: &R,
@@ -79,13 +102,9 @@ pub(crate) fn look<R: Files<File = F> + AllocGlobal, F: FileExt + Drop>(
     match verb {
         "show" => show(rt, stage, file, rest),
         "length" => tell_length(rt, stage, file),
-        "there" => print_answer(&mut stage.transcript, fs::metadata(rt, file).is_ok()),
-        "equal" => print_answer(&mut stage.transcript, are_equal(rt, file, rest)?),
-        "begins" => print_answer(&mut stage.transcript, begins(rt, file, rest)?),
-        "has" | "starts" | "ends" => {
-            print_answer(&mut stage.transcript, says(rt, verb, file, rest)?)
+        "there" | "equal" | "begins" | "has" | "starts" | "ends" | "empty" => {
+            answer(rt, stage, verb, words)
         }
-        "empty" => print_answer(&mut stage.transcript, fs::metadata(rt, file)?.len() == 0),
         "stand" => stage.stand(rt.alloc(), words),
         "reader-makes" => stage.reader_makes(rt.alloc(), words),
         "keep" => keep(rt, stage, words),

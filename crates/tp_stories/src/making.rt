@@ -82,6 +82,21 @@ fn remove<R: Files>(rt: &R, file: &str) -> io::Result<()> {
     Ok(())
 }
 
+/// The bytes of a file, as a line says.
+fn made(alloc: Global, verb: &str, words: &str) -> io::Result<Vec<u8>> {
+    match verb {
+        "image" => image_of(alloc, words),
+        "text" => text_of(alloc, words),
+        "bytes" => bytes_of(alloc, words),
+        _ => filled(alloc, words),
+    }
+}
+
+/// Writes a file, as a line says.
+fn write<R: Files + AllocGlobal>(rt: &R, verb: &str, file: &str, words: &str) -> io::Result<()> {
+    fs::write(rt, file, made(rt.alloc(), verb, words)?)
+}
+
 /// Makes or changes a file, as a line says.
 pub(crate) fn make<R: Files<File = F> + AllocGlobal, F: FileExt + OpenFile + Drop>(
     rt: &R,
@@ -90,10 +105,7 @@ pub(crate) fn make<R: Files<File = F> + AllocGlobal, F: FileExt + OpenFile + Dro
 ) -> io::Result<()> {
     let (file, rest) = parted(words);
     match verb {
-        "image" => fs::write(rt, file, image_of(rt.alloc(), rest)?),
-        "text" => fs::write(rt, file, text_of(rt.alloc(), rest)?),
-        "bytes" => fs::write(rt, file, bytes_of(rt.alloc(), rest)?),
-        "fill" => fs::write(rt, file, filled(rt.alloc(), rest)?),
+        "image" | "text" | "bytes" | "fill" => write(rt, verb, file, rest),
         "set" => set(rt, file, rest),
         "cut" => cut(rt, file, rest),
         "part" => part(rt, file, rest),

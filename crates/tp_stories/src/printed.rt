@@ -14,16 +14,17 @@ fn print_byte(transcript: &mut Vec<u8>, byte: u8) -> io::Result<()> {
 
 /// Prints a line behind a mark. One that has no LF ends in `\`.
 fn print_line(transcript: &mut Vec<u8>, mark: u8, line: &[u8]) -> io::Result<()> {
-    transcript.push(mark)?;
-    transcript.push(b' ')?;
+    transcript.extend_from_slice(&[mark, b' '])?;
     let text = line.strip_suffix(b"\n").unwrap_or(line);
     for byte in text {
         print_byte(transcript, *byte)?;
     }
-    if text.len() == line.len() {
-        transcript.push(b'\\')?;
-    }
-    Ok(transcript.push(b'\n')?)
+    let end: &[u8] = if text.len() == line.len() {
+        b"\\\n"
+    } else {
+        b"\n"
+    };
+    Ok(transcript.extend_from_slice(end)?)
 }
 
 /// Prints each line of a text behind a mark.

@@ -15,20 +15,26 @@ pub(crate) fn parted(words: &str) -> (&str, &str) {
 
 /// The number that a word is.
 pub(crate) fn number_of(word: &str) -> io::Result<u64> {
-    word.parse::<u64>().map_err(|_| malformed())
+    match word.parse::<u64>() {
+        Ok(number) => Ok(number),
+        Err(_) => Err(malformed()),
+    }
 }
 
 /// How many bytes a word asks for.
 pub(crate) fn count_of(word: &str) -> io::Result<usize> {
-    word.parse::<usize>().map_err(|_| malformed())
+    match word.parse::<usize>() {
+        Ok(count) => Ok(count),
+        Err(_) => Err(malformed()),
+    }
 }
 
 /// The byte that two hexadecimal digits are.
 pub(crate) fn byte_of(word: &str) -> io::Result<u8> {
-    if word.len() != 2 {
-        return Err(malformed());
+    match u8::from_str_radix(word, 16) {
+        Ok(byte) if word.len() == 2 => Ok(byte),
+        _ => Err(malformed()),
     }
-    u8::from_str_radix(word, 16).map_err(|_| malformed())
 }
 
 /// The bytes that hexadecimal words are; none where there is no word.
@@ -40,19 +46,24 @@ pub(crate) fn bytes_of(alloc: Global, words: &str) -> io::Result<Vec<u8>> {
     Ok(bytes)
 }
 
-/// Adds what stands behind a `\`: `n` is an LF, and `xNN` a byte.
-fn add_escaped(bytes: &mut Vec<u8>, piece: &str) -> io::Result<()> {
+/// The byte behind a `\`, and what stands behind it: `n` is an LF, and `xNN` a byte. None where there is no such byte.
+fn escaped(piece: &str) -> Option<(u8, &str)> {
     if let Some(rest) = piece.strip_prefix('n') {
-        bytes.push(b'\n')?;
-        return Ok(bytes.extend_from_slice(rest.as_bytes())?);
+        return Some((b'\n', rest));
     }
-    let Some((digits, rest)) = piece
-        .strip_prefix('x')
-        .and_then(|rest| rest.split_at_checked(2))
-    else {
+    let (digits, rest) = piece.strip_prefix('x')?.split_at_checked(2)?;
+    match byte_of(digits) {
+        Ok(byte) => Some((byte, rest)),
+        Err(_) => None,
+    }
+}
+
+/// Adds what stands behind a `\`.
+fn add_escaped(bytes: &mut Vec<u8>, piece: &str) -> io::Result<()> {
+    let Some((byte, rest)) = escaped(piece) else {
         return Err(malformed());
     };
-    bytes.push(byte_of(digits)?)?;
+    bytes.push(byte)?;
     Ok(bytes.extend_from_slice(rest.as_bytes())?)
 }
 

@@ -1,6 +1,6 @@
 //! `tpnet stop` where a call fails.
 
-use crate::file_tests::network;
+use crate::file_tests::{is_device, network};
 use crate::holding_tests::Busy;
 use crate::program::answer;
 use std::fs;
@@ -37,14 +37,24 @@ const FAILS: &[(u64, u8, &str, &str)] = &[
     (2, 0, "asked\n", ""),
 ];
 
+/// Whether that is said where `files` fail so, and the request stands there where it is said to.
+fn is_said_over<
+    R: Files + AllocGlobal,
+    W: Files<File = E> + AllocGlobal + Threads + Wait + Sync,
+    E: FileExt + OpenFile + Drop + Send,
+>(rt: &R, files: &W, scratch: &Scratch, status: u8, out: &str, err: &str) -> Result<bool, Fail> {
+    let is_said = stopped(files, scratch)?.is(status, out, err);
+    Ok(is_said && (status == 0) == is_asked(rt, scratch)?)
+}
+
 #[test]
 fn each_call_of_a_stop_may_fail(rt: HostRuntime) -> Result<(), Fail> {
     let (scratch, device) = network(&rt, "stop_fails")?;
     for (number, status, out, err) in FAILS {
         let faults = Faults::everywhere(*number, true);
-        let said = stopped(&FaultyFiles::new(&rt, &faults), &scratch)?;
-        assert!(rt; said.is(*status, *out, *err) && (*status == 0) == is_asked(&rt, &scratch)?);
+        let files = FaultyFiles::new(&rt, &faults);
+        assert!(rt; is_said_over(&rt, &files, &scratch, *status, *out, *err)?);
     }
-    assert!(rt; scratch.read(&rt, "device")?.as_slice() == device.as_slice());
+    assert!(rt; is_device(&rt, &scratch, device.as_slice())?);
     scratch.remove(&rt)
 }

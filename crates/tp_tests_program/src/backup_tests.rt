@@ -1,7 +1,7 @@
 //! `tpnet backup` where calls fail, or another process makes a file of that name meanwhile.
 
-use crate::file_tests::network;
-use crate::program::tpnet;
+use crate::file_tests::{is_device, network};
+use crate::program::{is_said_of, tpnet};
 use std::fs;
 use std::fs::{Files, OpenFile};
 use std::os::unix::fs::FileExt;
@@ -28,11 +28,6 @@ fn cleared<R: Files + AllocGlobal>(rt: &R, scratch: &Scratch) -> Result<(), Fail
         let _missing = fs::remove_file(rt, scratch.path(rt.alloc(), name)?.as_str());
     }
     Ok(())
-}
-
-/// Whether the device is as it was.
-fn is_kept<R: Files + AllocGlobal>(rt: &R, scratch: &Scratch, device: &[u8]) -> Result<bool, Fail> {
-    Ok(scratch.read(rt, "device")?.as_slice() == device)
 }
 
 /// Whether a file that was there is as it was.
@@ -68,8 +63,21 @@ fn leaves_nothing<R: Files + AllocGlobal>(
 ) -> Result<bool, Fail> {
     let is_done = output.status == 0;
     let is_left = is_there(rt, scratch, "copy")?;
-    let is_clean = is_kept(rt, scratch, device)? && !is_there(rt, scratch, "copy.part")?;
+    let is_clean = is_device(rt, scratch, device)? && !is_there(rt, scratch, "copy.part")?;
     Ok(is_clean && is_left == is_done && (is_done || is_refused(output)))
+}
+
+/// Makes a backup over `files`: whether it is done, and whether it leaves nothing that it shouldn't.
+fn backed_up<
+    R: Files + AllocGlobal,
+    W: Files<File = E> + AllocGlobal + Threads + Wait + Sync,
+    E: FileExt + OpenFile + Drop + Send,
+>(rt: &R, files: &W, scratch: &Scratch, device: &[u8]) -> Result<(bool, bool), Fail> {
+    let output = tpnet(files, scratch, BACKUP)?;
+    Ok((
+        output.status == 0,
+        leaves_nothing(rt, scratch, device, &output)?,
+    ))
 }
 
 /// Each call fails alone: nothing is left of the copy, nor of its file.
@@ -79,9 +87,10 @@ fn each_call_may_fail(rt: HostRuntime) -> Result<(), Fail> {
     let mut calls = 0u64;
     for number in 0..MOST {
         let faults = Faults::everywhere(number, true);
-        let output = tpnet(&FaultyFiles::new(&rt, &faults), &scratch, BACKUP)?;
-        assert!(rt; leaves_nothing(&rt, &scratch, device.as_slice(), &output)?);
-        if output.status == 0 {
+        let files = FaultyFiles::new(&rt, &faults);
+        let (is_done, is_clean) = backed_up(&rt, &files, &scratch, device.as_slice())?;
+        assert!(rt; is_clean);
+        if is_done {
             calls = number;
             break;
         }
@@ -102,26 +111,78 @@ fn is_the_copy<
     }
 }
 
+/// Whether a backup is done, and whether it is, or is refused since a call failed. It is no backup of what was left before.
+fn done_or_refused<
+    R: Files + AllocGlobal,
+    W: Files<File = E> + AllocGlobal + Threads + Wait + Sync,
+    E: FileExt + OpenFile + Drop + Send,
+>(rt: &R, files: &W, scratch: &Scratch) -> Result<(bool, bool), Fail> {
+    cleared(rt, scratch)?;
+    let output = tpnet(files, scratch, BACKUP)?;
+    let is_done = output.status == 0;
+    Ok((is_done, is_done || is_refused(&output)))
+}
+
+/// Makes a backup over `files`: whether it is done, whether something has the copy's name, and whether that is the copy and the device is as it
+/// was.
+fn ended<
+    R: Files<File = F> + AllocGlobal + Threads + Wait + Sync,
+    F: FileExt + OpenFile + Drop + Send,
+    W: Files<File = E> + AllocGlobal + Threads + Wait + Sync,
+    E: FileExt + OpenFile + Drop + Send,
+>(rt: &R, files: &W, scratch: &Scratch, device: &[u8]) -> Result<(bool, bool, bool), Fail> {
+    let (is_done, is_said) = done_or_refused(rt, files, scratch)?;
+    let is_kept = is_device(rt, scratch, device)?;
+    let is_so = is_said && is_kept && is_the_copy(rt, scratch)?;
+    Ok((is_done, is_there(rt, scratch, "copy")?, is_so))
+}
+
 /// All calls fail from one on, as where the disk is gone: what has the copy's name is the copy.
 #[test]
 fn each_call_may_be_the_last(rt: HostRuntime) -> Result<(), Fail> {
     let (scratch, device) = network(&rt, "backup_stops")?;
     let (mut calls, mut named) = (0u64, 0u64);
     for number in 0..MOST {
-        cleared(&rt, &scratch)?;
         let faults = Faults::everywhere(number, false);
-        let output = tpnet(&FaultyFiles::new(&rt, &faults), &scratch, BACKUP)?;
-        assert!(rt; is_kept(&rt, &scratch, device.as_slice())? && is_the_copy(&rt, &scratch)?);
-        if output.status == 0 {
+        let files = FaultyFiles::new(&rt, &faults);
+        let (is_done, is_named, is_so) = ended(&rt, &files, &scratch, device.as_slice())?;
+        assert!(rt; is_so);
+        if is_done {
             calls = number;
             break;
         }
-        assert!(rt; is_refused(&output));
-        named = named.saturating_add(u64::from(is_there(&rt, &scratch, "copy")?));
+        named = named.saturating_add(u64::from(is_named));
     }
     // The copy has its name where its other one isn't removed, and where its folder isn't opened or synced.
     assert!(rt; calls > 30 && named == 3);
     scratch.remove(&rt)
+}
+
+/// Has a file stand there alone.
+fn put_precious<R: Files + AllocGlobal>(rt: &R, scratch: &Scratch, name: &str) -> Result<(), Fail> {
+    cleared(rt, scratch)?;
+    scratch.put(rt, name, b"precious")
+}
+
+/// Whether a file of that name stays beside a backup over `files`, which says `line`, or that a call failed.
+fn stays<
+    R: Files + AllocGlobal,
+    W: Files<File = E> + AllocGlobal + Threads + Wait + Sync,
+    E: FileExt + OpenFile + Drop + Send,
+>(rt: &R, files: &W, scratch: &Scratch, name: &str, line: &str) -> Result<bool, Fail> {
+    let is_said = {
+        let output = tpnet(files, scratch, BACKUP)?;
+        output.is(1, "", line) || is_refused(&output)
+    };
+    Ok(is_said && is_precious(rt, scratch, name)?)
+}
+
+/// Whether a backup says `line`, and leaves the device as it was.
+fn is_told<
+    R: Files<File = F> + AllocGlobal + Threads + Wait + Sync,
+    F: FileExt + OpenFile + Drop + Send,
+>(rt: &R, scratch: &Scratch, device: &[u8], line: &str) -> Result<bool, Fail> {
+    Ok(is_said_of(rt, scratch, BACKUP, line)? && is_device(rt, scratch, device)?)
 }
 
 /// What is there stays as it is, whichever call fails.
@@ -132,18 +193,25 @@ fn a_file_that_is_there_stays(rt: HostRuntime) -> Result<(), Fail> {
         ("copy", "tpnet: CopyExists\n"),
         ("copy.part", "tpnet: PartExists\n"),
     ] {
-        cleared(&rt, &scratch)?;
-        scratch.put(&rt, name, b"precious")?;
+        put_precious(&rt, &scratch, name)?;
         for number in 0..10u64 {
             let faults = Faults::everywhere(number, true);
-            let output = tpnet(&FaultyFiles::new(&rt, &faults), &scratch, BACKUP)?;
-            assert!(rt; output.is(1, "", line) || is_refused(&output));
-            assert!(rt; is_precious(&rt, &scratch, name)?);
+            let files = FaultyFiles::new(&rt, &faults);
+            assert!(rt; stays(&rt, &files, &scratch, name, line)?);
         }
-        assert!(rt; tpnet(&rt, &scratch, BACKUP)?.is(1, "", line));
-        assert!(rt; is_kept(&rt, &scratch, device.as_slice())?);
+        assert!(rt; is_told(&rt, &scratch, device.as_slice(), line)?);
     }
     scratch.remove(&rt)
+}
+
+/// Whether a backup over `files` says `line`, a file of that name stays, and no `other` one comes.
+fn stays_alone<
+    R: Files + AllocGlobal,
+    W: Files<File = E> + AllocGlobal + Threads + Wait + Sync,
+    E: FileExt + OpenFile + Drop + Send,
+>(rt: &R, files: &W, scratch: &Scratch, name: &str, line: &str, other: &str) -> Result<bool, Fail> {
+    let is_said = is_said_of(files, scratch, BACKUP, line)?;
+    Ok(is_said && is_precious(rt, scratch, name)? && !is_there(rt, scratch, other)?)
 }
 
 /// A file comes to stand there behind the look: the copy doesn't take its place.
@@ -154,13 +222,11 @@ fn a_file_that_comes_meanwhile_stays(rt: HostRuntime) -> Result<(), Fail> {
         ("copy", "tpnet: CopyExists\n", "copy.part"),
         ("copy.part", "tpnet: PartExists\n", "copy"),
     ] {
-        cleared(&rt, &scratch)?;
-        scratch.put(&rt, name, b"precious")?;
+        put_precious(&rt, &scratch, name)?;
         let faults = Faults::blind();
-        let output = tpnet(&FaultyFiles::new(&rt, &faults), &scratch, BACKUP)?;
-        assert!(rt; output.is(1, "", line));
-        assert!(rt; is_precious(&rt, &scratch, name)? && !is_there(&rt, &scratch, other)?);
-        assert!(rt; is_kept(&rt, &scratch, device.as_slice())?);
+        let files = FaultyFiles::new(&rt, &faults);
+        assert!(rt; stays_alone(&rt, &files, &scratch, name, line, other)?);
+        assert!(rt; is_device(&rt, &scratch, device.as_slice())?);
     }
     scratch.remove(&rt)
 }
@@ -172,9 +238,9 @@ fn how_files_are_opened(rt: HostRuntime) -> Result<(), Fail> {
     for most in [usize::MAX, 7] {
         cleared(&rt, &scratch)?;
         let faults = Faults::short(most);
-        let output = tpnet(&FaultyFiles::new(&rt, &faults), &scratch, BACKUP)?;
-        assert!(rt; output.is(0, "copied next 0\n", ""));
-        assert!(rt; !faults.writable.load(Ordering::SeqCst));
+        let files = FaultyFiles::new(&rt, &faults);
+        let is_said = tpnet(&files, &scratch, BACKUP)?.is(0, "copied next 0\n", "");
+        assert!(rt; is_said && !faults.writable.load(Ordering::SeqCst));
         assert!(rt; is_copied(&rt, &scratch)?);
     }
     scratch.remove(&rt)

@@ -18,7 +18,7 @@ struct Written {
 
 /// When the writes come to pass: `count` of them before the call with the number `first`, and `count` more before each call that comes
 /// `period` calls later.
-#[derive(Clone, Copy, Debug)]
+#[derive(Clone, Copy)]
 pub(crate) struct Pace {
     pub(crate) first: u64,
     pub(crate) period: u64,

@@ -40,24 +40,42 @@ fn compacts_again<
     Ok(opens && does_all)
 }
 
+/// Makes turns until the journal is full. Answers the bytes of the device then.
+fn filled<
+    R: Files<File = F> + AllocGlobal + Threads + Wait + Sync,
+    F: FileExt + OpenFile + Drop + Send,
+>(rt: &R, scratch: &Scratch) -> Result<Vec<u8>, Fail> {
+    if !tpnet(rt, scratch, ALONE)?.is(1, "A", "tpnet: JournalFull\n") {
+        return Err(Fail::new("the journal isn't full"));
+    }
+    scratch.read(rt, "device")
+}
+
+/// Compacts a device over `files`: whether that is done, and whether nothing is lost.
+fn compacted<
+    R: Files<File = F> + AllocGlobal + Threads + Wait + Sync,
+    F: FileExt + OpenFile + Drop + Send,
+    W: Files<File = E> + AllocGlobal + Threads + Wait + Sync,
+    E: FileExt + OpenFile + Drop + Send,
+>(rt: &R, files: &W, scratch: &Scratch, full: &[u8]) -> Result<(bool, bool), Fail> {
+    scratch.put(rt, "device", full)?;
+    let status = tpnet(files, scratch, COMPACT)?.status;
+    Ok((status == 0, compacts_again(rt, scratch)?))
+}
+
 /// Whichever call of the file fails while a device is compacted whose journal is full, nothing is lost and it can be compacted again.
 #[test]
 fn each_call_of_the_file_may_fail(rt: HostRuntime) -> Result<(), Fail> {
-    let scratch = device(
-        &rt,
-        "compact_fails",
-        letter(rt.alloc())?.as_slice(),
-        "13130",
-    )?;
-    assert!(rt; tpnet(&rt, &scratch, ALONE)?.is(1, "A", "tpnet: JournalFull\n"));
-    let full = scratch.read(&rt, "device")?;
+    let image = letter(rt.alloc())?;
+    let scratch = device(&rt, "compact_fails", image.as_slice(), "13130")?;
+    let full = filled(&rt, &scratch)?;
     let mut calls = 0u64;
     for number in 0..200u64 {
-        scratch.put(&rt, "device", full.as_slice())?;
         let faults = Faults::at(number, false);
-        let output = tpnet(&FaultyFiles::new(&rt, &faults), &scratch, COMPACT)?;
-        assert!(rt; compacts_again(&rt, &scratch)?);
-        if output.status == 0 {
+        let files = FaultyFiles::new(&rt, &faults);
+        let (is_done, goes_on) = compacted(&rt, &files, &scratch, full.as_slice())?;
+        assert!(rt; goes_on);
+        if is_done {
             break;
         }
         calls = number;

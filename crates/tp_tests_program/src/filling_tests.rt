@@ -1,5 +1,6 @@
 //! Making the file of a device: the bytes that it gets, and what is left where a call fails.
 
+use crate::format_tests::are_zeros;
 use std::alloc::Global;
 use std::fs;
 use std::fs::{Files, OpenFile};
@@ -36,39 +37,83 @@ fn marked(alloc: Global, count: usize) -> Result<Vec<u8>, Fail> {
 /// Whether the file has just so many bytes 00.
 fn is_filled<R: Files + AllocGlobal>(rt: &R, scratch: &Scratch, size: usize) -> Result<bool, Fail> {
     let bytes = scratch.read(rt, "device")?;
-    Ok(bytes.len() == size && bytes.iter().all(|byte| *byte == 0))
+    Ok(bytes.len() == size && are_zeros(bytes.as_slice()))
+}
+
+/// Puts a file there of that many bytes that aren't 00, or none where there are none.
+fn put_marked<R: Files + AllocGlobal>(
+    rt: &R,
+    scratch: &Scratch,
+    length: usize,
+) -> Result<(), Fail> {
+    if length > 0 {
+        return scratch.put(rt, "device", marked(rt.alloc(), length)?.as_slice());
+    }
+    let _missing = fs::remove_file(rt, scratch.path(rt.alloc(), "device")?.as_str());
+    Ok(())
+}
+
+/// Whether a device of `size` bytes is made over a file of `length` bytes, or as a new one where these are none, and has just its bytes.
+fn is_made_over<R: Files<File = F> + AllocGlobal, F: FileExt + OpenFile + Drop>(
+    rt: &R,
+    scratch: &Scratch,
+    length: usize,
+    size: usize,
+) -> Result<bool, Fail> {
+    put_marked(rt, scratch, length)?;
+    let path = scratch.path(rt.alloc(), "device")?;
+    let is_synced = NewDisk::create(rt, path.as_str(), size as u64)?
+        .sync()
+        .is_ok();
+    Ok(is_synced && is_filled(rt, scratch, size)?)
 }
 
 /// A new file has just the bytes of the device, and one over a file that was shorter, as long, or longer.
 #[test]
 fn a_file_is_filled(rt: HostRuntime) -> Result<(), Fail> {
     let scratch = Scratch::new(&rt, "filled")?;
-    let path = scratch.path(rt.alloc(), "device")?;
     for (length, size) in ROWS {
-        let _missing = fs::remove_file(&rt, path.as_str());
-        if length > 0 {
-            scratch.put(&rt, "device", marked(rt.alloc(), length)?.as_slice())?;
-        }
-        let mut disk = NewDisk::create(&rt, path.as_str(), size as u64)?;
-        assert!(rt; disk.sync().is_ok() && is_filled(&rt, &scratch, size)?);
+        assert!(rt; is_made_over(&rt, &scratch, length, size)?);
     }
     scratch.remove(&rt)
+}
+
+/// Why no new file is made where the call of that number fails; none where one is made.
+fn refused_at<R: Files<File = F> + AllocGlobal, F: FileExt + OpenFile + Drop>(
+    rt: &R,
+    path: &str,
+    number: u64,
+) -> Option<ErrorKind> {
+    let faults = Faults::everywhere(number, true);
+    match NewDisk::create_new(&FaultyFiles::new(rt, &faults), path, THREE as u64) {
+        Ok(_made) => None,
+        Err(error) => Some(error.kind()),
+    }
+}
+
+/// Whether a new file is made and has all its bytes where no call fails, and else gets no room and is removed.
+fn is_removed<R: Files<File = F> + AllocGlobal, F: FileExt + OpenFile + Drop>(
+    rt: &R,
+    scratch: &Scratch,
+    number: u64,
+) -> Result<bool, Fail> {
+    let path = scratch.path(rt.alloc(), "device")?;
+    match refused_at(rt, path.as_str(), number) {
+        None => Ok(number == 7 && is_filled(rt, scratch, THREE)?),
+        Some(kind) => Ok(
+            number < 7
+                && kind == ErrorKind::StorageFull
+                && fs::symlink_metadata(rt, path.as_str()).is_err(),
+        ),
+    }
 }
 
 /// A new file that gets no room is removed, whichever call fails: one that opens, fills or syncs it or its folder.
 #[test]
 fn a_new_file_without_room_is_removed(rt: HostRuntime) -> Result<(), Fail> {
     let scratch = Scratch::new(&rt, "roomless")?;
-    let path = scratch.path(rt.alloc(), "device")?;
     for number in 0..8u64 {
-        let faults = Faults::everywhere(number, true);
-        match NewDisk::create_new(&FaultyFiles::new(&rt, &faults), path.as_str(), THREE as u64) {
-            Ok(_) => assert!(rt; number == 7 && is_filled(&rt, &scratch, THREE)?),
-            Err(error) => {
-                assert!(rt; number < 7 && error.kind() == ErrorKind::StorageFull);
-                assert!(rt; fs::symlink_metadata(&rt, path.as_str()).is_err());
-            }
-        }
+        assert!(rt; is_removed(&rt, &scratch, number)?);
     }
     scratch.remove(&rt)
 }
@@ -115,19 +160,33 @@ fn stays<R: Files<File = F> + AllocGlobal, F: FileExt + OpenFile + Drop>(
     Ok(is_right)
 }
 
+/// Whether a file of `length` bytes stays so until there is room for `size` bytes, whichever of that many calls fails, and is those of the
+/// device then; the call `asked` is the last that asks for room.
+fn stays_until<R: Files<File = F> + AllocGlobal, F: FileExt + OpenFile + Drop>(
+    rt: &R,
+    scratch: &Scratch,
+    length: usize,
+    size: usize,
+    asked: u64,
+    calls: u64,
+) -> Result<bool, Fail> {
+    let old = marked(rt.alloc(), length)?;
+    for number in 0..calls {
+        if !stays(rt, scratch, old.as_slice(), size, number, asked)? {
+            return Ok(false);
+        }
+    }
+    let (is_made, _) = made_over(rt, scratch, old.as_slice(), size, &Faults::at(calls, true))?;
+    Ok(is_made && is_filled(rt, scratch, size)?)
+}
+
 /// A file that was there stays until there is room for the device, whichever call fails. Then its first byte goes before any other.
 #[test]
 fn an_old_file_stays_until_there_is_room(rt: HostRuntime) -> Result<(), Fail> {
     let scratch = Scratch::new(&rt, "old_file")?;
     // The old length, the size, the last call that asks for room, and how many calls there are.
     for (length, size, asked, calls) in [(10_000, THREE, 4u64, 11u64), (THREE, 10_000, 0, 7)] {
-        let old = marked(rt.alloc(), length)?;
-        for number in 0..calls {
-            assert!(rt; stays(&rt, &scratch, old.as_slice(), size, number, asked)?);
-        }
-        let faults = Faults::at(calls, true);
-        let (is_made, _) = made_over(&rt, &scratch, old.as_slice(), size, &faults)?;
-        assert!(rt; is_made && is_filled(&rt, &scratch, size)?);
+        assert!(rt; stays_until(&rt, &scratch, length, size, asked, calls)?);
     }
     scratch.remove(&rt)
 }

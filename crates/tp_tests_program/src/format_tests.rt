@@ -47,11 +47,23 @@ pub(crate) fn format_in_memory(
     })
 }
 
-/// One image, in a list.
-pub(crate) fn images_of(alloc: Global, image: Vec<u8>) -> Result<Vec<Vec<u8>>, Fail> {
+/// That many images of nodes that send a letter.
+pub(crate) fn images_of(alloc: Global, count: u8) -> Result<Vec<Vec<u8>>, Fail> {
     let mut images = Vec::new(alloc);
-    images.push(image)?;
+    for _ in 0..count {
+        images.push(letter(alloc)?)?;
+    }
     Ok(images)
+}
+
+/// Whether all bytes are 00.
+pub(crate) fn are_zeros(bytes: &[u8]) -> bool {
+    for byte in bytes {
+        if *byte != 0 {
+            return false;
+        }
+    }
+    true
 }
 
 /// Whether nothing is formatted of those images, and that is said so.
@@ -63,7 +75,7 @@ fn is_refused(
     said: &[u8],
 ) -> Result<bool, Fail> {
     let made = format_in_memory(alloc, MemDisk::zeroed(alloc, size)?, images, area)?;
-    let is_left = made.bytes.iter().all(|byte| *byte == 0);
+    let is_left = are_zeros(&made.bytes);
     Ok(made.status == 1 && made.out.is_empty() && is_left && made.err.as_slice() == said)
 }
 
@@ -71,7 +83,7 @@ fn is_refused(
 #[test]
 fn devices_that_are_too_small(rt: HostRuntime) -> Result<(), Fail> {
     let alloc = rt.alloc();
-    let images = images_of(alloc, letter(alloc)?)?;
+    let images = images_of(alloc, 1)?;
     for (size, area) in [(26_579, LEAST), (511, 0)] {
         assert!(rt; is_refused(alloc, images.as_slice(), size, area, b"tpnet: AreaFull\n")?);
     }
@@ -82,8 +94,7 @@ fn devices_that_are_too_small(rt: HostRuntime) -> Result<(), Fail> {
 #[test]
 fn images_that_are_too_many(rt: HostRuntime) -> Result<(), Fail> {
     let alloc = rt.alloc();
-    let mut two = images_of(alloc, letter(alloc)?)?;
-    two.push(letter(alloc)?)?;
+    let two = images_of(alloc, 2)?;
     for images in [two.as_slice(), &[]] {
         assert!(rt; is_refused(alloc, images, 33_280, AREA, b"tpnet: BadImage\n")?);
     }
@@ -104,7 +115,7 @@ fn fails_at(alloc: Global, images: &[Vec<u8>], call: u64) -> Result<(bool, bool)
 #[test]
 fn each_call_of_the_device_may_fail(rt: HostRuntime) -> Result<(), Fail> {
     let alloc = rt.alloc();
-    let images = images_of(alloc, letter(alloc)?)?;
+    let images = images_of(alloc, 1)?;
     let mut calls = 0u64;
     for call in 0..100 {
         let (is_done, is_said) = fails_at(alloc, images.as_slice(), call)?;

@@ -2,6 +2,7 @@
 
 ghost use Rattle.std.specs.Prelude.{false};
 
+use crate::file_tests::is_device;
 use crate::run_tests::{device, echo};
 use std::fs::{Files, OpenFile};
 use std::os::unix::fs::FileExt;
@@ -111,11 +112,18 @@ fn is_stream_refused<
     Ok(Output { status, out, err }.is(1, "", IN_USE) && !feed.was_asked)
 }
 
+/// Whether such a stream leaves the device as it was.
+fn is_left_alone<
+    R: Files<File = F> + AllocGlobal + Threads + Wait + Sync,
+    F: FileExt + OpenFile + Drop + Send,
+>(rt: &R, scratch: &Scratch) -> Result<bool, Fail> {
+    let before = scratch.read(rt, "device")?;
+    Ok(is_stream_refused(rt, scratch)? && is_device(rt, scratch, before.as_slice())?)
+}
+
 #[test]
 fn a_device_in_use_is_left_alone(rt: HostRuntime) -> Result<(), Fail> {
     let scratch = device(&rt, "in_use", echo(rt.alloc())?.as_slice(), "16384")?;
-    let before = scratch.read(&rt, "device")?;
-    assert!(rt; is_stream_refused(&rt, &scratch)?);
-    assert!(rt; scratch.read(&rt, "device")?.as_slice() == before.as_slice());
+    assert!(rt; is_left_alone(&rt, &scratch)?);
     scratch.remove(&rt)
 }

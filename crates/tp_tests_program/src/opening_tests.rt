@@ -5,11 +5,11 @@ use std::alloc::Global;
 use std::test::Fail;
 use tp_disk::{MemDisk, PlannedFault};
 use tp_program::show_on;
-use tp_tests_fixtures::{letter, place};
+use tp_tests_fixtures::place;
 
 /// A device that was just formatted.
 fn fresh(alloc: Global) -> Result<Vec<u8>, Fail> {
-    let images = images_of(alloc, letter(alloc)?)?;
+    let images = images_of(alloc, 1)?;
     let made = format_in_memory(
         alloc,
         MemDisk::zeroed(alloc, 33_280)?,

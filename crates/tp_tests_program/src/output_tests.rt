@@ -1,8 +1,9 @@
 //! Commands whose standard output is the device's file: nothing is done, nor printed over it.
 
+use crate::file_tests::{is_device, network};
 use crate::holding_tests::Busy;
 use crate::program::answer;
-use crate::run_tests::device;
+use std::alloc::Global;
 use std::fs;
 use std::fs::{Files, OpenFile};
 use std::os::unix::fs::FileExt;
@@ -11,7 +12,6 @@ use std::test::Fail;
 use std::thread::Threads;
 use tp_tests_files::scratch::Scratch;
 use tp_tests_files::standing::Standing;
-use tp_tests_fixtures::letter;
 
 /// The words of a command, and the file that it makes elsewhere.
 const INTO: &[(&[&str], &str)] = &[
@@ -31,16 +31,31 @@ fn is_refused<
     Ok(done.status == 2 && done.out.is_empty() && !done.err.is_empty() && !is_made)
 }
 
+/// Whether each of those commands is refused so, and the device has these bytes.
+fn are_refused<
+    R: Files<File = F> + AllocGlobal + Threads + Wait + Sync,
+    F: FileExt + OpenFile + Drop + Send,
+>(files: &R, scratch: &Scratch, device: &[u8]) -> Result<bool, Fail> {
+    for (words, file) in INTO {
+        if !is_refused(files, scratch, words, *file)? {
+            return Ok(false);
+        }
+    }
+    is_device(files, scratch, device)
+}
+
+/// Standard output is the device's file.
+fn into_device(alloc: Global, scratch: &Scratch) -> Result<Vec<(&'static str, String)>, Fail> {
+    let mut streams = Vec::new(alloc);
+    streams.push(("/dev/stdout", scratch.path(alloc, "device")?))?;
+    Ok(streams)
+}
+
 #[test]
 fn an_output_into_the_device(rt: HostRuntime) -> Result<(), Fail> {
-    let scratch = device(&rt, "into", letter(rt.alloc())?.as_slice(), "16384")?;
-    let before = scratch.read(&rt, "device")?;
-    let mut streams = Vec::new(rt.alloc());
-    streams.push(("/dev/stdout", scratch.path(rt.alloc(), "device")?))?;
+    let (scratch, device) = network(&rt, "into")?;
+    let streams = into_device(rt.alloc(), &scratch)?;
     let files = Standing::new(&rt, streams.as_slice());
-    for (words, file) in INTO {
-        assert!(rt; is_refused(&files, &scratch, words, *file)?);
-    }
-    assert!(rt; scratch.read(&rt, "device")?.as_slice() == before.as_slice());
+    assert!(rt; are_refused(&files, &scratch, device.as_slice())?);
     scratch.remove(&rt)
 }

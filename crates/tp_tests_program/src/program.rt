@@ -41,3 +41,11 @@ pub(crate) fn tpnet<
     let line = scratch.line(rt.alloc(), words)?;
     Ok(answer(rt, NoLocks, line.as_slice()))
 }
+
+/// Whether `words` are refused with the status 1, and just that line is said.
+pub(crate) fn is_said_of<
+    R: Files<File = F> + AllocGlobal + Threads + Wait + Sync,
+    F: FileExt + OpenFile + Drop + Send,
+>(rt: &R, scratch: &Scratch, words: &[&str], line: &str) -> Result<bool, Fail> {
+    Ok(tpnet(rt, scratch, words)?.is(1, "", line))
+}

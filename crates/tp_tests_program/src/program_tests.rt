@@ -216,17 +216,22 @@ fn words_may_be_too_many(rt: HostRuntime) -> Result<(), Fail> {
     Ok(())
 }
 
-/// What the program says on standard error of a line of `count` words: the name that it was called by, and then `run` again and again.
-fn said_of<
-    R: Files<File = F> + AllocGlobal + Threads + Wait + Sync,
-    F: FileExt + OpenFile + Drop + Send,
->(rt: &R, count: usize) -> Result<String, Fail> {
-    let alloc = rt.alloc();
+/// `count` words: another name, and then `run` again and again.
+fn other_line(alloc: Global, count: usize) -> Result<Vec<String>, Fail> {
     let mut line = Vec::new(alloc);
     line.push(String::from_str(alloc, "/opt/other")?)?;
     for _ in 1..count {
         line.push(String::from_str(alloc, "run")?)?;
     }
+    Ok(line)
+}
+
+/// What the program says on standard error of a line of `count` words, of which the first is the name that it was called by.
+fn said_of<
+    R: Files<File = F> + AllocGlobal + Threads + Wait + Sync,
+    F: FileExt + OpenFile + Drop + Send,
+>(rt: &R, count: usize) -> Result<String, Fail> {
+    let line = other_line(rt.alloc(), count)?;
     let done = answer(rt, NoLocks, line.as_slice());
     match done.status {
         2 => Ok(String::from_utf8(done.err)?),

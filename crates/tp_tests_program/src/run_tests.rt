@@ -2,7 +2,8 @@
 
 ghost use Rattle.tp_words.specs.Args.{IsRun};
 
-use crate::program::tpnet;
+use crate::file_tests::{is_device, network};
+use crate::program::{is_said_of, tpnet};
 use std::alloc::Global;
 use std::fs::{Files, OpenFile};
 use std::io;
@@ -28,16 +29,24 @@ pub(crate) fn echo(alloc: Global) -> Result<Vec<u8>, Fail> {
     Ok(image)
 }
 
+/// Formats a device in a folder. Answers the status.
+fn format_in<
+    R: Files<File = F> + AllocGlobal + Threads + Wait + Sync,
+    F: FileExt + OpenFile + Drop + Send,
+>(rt: &R, scratch: &Scratch, image: &[u8], area: &str) -> Result<u8, Fail> {
+    scratch.put(rt, "net.txt", b"node a 4\nport h\nwire a.0 h\n")?;
+    scratch.put(rt, "a.img", image)?;
+    let words = ["format", "@device", "@net.txt", "@", area];
+    Ok(tpnet(rt, scratch, &words)?.status)
+}
+
 /// A folder with a device that has one node with that image, and a port.
 pub(crate) fn device<
     R: Files<File = F> + AllocGlobal + Threads + Wait + Sync,
     F: FileExt + OpenFile + Drop + Send,
 >(rt: &R, name: &str, image: &[u8], area: &str) -> Result<Scratch, Fail> {
     let scratch = Scratch::new(rt, name)?;
-    scratch.put(rt, "net.txt", b"node a 4\nport h\nwire a.0 h\n")?;
-    scratch.put(rt, "a.img", image)?;
-    let words = ["format", "@device", "@net.txt", "@", area];
-    match tpnet(rt, &scratch, &words)?.status {
+    match format_in(rt, &scratch, image, area)? {
         0 => Ok(scratch),
         _ => Err(Fail::new("not formatted")),
     }
@@ -119,17 +128,28 @@ fn goes_on<
     Ok(is_said && unconfirmed.status == 0 && again.status == 0 && prints)
 }
 
+/// Runs a device over `files`: whether that is done, and whether the next run goes on.
+fn ran_over<
+    R: Files<File = F> + AllocGlobal + Threads + Wait + Sync,
+    F: FileExt + OpenFile + Drop + Send,
+    W: Files<File = E> + AllocGlobal + Threads + Wait + Sync,
+    E: FileExt + OpenFile + Drop + Send,
+>(rt: &R, files: &W, scratch: &Scratch, fresh: &[u8]) -> Result<(bool, bool), Fail> {
+    scratch.put(rt, "device", fresh)?;
+    let ran = tpnet(files, scratch, FOUR)?;
+    Ok((ran.status == 0, goes_on(rt, scratch, &ran)?))
+}
+
 #[test]
 fn each_call_of_the_file_may_fail(rt: HostRuntime) -> Result<(), Fail> {
-    let scratch = device(&rt, "run_fails", letter(rt.alloc())?.as_slice(), "16384")?;
-    let fresh = scratch.read(&rt, "device")?;
+    let (scratch, fresh) = network(&rt, "run_fails")?;
     let mut calls = 0u64;
     for number in 0..200u64 {
-        scratch.put(&rt, "device", fresh.as_slice())?;
         let faults = Faults::at(number, false);
-        let ran = tpnet(&FaultyFiles::new(&rt, &faults), &scratch, FOUR)?;
-        assert!(rt; goes_on(&rt, &scratch, &ran)?);
-        if ran.status == 0 {
+        let files = FaultyFiles::new(&rt, &faults);
+        let (is_done, goes_on) = ran_over(&rt, &files, &scratch, fresh.as_slice())?;
+        assert!(rt; goes_on);
+        if is_done {
             break;
         }
         calls = number;
@@ -141,13 +161,16 @@ fn each_call_of_the_file_may_fail(rt: HostRuntime) -> Result<(), Fail> {
 /// A file that can't be written isn't run, and stays.
 #[test]
 fn a_file_to_read_alone(rt: HostRuntime) -> Result<(), Fail> {
-    let scratch = device(&rt, "run_reads", letter(rt.alloc())?.as_slice(), "16384")?;
-    let before = scratch.read(&rt, "device")?;
+    let (scratch, before) = network(&rt, "run_reads")?;
     let faults = Faults::to_read();
-    let files = FaultyFiles::new(&rt, &faults);
-    assert!(rt; tpnet(&files, &scratch, FOUR)?.is(1, "", "tpnet: ReadFailed\n"));
-    assert!(rt; faults.writable.load(Ordering::SeqCst));
-    assert!(rt; scratch.read(&rt, "device")?.as_slice() == before.as_slice());
+    let is_said = is_said_of(
+        &FaultyFiles::new(&rt, &faults),
+        &scratch,
+        FOUR,
+        "tpnet: ReadFailed\n",
+    )?;
+    assert!(rt; is_said && faults.writable.load(Ordering::SeqCst));
+    assert!(rt; is_device(&rt, &scratch, before.as_slice())?);
     scratch.remove(&rt)
 }
 

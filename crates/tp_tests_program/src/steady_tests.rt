@@ -12,7 +12,7 @@ use tp_program::{
     JournalPart, View, backup_on, compact_on, format_on, recover_on, show_on, view_on,
 };
 use tp_tests_files::scratch::Output;
-use tp_tests_fixtures::{ONE_NODE, SIZE, letter};
+use tp_tests_fixtures::{ONE_NODE, SIZE};
 
 /// A command that reads a device.
 #[derive(Clone, Copy)]
@@ -48,7 +48,7 @@ const GROUPS: &[(u64, &[u8])] = &[(13_033, TURNS), (29_417, FURTHER)];
 
 /// Formats a device. Answers the status.
 fn format_over(alloc: Global, changing: &mut Changing) -> Result<u8, Fail> {
-    let images = images_of(alloc, letter(alloc)?)?;
+    let images = images_of(alloc, 1)?;
     let Ok(topology) = Topology::read(alloc, ONE_NODE) else {
         return Err(Fail::new("the topology"));
     };
@@ -139,11 +139,12 @@ fn is_alike(one: &Output, other: &Output) -> bool {
 
 /// Whether `output` is what was said at a moment from `from` up to `upto`, and tells no damage.
 fn is_of_a_moment(said: &[Output], from: usize, upto: usize, output: &Output) -> bool {
-    said.iter()
-        .take(upto.saturating_add(1))
-        .skip(from)
-        .any(|moment| is_alike(moment, output))
-        && !output.err.as_slice().starts_with(b"tpnet: Damaged")
+    for moment in said.iter().take(upto.saturating_add(1)).skip(from) {
+        if is_alike(moment, output) {
+            return !output.err.as_slice().starts_with(b"tpnet: Damaged");
+        }
+    }
+    false
 }
 
 /// Asks a command while writes come to pass, `count` of them before each call from one on, for each call that it makes where none come to

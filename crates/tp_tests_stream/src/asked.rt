@@ -130,18 +130,11 @@ where
     Ok(stopped.put as u64 == stopped.played.put && is_confirmed && again.put > stopped.put)
 }
 
-fn goes_on_behind<R: Threads + Wait + Abort + Sync>(rt: &R) -> Result<bool, Fail>
-where
-    R: AllocGlobal,
-{
-    let mut desk = Desk::fresh(rt.alloc(), ONE, LETTERS, 262_144)?;
-    let told = goes_on(rt, &mut desk);
-    told
-}
-
 #[test]
 fn what_was_put_before_a_stop_is_confirmed(rt: HostRuntime) -> Result<(), Fail> {
-    assert!(rt; goes_on_behind(&rt)?);
+    let mut desk = Desk::fresh(rt.alloc(), ONE, LETTERS, 262_144)?;
+    let told = goes_on(&rt, &mut desk)?;
+    assert!(rt; told);
     Ok(())
 }
 

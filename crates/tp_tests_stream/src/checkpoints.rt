@@ -22,8 +22,8 @@ const OFTEN: Job = Job {
 
 /// The number that a run reached, where it is above the one before.
 fn further(before: Option<u64>, done: Result<u64, RunFault>) -> Option<u64> {
-    match done {
-        Ok(reached) if before.is_some_and(|before| reached > before) => Some(reached),
+    match (before, done) {
+        (Some(before), Ok(reached)) if reached > before => Some(reached),
         _ => None,
     }
 }

@@ -2,9 +2,9 @@
 
 ghost use Rattle.std.specs.Prelude.{None};
 
-use crate::devices::{ECHO, LETTERS, ONE, TWO, formatted};
-use crate::players::{Asks, Desk, Pieces, QUIET, nobody, play};
-use crate::steps::{Bytes, PLAIN, Step, are_steps};
+use crate::devices::{LETTERS, TWO, formatted};
+use crate::players::{Asks, Pieces, QUIET, nobody, play};
+use crate::steps::{Bytes, PLAIN, Step, are_steps_on};
 use std::alloc::{AllocError, Global};
 use std::process::Abort;
 use std::sync::Wait;
@@ -60,19 +60,10 @@ const LENGTHS: &[Step] = &[
     },
 ];
 
-fn are_accepted<R: Threads + Wait + Abort + Sync>(rt: &R) -> Result<bool, Fail>
-where
-    R: AllocGlobal,
-{
-    let mut desk = Desk::fresh(rt.alloc(), ONE, ECHO, 16_384)?;
-    let told = are_steps(rt, LENGTHS, &mut desk);
-    told
-}
-
 /// An input of fewer bytes than its port has accepted is refused, behind all outputs.
 #[test]
 fn an_input_has_all_that_its_port_accepted(rt: HostRuntime) -> Result<(), Fail> {
-    assert!(rt; are_accepted(&rt)?);
+    assert!(rt; are_steps_on(&rt, LENGTHS)?);
     Ok(())
 }
 
@@ -143,8 +134,9 @@ fn two_lettered(
     other: u64,
 ) -> Result<Streams<MemSink, Pieces>, AllocError> {
     let mut outputs = Vec::new(alloc);
-    outputs.push(Output::new(0, None, lettered(alloc, one)?))?;
-    outputs.push(Output::new(1, None, lettered(alloc, other)?))?;
+    for (port, count) in [(0u8, one), (1, other)] {
+        outputs.push(Output::new(port, None, lettered(alloc, count)?))?;
+    }
     let inputs = Vec::new(alloc);
     Ok(Streams { outputs, inputs })
 }

@@ -65,19 +65,12 @@ where
     Ok(played.why() == Some(Ending::Turns) && is_further && is_put)
 }
 
-fn goes_on_behind_a_run<R: Threads + Wait + Abort + Sync>(rt: &R) -> Result<bool, Fail>
-where
-    R: AllocGlobal,
-{
-    let mut desk = Desk::fresh(rt.alloc(), ONE, LETTERS, 16_384)?;
-    let told = goes_on(rt, &mut desk);
-    told
-}
-
 /// A stream on it settles a snapshot before it confirms, and goes on.
 #[test]
 fn a_journal_that_a_run_filled_lets_a_stream_go_on(rt: HostRuntime) -> Result<(), Fail> {
-    assert!(rt; goes_on_behind_a_run(&rt)?);
+    let mut desk = Desk::fresh(rt.alloc(), ONE, LETTERS, 16_384)?;
+    let told = goes_on(&rt, &mut desk)?;
+    assert!(rt; told);
     Ok(())
 }
 

@@ -181,9 +181,7 @@ fn comes_out(alloc: Global, case: &Case) -> Result<bool, Fail> {
 #[test]
 fn a_file_that_fails_is_told(rt: HostRuntime) -> Result<(), Fail> {
     for (number, case) in CASES.iter().enumerate() {
-        if !comes_out(rt.alloc(), case)? {
-            return Err(Fail::new(format!(in rt.alloc(); "case {number}")?.as_str()));
-        }
+        assert!(rt; comes_out(rt.alloc(), case)?, "case {number}");
     }
     Ok(())
 }

@@ -4,7 +4,7 @@ use crate::devices::{ECHO, LETTERS, ONE};
 use crate::players::{
     Asked, Asks, Desk, NO_INPUT, Pieces, QUIET, are_numbered, look, nobody, play, play_desk,
 };
-use crate::steps::{Bytes, PLAIN, Step, are_steps};
+use crate::steps::{Bytes, PLAIN, Step, are_all, are_steps, are_steps_on};
 use std::process::Abort;
 use std::sync::Wait;
 use std::test::Fail;
@@ -107,19 +107,12 @@ where
     Ok(desk.sink.bytes().len() == FEW)
 }
 
-fn come_to_the_same<R: Threads + Wait + Abort + Sync>(rt: &R) -> Result<bool, Fail>
-where
-    R: AllocGlobal,
-{
-    let mut desk = Desk::fresh(rt.alloc(), ONE, ECHO, 16_384)?;
-    let told = all_go_on(rt, &mut desk);
-    told
-}
-
 /// Turn by turn, each in a process of its own: what was put before is passed over, and so is what was accepted.
 #[test]
 fn few_turns_at_a_time_come_to_the_same(rt: HostRuntime) -> Result<(), Fail> {
-    assert!(rt; come_to_the_same(&rt)?);
+    let mut desk = Desk::fresh(rt.alloc(), ONE, ECHO, 16_384)?;
+    let told = all_go_on(&rt, &mut desk)?;
+    assert!(rt; told);
     Ok(())
 }
 
@@ -138,23 +131,16 @@ where
     };
     let played = play_desk(rt, asked, desk)?;
     let bytes = desk.sink.bytes();
-    let are_letters = bytes.len() > 1000 && bytes.iter().all(|byte| *byte == b'A');
+    let are_letters = bytes.len() > 1000 && are_all(bytes, b'A');
     Ok(played.done.is_ok() && played.told.progress > 2 && are_letters)
-}
-
-fn runs_out_of_turns<R: Threads + Wait + Abort + Sync>(rt: &R) -> Result<bool, Fail>
-where
-    R: AllocGlobal,
-{
-    let mut desk = Desk::fresh(rt.alloc(), ONE, LETTERS, 65_536)?;
-    let told = runs_out(rt, &mut desk);
-    told
 }
 
 /// A network that never rests ends with its turns, and is told of on the way.
 #[test]
 fn turns_run_out(rt: HostRuntime) -> Result<(), Fail> {
-    assert!(rt; runs_out_of_turns(&rt)?);
+    let mut desk = Desk::fresh(rt.alloc(), ONE, LETTERS, 65_536)?;
+    let told = runs_out(&rt, &mut desk)?;
+    assert!(rt; told);
     Ok(())
 }
 
@@ -221,30 +207,14 @@ const REFUSED: &[Step] = &[
     },
 ];
 
-fn are_all_refused<R: Threads + Wait + Abort + Sync>(rt: &R, desk: &mut Desk) -> Result<bool, Fail>
-where
-    R: AllocGlobal,
-{
-    if !is_unnamed(rt, &mut desk.device) {
-        return Ok(false);
-    }
-    are_steps(rt, REFUSED, desk)
-}
-
-fn are_refused<R: Threads + Wait + Abort + Sync>(rt: &R) -> Result<bool, Fail>
-where
-    R: AllocGlobal,
-{
-    let mut desk = Desk::fresh(rt.alloc(), ONE, ECHO, 16_384)?;
-    let told = are_all_refused(rt, &mut desk);
-    told
-}
-
 /// A wired port without a sink, a sink that is too short, and a reader that says that it has more than is shown, or less than was
 /// confirmed.
 #[test]
 fn streams_are_refused(rt: HostRuntime) -> Result<(), Fail> {
-    assert!(rt; are_refused(&rt)?);
+    let mut desk = Desk::fresh(rt.alloc(), ONE, ECHO, 16_384)?;
+    let is_unnamed = is_unnamed(&rt, &mut desk.device);
+    let told = are_steps(&rt, REFUSED, &mut desk)?;
+    assert!(rt; is_unnamed && told);
     Ok(())
 }
 
@@ -284,18 +254,9 @@ const LONGER: &[Step] = &[
     },
 ];
 
-fn are_longer<R: Threads + Wait + Abort + Sync>(rt: &R) -> Result<bool, Fail>
-where
-    R: AllocGlobal,
-{
-    let mut desk = Desk::fresh(rt.alloc(), ONE, ECHO, 16_384)?;
-    let told = are_steps(rt, LONGER, &mut desk);
-    told
-}
-
 /// A sink may have as many bytes as its port has put out, confirmed or not, and not one more.
 #[test]
 fn a_sink_has_no_more_than_was_put_out(rt: HostRuntime) -> Result<(), Fail> {
-    assert!(rt; are_longer(&rt)?);
+    assert!(rt; are_steps_on(&rt, LONGER)?);
     Ok(())
 }

@@ -229,14 +229,31 @@ impl Outlet for Slow {
 /// A run that hands in three bytes, and prints them.
 const ECHOES: Job = Job { turns: 64, ..FOUR };
 
+/// Whether a run on the device of a node that echoes ends with that fault, or with none, once its outlet, which has room for `room` bytes,
+/// took these bytes, by calls for so many.
+fn ends_so<R: Threads + Wait + Abort + Sync>(
+    rt: &R,
+    alloc: Global,
+    disk: &mut MemDisk,
+    room: usize,
+    fault: Option<RunFault>,
+    taken: &[u8],
+    asked: &[usize],
+) -> bool {
+    let mut slow = Slow::with_room(alloc, room);
+    let done = run_on(rt, alloc, ECHOES, disk, b"abc", &mut slow);
+    done.err() == fault && slow.has(taken, asked)
+}
+
+/// The calls for three bytes, one of which is taken in each other one.
+const ALL: &[usize] = &[3, 3, 2, 2, 1, 1];
+
 #[test]
 fn an_outlet_is_called_for_what_it_has_not_taken(rt: HostRuntime) -> Result<(), Fail> {
     let alloc = rt.alloc();
     let mut disk = MemDisk::of_bytes(formatted(alloc, ONE, ECHO, 16_384)?);
-    let mut slow = Slow::with_room(alloc, 3);
-    let done = run_on(&rt, alloc, ECHOES, &mut disk, b"abc", &mut slow);
-    assert!(rt; done.is_ok());
-    assert!(rt; slow.has(b"abc", &[3, 3, 2, 2, 1, 1]));
+    let told = ends_so(&rt, alloc, &mut disk, 3, None, b"abc", ALL);
+    assert!(rt; told);
     Ok(())
 }
 
@@ -244,13 +261,9 @@ fn an_outlet_is_called_for_what_it_has_not_taken(rt: HostRuntime) -> Result<(), 
 fn an_outlet_that_failed_is_not_called_again(rt: HostRuntime) -> Result<(), Fail> {
     let alloc = rt.alloc();
     let mut disk = MemDisk::of_bytes(formatted(alloc, ONE, ECHO, 16_384)?);
-    let mut slow = Slow::with_room(alloc, 1);
-    let failed = run_on(&rt, alloc, ECHOES, &mut disk, b"abc", &mut slow);
-    assert!(rt; failed == Err(RunFault::OutputFailed));
-    assert!(rt; slow.has(b"a", &[3, 3, 2, 2]));
-    let mut wide = Slow::with_room(alloc, 3);
-    let done = run_on(&rt, alloc, ECHOES, &mut disk, b"abc", &mut wide);
-    assert!(rt; done.is_ok());
-    assert!(rt; wide.has(b"abc", &[3, 3, 2, 2, 1, 1]));
+    let failed = Some(RunFault::OutputFailed);
+    let has_failed = ends_so(&rt, alloc, &mut disk, 1, failed, b"a", &[3, 3, 2, 2]);
+    let told = ends_so(&rt, alloc, &mut disk, 3, None, b"abc", ALL);
+    assert!(rt; has_failed && told);
     Ok(())
 }

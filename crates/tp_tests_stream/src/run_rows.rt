@@ -138,14 +138,12 @@ const INPUT_C: Entry = Entry::HostIn {
 fn leaves(alloc: Global, disk: &mut MemDisk, entries: &[Entry]) -> Result<bool, Unopened> {
     crash(alloc, disk);
     let opened = open(alloc, disk)?;
-    let kept = opened.kept();
-    Ok(
-        kept.len() == entries.len()
-            && kept
-                .iter()
-                .zip(entries)
-                .all(|(one, other)| one.entry == *other),
-    )
+    for (one, other) in opened.kept().iter().zip(entries) {
+        if one.entry != *other {
+            return Ok(false);
+        }
+    }
+    Ok(opened.kept().len() == entries.len())
 }
 
 /// Whether runs on the device of the node that sends a letter go as their rows say, and just `entries` are kept then.

@@ -1,5 +1,6 @@
 //! Streams one after another on one device, each with a sink of its own.
 
+use crate::devices::{ECHO, ONE};
 use crate::players::{Asked, Desk, NO_INPUT, are_numbered, numbered, play_desk};
 use std::alloc::{AllocError, Global};
 use std::process::Abort;
@@ -7,6 +8,16 @@ use std::sync::Wait;
 use std::test::Fail;
 use std::thread::Threads;
 use tp_stream::{MemSink, StreamFault};
+
+/// Whether all bytes are that one.
+pub(crate) fn are_all(bytes: &[u8], wanted: u8) -> bool {
+    for byte in bytes {
+        if *byte != wanted {
+            return false;
+        }
+    }
+    true
+}
 
 /// The bytes of a sink: the first numbered ones, or something else.
 #[derive(Clone, Copy)]
@@ -26,7 +37,7 @@ impl Bytes {
     fn are(self, bytes: &[u8]) -> bool {
         match self {
             Bytes::Numbered(count) => bytes.len() == count && are_numbered(bytes),
-            Bytes::Other(count) => bytes.len() == count && bytes.iter().all(|byte| *byte == b'x'),
+            Bytes::Other(count) => bytes.len() == count && are_all(bytes, b'x'),
         }
     }
 }
@@ -96,4 +107,17 @@ where
         }
     }
     Ok(true)
+}
+
+/// Whether all go so on a device of its own.
+pub(crate) fn are_steps_on<R: Threads + Wait + Abort + Sync>(
+    rt: &R,
+    steps: &[Step],
+) -> Result<bool, Fail>
+where
+    R: AllocGlobal,
+{
+    let mut desk = Desk::fresh(rt.alloc(), ONE, ECHO, 16_384)?;
+    let told = are_steps(rt, steps, &mut desk);
+    told
 }

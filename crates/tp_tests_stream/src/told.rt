@@ -108,17 +108,10 @@ where
     Ok(is_silent && done.is_ok() && told.progress > QUESTIONS / 2 && is_last)
 }
 
-fn is_told_on<R: Threads + Wait + Abort + Sync>(rt: &R) -> Result<bool, Fail>
-where
-    R: AllocGlobal,
-{
-    let mut device = formatted(rt.alloc(), ONE, ECHO, 65_536)?;
-    let told = is_told(rt, &mut device);
-    told
-}
-
 #[test]
 fn a_stream_that_waits_is_told(rt: HostRuntime) -> Result<(), Fail> {
-    assert!(rt; is_told_on(&rt)?);
+    let mut device = formatted(rt.alloc(), ONE, ECHO, 65_536)?;
+    let told = is_told(&rt, &mut device)?;
+    assert!(rt; told);
     Ok(())
 }

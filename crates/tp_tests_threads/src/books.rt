@@ -15,6 +15,15 @@ use tp_turn::{ONE_WIRE, try_output};
 fn parts(alloc: Global, image: &[u8]) -> Result<NetParts, AllocError>
     ensures { IfOk result (λ net. network_made net ≡ lone_network (node_at image.now)) }
 {
+    let wires = Vec::from_slice(alloc, &ONE_WIRE)?;
+    let images = Vec::from_array(alloc, [Vec::from_slice(alloc, image)?])?;
+    let port = PortParts {
+        pending: Vec::new(alloc),
+        in_base: 0,
+        outputs: Vec::new(alloc),
+        out_base: 0,
+    };
+    let ports = Vec::from_array(alloc, [port])?;
     let lines = Vec::from_array(
         alloc,
         [
@@ -25,15 +34,6 @@ fn parts(alloc: Global, image: &[u8]) -> Result<NetParts, AllocError>
             Vec::new(alloc),
         ],
     )?;
-    let images = Vec::from_array(alloc, [Vec::from_slice(alloc, image)?])?;
-    let wires = Vec::from_slice(alloc, &ONE_WIRE)?;
-    let port = PortParts {
-        pending: Vec::new(alloc),
-        in_base: 0,
-        outputs: Vec::new(alloc),
-        out_base: 0,
-    };
-    let ports = Vec::from_array(alloc, [port])?;
     Ok(NetParts {
         wires,
         images,

@@ -174,7 +174,7 @@ fn play_in<R: Wait>(
 /// The devices over which all rounds are made: of sixteen nodes, of four whose pages have marks, of seventeen, and of sixteen with a first
 /// area that has no turns.
 #[derive(Clone, Copy)]
-enum Device {
+pub(crate) enum Device {
     Formatted,
     Marked,
     Wide,
@@ -189,7 +189,7 @@ const DEVICES: [Device; 4] = [
 ];
 
 /// A device, freshly formatted.
-fn device_of(alloc: Global, device: Device) -> Result<MemDisk, Fail> {
+pub(crate) fn device_of(alloc: Global, device: Device) -> Result<MemDisk, Fail> {
     match device {
         Device::Formatted => formatted(alloc),
         Device::Marked => marked(alloc),

@@ -50,12 +50,17 @@ pub(crate) fn formatted(alloc: Global) -> Option<MemDisk> {
     formatted_with(alloc, &topology, &images)
 }
 
+/// The bytes of that device.
+pub(crate) fn fresh(alloc: Global) -> Result<Vec<u8>, Fail> {
+    match formatted(alloc) {
+        Some(disk) => Ok(disk.crash()),
+        None => Err(Fail::new("not formatted")),
+    }
+}
+
 /// A device that has the first turns in its first area. What stood in the other one and behind the groups is left from before.
 pub(crate) fn turned(alloc: Global) -> Result<Vec<u8>, Fail> {
-    let Some(disk) = formatted(alloc) else {
-        return Err(Fail::new("not formatted"));
-    };
-    let mut bytes = disk.crash();
+    let mut bytes = fresh(alloc)?;
     place(&mut bytes, GROUPS, TURNS);
     Ok(bytes)
 }
@@ -74,9 +79,9 @@ pub(crate) fn turned_second(alloc: Global) -> Result<Vec<u8>, Fail> {
 pub(crate) fn turned_behind_a_wide_head(alloc: Global) -> Result<Vec<u8>, Fail> {
     let narrow = turned(alloc)?;
     let (head, areas) = narrow.split_at(FIRST.min(narrow.len()));
-    let mut bytes = Vec::from_slice(alloc, head)?;
-    bytes.resize(WIDE_HEAD_BYTES, 0)?;
-    bytes.extend_from_slice(areas)?;
+    let mut bytes = Vec::from_elem(alloc, 0u8, areas.len().saturating_add(WIDE_HEAD_BYTES))?;
+    place(&mut bytes, 0, head);
+    place(&mut bytes, WIDE_HEAD_BYTES, areas);
     place(&mut bytes, 7, &[2]);
     place(&mut bytes, 56, &[0]);
     place(&mut bytes, 152, &[0, 0x80]);

@@ -1,16 +1,16 @@
 //! A device of sixteen nodes, in memory, and one of seventeen.
 
+use crate::small;
 use std::alloc::{AllocError, Global};
 use std::test::Fail;
-use tp_area::format;
 use tp_disk::MemDisk;
 use tp_net::Topology;
 use tp_tests_fixtures::place;
 
 /// Bytes of an area, and of the device, which has room for a head of either version.
-const AREA: u64 = 131_072;
+pub(crate) const AREA: u64 = 131_072;
 
-const SIZE: usize = 263_168;
+pub(crate) const SIZE: usize = 263_168;
 
 /// Where the form of the first area stands.
 const FORM: usize = 531;
@@ -60,33 +60,21 @@ fn image(alloc: Global) -> Result<Vec<u8>, AllocError> {
 /// The images of `nodes` nodes: the first one sends a letter, and the others go round.
 fn images(alloc: Global, nodes: u8) -> Result<Vec<Vec<u8>>, AllocError> {
     let mut images = Vec::new(alloc);
-    images.push(image(alloc)?)?;
-    for _ in 1..nodes {
-        let mut round = image(alloc)?;
-        place(&mut round, ROUND.0, ROUND.1);
-        images.push(round)?;
+    for node in 0..nodes {
+        let mut image = image(alloc)?;
+        if node > 0 {
+            place(&mut image, ROUND.0, ROUND.1);
+        }
+        images.push(image)?;
     }
     Ok(images)
-}
-
-/// A device of a topology and images, freshly formatted.
-pub(crate) fn formatted_with(
-    alloc: Global,
-    topology: &Topology,
-    images: &[Vec<u8>],
-) -> Result<MemDisk, Fail> {
-    let mut disk = MemDisk::zeroed(alloc, SIZE)?;
-    // A topology keeps its rules: its page counts say so, which `format` asks.
-    let _rules = topology.pages();
-    format(alloc, &mut disk, topology, images, AREA)?;
-    Ok(disk)
 }
 
 /// The device of a text with `nodes` nodes, freshly formatted.
 fn formatted_as(alloc: Global, text: &[u8], nodes: u8) -> Result<MemDisk, Fail> {
     let images = images(alloc, nodes)?;
     let topology = Topology::read(alloc, text)?;
-    let disk = formatted_with(alloc, &topology, &images);
+    let disk = small::formatted(alloc, &topology, &images, AREA, SIZE);
     disk
 }
 

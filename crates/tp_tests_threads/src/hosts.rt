@@ -10,7 +10,6 @@ use crate::plain::are_entries;
 use crate::script::offer;
 use std::alloc::Global;
 use std::marker::Brand;
-use std::process::Abort;
 use std::sync::Wait;
 use std::test::Fail;
 use tp_disk::MemDisk;
@@ -48,14 +47,18 @@ const BROKEN_OFFERS: &[(u64, &[u8], Result<u64, OfferFault>)] = &[
     (2, b"", Ok(6)),
 ];
 
-fn play_offers<J: Naming, R: Wait + Abort>(
+/// Whether offers are answered so.
+fn are_answered<J: Naming, R: Wait>(
     rt: &R,
     session: &Session<'_, J>,
     offers: &[(u64, &[u8], Result<u64, OfferFault>)],
-) {
+) -> bool {
     for (at, bytes, wanted) in offers {
-        assert!(rt; offer(rt, session, *at, bytes) == *wanted);
+        if offer(rt, session, *at, bytes) != *wanted {
+            return false;
+        }
     }
+    true
 }
 
 /// Whether a pass is shown the outputs `wanted` from the position `from` on, or refused with that fault.
@@ -76,22 +79,27 @@ fn is_shown<J: Naming, R: Wait>(
     }
 }
 
-fn play_turns<J: Naming, R: Wait + Abort>(rt: &R, net: &Net<J, NoGate>, seat: &mut Seat<J>)
+/// Whether each turn is made so.
+fn play_turns<J: Naming, R: Wait>(rt: &R, net: &Net<J, NoGate>, seat: &mut Seat<J>) -> bool
     requires { seat.old.hand.of ≡ Some net.now.queue }
     ensures { seat.new.hand.of ≡ Some net.now.queue }
 {
     for (process, takes, steps) in TURNS {
-        match net.turn(rt, seat) {
+        let is_so = match net.turn(rt, seat) {
             Ok(turn) => {
                 let ran = match &turn.ran {
                     Some(ran) => Some(ran.count()),
                     None => None,
                 };
-                assert!(rt; turn.process == *process && turn.takes == *takes && ran == *steps);
+                turn.process == *process && turn.takes == *takes && ran == *steps
             }
-            Err(_) => panic!(rt; "the turn is made"),
+            Err(_) => false,
+        };
+        if !is_so {
+            return false;
         }
     }
+    true
 }
 
 /// Whether the turns journalled a run of the node, the letter as the host takes it, and its acknowledge as the node takes it with the next
@@ -118,128 +126,146 @@ fn is_journalled<J: Naming, R: Wait>(rt: &R, net: &Net<J, NoGate>) -> bool {
     are_entries(held.book().entries(), &wanted)
 }
 
-/// Shows nothing until the mark is above the letter's Take, and confirms nothing.
-fn play_unshown<J: Naming, R: Wait + Abort>(
+/// Whether nothing is shown until the mark is above the letter's Take, and nothing confirmed.
+fn is_unshown<J: Naming, R: Wait>(
     rt: &R,
     alloc: Global,
     session: &Session<'_, J>,
     pass: &mut Pass,
-)
+) -> bool
     requires { pass.old.mark ≡ J.mark }
     ensures { pass.new.mark ≡ J.mark }
 {
-    assert!(rt; is_shown(rt, alloc, session, pass, 0, Ok(b"")));
-    assert!(rt; is_shown(rt, alloc, session, pass, 1, Err(ShownFault::TooNew)));
-    assert!(rt;
-        matches!(
+    is_shown(rt, alloc, session, pass, 0, Ok(b""))
+        && is_shown(rt, alloc, session, pass, 1, Err(ShownFault::TooNew))
+        && matches!(
             session.confirm(rt, 1, pass, &mut Sights::new()),
             Err(ConfirmFault::NotShown)
         )
-    );
 }
 
-/// Says of a receipt that it is stored once the mark is its number.
-fn play_stored<J: Naming, R: Wait + Abort>(
-    rt: &R,
+/// Whether it is said of a receipt that it is stored once the mark is its number, and not before.
+fn comes_stored<J: Naming>(
     session: &Session<'_, J>,
     net: &Net<J, NoGate>,
     disk: &MemDisk,
     raiser: &mut Raiser,
     receipt: &Receipt<J>,
     pass: &mut Pass,
-)
+) -> bool
     requires { (pass.old.mark ≡ J.mark) × (raiser.old.mark ≡ J.mark) }
     ensures { (pass.new.mark ≡ J.mark) × (raiser.new.mark ≡ J.mark) }
 {
-    assert!(rt; !session.is_stored(receipt, pass));
+    let is_early = session.is_stored(receipt, pass);
     net.shared().mark().raise(raiser, 5, disk);
-    assert!(rt; !session.is_stored(receipt, pass));
+    let is_below = session.is_stored(receipt, pass);
     net.shared().mark().raise(raiser, 6, disk);
-    assert!(rt; session.is_stored(receipt, pass));
+    let is_stored = session.is_stored(receipt, pass);
+    !is_early && !is_below && is_stored
 }
 
-/// Shows the letter once the mark is above its Take, and confirms it once; then what was offered is stored once the mark says so.
-fn play_outputs<J: Naming, R: Wait + Abort>(
+/// Whether the letter is shown once the mark is above its Take, and confirmed once; and what was offered is stored then once the mark says so.
+fn are_outputs<J: Naming, R: Wait>(
     rt: &R,
     alloc: Global,
     session: &Session<'_, J>,
     net: &Net<J, NoGate>,
     raiser: &mut Raiser,
     pass: &mut Pass,
-)
+) -> bool
     requires { (pass.old.mark ≡ J.mark) × (raiser.old.mark ≡ J.mark) }
-    ensures { (pass.new.mark ≡ J.mark) × (raiser.new.mark ≡ J.mark) }
+    ensures { pass.new.mark ≡ J.mark }
 {
-    play_unshown(rt, alloc, session, pass);
+    let is_unshown = is_unshown(rt, alloc, session, pass);
     let disk = MemDisk::of_bytes(Vec::new(alloc));
     net.shared().mark().raise(raiser, 2, &disk);
-    assert!(rt; is_shown(rt, alloc, session, pass, 0, Ok(b"A")));
+    let is_new = is_shown(rt, alloc, session, pass, 0, Ok(b"A"));
     let Ok(receipt) = session.confirm(rt, 1, pass, &mut Sights::new()) else {
-        panic!(rt; "the letter is confirmed")
+        return false;
     };
-    assert!(rt; receipt.number() == 6);
-    play_stored(rt, session, net, &disk, raiser, &receipt, pass);
-    assert!(rt; is_shown(rt, alloc, session, pass, 0, Err(ShownFault::TooOld)));
-    assert!(rt; is_shown(rt, alloc, session, pass, 1, Ok(b"")));
-    assert!(rt; matches!(session.confirm(rt, 1, pass, &mut Sights::new()), Ok(_)));
+    is_unshown
+        && is_new
+        && receipt.number() == 6
+        && comes_stored(session, net, &disk, raiser, &receipt, pass)
+        && is_shown(rt, alloc, session, pass, 0, Err(ShownFault::TooOld))
+        && is_shown(rt, alloc, session, pass, 1, Ok(b""))
+        && session.confirm(rt, 1, pass, &mut Sights::new()).is_ok()
 }
 
-/// Makes the calls that are refused once the store is broken; each process stays in the ready queue.
-fn play_broken<J: Naming, R: Wait + Abort>(
+/// Makes the calls that are refused once the store is broken. Answers whether they are, and each process stays in the ready queue.
+fn play_broken<J: Naming, R: Wait>(
     rt: &R,
     session: &Session<'_, J>,
     net: &Net<J, NoGate>,
     seat: &mut Seat<J>,
     pass: &mut Pass,
     key: &mut Key<Told>,
-)
+) -> bool
     requires seat { seat.old.hand.of ≡ Some net.now.queue }
     requires pass { pass.old.mark ≡ J.mark }
     requires key { key.old.name ≡ J.flusher }
 {
     net.shared().book().lock(rt).break_store(key);
-    play_offers(rt, session, BROKEN_OFFERS);
-    assert!(rt; matches!(session.confirm(rt, 1, pass, &mut Sights::new()), Ok(_)));
+    let are_answered = are_answered(rt, session, BROKEN_OFFERS);
+    let is_confirmed = session.confirm(rt, 1, pass, &mut Sights::new()).is_ok();
     for _ in 0..3 {
-        assert!(rt; matches!(net.turn(rt, seat), Err(TurnFault::StoreBroken)));
-        assert!(rt; matches!(net.turn(rt, seat), Ok(turn) if turn.process == 1));
+        if !matches!(net.turn(rt, seat), Err(TurnFault::StoreBroken)) {
+            return false;
+        }
+        if !matches!(net.turn(rt, seat), Ok(turn) if turn.process == 1) {
+            return false;
+        }
     }
+    are_answered && is_confirmed
 }
 
-fn play<J: Naming, R: Wait + Abort>(
+/// Whether all of that goes so at a seat, and there is one port.
+fn goes<J: Naming, R: Wait>(
+    rt: &R,
+    alloc: Global,
+    net: &Net<J, NoGate>,
+    seat: &mut Seat<J>,
+    raiser: &mut Raiser,
+    pass: &mut Pass,
+    key: &mut Key<Told>,
+) -> bool
+    requires seat { seat.old.hand.of ≡ Some net.now.queue }
+    requires mark { (pass.old.mark ≡ J.mark) × (raiser.old.mark ≡ J.mark) }
+    requires key { key.old.name ≡ J.flusher }
+{
+    let Some(session) = Session::new(net.shared(), 0) else {
+        return false;
+    };
+    Session::new(net.shared(), 1).is_none()
+        && play_turns(rt, net, seat)
+        && is_journalled(rt, net)
+        && are_answered(rt, &session, OFFERS)
+        && are_outputs(rt, alloc, &session, net, raiser, pass)
+        && play_broken(rt, &session, net, seat, pass, key)
+}
+
+/// Whether it goes so in the network of these parts.
+fn play<J: Naming, R: Wait>(
     rt: &R,
     alloc: Global,
     parts: Parts,
     mut raiser: Raiser,
-) -> Result<(), Fail>
+) -> Result<bool, Fail>
     requires names { Names J.roll J.first J.start J.node J.mark J.flusher J.sights J.room parts }
     requires mark { raiser.mark ≡ J.mark }
 {
     let (net, seats, mut key) = Net::<J, NoGate>::start(rt, alloc, parts, 16, 1, NoGate)?;
     let mut pass = net.shared().mark().pass(&mut raiser);
     let Some(mut seat) = seat_of(&net, seats) else {
-        panic!(rt; "a seat is there")
+        return Ok(false);
     };
-    assert!(rt; Session::new(net.shared(), 1).is_none());
-    let Some(session) = Session::new(net.shared(), 0) else {
-        panic!(rt; "the port is there")
-    };
-    play_turns(rt, &net, &mut seat);
-    assert!(rt; is_journalled(rt, &net));
-    play_offers(rt, &session, OFFERS);
-    play_outputs(rt, alloc, &session, &net, &mut raiser, &mut pass);
-    play_broken(rt, &session, &net, &mut seat, &mut pass, &mut key);
+    let goes = goes(rt, alloc, &net, &mut seat, &mut raiser, &mut pass, &mut key);
     let _slips = seat.into_slips();
-    Ok(())
+    Ok(goes)
 }
 
 /// Plays it with new names.
-fn play_device<R: Wait + Abort>(
-    rt: &R,
-    alloc: Global,
-    parts: Parts,
-    raiser: Raiser,
-) -> Result<(), Fail>
+fn play_device<R: Wait>(rt: &R, alloc: Global, parts: Parts, raiser: Raiser) -> Result<bool, Fail>
     requires { raiser.mark ≡ parts.mark }
 {
     play::<Brand, R>(rt, alloc, parts, raiser)
@@ -260,5 +286,6 @@ fn parts_of_device(alloc: Global) -> Result<(Parts, Raiser), Fail>
 fn a_worker_and_a_host(rt: HostRuntime) -> Result<(), Fail> {
     let alloc = rt.alloc();
     let (parts, raiser) = parts_of_device(alloc)?;
-    play_device(&rt, alloc, parts, raiser)
+    assert!(rt; play_device(&rt, alloc, parts, raiser)?);
+    Ok(())
 }

@@ -1,7 +1,8 @@
 //! What the script journals, over a device whose areas have turns, and over one whose first area has none.
 
 use crate::acts::turn;
-use crate::remains::{fresh, kept, recovered, run, untold};
+use crate::copied::fresh;
+use crate::remains::{kept, recovered, run, untold};
 use crate::script::Done;
 use crate::stops::{SCRIPT, is_last};
 use std::alloc::Global;
@@ -86,10 +87,21 @@ fn is_journalled<R: Wait>(
     )
 }
 
+/// Whether it does so over such a device.
+fn is_journalled_over<R: Wait>(rt: &R, alloc: Global, is_plain: bool) -> Result<bool, Fail> {
+    let first = if is_plain {
+        kept(alloc)?
+    } else {
+        fresh(alloc)?
+    };
+    let told = is_journalled(rt, alloc, &first, is_plain);
+    told
+}
+
 #[test]
 fn a_script_journals_what_it_does(rt: HostRuntime) -> Result<(), Fail> {
-    let alloc = rt.alloc();
-    assert!(rt; is_journalled(&rt, alloc, &fresh(alloc)?, false)?);
-    assert!(rt; is_journalled(&rt, alloc, &kept(alloc)?, true)?);
+    for is_plain in [false, true] {
+        assert!(rt; is_journalled_over(&rt, rt.alloc(), is_plain)?);
+    }
     Ok(())
 }

@@ -1,6 +1,7 @@
 //! A device of four nodes, in memory, where each page of a node has a mark of its own.
 
-use crate::device::{BYTES, ROUND, formatted_with};
+use crate::device::{AREA, BYTES, ROUND, SIZE};
+use crate::small::formatted;
 use std::alloc::{AllocError, Global};
 use std::test::Fail;
 use tp_disk::MemDisk;
@@ -56,6 +57,6 @@ fn images(alloc: Global) -> Result<Vec<Vec<u8>>, AllocError> {
 pub(crate) fn marked(alloc: Global) -> Result<MemDisk, Fail> {
     let images = images(alloc)?;
     let topology = Topology::read(alloc, TEXT)?;
-    let disk = formatted_with(alloc, &topology, &images);
+    let disk = formatted(alloc, &topology, &images, AREA, SIZE);
     disk
 }

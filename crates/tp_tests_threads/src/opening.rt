@@ -71,8 +71,9 @@ fn parts_of(alloc: Global, opened: Opened, spare: usize) -> Result<(Parts, Raise
     let room = opened.journal_room();
     let state = opened.into_state(alloc)?;
     let book = Book::open(alloc, &state, Some(room))?;
-    let (mark, raiser, _) = Mark::start(alloc, state.next, 0)?;
+    let next = state.next;
     let nodes = nodes_of(alloc, state, spare)?;
+    let (mark, raiser, _) = Mark::start(alloc, next, 0)?;
     let parts = Parts::opened(alloc, book, nodes, mark)?;
     Ok((parts, raiser))
 }

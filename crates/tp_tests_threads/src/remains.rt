@@ -3,25 +3,15 @@
 use crate::opening::opening_of;
 use crate::plain::{is_network, replayed};
 use crate::script::{Done, Step, Told, play_in};
-use crate::small::formatted;
 use crate::unkind::{Fault, RawUnkind};
 use std::alloc::{AllocError, Global};
 use std::sync::Wait;
 use std::test::Fail;
 use tp_disk::MemDisk;
 use tp_model::Entry;
-use tp_net::Topology;
 use tp_recover::open;
 use tp_replay::FlatNetwork;
-use tp_tests_fixtures::{AREA, KEPT, ONE_NODE, letter};
-
-/// The device of the node that sends a letter, freshly formatted.
-pub(crate) fn fresh(alloc: Global) -> Result<Vec<u8>, Fail> {
-    let images = Vec::from_array(alloc, [letter(alloc)?])?;
-    let topology = Topology::read(alloc, ONE_NODE)?;
-    let disk = formatted(alloc, &topology, &images, AREA as u32)?;
-    Ok(disk.crash())
-}
+use tp_tests_fixtures::KEPT;
 
 /// The device that was formatted for this network before areas had forms, and kept.
 pub(crate) fn kept(alloc: Global) -> Result<Vec<u8>, AllocError> {

@@ -46,17 +46,18 @@ fn images(alloc: Global, programs: &[Program]) -> Result<Vec<Vec<u8>>, AllocErro
     Ok(images)
 }
 
-/// A device of a topology and images, with areas of `area` bytes.
+/// A device of `size` bytes, of a topology and images, with areas of `area` bytes.
 pub(crate) fn formatted(
     alloc: Global,
     topology: &Topology,
     images: &[Vec<u8>],
-    area: u32,
+    area: u64,
+    size: usize,
 ) -> Result<MemDisk, Fail> {
-    let mut disk = MemDisk::zeroed(alloc, NARROW_HEAD_BYTES + 2 * area as usize)?;
+    let mut disk = MemDisk::zeroed(alloc, size)?;
     // A topology keeps its rules: its page counts say so, which `format` asks.
     let _rules = topology.pages();
-    format(alloc, &mut disk, topology, images, u64::from(area))?;
+    format(alloc, &mut disk, topology, images, area)?;
     Ok(disk)
 }
 
@@ -64,6 +65,7 @@ pub(crate) fn formatted(
 pub(crate) fn formatted_as(alloc: Global, network: &Network) -> Result<MemDisk, Fail> {
     let images = images(alloc, network.programs)?;
     let topology = Topology::read(alloc, network.text)?;
-    let disk = formatted(alloc, &topology, &images, network.area);
+    let size = NARROW_HEAD_BYTES + 2 * network.area as usize;
+    let disk = formatted(alloc, &topology, &images, u64::from(network.area), size);
     disk
 }

@@ -1,7 +1,7 @@
 //! A script whose device fails, or stops it, at each of its calls: what the device then opens to, and how it goes on.
 
-use crate::copied::opened;
-use crate::remains::{Left, calls_of, ended, fresh, kept, known, recovered, run, untold};
+use crate::copied::{fresh, opened};
+use crate::remains::{Left, calls_of, ended, kept, known, recovered, run, untold};
 use crate::script::{Done, Step};
 use crate::tears::{EACH, SOME, Tear, fault_at};
 use crate::unkind::{Ending, Fault, RawUnkind, Torn};
@@ -52,8 +52,41 @@ fn goes_on<R: Wait>(
     Ok(reached? == Some(count) && count > next)
 }
 
-/// Opens what a run left, and begins a checkpoint that stops within each of its calls, where all that isn't synced is then A5. Answers how
-/// many calls there are, where each time the device opens as it ought to.
+/// How many calls of the device steps make behind what a run left, with those that open it.
+fn calls_behind<R: Wait>(
+    rt: &R,
+    alloc: Global,
+    left: &Left,
+    next: u64,
+    steps: &[Step<'_>],
+) -> Result<u64, Fail> {
+    calls_of(
+        rt,
+        alloc,
+        &left.bytes,
+        known(alloc, &left.told, next)?,
+        steps,
+    )
+}
+
+/// Whether a checkpoint behind what a run left that stops within a call, where all that isn't synced is then A5, leaves a device that opens
+/// as it ought to.
+fn is_stopped_well<R: Wait>(
+    rt: &R,
+    alloc: Global,
+    first: &[u8],
+    left: &Left,
+    next: u64,
+    call: u64,
+) -> Result<bool, Fail> {
+    let told = known(alloc, &left.told, next)?;
+    let tear = (Ending::Within, Torn::Filled(0xA5), Torn::Filled(0xA5));
+    let fault = fault_at(call, tear);
+    Ok(ended(rt, alloc, first, &left.bytes, told, CHECKPOINT, fault)?.is_some())
+}
+
+/// Opens what a run left, and begins a checkpoint that stops within each of its calls. Answers how many calls there are, where each time the
+/// device opens as it ought to.
 fn checkpoints_behind<R: Wait>(
     rt: &R,
     alloc: Global,
@@ -61,22 +94,10 @@ fn checkpoints_behind<R: Wait>(
     left: &Left,
     next: u64,
 ) -> Result<Option<u64>, Fail> {
-    let bytes = left.bytes.as_slice();
-    let from = calls_of(rt, alloc, bytes, known(alloc, &left.told, next)?, &[])?;
-    let to = calls_of(
-        rt,
-        alloc,
-        bytes,
-        known(alloc, &left.told, next)?,
-        CHECKPOINT,
-    )?;
+    let from = calls_behind(rt, alloc, left, next, &[])?;
+    let to = calls_behind(rt, alloc, left, next, CHECKPOINT)?;
     for call in from..to {
-        let fault = fault_at(
-            call,
-            (Ending::Within, Torn::Filled(0xA5), Torn::Filled(0xA5)),
-        );
-        let told = known(alloc, &left.told, next)?;
-        if ended(rt, alloc, first, bytes, told, CHECKPOINT, fault)?.is_none() {
+        if !is_stopped_well(rt, alloc, first, left, next, call)? {
             return Ok(None);
         }
     }

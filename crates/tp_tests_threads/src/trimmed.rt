@@ -4,7 +4,7 @@ ghost use Rattle.std.specs.Prelude.{◌≡◌};
 ghost use Rattle.tp_shared.specs.Named.{Names};
 ghost use Rattle.tp_tests_threads.specs.Spelt.{IsSpelt};
 
-use crate::device::{formatted, without_turns};
+use crate::checkpoints::{Device, device_of};
 use crate::flushing::flush;
 use crate::hold::Hold;
 use crate::left::{both, is_left};
@@ -142,7 +142,6 @@ fn a_turn_that_is_open_at_a_trim_is_committed_as_it_was_opened(
         ],
         count: QUANTUM,
     }];
-    assert!(rt; plays(&rt, alloc, formatted(alloc)?, &whole)?);
     let apart = [
         Entry::Take {
             line: LINE,
@@ -153,6 +152,12 @@ fn a_turn_that_is_open_at_a_trim_is_committed_as_it_was_opened(
             count: QUANTUM,
         },
     ];
-    assert!(rt; plays(&rt, alloc, without_turns(formatted(alloc)?), &apart)?);
+    let rows: [(Device, &[Entry]); 2] = [
+        (Device::Formatted, &whole),
+        (Device::WithoutTurns, &apart),
+    ];
+    for (device, wanted) in rows {
+        assert!(rt; plays(&rt, alloc, device_of(alloc, device)?, wanted)?);
+    }
     Ok(())
 }
