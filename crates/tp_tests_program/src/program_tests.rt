@@ -226,7 +226,7 @@ fn other_line(alloc: Global, count: usize) -> Result<Vec<String>, Fail> {
     Ok(line)
 }
 
-/// What the program says on standard error of a line of `count` words, of which the first is the name that it was called by.
+/// What the program says on standard error of a line of `count` words, the name that it was called by among them.
 fn said_of<
     R: Files<File = F> + AllocGlobal + Threads + Wait + Sync,
     F: FileExt + OpenFile + Drop + Send,

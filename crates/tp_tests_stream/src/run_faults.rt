@@ -230,7 +230,7 @@ impl Outlet for Slow {
 const ECHOES: Job = Job { turns: 64, ..FOUR };
 
 /// Whether a run on the device of a node that echoes ends with that fault, or with none, once its outlet, which has room for `room` bytes,
-/// took these bytes, by calls for so many.
+/// took these bytes, by calls for these numbers.
 fn ends_so<R: Threads + Wait + Abort + Sync>(
     rt: &R,
     alloc: Global,
@@ -245,7 +245,7 @@ fn ends_so<R: Threads + Wait + Abort + Sync>(
     done.err() == fault && slow.has(taken, asked)
 }
 
-/// The calls for three bytes, one of which is taken in each other one.
+/// The calls for three bytes, where each other call takes one.
 const ALL: &[usize] = &[3, 3, 2, 2, 1, 1];
 
 #[test]

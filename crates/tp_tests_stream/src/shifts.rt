@@ -142,7 +142,7 @@ where
     Ok(device)
 }
 
-/// Whether the second row's network leaves, byte for byte, what it leaves by one worker, where so many are asked for.
+/// Whether the second row's network leaves, byte for byte, what it leaves by one worker, where `workers` are asked for.
 fn are_alike<R: Threads + Wait + Abort + Sync>(rt: &R, workers: u8) -> Result<bool, Fail>
 where
     R: AllocGlobal,
