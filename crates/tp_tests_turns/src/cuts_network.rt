@@ -1,12 +1,10 @@
 //! Two nodes and a port, and their book, without a device.
 
-ghost use Rattle.std.specs.Prelude.{◌≡◌, [], ◌∷◌, IfOk, IsSome, None, Some, map, replicate};
-ghost use Rattle.tp_model.specs.Format.{fresh_port};
+ghost use Rattle.std.specs.Prelude.{◌≡◌, IfOk, IsSome, None, Some};
 ghost use Rattle.tp_model.specs.Image.{node_at};
 ghost use Rattle.tp_model.specs.Network.{receiver};
 ghost use Rattle.tp_model.specs.declared.wire.WireEnd.TheVariants.{Link};
 ghost use Rattle.tp_book.specs.Parts.{network_made};
-ghost use Rattle.tp_book.specs.PortParts.{port_made};
 ghost use Rattle.tp_tests_turns.specs.CutsNets.{pair_network};
 
 use crate::acts::{begin, close, record, run, take};
@@ -14,8 +12,8 @@ use std::alloc::{AllocError, Global};
 use std::marker::Model;
 use std::test::Fail;
 use tp_book::{Book, NetParts, PortParts, fresh_ports};
+use tp_model::WireEnd;
 use tp_model::limits::{IMAGE_HEAD_BYTES, MAX_STEPS, PAGE_BYTES};
-use tp_model::{Token, WireEnd};
 use tp_net::Lines;
 use tp_node::Node;
 use tp_replay::FlatNetwork;
@@ -56,58 +54,35 @@ impl Model for Net {
     ghost invariant = { λ n. HasNodes n.book n.nodes.items };
 }
 
-/// Its lines, which are empty.
-fn nine_lines(alloc: Global) -> Result<Vec<Vec<Token>>, AllocError>
-    ensures { IfOk result (λ lines. map (λ line. line.items) lines.items ≡ replicate 9 []) }
+/// The network of two images, before its first entry.
+pub(crate) fn pair_parts(alloc: Global, first: &[u8], second: &[u8]) -> Result<NetParts, AllocError>
+    ensures { IfOk result (λ net. network_made net ≡ pair_network (node_at first.now) (node_at second.now)) }
 {
-    let lines = [
-        Vec::new(alloc),
-        Vec::new(alloc),
-        Vec::new(alloc),
-        Vec::new(alloc),
-        Vec::new(alloc),
-        Vec::new(alloc),
-        Vec::new(alloc),
-        Vec::new(alloc),
-        Vec::new(alloc),
-    ];
-    Vec::from_array(alloc, lines)
-}
-
-/// Two images.
-pub(crate) fn both_images(
-    alloc: Global,
-    first: &[u8],
-    second: &[u8],
-) -> Result<Vec<Vec<u8>>, AllocError>
-    ensures { IfOk result (λ images. map (λ image. node_at image.items) images.items ≡ node_at first.now ∷ node_at second.now ∷ []) }
-{
+    let lines = Vec::from_array(
+        alloc,
+        [
+            Vec::new(alloc),
+            Vec::new(alloc),
+            Vec::new(alloc),
+            Vec::new(alloc),
+            Vec::new(alloc),
+            Vec::new(alloc),
+            Vec::new(alloc),
+            Vec::new(alloc),
+            Vec::new(alloc),
+        ],
+    )?;
     let first = Vec::from_slice(alloc, first)?;
     let second = Vec::from_slice(alloc, second)?;
-    Vec::from_array(alloc, [first, second])
-}
-
-/// A port to which nothing has come.
-fn one_port(alloc: Global) -> Result<Vec<PortParts>, AllocError>
-    ensures { IfOk result (λ ports. map port_made ports.items ≡ fresh_port ∷ []) }
-{
+    let images = Vec::from_array(alloc, [first, second])?;
+    let wires = Vec::from_slice(alloc, &WIRES)?;
     let port = PortParts {
         pending: Vec::new(alloc),
         in_base: 0,
         outputs: Vec::new(alloc),
         out_base: 0,
     };
-    Vec::from_array(alloc, [port])
-}
-
-/// The network of two images, before its first entry.
-pub(crate) fn pair_parts(alloc: Global, first: &[u8], second: &[u8]) -> Result<NetParts, AllocError>
-    ensures { IfOk result (λ net. network_made net ≡ pair_network (node_at first.now) (node_at second.now)) }
-{
-    let wires = Vec::from_slice(alloc, &WIRES)?;
-    let images = both_images(alloc, first, second)?;
-    let lines = nine_lines(alloc)?;
-    let ports = one_port(alloc)?;
+    let ports = Vec::from_array(alloc, [port])?;
     Ok(NetParts {
         wires,
         images,

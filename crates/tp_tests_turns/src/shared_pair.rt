@@ -1,15 +1,14 @@
 //! Two nodes of one image, whose links 0 are wired to each other.
 
-ghost use Rattle.std.specs.Prelude.{◌≡◌, [], Ok, true, length, map, replicate, IfOk, IfSome};
+ghost use Rattle.std.specs.Prelude.{◌≡◌, Ok, true, length, IfOk, IfSome};
 ghost use Rattle.tp_book.specs.Parts.{network_made};
 ghost use Rattle.tp_model.specs.Image.{node_at, node_of, has_idle_links};
 ghost use Rattle.tp_node.specs.FromImage.{ReadsImage};
 ghost use Rattle.tp_tests_turns.specs.SharedPair.{pair_network};
 
-use crate::cuts_network::both_images;
 use std::alloc::{AllocError, Global};
 use tp_book::{Book, NetParts};
-use tp_model::{Token, WireEnd};
+use tp_model::WireEnd;
 use tp_node::{Node, has_idle_links};
 use tp_ready::Mark;
 use tp_shared::Parts;
@@ -26,30 +25,27 @@ const WIRES: [Option<WireEnd>; 8] = [
     None,
 ];
 
-/// Its lines, which are empty.
-fn eight_lines(alloc: Global) -> Result<Vec<Vec<Token>>, AllocError>
-    ensures { IfOk result (λ lines. map (λ line. line.items) lines.items ≡ replicate 8 []) }
-{
-    let lines = [
-        Vec::new(alloc),
-        Vec::new(alloc),
-        Vec::new(alloc),
-        Vec::new(alloc),
-        Vec::new(alloc),
-        Vec::new(alloc),
-        Vec::new(alloc),
-        Vec::new(alloc),
-    ];
-    Vec::from_array(alloc, lines)
-}
-
 /// The network before its first entry.
 fn network(alloc: Global, image: &[u8]) -> Result<NetParts, AllocError>
     ensures { IfOk result (λ net. network_made net ≡ pair_network (node_at image.now)) }
 {
+    let lines = Vec::from_array(
+        alloc,
+        [
+            Vec::new(alloc),
+            Vec::new(alloc),
+            Vec::new(alloc),
+            Vec::new(alloc),
+            Vec::new(alloc),
+            Vec::new(alloc),
+            Vec::new(alloc),
+            Vec::new(alloc),
+        ],
+    )?;
+    let first = Vec::from_slice(alloc, image)?;
+    let second = Vec::from_slice(alloc, image)?;
+    let images = Vec::from_array(alloc, [first, second])?;
     let wires = Vec::from_slice(alloc, &WIRES)?;
-    let images = both_images(alloc, image, image)?;
-    let lines = eight_lines(alloc)?;
     Ok(NetParts {
         wires,
         images,
