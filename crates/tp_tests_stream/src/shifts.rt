@@ -30,42 +30,41 @@ struct Row {
     has_shifts: bool,
 }
 
+/// Turns that are too short for threads by one step of each node's.
+const LIGHT: Row = Row {
+    text: ONE,
+    area: 1_048_576,
+    workers: 3,
+    quantum: 127,
+    has_shifts: false,
+};
+
+/// Three nodes that compute side by side.
+const HEAVY: Row = Row {
+    text: CHAIN,
+    area: 1_048_576,
+    workers: 3,
+    quantum: 128,
+    has_shifts: true,
+};
+
 /// In a round of node and host each node's turn runs as many steps as it may: 64 in the mean with 128, and fewer with 127.
 const ROWS: &[Row] = &[
+    LIGHT,
     Row {
-        text: ONE,
-        area: 1_048_576,
-        workers: 3,
         quantum: 128,
         has_shifts: true,
+        ..LIGHT
     },
+    HEAVY,
     Row {
-        text: ONE,
-        area: 1_048_576,
-        workers: 3,
-        quantum: 127,
-        has_shifts: false,
-    },
-    Row {
-        text: CHAIN,
-        area: 1_048_576,
         workers: 1,
-        quantum: 128,
         has_shifts: false,
+        ..HEAVY
     },
     Row {
-        text: CHAIN,
-        area: 1_048_576,
-        workers: 3,
-        quantum: 128,
-        has_shifts: true,
-    },
-    Row {
-        text: CHAIN,
-        area: 1_048_576,
         workers: 16,
-        quantum: 128,
-        has_shifts: true,
+        ..HEAVY
     },
 ];
 
@@ -147,7 +146,7 @@ where
     Ok(device)
 }
 
-/// Whether the second row's network leaves by `workers`, byte for byte, what it leaves by one, `one`.
+/// Whether turns that are too short for threads leave by `workers`, byte for byte, what they leave by one, `one`.
 fn are_alike<R: Threads + Wait + Abort + Sync>(
     rt: &R,
     workers: u8,
@@ -156,7 +155,7 @@ fn are_alike<R: Threads + Wait + Abort + Sync>(
 where
     R: AllocGlobal,
 {
-    let other = left_by(rt, &Row { workers, ..ROWS[1] })?;
+    let other = left_by(rt, &Row { workers, ..LIGHT })?;
     Ok(other.as_slice() == one)
 }
 
@@ -165,7 +164,7 @@ where
 fn light_turns_leave_the_bytes_of_one_worker(rt: HostRuntime) -> Result<(), Fail> {
     let alone = Row {
         workers: 1,
-        ..ROWS[1]
+        ..LIGHT
     };
     let one = left_by(&rt, &alone)?;
     for workers in [0u8, 3, 16] {
@@ -201,7 +200,7 @@ where
     let mut streams = streams_of(alloc, sink)?;
     let device = mem::replace(&mut desk.device, Vec::new(alloc));
     let disk = MemDisk::of_bytes(device).with_fault(call, PlannedFault::StopsBefore);
-    let task = asked_of(&ROWS[3]).task;
+    let task = asked_of(&HEAVY).task;
     let (left, done) = play_on(
         rt,
         alloc,
@@ -227,7 +226,7 @@ where
     R: AllocGlobal,
 {
     let done = play_failing(rt, call, desk)?;
-    let played = play_desk(rt, asked_of(&ROWS[3]), desk)?;
+    let played = play_desk(rt, asked_of(&HEAVY), desk)?;
     Ok(done == Err(StreamFault::FlushFailed) && is_whole(rt, played, desk)?)
 }
 
@@ -235,7 +234,7 @@ fn is_told_failed_afresh<R: Threads + Wait + Abort + Sync>(rt: &R, call: u64) ->
 where
     R: AllocGlobal,
 {
-    let mut desk = fresh(rt, CHAIN, ROWS[3].area)?;
+    let mut desk = fresh(rt, CHAIN, HEAVY.area)?;
     let told = is_told_failed(rt, call, &mut desk);
     told
 }
