@@ -2,69 +2,90 @@
 
 ghost use Rattle.std.specs.Prelude.{◌≡◌};
 
-use std::io::{Input, Read};
+use crossbeam_channel::{Receiver, Sender, bounded};
+use std::io;
+use std::io::{ErrorKind, Input, Read};
 use std::sync::Wait;
 use std::thread::Threads;
 use std::time::Clock;
 use tp_model::limits::MAX_HELD;
 use tp_stream_files::{Feed, SourceFailed, Threaded, Trace};
 
-/// Standard input, which a thread reads that the first call begins: of a command that asks nothing of it, nothing is read.
+/// A reader that reads nothing before it is told to; where nobody is left who could tell it, a read fails.
 #[derive(Drop)]
-pub(crate) struct Late<R: Drop, I: Drop> {
+struct Gated<R: Drop, I: Drop> {
     rt: R,
-    /// What the thread will read, until it is begun.
-    reader: Option<I>,
-    /// What it reads, once it is.
-    feed: Option<Threaded<R>>,
+    told: Option<Receiver<()>>,
+    reader: I,
+}
+
+impl<R: Wait + Drop, I: Read + Drop> Read for Gated<R, I> {
+    fn read(&mut self, buf: &mut [u8]) -> io::Result<usize> {
+        if let Some(told) = &self.told {
+            if told.recv(&self.rt).is_err() {
+                return Err(io::Error::from(ErrorKind::BrokenPipe));
+            }
+            self.told = None;
+        }
+        self.reader.read(buf)
+    }
+}
+
+/// Standard input, whose thread reads from the first call on: a stream that is refused before it makes one reads nothing of it.
+#[derive(Drop)]
+pub(crate) struct Late<R: Drop> {
+    rt: R,
+    /// Who tells the thread to read, until it is told.
+    to_tell: Option<Sender<()>>,
+    feed: Threaded<R>,
     trace: Trace,
 }
 
-impl<R: Input<Reader = I> + Drop, I: Drop> Late<R, I> {
+impl<
+    R: Input<Reader = I> + Threads + Wait + AllocGlobal + Copy + Drop + Send + 'static,
+    I: Read + Drop + Send + 'static,
+> Late<R> {
     /// Standard input, unread so far.
-    pub(crate) fn new(rt: R) -> Late<R, I> {
-        let reader = Some(rt.reader());
+    pub(crate) fn new(rt: R) -> Late<R> {
+        let (to_tell, reader) = match bounded(rt.alloc(), 1) {
+            Ok((to_tell, told)) => {
+                let told = Some(told);
+                let reader = rt.reader();
+                (Some(to_tell), Some(Gated { rt, told, reader }))
+            }
+            Err(_) => (None, None),
+        };
         Late {
             rt,
-            reader,
-            feed: None,
+            to_tell,
+            feed: Threaded::new(rt, reader),
             trace: Trace::new(),
         }
     }
 }
 
-impl<
-    R: Threads + Wait + AllocGlobal + Copy + Drop + Send + 'static,
-    I: Read + Drop + Send + 'static,
-> Late<R, I> {
-    /// What the thread reads, which is begun where it wasn't.
-    fn begin(&mut self) -> Threaded<R>
+impl<R: Wait + Drop> Late<R> {
+    /// Tells the thread to read, where it wasn't told.
+    fn begin(&mut self)
         ensures { self.new.trace.told ≡ self.old.trace.told }
     {
-        match self.feed.take() {
-            Some(feed) => feed,
-            None => Threaded::new(self.rt, self.reader.take()),
+        if let Some(to_tell) = self.to_tell.take() {
+            let _ = to_tell.send(&self.rt, ());
         }
     }
 }
 
-impl<
-    R: Threads + Wait + Clock + AllocGlobal + Copy + Drop + Send + 'static,
-    I: Read + Drop + Send + 'static,
-> Feed for Late<R, I> {
+impl<R: Wait + Clock + Drop> Feed for Late<R> {
     ghost given = { λ late. late.trace.told };
 
     fn would_wait(&mut self, millis: u64) -> bool {
-        let mut feed = self.begin();
-        let waits = feed.would_wait(millis);
-        self.feed = Some(feed);
-        waits
+        self.begin();
+        self.feed.would_wait(millis)
     }
 
     fn next(&mut self, out: &mut [u8; MAX_HELD]) -> Result<usize, SourceFailed> {
-        let mut feed = self.begin();
-        let came = feed.next(out);
-        self.feed = Some(feed);
+        self.begin();
+        let came = self.feed.next(out);
         self.trace = match came {
             Ok(count) => self.trace.gave(&out[..count]),
             Err(SourceFailed) => self.trace.give_failed(),
