@@ -1,6 +1,7 @@
 //! The program's commands.
 
 use crate::printed::print_lines;
+use crate::redirected::Redirects;
 use crate::stage::Stage;
 use std::alloc::Global;
 use std::fs::{Files, OpenFile};
@@ -11,7 +12,6 @@ use std::thread::Threads;
 use std::{fs, io};
 use tp_program::{OneLook, answer_locking};
 use tp_stream_files::Plain;
-use tp_tests_files::standing::Standing;
 
 /// A command as it was typed: its words, the program's name first, and the files that its streams are redirected to.
 #[derive(Drop)]
@@ -98,10 +98,10 @@ impl<'a, R: Files> Write for Reader<'a, R> {
 
 /// Does what a command asks for, as the program does.
 fn carry_out<
-    R: Files<File = F> + AllocGlobal + Threads + Wait + Sync,
+    R: Files<File = F> + AllocGlobal,
+    S: Files<File = F> + AllocGlobal + Threads + Wait + Sync,
     F: FileExt + OpenFile + Drop + Send,
->(rt: &R, stage: &Stage, words: &[String], input: &[u8]) -> Done {
-    let files = Standing::new(rt, stage.streams.as_slice());
+>(rt: &R, files: &S, stage: &Stage, words: &[String], input: &[u8]) -> Done {
     let mut feed = Plain::new(input);
     let mut err = Vec::new(rt.alloc());
     let mut out = Reader {
@@ -112,7 +112,7 @@ fn carry_out<
     };
     let (other, mut steps) = (stage.holding.other(rt), stage.looks.steps());
     let status = answer_locking(
-        &files,
+        files,
         other,
         &mut OneLook,
         words,
@@ -157,11 +157,13 @@ fn tell<R: Files + AllocGlobal>(
 
 /// Plays a command.
 pub(crate) fn play_command<
-    R: Files<File = F> + AllocGlobal + Threads + Wait + Sync,
+    R: Files<File = F> + AllocGlobal,
+    S: Files<File = F> + AllocGlobal + Redirects + Threads + Wait + Sync,
     F: FileExt + OpenFile + Drop + Send,
->(rt: &R, stage: &mut Stage, words: &str) -> io::Result<()> {
+>(rt: &R, files: &S, stage: &mut Stage, words: &str) -> io::Result<()> {
     let typed = Typed::read(rt.alloc(), words)?;
     let input = input_of(rt, &typed)?;
-    let done = carry_out(rt, stage, typed.words.as_slice(), input.as_slice());
+    files.redirect(stage.redirected(rt.alloc())?);
+    let done = carry_out(rt, files, stage, typed.words.as_slice(), input.as_slice());
     tell(rt, stage, &typed, &done)
 }

@@ -8,11 +8,13 @@ mod making;
 mod onlooking;
 mod playing;
 mod printed;
+mod redirected;
 mod stage;
 mod staying;
 mod typed;
 
 use playing::play_file;
+use redirected::{Redirected, Redirects};
 use std::fs::{Files, OpenFile};
 use std::io::Write;
 use std::os::unix::fs::FileExt;
@@ -24,13 +26,14 @@ use std::{env, io};
 
 /// Plays the files of stories that the words name. Answers whether each line of them could be played.
 fn play_files<
-    R: Files<File = F> + Env + AllocGlobal + Threads + Wait + Sync,
+    R: Files<File = F> + Env + AllocGlobal,
+    S: Files<File = F> + AllocGlobal + Redirects + Threads + Wait + Sync,
     F: FileExt + OpenFile + Drop + Send,
     O: Write,
->(rt: &R, out: &mut O) -> io::Result<bool> {
+>(rt: &R, files: &S, out: &mut O) -> io::Result<bool> {
     let mut are_played = true;
     for path in env::args(rt)?.skip(1) {
-        are_played = play_file(rt, path.as_str(), out)? && are_played;
+        are_played = play_file(rt, files, path.as_str(), out)? && are_played;
     }
     out.flush()?;
     Ok(are_played)
@@ -38,7 +41,8 @@ fn play_files<
 
 fn main(rt: HostRuntime) -> ExitCode {
     let mut out = rt.stdout();
-    match play_files(&rt, &mut out) {
+    let files = Redirected::new(&rt);
+    match play_files(&rt, &files, &mut out) {
         Ok(true) => ExitCode::SUCCESS,
         Ok(false) => ExitCode::from(1),
         Err(error) => {

@@ -81,6 +81,15 @@ impl Stage {
         Ok(())
     }
 
+    /// The standard streams that are files, and the path of each.
+    pub(crate) fn redirected(&self, alloc: Global) -> io::Result<Vec<(&'static str, String)>> {
+        let mut streams = Vec::new(alloc);
+        for (stream, file) in &self.streams {
+            streams.push((*stream, String::from_str(alloc, file.as_str())?))?;
+        }
+        Ok(streams)
+    }
+
     /// Says which file the reader of standard output makes in the streams behind this line; with no word none.
     pub(crate) fn reader_makes(&mut self, alloc: Global, words: &str) -> io::Result<()> {
         self.made = match words {

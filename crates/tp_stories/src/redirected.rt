@@ -1,0 +1,109 @@
+//! The files below, where standard streams of a command are files.
+
+use std::alloc::{Allocator, Global};
+use std::fs::{Files, Metadata, OpenOptions};
+use std::io;
+use std::sync::{Mutex, Wait};
+use std::thread::Threads;
+
+/// Files in which standard streams may be redirected to files, each named by its path, as `/dev/stdout`.
+pub(crate) trait Redirects {
+    /// Takes these for the standard streams from now on.
+    fn redirect(&self, streams: Vec<(&'static str, String)>);
+}
+
+/// The files below, in which each of these streams is the file of a path. A story's commands change which they are; it is made once, where
+/// the system is known, since what commands send to threads may not rest on what is only assumed of it.
+#[derive(Drop)]
+pub(crate) struct Redirected<'a, R> {
+    below: &'a R,
+    streams: Mutex<Vec<(&'static str, String)>>,
+}
+
+impl<'a, R: AllocGlobal> Redirected<'a, R> {
+    /// These files, with no stream redirected.
+    pub(crate) fn new(below: &'a R) -> Redirected<'a, R> {
+        let streams = Mutex::new(Vec::new(below.alloc()));
+        Redirected { below, streams }
+    }
+}
+
+/// What stands at a path where these streams are redirected.
+fn behind<'b>(streams: &'b [(&'static str, String)], path: &'b str) -> &'b str {
+    for (stream, file) in streams {
+        if *stream == path {
+            return file.as_str();
+        }
+    }
+    path
+}
+
+impl<'a, R: Wait> Redirects for Redirected<'a, R> {
+    fn redirect(&self, streams: Vec<(&'static str, String)>) {
+        *self.streams.lock(self.below) = streams;
+    }
+}
+
+impl<'a, R: Alloc<A = Global>> Alloc for Redirected<'a, R> {
+    type A = Global;
+
+    fn alloc(&self) -> Global {
+        self.below.alloc()
+    }
+}
+
+impl<'a, R: Wait> Wait for Redirected<'a, R> {}
+
+impl<'a, R: Threads> Threads for Redirected<'a, R> {}
+
+impl<'a, R: Files + Wait> Files for Redirected<'a, R> {
+    type File = R::File;
+
+    type Dir = R::Dir;
+
+    fn open_file(&self, how: &OpenOptions, path: &str) -> io::Result<R::File> {
+        let streams = self.streams.lock(self.below);
+        self.below.open_file(how, behind(streams.as_slice(), path))
+    }
+
+    fn open_dir(&self, path: &str) -> io::Result<R::Dir> {
+        self.below.open_dir(path)
+    }
+
+    fn metadata(&self, path: &str) -> io::Result<Metadata> {
+        let streams = self.streams.lock(self.below);
+        self.below.metadata(behind(streams.as_slice(), path))
+    }
+
+    fn symlink_metadata(&self, path: &str) -> io::Result<Metadata> {
+        self.below.symlink_metadata(path)
+    }
+
+    fn copy(&self, from: &str, to: &str) -> io::Result<u64> {
+        self.below.copy(from, to)
+    }
+
+    fn rename(&self, from: &str, to: &str) -> io::Result<()> {
+        self.below.rename(from, to)
+    }
+
+    fn remove_file(&self, path: &str) -> io::Result<()> {
+        self.below.remove_file(path)
+    }
+
+    fn hard_link(&self, original: &str, link: &str) -> io::Result<()> {
+        self.below.hard_link(original, link)
+    }
+
+    fn create_dir(&self, path: &str) -> io::Result<()> {
+        self.below.create_dir(path)
+    }
+
+    fn remove_dir(&self, path: &str) -> io::Result<()> {
+        self.below.remove_dir(path)
+    }
+
+    fn remove_dir_all<B: Allocator>(&self, alloc: B, path: &str) -> io::Result<()> {
+        self.below.remove_dir_all(alloc, path)
+    }
+}
