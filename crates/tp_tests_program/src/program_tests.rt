@@ -123,8 +123,9 @@ fn asks_run(
     let mut words = Vec::from_slice(alloc, &["run"])?;
     words.extend_from_slice(options)?;
     let line = line_of(alloc, words.as_slice())?;
-    Ok(match command_of(alloc, line.as_slice()) {
-        Some(Command::Other(Asked::Run(run))) => is_run(&run, wanted),
+    let command = command_of(alloc, line.as_slice());
+    Ok(match &command {
+        Some(Command::Other(Asked::Run(run))) => is_run(run, wanted),
         _ => false,
     })
 }
@@ -197,7 +198,7 @@ const READ: &[&[&str]] = &[&["backup"], &["stop"], &["show"], &["run", "--stream
 /// Whether these words, and as many `d` behind them as make 257 in all, are too many.
 fn are_many(alloc: Global, first: &[&str]) -> Result<bool, Fail> {
     let mut words = Vec::from_slice(alloc, first)?;
-    while words.len() < 256 {
+    for _ in words.len()..256 {
         words.push("d")?;
     }
     let line = line_of(alloc, words.as_slice())?;
