@@ -250,7 +250,8 @@ empty err
 tpnet stop -- --wait
 tpnet backup -- --explain copy 2>err
 starts err tpnet: ReadFailed\n  --explain: 
-tpnet run -- --stream
+tpnet run -- --stream 2>err
+starts err error: the following required arguments were not provided:\n
 there copy
 there run
 there stop.stop
