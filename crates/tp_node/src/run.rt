@@ -88,6 +88,7 @@ fn why_none(halt: Option<Fault>) -> Why
 }
 
 /// Makes at most `max` steps. `advance` makes all that lead on; a step that doesn't is left to `step`.
+#[inline(always)]
 pub(crate) fn run<M: Mem>(
     head: &mut Head,
     mem: &mut M,
