@@ -17,7 +17,7 @@ use tp_mem::Mem;
 use tp_model::{Fault, Token};
 
 /// Why a run ended.
-#[derive(Clone, Copy, Debug, PartialEq, Eq)]
+#[derive(Clone, Copy, PartialEq, Eq)]
 pub enum Why {
     /// All steps were made.
     Full,
