@@ -321,12 +321,12 @@ fn count_of(files: &[PortFile], port: u8) -> usize
     count
 }
 
-/// How many of the ports are this one.
-fn count_in(ports: &[u8], port: u8) -> usize
-    ensures { result ≡ count_by (λ other. other == port) ports.now }
+/// How many of the ports whose output is let go are this one.
+fn discard_count(discards: &[u8], port: u8) -> usize
+    ensures { result ≡ count_by (λ other. other == port) discards.now }
 {
     let mut count = 0;
-    for other in ports {
+    for other in discards {
         if *other == port {
             count += 1;
         }
@@ -351,7 +351,7 @@ fn standards(files: &[PortFile]) -> usize
 fn fault_at(ends: &Ends, port: u8) -> Option<EndsFault>
     ensures { result ≡ fault_at ends.now port }
 {
-    let discards = count_in(&ends.discards, port);
+    let discards = discard_count(&ends.discards, port);
     if count_of(&ends.outs, port).saturating_add(discards) > 1 {
         return Some(EndsFault::TwoOutputs(port));
     }
