@@ -87,7 +87,7 @@ fn why_none(halt: Option<Fault>) -> Why
     }
 }
 
-/// Makes at most `max` steps. `advance` makes all that lead on; a step that doesn't is left to `step`.
+/// Makes at most `max` steps. `advance` makes all that it can; the one before which it stops is left to `make_step`.
 #[inline(always)]
 pub(crate) fn run<M: Mem>(
     head: &mut Head,
