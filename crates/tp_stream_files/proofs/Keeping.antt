@@ -6,12 +6,15 @@ use Rattle.tp_stream_files.specs.Told.{EndTold, Opened, SyncedFolder}
 use Rattle.tp_stream_files.specs.Opening.{KeepsBytesThere, KeepsFiles, to_read, to_write}
 
 pub keeps_none : (calls : List EndTold) → KeepsFiles calls calls
+unfolding KeepsFiles
 keeps_none calls = ([], sym (append-nil calls), All-nil KeepsBytesThere)
 
 pub keeps_one : (old new : List EndTold) (call : EndTold) → KeepsBytesThere call → new ≡ old ++ call ∷ [] → KeepsFiles old new
+unfolding KeepsFiles
 keeps_one old new call kept grew = (call ∷ [], grew, All-cons KeepsBytesThere call [] kept (All-nil KeepsBytesThere))
 
 pub keeps_then : (old between new : List EndTold) → KeepsFiles old between → KeepsFiles between new → KeepsFiles old new
+unfolding KeepsFiles
 keeps_then old between new (calls, grew, kept) (more, later, then) =
     (calls ++ more, later ∙ ap (λ front. front ++ more) grew ∙ append_assoc old calls more, All-append KeepsBytesThere calls more kept then)
 

@@ -1,5 +1,5 @@
 -- A list that was grown by one.
-use Rattle.std.proofs.Common.{◌≡◌, ◌<◌, ◌+◌, ℕ, Bool, true, false, List, [], ◌∷◌, ◌++◌, length, map, take, get_or, Result, Ok, Err, is_ok, is_err, refl, sym, ap, ◌∙◌}
+use Rattle.std.proofs.Common.{◌≡◌, ◌<◌, ◌+◌, ℕ, Bool, true, false, List, [], ◌∷◌, ◌++◌, length, map, take, get_or, Result, Ok, Err, is_ok, is_err, refl, sym, ap, ◌∙◌, append_assoc}
 use Rattle.std.proofs.lemmas.List.{map-append, take_more}
 use Rattle.std.specs.Prelude.{if◌then◌else◌}
 
@@ -13,6 +13,13 @@ pub map_more : {X Y : Type 0} (f : X → Y) (xs : List X) (i : ℕ) (last : X) (
 map_more f xs i last ys now y low front is grew =
     grew ∙ ap (λ front. front ++ y ∷ []) front ∙ ap (λ z. map f (take i xs) ++ z ∷ []) is
     ∙ sym (map-append f (take i xs) (get_or xs i last ∷ [])) ∙ ap (map f) (sym (take_more xs i last low))
+
+-- so it is behind what was there before
+pub map_more_behind : {X Y : Type 0} (f : X → Y) (xs : List X) (i : ℕ) (last : X) (front ys now : List Y) → i < length xs → ys ≡ front ++ map f (take i xs)
+    → f last ≡ f (get_or xs i last) → now ≡ ys ++ f last ∷ [] → now ≡ front ++ map f (take (i + 1) xs)
+map_more_behind f xs i last front ys now low so is grew =
+    grew ∙ ap (λ ys. ys ++ f last ∷ []) so ∙ append_assoc front (map f (take i xs)) (f last ∷ [])
+    ∙ ap (λ rest. front ++ rest) (map_more f xs i last (map f (take i xs)) (map f (take i xs) ++ f last ∷ []) (f last) low refl is refl)
 
 -- so it is of what is taken of each
 pub map_last : {X Y : Type 0} (f : X → Y) (was now : List X) (x : X) → now ≡ was ++ x ∷ [] → map f now ≡ map f was ++ f x ∷ []

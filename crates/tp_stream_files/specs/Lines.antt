@@ -38,11 +38,15 @@ growth_part now (Some since) =
 abbrev pub count_part : ℕ → Option Since → List ℕ
 count_part now since = decimal now ++ growth_part now since
 
--- how many entries were made, how many of them are durable, how full the journal is, and which checkpoint it belongs to
+-- how many entries are durable, how full the journal is, and which checkpoint it belongs to
+abbrev pub standing_part : Progress → List ℕ
+standing_part told =
+    codes " mark " ++ (decimal told.mark ++ (codes " area " ++ (decimal told.used ++ (codes "% generation " ++ decimal told.generation))))
+
+-- how many entries were made, and how they stand
 abbrev pub front_part : Line → List ℕ
 front_part line =
-    codes "next " ++ (count_part line.told.next (Some (record { count = line.before.next; millis = line.millis }))
-    ++ (codes " mark " ++ (decimal line.told.mark ++ (codes " area " ++ (decimal line.told.used ++ (codes "% generation " ++ decimal line.told.generation))))))
+    (codes "next " ++ count_part line.told.next (Some (record { count = line.before.next; millis = line.millis }))) ++ standing_part line.told
 
 -- how many turns were made
 abbrev pub turns_part : Line → List ℕ

@@ -26,5 +26,5 @@ KeepsBytesThere (Gave bytes) = Unit {0}
 KeepsBytesThere GiveFailed = Unit {0}
 
 -- Whatever was asked since then left the bytes that are there.
-abbrev pub KeepsFiles : List EndTold → List EndTold → Type 0
+unfoldable pub KeepsFiles : List EndTold → List EndTold → Type 0
 KeepsFiles old new = (more : List EndTold) × (new ≡ old ++ more) × All KeepsBytesThere more

@@ -3,6 +3,7 @@
 ghost use Rattle.std.specs.Prelude.{◌≡◌};
 ghost use Rattle.tp_stream_files.specs.Named.{standard_port};
 
+use std::fmt;
 use thiserror::Error;
 
 /// A port, and the path of a file; `-` is standard input or output.
@@ -83,7 +84,7 @@ impl Ends {
 }
 
 /// Why ends aren't opened.
-#[derive(Clone, Copy, Debug, PartialEq, Eq, Error)]
+#[derive(Clone, Copy, Error)]
 pub enum EndFault {
     /// The file that a port's input comes from can't be read.
     #[error("ReadFailed")]
@@ -100,4 +101,10 @@ pub enum EndFault {
     /// Memory was refused.
     #[error("Memory")]
     Memory,
+}
+
+impl fmt::Debug for EndFault {
+    fn fmt<W: fmt::Write>(&self, f: &mut fmt::Formatter<W>) -> fmt::Result {
+        fmt::Display::fmt(self, f)
+    }
 }

@@ -1,7 +1,7 @@
 //! Lines of how far a stream has come: when one is due, and what it says.
 
 ghost use Rattle.std.specs.Prelude.{◌≡◌, ◌++◌, ◌*◌, None, IfOk, OnOk, string_bytes};
-ghost use Rattle.tp_stream_files.specs.Lines.{count_part, front_part, growth_part, heard, line_due, line_text, out_part, out_parts, put_before, since_put, turns_part};
+ghost use Rattle.tp_stream_files.specs.Lines.{count_part, front_part, growth_part, heard, line_due, line_text, out_part, out_parts, put_before, since_put, standing_part, turns_part};
 
 use crate::Progress;
 use std::alloc::{AllocError, Global};
@@ -94,18 +94,37 @@ fn push_count(text: &mut String, now: u64, since: Option<Since>) -> Result<(), A
     push_growth(text, now, since)
 }
 
+/// Appends a word, a number, and by how much that grew in a second.
+fn push_named(
+    text: &mut String,
+    word: &str,
+    now: u64,
+    since: Option<Since>,
+) -> Result<(), AllocError>
+    ensures { OnOk result (string_bytes text.new ≡ string_bytes text.old ++ (word.now ++ count_part now since)) }
+{
+    text.push_str(word)?;
+    push_count(text, now, since)
+}
+
+/// Appends how many entries are durable, how full the journal is, and which checkpoint it belongs to.
+fn push_standing(text: &mut String, told: &Progress) -> Result<(), AllocError>
+    ensures { OnOk result (string_bytes text.new ≡ string_bytes text.old ++ standing_part told.now) }
+{
+    let (mark, used, generation) = (told.mark, told.used, told.generation);
+    write!(text, " mark {mark} area {used}% generation {generation}")
+}
+
 /// Appends how many entries were made, how many of them are durable, how full the journal is, and which checkpoint it belongs to.
 fn push_front(text: &mut String, line: &Line) -> Result<(), AllocError>
     ensures { OnOk result (string_bytes text.new ≡ string_bytes text.old ++ front_part line.now) }
 {
-    let (mark, used, generation) = (line.told.mark, line.told.used, line.told.generation);
     let since = Since {
         count: line.before.next,
         millis: line.millis,
     };
-    write!(text, "next ")?;
-    push_count(text, line.told.next, Some(since))?;
-    write!(text, " mark {mark} area {used}% generation {generation}")
+    push_named(text, "next ", line.told.next, Some(since))?;
+    push_standing(text, &line.told)
 }
 
 /// Appends how many turns were made.
@@ -116,8 +135,7 @@ fn push_turns(text: &mut String, line: &Line) -> Result<(), AllocError>
         count: line.before.turns,
         millis: line.millis,
     };
-    write!(text, " turns ")?;
-    push_count(text, line.told.turns, Some(since))
+    push_named(text, " turns ", line.told.turns, Some(since))
 }
 
 /// Up to where the outputs of a port were put, where a sink is for it.
@@ -178,13 +196,20 @@ fn push_outs(
     Ok(())
 }
 
+/// Appends the line, without an end.
+fn push_line(text: &mut String, line: &Line) -> Result<(), AllocError>
+    ensures { OnOk result (string_bytes text.new ≡ string_bytes text.old ++ line_text line.now) }
+{
+    push_front(text, line)?;
+    push_turns(text, line)?;
+    push_outs(text, &line.told.put, &line.before.put, line.millis)
+}
+
 /// The line, without an end.
 pub(crate) fn text_of(alloc: Global, line: &Line) -> Result<String, AllocError>
     ensures { IfOk result (λ text. string_bytes text ≡ line_text line.now) }
 {
     let mut text = String::new(alloc);
-    push_front(&mut text, line)?;
-    push_turns(&mut text, line)?;
-    push_outs(&mut text, &line.told.put, &line.before.put, line.millis)?;
+    push_line(&mut text, line)?;
     Ok(text)
 }

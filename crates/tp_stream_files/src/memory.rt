@@ -44,11 +44,6 @@ impl MemSink {
         &self.bytes
     }
 
-    /// Its bytes.
-    pub fn into_bytes(self) -> Vec<u8> {
-        self.bytes
-    }
-
     // Whether a call is done.
     fn goes(&mut self) -> bool
         ensures { (self.new.bytes ≡ self.old.bytes) × (self.new.safe ≡ self.old.safe) }

@@ -1,15 +1,16 @@
 //! How ends are opened.
 
-ghost use Rattle.std.specs.Prelude.{◌≡◌, ◌++◌, [], map, IfOk, OnOk};
+ghost use Rattle.std.specs.Prelude.{◌≡◌, ◌++◌, ◌∷◌, [], map, is_ok, string_bytes, IfOk, OnOk};
 ghost use Rattle.tp_stream_files.specs.Named.{inputs_named, output_away, output_to, outputs_named};
-ghost use Rattle.tp_stream_files.specs.Opening.{KeepsFiles};
+ghost use Rattle.tp_stream_files.specs.Opening.{KeepsFiles, to_read, to_write};
+ghost use Rattle.tp_stream_files.specs.Told.{Opened};
 
 use crate::ends::{EndFault, Ends, PortFile};
 use crate::feeds::Feed;
 use crate::outside::{Outside, OutsideFile};
 use crate::pipes::Pipe;
 use crate::same::{
-    FileNumbers, Taken, are_one, same_file, standard_error, standard_in, standard_out,
+    FileNumbers, STANDARD_ERROR, STANDARD_IN, STANDARD_OUT, Taken, are_one, same_file,
 };
 use crate::sinks::{AnySink, FileSink, file_at};
 use crate::sources::AnySource;
@@ -19,14 +20,6 @@ use std::alloc::Global;
 use std::fs::{Files, OpenFile, OpenOptions};
 use std::io::Write;
 use std::os::unix::fs::FileExt;
-
-/// Gives a file its part in the stream.
-fn take(taken: &mut Taken, file: Option<FileNumbers>) -> Result<(), EndFault> {
-    match taken.add(file) {
-        Ok(()) => Ok(()),
-        Err(_) => Err(EndFault::Memory),
-    }
-}
 
 /// Gives a file its part, which is open and takes the output of `port`. One that has a part already, or is what standard error goes to, is
 /// refused.
@@ -39,14 +32,40 @@ fn take_sink<S: Looks, F: EndFile>(
     let Ok(numbers) = file.numbers() else {
         return Err(EndFault::DeviceFailed(port));
     };
-    if taken.has(numbers) || are_one(numbers, standard_error(looks)) {
+    if taken.has(numbers) || are_one(numbers, looks.numbers_behind(STANDARD_ERROR)) {
         return Err(EndFault::SameFile(port));
     }
-    take(taken, numbers)
+    taken.add(numbers)
+}
+
+/// Opens a file that takes an output, or makes it.
+fn open_to_write<S: EndFiles<File = F>, F: EndFile + Drop>(
+    files: &mut S,
+    end: &PortFile,
+) -> Result<F, EndFault>
+    ensures { S.calls files.new ≡ S.calls files.old ++ Opened to_write (string_bytes end.now.path) (is_ok result) ∷ [] }
+{
+    match file_at(files, end.path.as_str()) {
+        Ok(file) => Ok(file),
+        Err(_) => Err(EndFault::DeviceFailed(end.port)),
+    }
+}
+
+/// Makes a sink of a file, which is open.
+fn sink_over<S: EndFiles<File = F>, F: EndFile + Drop>(
+    files: &mut S,
+    end: &PortFile,
+    file: F,
+) -> Result<FileSink<F>, EndFault>
+    ensures { KeepsFiles (S.calls files.old) (S.calls files.new) }
+{
+    match FileSink::over(files, end.path.as_str(), file) {
+        Ok(sink) => Ok(sink),
+        Err(_) => Err(EndFault::DeviceFailed(end.port)),
+    }
 }
 
 /// Opens a file that takes an output, or makes it. One that has a part already, or is what standard error goes to, is refused as it is.
-#[tactic(auto, using(crate::proofs::Keeping::keeps_written, crate::proofs::Keeping::keeps_then))]
 fn file_sink<S: EndFiles<File = F> + Looks, F: EndFile + Drop>(
     files: &mut S,
     end: &PortFile,
@@ -54,16 +73,9 @@ fn file_sink<S: EndFiles<File = F> + Looks, F: EndFile + Drop>(
 ) -> Result<FileSink<F>, EndFault>
     ensures { KeepsFiles (S.calls files.old) (S.calls files.new) }
 {
-    let path = end.path.as_str();
-    let failed = EndFault::DeviceFailed(end.port);
-    let Ok(file) = file_at(files, path) else {
-        return Err(failed);
-    };
+    let file = open_to_write(files, end)?;
     take_sink(files, end.port, &file, taken)?;
-    match FileSink::over(files, path, file) {
-        Ok(sink) => Ok(sink),
-        Err(_) => Err(failed),
-    }
+    sink_over(files, end, file)
 }
 
 /// What takes the output of a port: standard output, which only one may have, or a file.
@@ -82,7 +94,10 @@ fn sink_at<'a, S: EndFiles<File = F> + Looks, F: EndFile + Drop, O: Write>(
             None => Err(EndFault::Twice(end.port)),
         };
     }
-    Ok(AnySink::File(file_sink(files, end, taken)?))
+    match file_sink(files, end, taken) {
+        Ok(sink) => Ok(AnySink::File(sink)),
+        Err(fault) => Err(fault),
+    }
 }
 
 /// Gives a file its part, which is open and has the input of `port`.
@@ -90,7 +105,21 @@ fn take_source<F: EndFile>(port: u8, file: &F, taken: &mut Taken) -> Result<(), 
     let Ok(numbers) = file.numbers() else {
         return Err(EndFault::ReadFailed(port));
     };
-    take(taken, numbers)
+    taken.add(numbers)
+}
+
+/// Opens a file to be read.
+fn open_to_read<S: EndFiles<File = F>, F: EndFile + Drop>(
+    files: &mut S,
+    end: &PortFile,
+) -> Result<F, EndFault>
+    ensures { S.calls files.new ≡ S.calls files.old ++ Opened to_read (string_bytes end.now.path) (is_ok result) ∷ [] }
+{
+    let mut how = OpenOptions::new();
+    match files.open(how.read(true), end.path.as_str()) {
+        Ok(file) => Ok(file),
+        Err(_) => Err(EndFault::ReadFailed(end.port)),
+    }
 }
 
 /// Opens a file that an input comes from.
@@ -102,12 +131,20 @@ fn file_source<S: EndFiles<File = F>, F: EndFile + Drop>(
 ) -> Result<F, EndFault>
     ensures { KeepsFiles (S.calls files.old) (S.calls files.new) }
 {
-    let mut how = OpenOptions::new();
-    let Ok(file) = files.open(how.read(true), end.path.as_str()) else {
-        return Err(EndFault::ReadFailed(end.port));
-    };
+    let file = open_to_read(files, end)?;
     take_source(end.port, &file, taken)?;
     Ok(file)
+}
+
+/// Standard input as a source, which only one may have.
+fn standard_source<'a, F: EndFile + Drop, I: Feed>(
+    port: u8,
+    feed: &mut Option<&'a mut I>,
+) -> Result<AnySource<'a, F, I>, EndFault> {
+    match feed.take() {
+        Some(feed) => Ok(AnySource::In(Pipe::new(feed))),
+        None => Err(EndFault::Twice(port)),
+    }
 }
 
 /// Where the input of a port comes from: standard input, which only one may have, or a file.
@@ -121,40 +158,50 @@ fn source_at<'a, S: EndFiles<File = F> + Looks, F: EndFile + Drop, I: Feed>(
     ensures { KeepsFiles (S.calls files.old) (S.calls files.new) }
 {
     if end.is_standard() {
-        take(taken, standard_in(files))?;
-        return match feed.take() {
-            Some(feed) => Ok(AnySource::In(Pipe::new(feed))),
-            None => Err(EndFault::Twice(end.port)),
-        };
+        taken.add(files.numbers_behind(STANDARD_IN))?;
+        return standard_source(end.port, feed);
     }
-    Ok(AnySource::File(file_source(files, end, taken)?))
+    match file_source(files, end, taken) {
+        Ok(file) => Ok(AnySource::File(file)),
+        Err(fault) => Err(fault),
+    }
 }
 
-/// Opens what takes the outputs of ports. What standard output goes to is looked at last, once all files are open.
-#[tactic(auto, using(crate::proofs::Keeping::keeps_none, crate::proofs::Keeping::keeps_then))]
-fn outputs_of<'a, S: EndFiles<File = F> + Looks, F: EndFile + Drop, O: Write>(
+/// Opens what takes an output, and adds it to `outputs`.
+fn push_output<'a, S: EndFiles<File = F> + Looks, F: EndFile + Drop, O: Write>(
     files: &mut S,
-    alloc: Global,
+    ends: &Ends,
+    end: &PortFile,
+    taken: &mut Taken,
+    out: &mut Option<&'a mut O>,
+    outputs: &mut Vec<Output<AnySink<'a, F, O>>>,
+) -> Result<(), EndFault>
+    ensures kept { KeepsFiles (S.calls files.old) (S.calls files.new) }
+    ensures outputs { OnOk result (outputs.new.items ≡ outputs.old.items ++ output_to ends.now.haves.items end.now ∷ []) }
+{
+    let sink = sink_at(files, end, taken, out)?;
+    let have = ends.have_of(end.port);
+    match outputs.push(Output::new(end.port, have, sink)) {
+        Ok(()) => Ok(()),
+        Err(_) => Err(EndFault::Memory),
+    }
+}
+
+/// Opens what takes the outputs of ports, and adds each to `outputs`.
+fn push_outputs<'a, S: EndFiles<File = F> + Looks, F: EndFile + Drop, O: Write>(
+    files: &mut S,
     ends: &Ends,
     taken: &mut Taken,
-    out: &'a mut O,
-) -> Result<Vec<Output<AnySink<'a, F, O>>>, EndFault>
+    out: &mut Option<&'a mut O>,
+    outputs: &mut Vec<Output<AnySink<'a, F, O>>>,
+) -> Result<(), EndFault>
     ensures kept { KeepsFiles (S.calls files.old) (S.calls files.new) }
-    ensures outputs { IfOk result (λ outputs. outputs.items ≡ map (output_to ends.now.haves.items) ends.now.outs.items) }
+    ensures outputs { OnOk result (outputs.new.items ≡ outputs.old.items ++ map (output_to ends.now.haves.items) ends.now.outs.items) }
 {
-    let mut outputs = Vec::new(alloc);
-    let mut out = Some(out);
     for end in &ends.outs {
-        let sink = sink_at(files, end, taken, &mut out)?;
-        let have = ends.have_of(end.port);
-        if outputs.push(Output::new(end.port, have, sink)).is_err() {
-            return Err(EndFault::Memory);
-        }
+        push_output(files, ends, end, taken, out, outputs)?;
     }
-    match ends.standard_out() {
-        Some(port) if taken.has(standard_out(files)) => Err(EndFault::SameFile(port)),
-        _ => Ok(outputs),
-    }
+    Ok(())
 }
 
 /// Adds those whose output is let go.
@@ -173,8 +220,81 @@ fn add_discards<'a, F: EndFile + Drop, O: Write>(
     Ok(())
 }
 
+/// Adds what takes the outputs of ports, and those behind it whose output is let go. What standard output goes to is looked at once all
+/// files are open.
+fn push_all<'a, S: EndFiles<File = F> + Looks, F: EndFile + Drop, O: Write>(
+    files: &mut S,
+    ends: &Ends,
+    taken: &mut Taken,
+    out: &mut Option<&'a mut O>,
+    outputs: &mut Vec<Output<AnySink<'a, F, O>>>,
+) -> Result<(), EndFault>
+    ensures kept { KeepsFiles (S.calls files.old) (S.calls files.new) }
+    ensures outputs { OnOk result (outputs.new.items ≡ outputs.old.items ++ outputs_named ends.now) }
+{
+    push_outputs(files, ends, taken, out, outputs)?;
+    match ends.standard_out() {
+        Some(port) if taken.has(files.numbers_behind(STANDARD_OUT)) => {
+            Err(EndFault::SameFile(port))
+        }
+        _ => add_discards(ends, outputs),
+    }
+}
+
+/// Opens what takes the outputs of ports, with those behind it whose output is let go.
+fn outputs_of<'a, S: EndFiles<File = F> + Looks, F: EndFile + Drop, O: Write>(
+    files: &mut S,
+    alloc: Global,
+    ends: &Ends,
+    taken: &mut Taken,
+    out: &'a mut O,
+) -> Result<Vec<Output<AnySink<'a, F, O>>>, EndFault>
+    ensures kept { KeepsFiles (S.calls files.old) (S.calls files.new) }
+    ensures outputs { IfOk result (λ outputs. outputs.items ≡ outputs_named ends.now) }
+{
+    let mut outputs = Vec::new(alloc);
+    match push_all(files, ends, taken, &mut Some(out), &mut outputs) {
+        Ok(()) => Ok(outputs),
+        Err(fault) => Err(fault),
+    }
+}
+
+/// Opens where an input comes from, and adds it to `inputs`.
+fn push_input<'a, S: EndFiles<File = F> + Looks, F: EndFile + Drop, I: Feed>(
+    files: &mut S,
+    end: &PortFile,
+    taken: &mut Taken,
+    feed: &mut Option<&'a mut I>,
+    inputs: &mut Vec<Input<AnySource<'a, F, I>>>,
+) -> Result<(), EndFault>
+    ensures kept { KeepsFiles (S.calls files.old) (S.calls files.new) }
+    ensures ports { OnOk result (map (λ i. i.port) inputs.new.items ≡ map (λ i. i.port) inputs.old.items ++ end.now.port ∷ []) }
+{
+    let source = source_at(files, end, taken, feed)?;
+    match inputs.push(Input::new(end.port, source)) {
+        Ok(()) => Ok(()),
+        Err(_) => Err(EndFault::Memory),
+    }
+}
+
+/// Opens where the inputs of ports come from, and adds each to `inputs`.
+fn push_inputs<'a, S: EndFiles<File = F> + Looks, F: EndFile + Drop, I: Feed>(
+    files: &mut S,
+    ends: &Ends,
+    taken: &mut Taken,
+    feed: &mut Option<&'a mut I>,
+    inputs: &mut Vec<Input<AnySource<'a, F, I>>>,
+) -> Result<(), EndFault>
+    ensures kept { KeepsFiles (S.calls files.old) (S.calls files.new) }
+    ensures ports { OnOk result (map (λ i. i.port) inputs.new.items ≡ map (λ i. i.port) inputs.old.items ++ inputs_named ends.now) }
+{
+    for end in &ends.ins {
+        push_input(files, end, taken, feed, inputs)?;
+    }
+    Ok(())
+}
+
 /// Opens where the inputs of ports come from.
-#[tactic(auto, using(crate::proofs::Keeping::keeps_none, crate::proofs::Keeping::keeps_then))]
 fn inputs_of<'a, S: EndFiles<File = F> + Looks, F: EndFile + Drop, I: Feed>(
     files: &mut S,
     alloc: Global,
@@ -186,20 +306,34 @@ fn inputs_of<'a, S: EndFiles<File = F> + Looks, F: EndFile + Drop, I: Feed>(
     ensures ports { IfOk result (λ inputs. map (λ i. i.port) inputs.items ≡ inputs_named ends.now) }
 {
     let mut inputs = Vec::new(alloc);
-    let mut feed = Some(feed);
-    for end in &ends.ins {
-        let source = source_at(files, end, taken, &mut feed)?;
-        if inputs.push(Input::new(end.port, source)).is_err() {
-            return Err(EndFault::Memory);
-        }
+    match push_inputs(files, ends, taken, &mut Some(feed), &mut inputs) {
+        Ok(()) => Ok(inputs),
+        Err(fault) => Err(fault),
     }
-    Ok(inputs)
+}
+
+/// Opens all ends beside the files that have a part already.
+fn open_beside<'a, S: EndFiles<File = F> + Looks, F: EndFile + Drop, I: Feed, O: Write>(
+    files: &mut S,
+    alloc: Global,
+    ends: &Ends,
+    taken: &mut Taken,
+    feed: &'a mut I,
+    out: &'a mut O,
+) -> Result<Streams<AnySink<'a, F, O>, AnySource<'a, F, I>>, EndFault>
+    ensures kept { KeepsFiles (S.calls files.old) (S.calls files.new) }
+    ensures outputs { IfOk result (λ streams. streams.outputs.items ≡ outputs_named ends.now) }
+    ensures inputs { IfOk result (λ streams. map (λ i. i.port) streams.inputs.items ≡ inputs_named ends.now) }
+{
+    let inputs = inputs_of(files, alloc, ends, taken, feed)?;
+    let outputs = outputs_of(files, alloc, ends, taken, out)?;
+    Ok(Streams { outputs, inputs })
 }
 
 /// Opens all ends; `device` is the path of the device's file. A file that takes an output is made where it isn't there. No output goes
 /// into the file of the device, of an input, of another output or of standard error: where that can be told before, no file is made, and
 /// else each file is told from those that were opened before, and left as it is.
-#[tactic(auto, using(crate::proofs::Keeping::keeps_none, crate::proofs::Keeping::keeps_then))]
+#[tactic(auto, using(crate::proofs::Keeping::keeps_none))]
 pub fn open_ends_over<'a, S: EndFiles<File = F> + Looks, F: EndFile + Drop, I: Feed, O: Write>(
     files: &mut S,
     alloc: Global,
@@ -216,11 +350,8 @@ pub fn open_ends_over<'a, S: EndFiles<File = F> + Looks, F: EndFile + Drop, I: F
         return Err(EndFault::SameFile(port));
     }
     let mut taken = Taken::new(alloc);
-    take(&mut taken, files.numbers_at(device))?;
-    let inputs = inputs_of(files, alloc, ends, &mut taken, feed)?;
-    let mut outputs = outputs_of(files, alloc, ends, &mut taken, out)?;
-    add_discards(ends, &mut outputs)?;
-    Ok(Streams { outputs, inputs })
+    taken.add(files.numbers_at(device))?;
+    open_beside(files, alloc, ends, &mut taken, feed, out)
 }
 
 /// Opens all ends on the files of the system.

@@ -2,21 +2,21 @@
 
 ghost use Rattle.std.specs.Prelude.{◌≡◌, ◌↔◌, [], ◌++◌, true, Some, Contains, IfSome, OnOk, option_to_list};
 
-use crate::ends::{Ends, PortFile};
+use crate::ends::{EndFault, Ends, PortFile};
 use crate::outside::Outside;
 use crate::system::Looks;
-use std::alloc::{AllocError, Global};
+use std::alloc::Global;
 use std::fs::{Files, Metadata};
 use std::os::unix::fs::MetadataExt;
 
 /// What the system calls standard input.
-const STANDARD_IN: &str = "/dev/stdin";
+pub(crate) const STANDARD_IN: &str = "/dev/stdin";
 
 /// What the system calls standard output.
-const STANDARD_OUT: &str = "/dev/stdout";
+pub(crate) const STANDARD_OUT: &str = "/dev/stdout";
 
 /// What the system calls standard error.
-const STANDARD_ERROR: &str = "/dev/stderr";
+pub(crate) const STANDARD_ERROR: &str = "/dev/stderr";
 
 /// The numbers by which the system tells a file from all others.
 #[derive(Clone, Copy, PartialEq, Eq)]
@@ -34,21 +34,6 @@ pub(crate) fn numbers_in(kept: &Metadata) -> Option<FileNumbers> {
         disk: kept.dev(),
         number: kept.ino(),
     })
-}
-
-/// The numbers of the file that standard input comes from.
-pub(crate) fn standard_in<L: Looks>(looks: &L) -> Option<FileNumbers> {
-    looks.numbers_behind(STANDARD_IN)
-}
-
-/// The numbers of the file that standard output goes to.
-pub(crate) fn standard_out<L: Looks>(looks: &L) -> Option<FileNumbers> {
-    looks.numbers_behind(STANDARD_OUT)
-}
-
-/// The numbers of the file that standard error goes to.
-pub(crate) fn standard_error<L: Looks>(looks: &L) -> Option<FileNumbers> {
-    looks.numbers_behind(STANDARD_ERROR)
 }
 
 /// Whether two numbers are those of one file.
@@ -96,29 +81,23 @@ impl Taken {
     }
 
     /// Gives a file a part.
-    pub(crate) fn add(&mut self, file: Option<FileNumbers>) -> Result<(), AllocError>
+    pub(crate) fn add(&mut self, file: Option<FileNumbers>) -> Result<(), EndFault>
         ensures { OnOk result (self.new.files.items ≡ self.old.files.items ++ option_to_list file) }
     {
-        match file {
-            Some(file) => Ok(self.files.push(file)?),
-            None => Ok(()),
+        let Some(file) = file else {
+            return Ok(());
+        };
+        match self.files.push(file) {
+            Ok(()) => Ok(()),
+            Err(_) => Err(EndFault::Memory),
         }
     }
 }
 
-/// The numbers of the file that an output goes into, where it is there.
-fn numbers_out<L: Looks>(looks: &L, end: &PortFile) -> Option<FileNumbers> {
+/// The numbers of the file of an end, where it is there; one that is standard is what the system calls `stream`.
+fn numbers_of<L: Looks>(looks: &L, end: &PortFile, stream: &str) -> Option<FileNumbers> {
     if end.is_standard() {
-        standard_out(looks)
-    } else {
-        looks.numbers_at(end.path.as_str())
-    }
-}
-
-/// The numbers of the file that an input comes from.
-fn numbers_from<L: Looks>(looks: &L, end: &PortFile) -> Option<FileNumbers> {
-    if end.is_standard() {
-        standard_in(looks)
+        looks.numbers_behind(stream)
     } else {
         looks.numbers_at(end.path.as_str())
     }
@@ -129,23 +108,21 @@ fn have_one_path(one: &PortFile, other: &PortFile) -> bool {
     !one.is_standard() && one.path.as_str() == other.path.as_str()
 }
 
-/// Whether an output goes into the file of one of these. Two that are standard output are told elsewhere.
-fn goes_into_output<L: Looks>(looks: &L, end: &PortFile, outs: &[PortFile]) -> bool {
-    let numbers = numbers_out(looks, end);
-    for out in outs {
-        let are_standard = end.is_standard() && out.is_standard();
-        if have_one_path(end, out) || (!are_standard && are_one(numbers, numbers_out(looks, out))) {
-            return true;
-        }
-    }
-    false
-}
-
-/// Whether an output goes into the file of one of these inputs.
-fn goes_into_input<L: Looks>(looks: &L, end: &PortFile, ins: &[PortFile]) -> bool {
-    let numbers = numbers_out(looks, end);
-    for input in ins {
-        if have_one_path(end, input) || are_one(numbers, numbers_from(looks, input)) {
+/// Whether an output goes into the file of one of these ends, whose standard one the system calls `stream`. Where they are outputs, two that
+/// are standard output are told elsewhere.
+fn goes_into<L: Looks>(
+    looks: &L,
+    end: &PortFile,
+    others: &[PortFile],
+    stream: &str,
+    are_outputs: bool,
+) -> bool {
+    let numbers = numbers_of(looks, end, STANDARD_OUT);
+    for other in others {
+        let is_told = are_outputs && end.is_standard() && other.is_standard();
+        if have_one_path(end, other)
+            || (!is_told && are_one(numbers, numbers_of(looks, other, stream)))
+        {
             return true;
         }
     }
@@ -154,12 +131,13 @@ fn goes_into_input<L: Looks>(looks: &L, end: &PortFile, ins: &[PortFile]) -> boo
 
 /// Whether an output goes into the file of the device, or a file that takes an output is what standard error goes to.
 fn goes_elsewhere<L: Looks>(looks: &L, end: &PortFile, device: &str) -> bool {
-    let numbers = numbers_out(looks, end);
+    let numbers = numbers_of(looks, end, STANDARD_OUT);
     let is_device = are_one(numbers, looks.numbers_at(device));
     if end.is_standard() {
         return is_device;
     }
-    is_device || end.path.as_str() == device || are_one(numbers, standard_error(looks))
+    let is_error = are_one(numbers, looks.numbers_behind(STANDARD_ERROR));
+    is_device || end.path.as_str() == device || is_error
 }
 
 /// A port whose output goes into the file of the device, of an input, of another port's output or of standard error, as far as can be
@@ -171,8 +149,8 @@ pub(crate) fn same_file<L: Looks>(looks: &L, device: &str, ends: &Ends) -> Optio
             None => &[],
         };
         if goes_elsewhere(looks, end, device)
-            || goes_into_output(looks, end, before)
-            || goes_into_input(looks, end, &ends.ins)
+            || goes_into(looks, end, before, STANDARD_OUT, true)
+            || goes_into(looks, end, &ends.ins, STANDARD_IN, false)
         {
             return Some(end.port);
         }

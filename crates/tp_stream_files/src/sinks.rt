@@ -61,6 +61,15 @@ fn sync_new<S: EndFiles>(files: &mut S, path: &str, size: u64) -> io::Result<()>
     files.sync_folder(folder_of(path))
 }
 
+/// How many bytes a file has, once what is in it is synced.
+fn begin_file<F: EndFile>(file: &mut F) -> io::Result<u64>
+    ensures { IfOk result (λ size. F.calls file.new ≡ F.calls file.old ++ begin_calls size) }
+{
+    let size = file.measure()?;
+    file.sync()?;
+    Ok(size)
+}
+
 /// The file of that path as it is, or an empty one that is made.
 pub(crate) fn file_at<S: EndFiles>(files: &mut S, path: &str) -> io::Result<S::File>
     ensures noted { S.calls files.new ≡ S.calls files.old ++ Opened to_write path.now (is_ok result) ∷ [] }
@@ -111,14 +120,12 @@ impl<F: EndFile + Drop> FileSink<F> {
         ensures kept { KeepsFiles (S.calls files.old) (S.calls files.new) }
         ensures folder { IfOk result (λ sink. SyncsFolder sink.size path.now (S.calls files.old) (S.calls files.new)) }
     {
-        let size = file.measure()?;
-        file.sync()?;
+        let size = begin_file(&mut file)?;
         sync_new(files, path, size)?;
         Ok(FileSink { file, size })
     }
 
     /// The file of that path as it is, or an empty one that is made.
-    #[tactic(auto, using(crate::proofs::Keeping::keeps_written, crate::proofs::Keeping::keeps_then))]
     pub fn open_in<S: EndFiles<File = F>>(files: &mut S, path: &str) -> io::Result<FileSink<F>>
         ensures kept { KeepsFiles (S.calls files.old) (S.calls files.new) }
         ensures calls { IfOk result (λ sink. F.calls sink.file ≡ begin_calls sink.size) }

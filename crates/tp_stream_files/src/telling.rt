@@ -57,23 +57,26 @@ impl<'a, E: Write, W: Onlooker> Teller<'a, E, W> {
     /// Ends the line that isn't ended.
     pub fn end(&mut self) {
         if self.is_open {
-            let _ = write!(self.err, "\n");
+            let _ = self.err.write_all(b"\n");
             self.is_open = false;
         }
     }
 }
 
+/// Says where a stream begins, behind a word for it, where its port is `mine`. A failed write is let go.
+fn say_begin<E: Write>(err: &mut E, word: &str, mine: Option<u8>, port: u8, begin: u64) {
+    if mine == Some(port) {
+        let _ = write!(err, "{word} {port} {begin}\n");
+    }
+}
+
 impl<'a, E: Write, W: Onlooker> Listener for Teller<'a, E, W> {
     fn output(&mut self, port: u8, position: u64) {
-        if self.out == Some(port) {
-            let _ = write!(self.err, "out {port} {position}\n");
-        }
+        say_begin(self.err, "out", self.out, port, position);
     }
 
     fn input(&mut self, port: u8, accepted: u64) {
-        if self.input == Some(port) {
-            let _ = write!(self.err, "in {port} {accepted}\n");
-        }
+        say_begin(self.err, "in", self.input, port, accepted);
     }
 
     fn progress(&mut self, progress: Progress)
@@ -102,6 +105,14 @@ pub fn say_stopped<E: Write>(err: &mut E, node: u8, how: Stopped) {
     };
 }
 
+/// Says up to where standard output was given an output and that is confirmed, where `out` says that it is this one.
+fn say_output<S: Sink, E: Write>(err: &mut E, out: Option<u8>, output: &Output<S>) {
+    let (written, confirmed) = (output.put(), output.confirmed());
+    if out == Some(output.port()) {
+        let _ = write!(err, " written {written} confirmed {confirmed}");
+    }
+}
+
 /// Says at which number a stream ended, up to where standard output was given a port's output and that is confirmed, and why it ended.
 pub fn say_end<S: Sink, E: Write>(
     err: &mut E,
@@ -112,10 +123,7 @@ pub fn say_end<S: Sink, E: Write>(
     let Ended { next, why } = ended;
     let _ = write!(err, "next {next}");
     for output in outputs {
-        let (written, confirmed) = (output.put(), output.confirmed());
-        if out == Some(output.port()) {
-            let _ = write!(err, " written {written} confirmed {confirmed}");
-        }
+        say_output(err, out, output);
     }
     let why = why.word();
     let _ = write!(err, " {why}\n");

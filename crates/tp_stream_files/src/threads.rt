@@ -36,13 +36,18 @@ fn read_piece<I: Read>(reader: &mut I) -> Piece
     Piece { came, bytes }
 }
 
+/// Sends the next piece of a reader. Whether there may be another one that somebody takes.
+fn send_piece<R: Wait, I: Read>(rt: &R, reader: &mut I, pieces: &Sender<Piece>) -> bool {
+    let piece = read_piece(reader);
+    let is_last = matches!(piece.came, Ok(0) | Err(_));
+    pieces.send(rt, piece).is_ok() && !is_last
+}
+
 /// Sends each piece of a reader, until its end, until a read fails, or until nobody takes them.
 fn send_pieces<R: Wait, I: Read + Drop>(rt: &R, reader: I, pieces: Sender<Piece>) {
     let mut reader = reader;
     for _ in rt.forever() {
-        let piece = read_piece(&mut reader);
-        let is_last = matches!(piece.came, Ok(0) | Err(_));
-        if pieces.send(rt, piece).is_err() || is_last {
+        if !send_piece(rt, &mut reader, &pieces) {
             break;
         }
     }
