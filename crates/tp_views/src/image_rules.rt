@@ -196,12 +196,7 @@ fn head_rule(image: &[u8], must_be_idle: bool) -> Option<Rule<3>> {
 }
 
 /// The rule that an image breaks, where it breaks one.
-fn rule_of(
-    alloc: Global,
-    image: &[u8],
-    pages: Option<u16>,
-    must_be_idle: bool,
-) -> Option<Rule<3>> {
+fn rule_of(alloc: Global, image: &[u8], pages: Option<u16>, must_be_idle: bool) -> Option<Rule<3>> {
     if let Some(rule) = length_rule(image, pages) {
         return Some(rule);
     }

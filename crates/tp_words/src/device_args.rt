@@ -19,13 +19,18 @@ pub fn asked_format(alloc: Global, words: &[String], found: &ArgMatches) -> Resu
     ensures range { IfOk result IsInRange }
     ensures typed { IfOk result (WasTyped words.now) }
 {
+    let area = area_of(alloc, words, found)?;
+    let seconds = wait_of(alloc, words, found)?;
+    let device = text_of(alloc, words, found, "DEVICE")?;
+    let topology = text_of(alloc, words, found, "TOPOLOGY")?;
+    let images = text_of(alloc, words, found, "DIR")?;
     Ok(Asked::Format(NewDevice {
-        area: area_of(alloc, words, found)?,
+        device,
+        topology,
+        images,
+        area,
         only_new: found.get_flag("new"),
-        wait_lock: wait_of(alloc, words, found)?,
-        device: text_of(alloc, words, found, "DEVICE")?,
-        topology: text_of(alloc, words, found, "TOPOLOGY")?,
-        images: text_of(alloc, words, found, "DIR")?,
+        wait_lock: seconds,
     }))
 }
 
@@ -104,22 +109,19 @@ pub fn asked_run(alloc: Global, words: &[String], found: &ArgMatches) -> Result<
     ensures range { IfOk result IsInRange }
     ensures typed { IfOk result (WasTyped words.now) }
 {
-    let RunNumbers {
-        pace,
-        every,
-        port,
-        wait_lock,
-    } = run_numbers(alloc, words, found)?;
+    let numbers = run_numbers(alloc, words, found)?;
+    let input = option_string(alloc, words, found, "in")?;
+    let device = text_of(alloc, words, found, "DEVICE")?;
     Ok(Asked::Run(Run {
-        turns: pace.turns,
-        workers: pace.workers,
-        quantum: pace.quantum,
-        spare: pace.spare,
-        every,
-        port,
-        wait_lock,
-        input: option_string(alloc, words, found, "in")?,
-        device: text_of(alloc, words, found, "DEVICE")?,
+        device,
+        turns: numbers.pace.turns,
+        workers: numbers.pace.workers,
+        quantum: numbers.pace.quantum,
+        spare: numbers.pace.spare,
+        every: numbers.every,
+        port: numbers.port,
+        input,
+        wait_lock: numbers.wait_lock,
     }))
 }
 
