@@ -117,9 +117,7 @@ fn push_areas(text: &mut String, size: u64, areas: TwoAreas) -> Result<(), Alloc
         let parts = [
             Text("  its areas of "),
             Number(length),
-            Text(
-                " bytes are too small for its nodes and ports: docs/FORMATS.md, section 5\n",
-            ),
+            Text(" bytes are too small for its nodes and ports: docs/FORMATS.md, section 5\n"),
         ];
         push_parts(text, &parts)
     }
