@@ -34,10 +34,10 @@ pub enum Refusal {
 impl fmt::Display for Refusal {
     fn fmt<W: fmt::Write>(&self, f: &mut fmt::Formatter<W>) -> fmt::Result {
         match self {
-            Refusal::Trial(fault) => fmt::Display::fmt(fault, f),
-            Refusal::Topology(fault) => fmt::Display::fmt(fault, f),
-            Refusal::Format(fault) => fmt::Display::fmt(fault, f),
-            Refusal::Opening(unopened) => fmt::Display::fmt(unopened, f),
+            Refusal::Trial(cause) => fmt::Display::fmt(cause, f),
+            Refusal::Topology(cause) => fmt::Display::fmt(cause, f),
+            Refusal::Format(cause) => fmt::Display::fmt(cause, f),
+            Refusal::Opening(cause) => fmt::Display::fmt(cause, f),
             Refusal::ReadFailed => f.write_str("ReadFailed"),
             Refusal::DeviceExists => f.write_str("DeviceExists"),
             Refusal::DeviceFailed => f.write_str("DeviceFailed"),

@@ -6,7 +6,7 @@ use std::alloc::AllocError;
 /// A value that says nothing.
 pub(crate) const NOTHING: Part<'static> = Part::Text("");
 
-/// Words, and the values of which one stands behind each of them. Those that are left say nothing.
+/// Words, and the value behind each of them. Where no value is wanted any more it is one that says nothing.
 #[derive(Clone, Copy)]
 pub(crate) struct Rule<const N: usize> {
     pub(crate) words: &'static [&'static str],
