@@ -4,7 +4,44 @@ story too_many
 # Of 257 words, the program's name among them, no command is asked for, in whatever way it is read.
 tpnet backup d d d d d d d d d d d d d d d d d d d d d d d d d d d d d d d d d d d d d d d d d d d d d d d d d d d d d d d d d d d d d d d d d d d d d d d d d d d d d d d d d d d d d d d d d d d d d d d d d d d d d d d d d d d d d d d d d d d d d d d d d d d d d d d d d d d d d d d d d d d d d d d d d d d d d d d d d d d d d d d d d d d d d d d d d d d d d d d d d d d d d d d d d d d d d d d d d d d d d d d d d d d d d d d d d d d d d d d d d d d d d d d d d d d d d d d d d d d d d d d d d d d d d d d d d d d d d d d
 tpnet stop d d d d d d d d d d d d d d d d d d d d d d d d d d d d d d d d d d d d d d d d d d d d d d d d d d d d d d d d d d d d d d d d d d d d d d d d d d d d d d d d d d d d d d d d d d d d d d d d d d d d d d d d d d d d d d d d d d d d d d d d d d d d d d d d d d d d d d d d d d d d d d d d d d d d d d d d d d d d d d d d d d d d d d d d d d d d d d d d d d d d d d d d d d d d d d d d d d d d d d d d d d d d d d d d d d d d d d d d d d d d d d d d d d d d d d d d d d d d d d d d d d d d d d d d d d d d d d d
+tpnet run d d d d d d d d d d d d d d d d d d d d d d d d d d d d d d d d d d d d d d d d d d d d d d d d d d d d d d d d d d d d d d d d d d d d d d d d d d d d d d d d d d d d d d d d d d d d d d d d d d d d d d d d d d d d d d d d d d d d d d d d d d d d d d d d d d d d d d d d d d d d d d d d d d d d d d d d d d d d d d d d d d d d d d d d d d d d d d d d d d d d d d d d d d d d d d d d d d d d d d d d d d d d d d d d d d d d d d d d d d d d d d d d d d d d d d d d d d d d d d d d d d d d d d d d d d d d d d d
 tpnet run --stream d d d d d d d d d d d d d d d d d d d d d d d d d d d d d d d d d d d d d d d d d d d d d d d d d d d d d d d d d d d d d d d d d d d d d d d d d d d d d d d d d d d d d d d d d d d d d d d d d d d d d d d d d d d d d d d d d d d d d d d d d d d d d d d d d d d d d d d d d d d d d d d d d d d d d d d d d d d d d d d d d d d d d d d d d d d d d d d d d d d d d d d d d d d d d d d d d d d d d d d d d d d d d d d d d d d d d d d d d d d d d d d d d d d d d d d d d d d d d d d d d d d d d d d d d d d d d d
+
+story of_a_run
+# Each option of a run in its two forms, in front of the device and behind it. That what was typed is what is asked is proved; that such words are
+# taken, and which of them the device is, is told here.
+text net.txt node a 4\nport h\nwire a.0 h\n
+image a.img
+tpnet format d net.txt . 16384
+copy d --workers
+tpnet run --turns=0 d
+tpnet run d --turns=7 --workers=1 --quantum 1
+tpnet run d --quantum=4096 --spare=0 --port=7 --turns=3
+tpnet run --spare 256 --turns 16 d --port 300 2>err
+has err ; see tpnet 
+tpnet recover d
+text f ab
+tpnet run d --every 4294967295 --in f --turns 4 >out 2>err
+tpnet status d >said
+has said  port 0 accepted 2 
+keep d
+tpnet run --turns=4 --every=1 --in=f -- --workers >out 2>err
+tpnet status -- --workers >said
+has said  port 0 accepted 2 
+# The greatest numbers: these words are taken, so the device is asked for, which another process has, or the first file is looked for.
+held 100
+tpnet run --turns 4294967295 --workers 16 d
+held
+tpnet try b.img --turns 4294967295
+tpnet format new t i 1099511627776
+there new
+stay
+
+story named
+# What is said of words names the program as it is called by itself.
+tpnet run 2>err
+has err Usage: tpnet run 
+has err other
 
 story of_a_backup
 # The device comes first and the copy behind it, wherever --explain stands, and behind the dashes.

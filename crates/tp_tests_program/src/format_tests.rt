@@ -91,9 +91,10 @@ fn what_no_words_ask_for(rt: HostRuntime) -> Result<(), Fail> {
 
 /// A device to format, or one to show: its groups have a run, the letter, and a turn.
 fn bytes_for(alloc: Global, shows: bool) -> Result<Vec<u8>, AllocError> {
-    match shows {
-        true => WITH_TURNS[0].bytes(alloc),
-        false => Vec::from_elem(alloc, 0u8, SIZE),
+    if shows {
+        WITH_TURNS[0].bytes(alloc)
+    } else {
+        Vec::from_elem(alloc, 0u8, SIZE)
     }
 }
 

@@ -148,6 +148,7 @@ fn asked_meanwhile<R: AllocGlobal + Threads + Sync>(
 ) -> bool {
     changing.rewind(changing.count(), None);
     let _still = asked(rt, changing, reader);
+    let mut are_right = true;
     for first in 0..changing.calls {
         let pace = Pace {
             first,
@@ -156,11 +157,9 @@ fn asked_meanwhile<R: AllocGlobal + Threads + Sync>(
         };
         changing.rewind(from, Some(pace));
         let answer = asked(rt, changing, reader);
-        if !is_of_a_moment(said, from, changing.done, &answer) {
-            return false;
-        }
+        are_right = are_right && is_of_a_moment(said, from, changing.done, &answer);
     }
-    true
+    are_right
 }
 
 /// How many writes have come to pass when the device is read, and how many come to pass before each call: the first are those of the
@@ -177,12 +176,11 @@ fn is_of_moments<R: AllocGlobal + Threads + Wait + Sync>(
         return Ok(false);
     }
     let said = said_of_each(rt, changing)?;
+    let mut are_right = true;
     for (from, count) in PACES {
-        if !asked_meanwhile(rt, changing, reader, &said, *from, *count) {
-            return Ok(false);
-        }
+        are_right = are_right && asked_meanwhile(rt, changing, reader, &said, *from, *count);
     }
-    Ok(true)
+    Ok(are_right)
 }
 
 /// Whether it does so of a device that was just formatted.
