@@ -18,15 +18,17 @@ mod format_tests;
 #[cfg(test)]
 mod holding_tests;
 #[cfg(test)]
-mod opening_tests;
-#[cfg(test)]
 mod output_tests;
 #[cfg(test)]
 mod program;
 #[cfg(test)]
 mod program_tests;
 #[cfg(test)]
+mod run_file_tests;
+#[cfg(test)]
 mod run_tests;
+#[cfg(test)]
+mod said;
 #[cfg(test)]
 mod steady_tests;
 #[cfg(test)]
