@@ -274,4 +274,5 @@ tpnet run device --turns 4
 tpnet compact device
 tpnet format device net.txt . 16384
 tpnet run device --stream --in 0=-
+asked stdin
 stay

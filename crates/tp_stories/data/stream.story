@@ -28,6 +28,7 @@ equal device fresh
 # What was put and confirmed is refused where an end has less of it.
 text given abcd
 tpnet run device --stream --quantum=64 --until-quiet --out 0=out --in 0=- <given
+asked stdin
 tpnet run device --stream --quantum=64 --until-quiet --out 0=short
 tpnet run device --stream --quantum=64 --until-quiet --out 0=- --have 0=3
 tpnet run device --stream --quantum=64 --until-quiet --out 0=- --have 0=5

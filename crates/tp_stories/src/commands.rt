@@ -1,8 +1,10 @@
 //! The program's commands.
 
-use crate::printed::print_lines;
+use crate::hearing::Heard;
+use crate::printed::{print_answer, print_lines};
 use crate::redirected::Redirects;
 use crate::stage::Stage;
+use crate::typed::malformed;
 use std::alloc::Global;
 use std::fs::{Files, OpenFile};
 use std::io::{ErrorKind, Write};
@@ -66,6 +68,7 @@ fn input_of<R: Files + AllocGlobal>(rt: &R, typed: &Typed) -> io::Result<Vec<u8>
 #[derive(Drop)]
 struct Done {
     status: u8,
+    was_heard: bool,
     out: Vec<u8>,
     err: Vec<u8>,
 }
@@ -99,10 +102,14 @@ impl<'a, R: Files> Write for Reader<'a, R> {
 /// Does what a command asks for, as the program does.
 fn carry_out<
     R: Files<File = F> + AllocGlobal,
-    S: Files<File = F> + AllocGlobal + Threads + Wait + Sync,
-    F: FileExt + OpenFile + Drop + Send,
+    S: Files<File = E> + AllocGlobal + Threads + Wait + Sync,
+    F: FileExt + OpenFile + Drop,
+    E: FileExt + OpenFile + Drop + Send,
 >(rt: &R, files: &S, stage: &Stage, words: &[String], input: &[u8]) -> Done {
-    let mut feed = Plain::new(input);
+    let mut feed = Heard {
+        feed: Plain::new(input),
+        was_asked: false,
+    };
     let mut err = Vec::new(rt.alloc());
     let mut out = Reader {
         rt,
@@ -123,6 +130,7 @@ fn carry_out<
     );
     Done {
         status,
+        was_heard: feed.was_asked,
         out: out.bytes,
         err,
     }
@@ -158,12 +166,33 @@ fn tell<R: Files + AllocGlobal>(
 /// Plays a command.
 pub(crate) fn play_command<
     R: Files<File = F> + AllocGlobal,
-    S: Files<File = F> + AllocGlobal + Redirects + Threads + Wait + Sync,
-    F: FileExt + OpenFile + Drop + Send,
+    S: Files<File = E> + AllocGlobal + Redirects + Threads + Wait + Sync,
+    F: FileExt + OpenFile + Drop,
+    E: FileExt + OpenFile + Drop + Send,
 >(rt: &R, files: &S, stage: &mut Stage, words: &str) -> io::Result<()> {
     let typed = Typed::read(rt.alloc(), words)?;
     let input = input_of(rt, &typed)?;
     files.redirect(stage.redirected(rt.alloc())?);
+    let next = stage.next.take();
+    files.faults().begin(next.unwrap_or(stage.plan));
     let done = carry_out(rt, files, stage, typed.words.as_slice(), input.as_slice());
+    if next.is_some() {
+        stage.has_failed = files.faults().has_failed();
+    }
+    stage.was_heard = done.was_heard;
     tell(rt, stage, &typed, &done)
+}
+
+/// Prints what the last command asked for: whether `device` was to be opened to write it, how many other files and folders were synced,
+/// or whether its standard input was asked for something.
+pub(crate) fn tell_asked<S: Redirects>(files: &S, stage: &mut Stage, what: &str) -> io::Result<()> {
+    match what {
+        "write" => print_answer(&mut stage.transcript, files.faults().asked_write()),
+        "stdin" => print_answer(&mut stage.transcript, stage.was_heard),
+        "syncs" => {
+            let synced = files.faults().synced();
+            write!(stage.transcript, "= {synced}\n")
+        }
+        _ => Err(malformed()),
+    }
 }

@@ -47,6 +47,16 @@ fn are_equal<R: Files + AllocGlobal>(rt: &R, one: &str, other: &str) -> io::Resu
     Ok(one.as_slice() == other.as_slice())
 }
 
+/// Whether the bytes of a file are equal to those of one of these.
+fn is_among<R: Files + AllocGlobal>(rt: &R, file: &str, others: &str) -> io::Result<bool> {
+    for other in others.split_whitespace() {
+        if are_equal(rt, file, other)? {
+            return Ok(true);
+        }
+    }
+    Ok(false)
+}
+
 /// Whether a file's bytes begin with all those of another.
 fn begins<R: Files + AllocGlobal>(rt: &R, file: &str, other: &str) -> io::Result<bool> {
     let (bytes, front) = (fs::read(rt, file)?, fs::read(rt, other)?);
@@ -73,6 +83,7 @@ fn is_so<R: Files + AllocGlobal>(rt: &R, verb: &str, file: &str, rest: &str) -> 
     match verb {
         "there" => Ok(fs::metadata(rt, file).is_ok()),
         "equal" => are_equal(rt, file, rest),
+        "among" => is_among(rt, file, rest),
         "begins" => begins(rt, file, rest),
         "empty" => Ok(fs::metadata(rt, file)?.len() == 0),
         _ => says(rt, verb, file, rest),
@@ -102,7 +113,7 @@ pub(crate) fn look<R: Files<File = F> + AllocGlobal, F: FileExt + Drop>(
     match verb {
         "show" => show(rt, stage, file, rest),
         "length" => tell_length(rt, stage, file),
-        "there" | "equal" | "begins" | "has" | "starts" | "ends" | "empty" => {
+        "there" | "equal" | "among" | "begins" | "has" | "starts" | "ends" | "empty" => {
             answer(rt, stage, verb, words)
         }
         "stand" => stage.stand(rt.alloc(), words),
@@ -112,6 +123,8 @@ pub(crate) fn look<R: Files<File = F> + AllocGlobal, F: FileExt + Drop>(
         "held" => stage.hold(rt.alloc(), words),
         "looks" => stage.look_on(words),
         "shut" => stage.shut(words),
+        "calls" => stage.call(words),
+        "sweep" => stage.begin_sweep(rt.alloc(), words),
         _ => Err(malformed()),
     }
 }

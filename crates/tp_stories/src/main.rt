@@ -2,6 +2,9 @@
 #![tactic(auto)]
 
 mod commands;
+mod failing;
+mod faulty;
+mod hearing;
 mod holding;
 mod looking;
 mod making;
@@ -11,8 +14,10 @@ mod printed;
 mod redirected;
 mod stage;
 mod staying;
+mod sweeping;
 mod typed;
 
+use faulty::Faults;
 use playing::play_file;
 use redirected::{Redirected, Redirects};
 use std::fs::{Files, OpenFile};
@@ -27,8 +32,9 @@ use std::{env, io};
 /// Plays the files of stories that the words name. Answers whether each line of them could be played.
 fn play_files<
     R: Files<File = F> + Env + AllocGlobal,
-    S: Files<File = F> + AllocGlobal + Redirects + Threads + Wait + Sync,
-    F: FileExt + OpenFile + Drop + Send,
+    S: Files<File = E> + AllocGlobal + Redirects + Threads + Wait + Sync,
+    F: FileExt + OpenFile + Drop,
+    E: FileExt + OpenFile + Drop + Send,
     O: Write,
 >(rt: &R, files: &S, out: &mut O) -> io::Result<bool> {
     let mut are_played = true;
@@ -41,7 +47,8 @@ fn play_files<
 
 fn main(rt: HostRuntime) -> ExitCode {
     let mut out = rt.stdout();
-    let files = Redirected::new(&rt);
+    let faults = Faults::none();
+    let files = Redirected::new(&rt, &faults);
     match play_files(&rt, &files, &mut out) {
         Ok(true) => ExitCode::SUCCESS,
         Ok(false) => ExitCode::from(1),

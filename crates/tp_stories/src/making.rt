@@ -76,6 +76,15 @@ fn copy<R: Files>(rt: &R, from: &str, file: &str) -> io::Result<()> {
     Ok(())
 }
 
+/// Makes a file of the bytes of others, one behind another.
+fn join<R: Files + AllocGlobal>(rt: &R, new: &str, files: &str) -> io::Result<()> {
+    let mut bytes = Vec::new(rt.alloc());
+    for file in files.split_whitespace() {
+        bytes.extend_from_slice(fs::read(rt, file)?.as_slice())?;
+    }
+    fs::write(rt, new, bytes)
+}
+
 /// Removes a file, if it is there.
 fn remove<R: Files>(rt: &R, file: &str) -> io::Result<()> {
     let _missing = fs::remove_file(rt, file);
@@ -110,6 +119,7 @@ pub(crate) fn make<R: Files<File = F> + AllocGlobal, F: FileExt + OpenFile + Dro
         "cut" => cut(rt, file, rest),
         "part" => part(rt, file, rest),
         "copy" => copy(rt, file, rest),
+        "join" => join(rt, file, rest),
         "bring" => bring(rt, file, rest),
         "link" => fs::hard_link(rt, file, rest),
         "symlink" => symlink(rt, file, rest),

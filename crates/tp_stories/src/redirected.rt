@@ -1,30 +1,39 @@
-//! The files below, where standard streams of a command are files.
+//! The files below, where standard streams of a command are files, and calls of it fail.
 
+use crate::faulty::{Faults, FaultyFile};
 use std::alloc::{Allocator, Global};
 use std::fs::{Files, Metadata, OpenOptions};
 use std::io;
 use std::sync::{Mutex, Wait};
 use std::thread::Threads;
 
-/// Files in which standard streams may be redirected to files, each named by its path, as `/dev/stdout`.
+/// Files in which standard streams may be redirected to files, each named by its path, as `/dev/stdout`, and in which calls may fail.
 pub(crate) trait Redirects {
     /// Takes these for the standard streams from now on.
     fn redirect(&self, streams: Vec<(&'static str, String)>);
+
+    /// What becomes of calls.
+    fn faults(&self) -> &Faults;
 }
 
-/// The files below, in which each of these streams is the file of a path. A story's commands change which they are; it is made once, where
-/// the system is known, since what commands send to threads may not rest on what is only assumed of it.
+/// The files below, in which each of these streams is the file of a path, and calls fail. A story's commands change which they are; it is made
+/// once, where the system is known, since what commands send to threads may not rest on what is only assumed of it.
 #[derive(Drop)]
 pub(crate) struct Redirected<'a, R> {
     below: &'a R,
+    faults: &'a Faults,
     streams: Mutex<Vec<(&'static str, String)>>,
 }
 
 impl<'a, R: AllocGlobal> Redirected<'a, R> {
-    /// These files, with no stream redirected.
-    pub(crate) fn new(below: &'a R) -> Redirected<'a, R> {
+    /// These files, with these faults, and with no stream redirected.
+    pub(crate) fn new(below: &'a R, faults: &'a Faults) -> Redirected<'a, R> {
         let streams = Mutex::new(Vec::new(below.alloc()));
-        Redirected { below, streams }
+        Redirected {
+            below,
+            faults,
+            streams,
+        }
     }
 }
 
@@ -42,6 +51,10 @@ impl<'a, R: Wait> Redirects for Redirected<'a, R> {
     fn redirect(&self, streams: Vec<(&'static str, String)>) {
         *self.streams.lock(self.below) = streams;
     }
+
+    fn faults(&self) -> &Faults {
+        self.faults
+    }
 }
 
 impl<'a, R: Alloc<A = Global>> Alloc for Redirected<'a, R> {
@@ -57,13 +70,22 @@ impl<'a, R: Wait> Wait for Redirected<'a, R> {}
 impl<'a, R: Threads> Threads for Redirected<'a, R> {}
 
 impl<'a, R: Files + Wait> Files for Redirected<'a, R> {
-    type File = R::File;
+    type File = FaultyFile<'a, R::File>;
 
     type Dir = R::Dir;
 
-    fn open_file(&self, how: &OpenOptions, path: &str) -> io::Result<R::File> {
-        let streams = self.streams.lock(self.below);
-        self.below.open_file(how, behind(streams.as_slice(), path))
+    fn open_file(&self, how: &OpenOptions, path: &str) -> io::Result<FaultyFile<'a, R::File>> {
+        let is_device = path.ends_with("device");
+        if is_device && how.asks_write() {
+            self.faults.pass_write()?;
+        }
+        self.faults.pass_path()?;
+        let file = {
+            let streams = self.streams.lock(self.below);
+            self.below.open_file(how, behind(streams.as_slice(), path))?
+        };
+        let counts = is_device || self.faults.is_everywhere();
+        Ok(FaultyFile::new(file, self.faults, counts))
     }
 
     fn open_dir(&self, path: &str) -> io::Result<R::Dir> {
@@ -76,6 +98,10 @@ impl<'a, R: Files + Wait> Files for Redirected<'a, R> {
     }
 
     fn symlink_metadata(&self, path: &str) -> io::Result<Metadata> {
+        self.faults.pass_path()?;
+        if self.faults.is_blind() {
+            return Err(io::Error::from(io::ErrorKind::NotFound));
+        }
         self.below.symlink_metadata(path)
     }
 
@@ -88,10 +114,12 @@ impl<'a, R: Files + Wait> Files for Redirected<'a, R> {
     }
 
     fn remove_file(&self, path: &str) -> io::Result<()> {
+        self.faults.pass_path()?;
         self.below.remove_file(path)
     }
 
     fn hard_link(&self, original: &str, link: &str) -> io::Result<()> {
+        self.faults.pass_path()?;
         self.below.hard_link(original, link)
     }
 

@@ -1,8 +1,11 @@
 //! Where a story is played.
 
+use crate::failing::read_calls;
+use crate::faulty::Plan;
 use crate::holding::Holding;
 use crate::onlooking::Looks;
 use crate::staying::Kept;
+use crate::sweeping::Sweep;
 use crate::typed::malformed;
 use std::alloc::Global;
 use std::fs::Files;
@@ -29,6 +32,16 @@ pub(crate) struct Stage {
     pub(crate) holding: Holding,
     /// Who looks at streams.
     pub(crate) looks: Looks,
+    /// How calls of commands go.
+    pub(crate) plan: Plan,
+    /// How those of the next command go, where they go in another way.
+    pub(crate) next: Option<Plan>,
+    /// Whether a call of the last command failed whose calls went in another way.
+    pub(crate) has_failed: bool,
+    /// Lines that are to be played again and again, while they come.
+    pub(crate) sweep: Option<Sweep>,
+    /// Whether the last command asked its standard input.
+    pub(crate) was_heard: bool,
 }
 
 impl Stage {
@@ -43,6 +56,11 @@ impl Stage {
             kept: Vec::new(alloc),
             holding: Holding::none(alloc),
             looks: Looks::PLAIN,
+            plan: Plan::NONE,
+            next: None,
+            has_failed: false,
+            sweep: None,
+            was_heard: false,
         }
     }
 
@@ -123,6 +141,29 @@ impl Stage {
         Ok(())
     }
 
+    /// Says how calls go in the commands behind this line.
+    pub(crate) fn call(&mut self, words: &str) -> io::Result<()> {
+        self.plan = read_calls(words)?;
+        Ok(())
+    }
+
+    /// Says that the lines behind this one are to be played again and again.
+    pub(crate) fn begin_sweep(&mut self, alloc: Global, words: &str) -> io::Result<()> {
+        self.sweep = Some(Sweep::read(alloc, words)?);
+        Ok(())
+    }
+
+    /// Keeps a line that is to be played again and again, and answers true; or that there are none such.
+    pub(crate) fn keep_line(&mut self, alloc: Global, line: &str) -> io::Result<bool> {
+        match &mut self.sweep {
+            Some(sweep) if line != "end" => {
+                sweep.lines.push(String::from_str(alloc, line)?)?;
+                Ok(true)
+            }
+            _ => Ok(false),
+        }
+    }
+
     /// Ends the story that has begun, and removes its folder.
     pub(crate) fn close<R: Files + Env + AllocGlobal>(&mut self, rt: &R) -> io::Result<()> {
         self.streams.clear();
@@ -131,6 +172,9 @@ impl Stage {
         self.kept.clear();
         self.holding = Holding::none(rt.alloc());
         self.looks = Looks::PLAIN;
+        self.plan = Plan::NONE;
+        self.next = None;
+        self.sweep = None;
         let Some(folder) = self.folder.take() else {
             return Ok(());
         };

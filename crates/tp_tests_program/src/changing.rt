@@ -7,7 +7,7 @@ ghost use Rattle.tp_tests_program.specs.Changing.{changing_keeps, no_changing};
 
 use std::alloc::{AllocError, Global};
 use tp_disk::{DeviceFailed, RawDisk};
-use tp_tests_fixtures::place;
+use tp_tests_fixtures::{SIZE, place};
 
 /// Bytes that were written at a place.
 #[derive(Drop)]
@@ -25,27 +25,26 @@ pub(crate) struct Pace {
     pub(crate) count: usize,
 }
 
-/// What a device in memory holds, and the list of what was written to it. Once it is rewound, the writes come to pass again while it is
-/// read.
+/// What a device in memory holds, which held bytes 00 at first, and the list of what was written to it. Once it is rewound, the writes come to
+/// pass again while it is read.
 #[derive(Drop)]
 pub(crate) struct Changing {
     alloc: Global,
-    first: Vec<u8>,
     bytes: Vec<u8>,
     writes: Vec<Written>,
-    /// How many of the writes have come to pass, and before which call the next ones do.
-    done: usize,
+    /// How many of the writes have come to pass.
+    pub(crate) done: usize,
     pace: Option<Pace>,
-    calls: u64,
+    /// How many calls were made since it was rewound.
+    pub(crate) calls: u64,
 }
 
 impl Changing {
-    /// A device that holds `bytes`.
-    pub(crate) fn new(alloc: Global, bytes: &[u8]) -> Result<Changing, AllocError> {
+    /// A device to which nothing was written.
+    pub(crate) fn new(alloc: Global) -> Result<Changing, AllocError> {
         Ok(Changing {
             alloc,
-            first: Vec::from_slice(alloc, bytes)?,
-            bytes: Vec::from_slice(alloc, bytes)?,
+            bytes: Vec::from_elem(alloc, 0u8, SIZE)?,
             writes: Vec::new(alloc),
             done: 0,
             pace: None,
@@ -58,19 +57,9 @@ impl Changing {
         self.writes.len()
     }
 
-    /// How many of them have come to pass.
-    pub(crate) fn done(&self) -> usize {
-        self.done
-    }
-
-    /// How many calls were made since it was rewound.
-    pub(crate) fn calls(&self) -> u64 {
-        self.calls
-    }
-
     /// Goes back to where the first `done` writes had come to pass. The others come to pass at `pace`, where there is one.
     pub(crate) fn rewind(&mut self, done: usize, pace: Option<Pace>) {
-        place(&mut self.bytes, 0, &self.first);
+        self.bytes.fill(0);
         self.done = 0;
         self.come_to_pass(done);
         self.pace = pace;

@@ -1,18 +1,15 @@
 //! What commands that read a device say of one that another process writes meanwhile.
 
 use crate::changing::{Changing, Pace};
-use crate::format_tests::{AREA, images_of};
-use std::alloc::Global;
+use crate::format_tests::format_one;
+use crate::said::Said;
+use std::alloc::{AllocError, Global};
 use std::sync::Wait;
 use std::test::Fail;
 use std::thread::Threads;
 use tp_disk::{Counted, Disk, MemDisk};
-use tp_net::Topology;
-use tp_program::{
-    JournalPart, View, backup_on, compact_on, format_on, recover_on, show_on, view_on,
-};
-use tp_tests_files::scratch::Output;
-use tp_tests_fixtures::{ONE_NODE, SIZE};
+use tp_program::{JournalPart, View, backup_on, compact_on, recover_on, show_on, view_on};
+use tp_tests_fixtures::{AREA, SIZE};
 
 /// A command that reads a device.
 #[derive(Clone, Copy)]
@@ -47,147 +44,127 @@ const FURTHER: &[u8] = &[
 const GROUPS: &[(u64, &[u8])] = &[(13_033, TURNS), (29_417, FURTHER)];
 
 /// Formats a device. Answers the status.
-fn format_over(alloc: Global, changing: &mut Changing) -> Result<u8, Fail> {
-    let images = images_of(alloc, 1)?;
-    let Ok(topology) = Topology::read(alloc, ONE_NODE) else {
-        return Err(Fail::new("the topology"));
-    };
-    let _rules = topology.pages();
+fn format_over(alloc: Global, changing: &mut Changing) -> u8 {
     let mut disk = Counted::new(changing.disk());
     let (mut out, mut err) = (Vec::new(alloc), Vec::new(alloc));
-    let status = format_on(
-        alloc, &mut disk, &topology, &images, AREA, &mut out, &mut err,
-    );
-    Ok(status)
+    format_one(alloc, &mut disk, 1, AREA, &mut out, &mut err)
 }
 
-/// A device, as it is formatted.
-fn formatted(alloc: Global) -> Result<Changing, Fail> {
-    let zeros = Vec::from_elem(alloc, 0u8, SIZE)?;
-    let mut changing = Changing::new(alloc, &zeros)?;
-    match format_over(alloc, &mut changing)? {
-        0 => Ok(changing),
-        _ => Err(Fail::new("not formatted")),
+/// A device, as it is formatted; none where there is no memory.
+fn formatted(alloc: Global) -> Option<Changing> {
+    let Ok(mut changing) = Changing::new(alloc) else {
+        return None;
+    };
+    match format_over(alloc, &mut changing) {
+        0 => Some(changing),
+        _ => None,
     }
 }
 
-/// Appends a group as a run does, its gate last, and then takes a checkpoint. Answers the status of that.
-fn stepped<R: AllocGlobal + Wait>(
-    rt: &R,
-    changing: &mut Changing,
-    gate: u64,
-    body: &[u8],
-) -> Result<u8, Fail> {
-    changing.write(gate.wrapping_add(1), body)?;
-    changing.write(gate, &[0xA5])?;
+/// Takes a checkpoint. Answers the status.
+fn checkpointed<R: AllocGlobal + Wait>(rt: &R, changing: &mut Changing) -> u8 {
     let alloc = rt.alloc();
     let (mut out, mut err) = (Vec::new(alloc), Vec::new(alloc));
     let disk = Counted::new(changing.disk());
     let (_disk, status) = compact_on(rt, alloc, disk, &mut out, &mut err);
-    Ok(status)
+    status
 }
 
+/// Appends the groups as runs do, the gate of each last, and takes a checkpoint behind each. Answers whether they are taken.
+fn grow<R: AllocGlobal + Wait>(rt: &R, changing: &mut Changing) -> Result<bool, AllocError> {
+    for (gate, body) in GROUPS {
+        changing.write(gate.wrapping_add(1), body)?;
+        changing.write(*gate, &[0xA5])?;
+        if checkpointed(rt, changing) != 0 {
+            return Ok(false);
+        }
+    }
+    Ok(true)
+}
+
+/// What no command answers: there is no memory for a copy.
+const NONE: u8 = 9;
+
 /// Makes a copy of a device, and shows it. Answers the status.
-fn show_copy<D: Disk>(
-    alloc: Global,
-    disk: &mut D,
-    out: &mut Vec<u8>,
-    err: &mut Vec<u8>,
-) -> Result<u8, Fail> {
-    let mut copy = MemDisk::zeroed(alloc, SIZE)?;
+fn show_copy<D: Disk>(alloc: Global, disk: &mut D, out: &mut Vec<u8>, err: &mut Vec<u8>) -> u8 {
+    let Ok(mut copy) = MemDisk::zeroed(alloc, SIZE) else {
+        return NONE;
+    };
     match backup_on(alloc, disk, &mut copy, err) {
-        Ok(_) => Ok(show_on(alloc, &mut copy, false, out, err)),
-        Err(status) => Ok(status),
+        Ok(_) => show_on(alloc, &mut copy, false, out, err),
+        Err(status) => status,
     }
 }
 
 /// What a command says of a device.
-fn asked<R: AllocGlobal + Threads + Sync>(
-    rt: &R,
-    changing: &mut Changing,
-    reader: Reader,
-) -> Result<Output, Fail> {
+fn asked<R: AllocGlobal + Threads + Sync>(rt: &R, changing: &mut Changing, reader: Reader) -> Said {
     let (alloc, mut disk) = (rt.alloc(), Counted::new(changing.disk()));
     let (mut out, mut err) = (Vec::new(alloc), Vec::new(alloc));
     let status = match reader {
         Reader::Recover(workers) => recover_on(rt, alloc, &mut disk, workers, &mut out, &mut err),
         Reader::Show => show_on(alloc, &mut disk, false, &mut out, &mut err),
         Reader::Look(view) => view_on(alloc, &mut disk, view, &mut out, &mut err),
-        Reader::Backup => show_copy(alloc, &mut disk, &mut out, &mut err)?,
+        Reader::Backup => show_copy(alloc, &mut disk, &mut out, &mut err),
     };
-    Ok(Output { status, out, err })
+    Said { status, out, err }
 }
 
 /// What `show` says behind each of the writes, where the device then stays as it is.
 fn said_of_each<R: AllocGlobal + Threads + Sync>(
     rt: &R,
     changing: &mut Changing,
-) -> Result<Vec<Output>, Fail> {
+) -> Result<Vec<Said>, Fail> {
     let mut said = Vec::new(rt.alloc());
     for done in 0..=changing.count() {
         changing.rewind(done, None);
-        said.push(asked(rt, changing, Reader::Show)?)?;
+        said.push(asked(rt, changing, Reader::Show))?;
     }
     Ok(said)
 }
 
-fn is_alike(one: &Output, other: &Output) -> bool {
-    one.status == other.status
-        && one.out.as_slice() == other.out.as_slice()
-        && one.err.as_slice() == other.err.as_slice()
+fn is_alike(one: &Said, other: &Said) -> bool {
+    one.is(other.status, &other.out, &other.err)
 }
 
-/// Whether `output` is what was said at a moment from `from` up to `upto`, and tells no damage.
-fn is_of_a_moment(said: &[Output], from: usize, upto: usize, output: &Output) -> bool {
+/// Whether `answer` is what was said at a moment from `from` up to `upto`, and tells no damage.
+fn is_of_a_moment(said: &[Said], from: usize, upto: usize, answer: &Said) -> bool {
     for moment in said.iter().take(upto.saturating_add(1)).skip(from) {
-        if is_alike(moment, output) {
-            return !output.err.as_slice().starts_with(b"tpnet: Damaged");
+        if is_alike(moment, answer) {
+            return !answer.err.as_slice().starts_with(b"tpnet: Damaged");
         }
     }
     false
 }
 
 /// Asks a command while writes come to pass, `count` of them before each call from one on, for each call that it makes where none come to
-/// pass. Answers how often what was said is of no moment in between.
+/// pass. Answers whether each time what was said is of a moment in between.
 fn asked_meanwhile<R: AllocGlobal + Threads + Sync>(
     rt: &R,
     changing: &mut Changing,
     reader: Reader,
-    said: &[Output],
+    said: &[Said],
     from: usize,
     count: usize,
-) -> Result<usize, Fail> {
-    let _still = asked(rt, changing, reader)?;
-    let (calls, mut wrong) = (changing.calls(), 0usize);
-    for first in 0..calls {
+) -> bool {
+    changing.rewind(changing.count(), None);
+    let _still = asked(rt, changing, reader);
+    let mut are_right = true;
+    for first in 0..changing.calls {
         let pace = Pace {
             first,
             period: 1,
             count,
         };
         changing.rewind(from, Some(pace));
-        let output = asked(rt, changing, reader)?;
-        if !is_of_a_moment(said, from, changing.done(), &output) {
-            wrong = wrong.saturating_add(1);
-        }
+        let answer = asked(rt, changing, reader);
+        are_right = are_right && is_of_a_moment(said, from, changing.done, &answer);
     }
-    changing.rewind(changing.count(), None);
-    Ok(wrong)
+    are_right
 }
 
 /// How many writes have come to pass when the device is read, and how many come to pass before each call: the first are those of the
 /// format.
 const PACES: &[(usize, usize)] = &[(0, 1), (7, 1), (7, 3), (7, usize::MAX)];
-
-/// Appends the groups, and takes their checkpoints.
-fn grow<R: AllocGlobal + Wait>(rt: &R, changing: &mut Changing) -> Result<(), Fail> {
-    for (gate, body) in GROUPS {
-        if stepped(rt, changing, *gate, body)? != 0 {
-            return Err(Fail::new("no checkpoint"));
-        }
-    }
-    Ok(())
-}
 
 /// Whether a command says of a device, once it has grown, what is of a moment in between, at those paces.
 fn is_of_moments<R: AllocGlobal + Threads + Wait + Sync>(
@@ -195,14 +172,15 @@ fn is_of_moments<R: AllocGlobal + Threads + Wait + Sync>(
     changing: &mut Changing,
     reader: Reader,
 ) -> Result<bool, Fail> {
-    grow(rt, changing)?;
-    let said = said_of_each(rt, changing)?;
-    let mut wrong = 0usize;
-    for (from, count) in PACES {
-        let more = asked_meanwhile(rt, changing, reader, &said, *from, *count)?;
-        wrong = wrong.saturating_add(more);
+    if !grow(rt, changing)? {
+        return Ok(false);
     }
-    Ok(wrong == 0)
+    let said = said_of_each(rt, changing)?;
+    let mut are_right = true;
+    for (from, count) in PACES {
+        are_right = are_right && asked_meanwhile(rt, changing, reader, &said, *from, *count);
+    }
+    Ok(are_right)
 }
 
 /// Whether it does so of a device that was just formatted.
@@ -210,9 +188,10 @@ fn is_of_one_moment<R: AllocGlobal + Threads + Wait + Sync>(
     rt: &R,
     reader: Reader,
 ) -> Result<bool, Fail> {
-    let mut changing = formatted(rt.alloc())?;
-    let is_so = is_of_moments(rt, &mut changing, reader);
-    is_so
+    match formatted(rt.alloc()) {
+        Some(mut changing) => is_of_moments(rt, &mut changing, reader),
+        None => Ok(false),
+    }
 }
 
 #[test]
@@ -228,7 +207,7 @@ fn a_copy_is_of_one_moment(rt: HostRuntime) -> Result<(), Fail> {
 }
 
 /// A write that writes nothing.
-const NONE: (usize, &[u8]) = (0, &[]);
+const NOTHING: (usize, &[u8]) = (0, &[]);
 
 /// Two switches, three writes before each call: the first area's gate is closed where a look reads it, and the second one's where the look
 /// reads that, though one of the two is open at each moment. While the first area is read it is written anew.
@@ -236,23 +215,23 @@ const SWITCHES: &[[(usize, &[u8]); 3]] = &[
     [
         (16_896, &[0xA5, 2, 0, 0, 0, 0, 0, 0, 0]),
         (512, &[0, 3, 0, 0, 0, 0, 0, 0, 0]),
-        NONE,
+        NOTHING,
     ],
-    [NONE; 3],
+    [NOTHING; 3],
     [
         (512, &[0xA5]),
         (16_896, &[0]),
         (16_897, &[4, 0, 0, 0, 0, 0, 0, 0]),
     ],
-    [NONE; 3],
-    [NONE; 3],
-    [NONE; 3],
-    [NONE; 3],
-    [NONE; 3],
+    [NOTHING; 3],
+    [NOTHING; 3],
+    [NOTHING; 3],
+    [NOTHING; 3],
+    [NOTHING; 3],
     [(16_896, &[0xA5]), (512, &[0]), (533, &[2])],
-    [NONE; 3],
-    [NONE; 3],
-    [NONE; 3],
+    [NOTHING; 3],
+    [NOTHING; 3],
+    [NOTHING; 3],
     [
         (533, &[1]),
         (512, &[0xA5, 5, 0, 0, 0, 0, 0, 0, 0]),
@@ -261,20 +240,16 @@ const SWITCHES: &[[(usize, &[u8]); 3]] = &[
 ];
 
 /// Writes that to a device.
-fn switch(changing: &mut Changing) -> Result<(), Fail> {
+fn switch(changing: &mut Changing) -> Result<(), AllocError> {
     for (at, bytes) in SWITCHES.iter().flatten() {
         changing.write(*at as u64, bytes)?;
     }
     Ok(())
 }
 
-/// Whether `show` says of a device, once that was written to it, what is so behind the switches, where they come while it reads.
-fn sees_switches<R: AllocGlobal + Threads + Sync>(
-    rt: &R,
-    changing: &mut Changing,
-) -> Result<bool, Fail> {
-    switch(changing)?;
-    let still = asked(rt, changing, Reader::Show)?;
+/// Whether `show` says of a device to which that was written what is so behind the switches, where they come while it reads.
+fn sees_switches<R: AllocGlobal + Threads + Sync>(rt: &R, changing: &mut Changing) -> bool {
+    let still = asked(rt, changing, Reader::Show);
     let count = changing.count();
     let from = count.wrapping_sub(SWITCHES.len().wrapping_mul(3));
     let pace = Pace {
@@ -283,25 +258,25 @@ fn sees_switches<R: AllocGlobal + Threads + Sync>(
         count: 3,
     };
     changing.rewind(from, Some(pace));
-    let output = asked(rt, changing, Reader::Show)?;
-    Ok(output.status == 0 && is_alike(&output, &still) && changing.done() == count)
+    let answer = asked(rt, changing, Reader::Show);
+    answer.status == 0 && is_alike(&answer, &still) && changing.done == count
 }
 
 /// Whether no switch is overlooked.
-fn is_not_overlooked<R: AllocGlobal + Threads + Sync>(rt: &R) -> Result<bool, Fail> {
-    let mut changing = formatted(rt.alloc())?;
-    let sees = sees_switches(rt, &mut changing);
-    sees
+fn is_not_overlooked<R: AllocGlobal + Threads + Sync>(rt: &R) -> bool {
+    match formatted(rt.alloc()) {
+        Some(mut changing) => switch(&mut changing).is_ok() && sees_switches(rt, &mut changing),
+        None => false,
+    }
 }
 
 #[test]
-fn no_switch_is_overlooked(rt: HostRuntime) -> Result<(), Fail> {
-    assert!(rt; is_not_overlooked(&rt)?);
-    Ok(())
+fn no_switch_is_overlooked(rt: HostRuntime) {
+    assert!(rt; is_not_overlooked(&rt));
 }
 
 /// Writes to the area that counts, each a generation two above the one before it, as two checkpoints leave it.
-fn age(changing: &mut Changing, times: u8) -> Result<(), Fail> {
+fn age(changing: &mut Changing, times: u8) -> Result<(), AllocError> {
     for time in 1..=times {
         let generation = time.wrapping_mul(2).wrapping_add(1);
         changing.write(512, &[0xA5, generation, 0, 0, 0, 0, 0, 0, 0])?;
@@ -352,24 +327,23 @@ fn is_tried<R: AllocGlobal + Threads + Sync>(
     reader: Reader,
     times: u8,
     is_read: bool,
-) -> Result<bool, Fail> {
-    age(changing, times)?;
+) -> bool {
     let count = changing.count();
     changing.rewind(count, None);
-    let still = asked(rt, changing, reader)?;
-    let (from, calls) = (count.wrapping_sub(usize::from(times)), changing.calls());
+    let still = asked(rt, changing, reader);
+    let calls = changing.calls;
     let pace = Pace {
         first: call_of(reader, calls),
         period: calls,
         count: 1,
     };
-    changing.rewind(from, Some(pace));
-    let output = asked(rt, changing, reader)?;
-    Ok(if is_read {
-        is_alike(&output, &still)
+    changing.rewind(count.wrapping_sub(usize::from(times)), Some(pace));
+    let answer = asked(rt, changing, reader);
+    if is_read {
+        is_alike(&answer, &still)
     } else {
-        output.is(1, "", "tpnet: Busy\n")
-    })
+        answer.is(1, b"", b"tpnet: Busy\n")
+    }
 }
 
 /// Whether it does so where a device is written that many times.
@@ -378,16 +352,18 @@ fn says_so<R: AllocGlobal + Threads + Sync>(
     reader: Reader,
     times: u8,
     is_read: bool,
-) -> Result<bool, Fail> {
-    let mut changing = formatted(rt.alloc())?;
-    let says_so = is_tried(rt, &mut changing, reader, times, is_read);
-    says_so
+) -> bool {
+    match formatted(rt.alloc()) {
+        Some(mut changing) => {
+            age(&mut changing, times).is_ok() && is_tried(rt, &mut changing, reader, times, is_read)
+        }
+        None => false,
+    }
 }
 
 #[test]
-fn a_device_is_tried_twenty_times(rt: HostRuntime) -> Result<(), Fail> {
+fn a_device_is_tried_twenty_times(rt: HostRuntime) {
     for (reader, times, is_read) in TRIES {
-        assert!(rt; says_so(&rt, *reader, *times, *is_read)?);
+        assert!(rt; says_so(&rt, *reader, *times, *is_read));
     }
-    Ok(())
 }

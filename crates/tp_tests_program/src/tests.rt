@@ -9,53 +9,39 @@ use tp_tests_fixtures::{HEAD, letter, place};
 use tp_turn::try_standing;
 
 /// The first instructions, where they are others than the letter's, the turns, and then the output and how the node stands.
-struct Case {
-    code: &'static [u8],
-    turns: u32,
-    output: &'static [u8],
-    standing: Standing,
-}
+type Case = (&'static [u8], u32, &'static [u8], Standing);
 
 const CASES: &[Case] = &[
-    Case {
-        code: &[],
-        turns: 4,
-        output: b"A",
-        standing: Standing::Free,
-    },
+    (&[], 4, b"A", Standing::Free),
     // it waits for its acknowledge
-    Case {
-        code: &[],
-        turns: 1,
-        output: b"",
-        standing: Standing::Waits,
-    },
+    (&[], 1, b"", Standing::Waits),
     // ldtimer, which this processor hasn't
-    Case {
-        code: &[0x22, 0xF2],
-        turns: 2,
-        output: b"",
-        standing: Standing::Halted {
+    (
+        &[0x22, 0xF2],
+        2,
+        b"",
+        Standing::Halted {
             fault: Fault::UnknownOp,
             at: 0x8000_0100,
         },
-    },
+    ),
 ];
 
 /// Whether that comes of those turns.
-fn stands_so(alloc: Global, case: &Case) -> Result<bool, Fail> {
-    let mut image = letter(alloc)?;
-    place(&mut image, HEAD + 0x100, case.code);
-    match try_standing(alloc, image.as_slice(), case.turns, TRY_QUANTUM) {
-        Ok(trial) => Ok(trial.output.as_slice() == case.output && trial.standing == case.standing),
-        Err(_) => Ok(false),
+fn stands_so(alloc: Global, image: &[u8], case: &Case) -> bool {
+    let (_, turns, output, standing) = case;
+    match try_standing(alloc, image, *turns, TRY_QUANTUM) {
+        Ok(trial) => trial.standing == *standing && trial.output.as_slice() == *output,
+        Err(_) => false,
     }
 }
 
 #[test]
 fn a_node_stands_as_its_turns_left_it(rt: HostRuntime) -> Result<(), Fail> {
     for case in CASES {
-        assert!(rt; stands_so(rt.alloc(), case)?);
+        let mut image = letter(rt.alloc())?;
+        place(&mut image, HEAD + 0x100, case.0);
+        assert!(rt; stands_so(rt.alloc(), image.as_slice(), case));
     }
     Ok(())
 }
