@@ -24,8 +24,6 @@ mod program;
 #[cfg(test)]
 mod program_tests;
 #[cfg(test)]
-mod run_file_tests;
-#[cfg(test)]
 mod run_tests;
 #[cfg(test)]
 mod said;
