@@ -122,7 +122,7 @@ equal device three
 
 story roomless
 # A new file that gets no room is removed, whichever call fails: of the seven one opens it, three fill it, one syncs it, one opens its folder and
-# one syncs that. In front of them the topology's file and the image's are opened and measured; behind them the device is written.
+# one syncs that. In front of them the topology's file and the image's are opened; behind them the device is written.
 text net.txt node a 4\nport h\nwire a.0 h\n
 image a.img
 sweep alone all 7
@@ -212,6 +212,65 @@ there device.stop
 held
 stand
 stay
+
+story compact_fails
+# A device whose journal is full is compacted, and from some call of its file on all fail: nothing is lost, and it can be compacted again.
+text net.txt node a 4\nport h\nwire a.0 h\n
+image a.img
+tpnet format device net.txt . 13130
+tpnet run device --turns 6 --workers 1 --quantum 16 --every 4294967295
+copy device full
+text unread tpnet: ReadFailed\n
+text unwritten tpnet: DeviceFailed\n
+sweep onward device 12
+copy full device
+tpnet compact device >done 2>err
+among err unread unwritten
+tpnet recover device
+tpnet compact device >out
+ends out  next 4 room 4\n
+end
+
+story backup_fails
+# Each call of a backup fails alone: nothing is left of the copy, nor of its file.
+text net.txt node a 4\nport h\nwire a.0 h\n
+image a.img
+tpnet format device net.txt . 16384
+copy device old
+tpnet show device >shown
+text unread tpnet: ReadFailed\n
+text unwritten tpnet: DeviceFailed\n
+sweep alone all 30
+remove copy
+tpnet backup device copy 2>err
+among err unread unwritten
+equal device old
+there copy
+there copy.part
+end
+tpnet show copy >then
+equal shown then
+
+story backup_stops
+# All calls of a backup fail from one on, as where the disk is gone: what has the copy's name is the copy. It has its name where its other one isn't
+# removed, and where its folder isn't opened or synced. Where it hasn't there is nothing to show.
+text net.txt node a 4\nport h\nwire a.0 h\n
+image a.img
+tpnet format device net.txt . 16384
+copy device old
+tpnet show device >shown
+text unread tpnet: ReadFailed\n
+text unwritten tpnet: DeviceFailed\n
+sweep onward all 30
+remove copy
+remove copy.part
+tpnet backup device copy 2>err
+among err unread unwritten
+equal device old
+there copy
+tpnet show copy >then 2>said
+equal shown then
+end
 
 story backup_there
 # What is there stays as it is, whichever call fails.

@@ -47,7 +47,7 @@ pub(crate) fn format_one<D: Disk>(
 }
 
 /// Whether all bytes are 00.
-pub(crate) fn are_zeros(bytes: &[u8]) -> bool {
+fn are_zeros(bytes: &[u8]) -> bool {
     for byte in bytes {
         if *byte != 0 {
             return false;

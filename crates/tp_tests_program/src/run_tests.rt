@@ -2,7 +2,6 @@
 
 ghost use Rattle.tp_words.specs.Args.{IsRun};
 
-pub(crate) use crate::program::{device, echo};
 use crate::said::Said;
 use std::alloc::{AllocError, Global};
 use std::io;
