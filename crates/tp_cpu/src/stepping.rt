@@ -5,7 +5,6 @@ ghost use Rattle.tp_model.specs.Step.{executed, instruction, idle, in_state, ste
 ghost use Rattle.tp_model.specs.SharedPages.{LacksFrames, kept_after};
 ghost use Rattle.tp_model.specs.StepWrites.{executed_ranges, instruction_ranges, idle_ranges, in_state_ranges, step_ranges};
 ghost use Rattle.tp_cpu.specs.Ends.{Does};
-ghost use Rattle.tp_cpu.specs.Advance.{LeadsByOne};
 ghost use Rattle.tp_cpu.specs.Acts.{Acts, WhereNoFrame, kept_acted, kept_past, fault_of};
 
 use crate::effect::effect;
@@ -109,19 +108,5 @@ pub fn step<M: Mem>(cpu: &mut Cpu, mem: &mut M) -> StepEnd
         }
         Some(Err(Undone::Asks(request))) => StepEnd::LinkOut(request),
         Some(Err(Undone::Wants(request))) => StepEnd::LinkIn(request),
-    }
-}
-
-/// Makes one step of the processor, if it leads on, and answers whether it does. Nothing changes where it doesn't.
-#[inline(always)]
-pub(crate) fn lead<M: Mem>(cpu: &mut Cpu, mem: &mut M) -> bool
-    ensures { LeadsByOne (record { cpu = cpu.old; memory = M.bytes mem.old; kept = M.kept mem.old }) result (record { cpu = cpu.new; memory = M.bytes mem.new; kept = M.kept mem.new }) }
-{
-    if cpu.halt.is_some() {
-        return false;
-    }
-    match act(cpu, mem) {
-        Some(Ok(())) => true,
-        _ => false,
     }
 }

@@ -2,7 +2,7 @@
 use Rattle.std.specs.Prelude.{◌≡◌, ℕ, true, ◌&&◌, if◌then◌else◌, nat_eq, nat_lt, List, [], ◌∷◌, ◌++◌, length, take, drop}
 use Rattle.tp_disk.specs.declared.filling.Making.{Making}
 use Rattle.tp_disk.specs.declared.filling.Making.TheVariants.{Done, Empties, Fills}
-use Rattle.tp_disk.specs.Filling.{asking, clearing}
+use Rattle.tp_disk.specs.Filling.{GoesOn, IsLeft, asking, clearing}
 use Rattle.tp_disk.specs.History.{FileCall, Measures, Resizes, Syncs, SyncsData, Writes}
 
 -- Files of the operating system keep the model. Nothing proves it, and no proof outside this crate unfolds it. What it asks of a
@@ -22,6 +22,12 @@ abbrev pub making : Making → ℕ → List FileCall
 making Done size = []
 making Empties size = Resizes 0 true ∷ Resizes size true ∷ Syncs true ∷ []
 making (Fills old) size = asking old size ++ clearing old size
+
+-- What the calls left that didn't make a device of a file: nothing of one that is to be filled was written over before there was room for all.
+abbrev pub NotMade : Making → ℕ → (old new : List FileCall) → Type 0
+NotMade Done size old new = ⊥
+NotMade Empties size old new = GoesOn old new
+NotMade (Fills length) size old new = IsLeft length size old new
 
 -- The system was asked once how many bytes a file has that is to be filled.
 abbrev pub IsMeasured : Making → (old new : List FileCall) → Type 0

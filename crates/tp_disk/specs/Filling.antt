@@ -1,5 +1,5 @@
 -- The calls of the system that give a file room for all bytes of a device, and how they leave what was in it.
-use Rattle.std.specs.Prelude.{◌≡◌, ℕ, ◌+◌, ◌-◌, ◌*◌, ◌≤◌, Bool, true, if◌then◌else◌, min, nat_eq, nat_lt, List, [], ◌∷◌, ◌++◌, map, replicate}
+use Rattle.std.specs.Prelude.{◌≡◌, ◌⊎◌, ℕ, ◌+◌, ◌-◌, ◌*◌, ◌≤◌, Bool, true, if◌then◌else◌, min, nat_eq, nat_lt, List, [], ◌∷◌, ◌++◌, map, replicate}
 use Rattle.std.specs.Int.{div_ceil}
 use Rattle.std.specs.List.{AllByRecursion, range_with_len}
 use Rattle.tp_disk.specs.declared.filling.TheConstants.{PIECE}
@@ -43,3 +43,13 @@ pub record CutBack (length : ℕ) (old new : List FileCall) : Type 0 where
   pub ok : Bool
   pub kept : KeepsFront length old before
   pub cut : new ≡ before ++ Resizes length ok ∷ []
+
+-- From the one list of calls to the other, calls were made and none was taken back.
+pub record GoesOn (old new : List FileCall) : Type 0 where
+  pub made : List FileCall
+  pub are : new ≡ old ++ made
+
+-- A file of `length` bytes didn't become a device of `size` bytes: the room was refused, and what was in it is there, or all of the room
+-- was given, and only then a call could reach what was in it.
+abbrev pub IsLeft : (length size : ℕ) → (old new : List FileCall) → Type 0
+IsLeft length size old new = CutBack length old new ⊎ GoesOn (old ++ asking length size) new

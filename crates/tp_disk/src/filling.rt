@@ -1,7 +1,7 @@
 //! Files that get room for all bytes of a device.
 
 ghost use Rattle.std.specs.Prelude.{◌≡◌, ◌+◌, ◌<◌, ◌^◌, ◌++◌, OnOk, OnErr};
-ghost use Rattle.tp_disk.specs.Filling.{CutBack, KeepsFront, asking, clearing, filling};
+ghost use Rattle.tp_disk.specs.Filling.{CutBack, GoesOn, IsLeft, KeepsFront, asking, clearing, filling};
 ghost use Rattle.tp_disk.specs.File.{making};
 ghost use Rattle.tp_disk.specs.declared.filling.Making.TheVariants.{Fills};
 
@@ -58,7 +58,8 @@ fn ask_room<F: SystemFile>(file: &mut F, length: u64, size: u64) -> io::Result<(
 /// Clears what a file of `length` bytes had, where a device of `size` bytes is to be: its first byte first, alone, and synced, so that what
 /// had a head has none from then on; then the file gets its size, and all other bytes are written over.
 fn clear<F: SystemFile>(file: &mut F, length: u64, size: u64) -> io::Result<()>
-    ensures { OnOk result (F.calls file.new ≡ F.calls file.old ++ clearing length size) }
+    ensures cleared { OnOk result (F.calls file.new ≡ F.calls file.old ++ clearing length size) }
+    ensures failed { OnErr result (GoesOn (F.calls file.old) (F.calls file.new)) }
 {
     if length == 0 {
         return Ok(());
@@ -69,9 +70,11 @@ fn clear<F: SystemFile>(file: &mut F, length: u64, size: u64) -> io::Result<()>
     fill(file, 1, length.min(size).saturating_sub(1))
 }
 
-/// Makes a device of `size` bytes 00 of a file of `length` bytes. Nothing of these is lost before there is room for all of the device.
+/// Makes a device of `size` bytes 00 of a file of `length` bytes. Nothing of these is lost before there is room for all of the device, also
+/// where that fails.
 pub(crate) fn fill_over<F: SystemFile>(file: &mut F, length: u64, size: u64) -> io::Result<()>
-    ensures { OnOk result (F.calls file.new ≡ F.calls file.old ++ making (Fills length) size) }
+    ensures made { OnOk result (F.calls file.new ≡ F.calls file.old ++ making (Fills length) size) }
+    ensures failed { OnErr result (IsLeft length size (F.calls file.old) (F.calls file.new)) }
 {
     ask_room(file, length, size)?;
     clear(file, length, size)

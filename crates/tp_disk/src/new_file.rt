@@ -3,7 +3,8 @@
 ghost use Rattle.std.specs.Prelude.{◌≡◌, ◌+◌, ◌≤◌, [], ◌∷◌, ◌++◌, true, length, take, drop, is_ok, IfOk, OnOk, OnErr};
 ghost use Rattle.tp_model.specs.Disk.{Write, Sync, Read, done};
 ghost use Rattle.tp_model.specs.DiskHistory.{Fails, MomentPassed, unknown};
-ghost use Rattle.tp_disk.specs.File.{IsMeasured, file_keeps, making, no_file, placing};
+ghost use Rattle.tp_disk.specs.File.{IsMeasured, NotMade, file_keeps, making, no_file, placing};
+ghost use Rattle.tp_disk.specs.Filling.{GoesOn};
 ghost use Rattle.tp_disk.specs.History.{Reads, SyncsData};
 ghost use Rattle.tp_disk.specs.declared.filling.Making.TheVariants.{Done, Empties, Fills};
 
@@ -83,6 +84,7 @@ impl<F: SystemFile + Drop> NewFile<F> {
     fn make(&mut self) -> Result<(), DeviceFailed>
         ensures size { self.new.size ≡ self.old.size }
         ensures made { OnOk result ((self.new.making ≡ Done) × (F.calls self.new.file ≡ F.calls self.old.file ++ making self.old.making self.old.size)) }
+        ensures failed { OnErr result ((self.new.making ≡ self.old.making) × NotMade self.old.making self.old.size (F.calls self.old.file) (F.calls self.new.file)) }
     {
         let made = make_of(&mut self.file, self.making, self.size);
         answer(made, &mut self.failure)?;
@@ -158,7 +160,8 @@ impl<F: SystemFile + Drop> RawDisk for NewFile<F> {
 
 /// Empties a file, and gives it its length: it takes room as it is written.
 fn empty<F: SystemFile>(file: &mut F, size: u64) -> io::Result<()>
-    ensures { OnOk result (F.calls file.new ≡ F.calls file.old ++ making Empties size) }
+    ensures made { OnOk result (F.calls file.new ≡ F.calls file.old ++ making Empties size) }
+    ensures failed { OnErr result (GoesOn (F.calls file.old) (F.calls file.new)) }
 {
     file.resize(0)?;
     file.resize(size)?;
@@ -167,7 +170,8 @@ fn empty<F: SystemFile>(file: &mut F, size: u64) -> io::Result<()>
 
 /// Makes a device of `size` bytes of a file, and syncs it.
 fn make_of<F: SystemFile>(file: &mut F, what: Making, size: u64) -> io::Result<()>
-    ensures { OnOk result (F.calls file.new ≡ F.calls file.old ++ making what size) }
+    ensures made { OnOk result (F.calls file.new ≡ F.calls file.old ++ making what size) }
+    ensures failed { OnErr result (NotMade what size (F.calls file.old) (F.calls file.new)) }
 {
     match what {
         Making::Done => Ok(()),

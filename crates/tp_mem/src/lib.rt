@@ -4,11 +4,14 @@
 //! before the first write to it; [`FlatMemory`] is its slow twin, over two flat lists.
 #![tactic(auto)]
 
+mod access;
 mod address;
+mod copy_table;
 mod cow;
 mod fault;
 mod flat;
 mod memory;
+mod parting;
 mod touch;
 mod write;
 

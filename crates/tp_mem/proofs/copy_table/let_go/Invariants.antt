@@ -1,7 +1,7 @@
 use Rattle.std.proofs.Common.{◌≡◌, ◌+◌, drop}
 use Rattle.tp_model.specs.Frames.{free_in}
 use Rattle.tp_mem.specs.Copies.{AreCopies, copied_in}
-use Rattle.tp_mem.proofs.cow.let_go.Given as goal
+use Rattle.tp_mem.proofs.copy_table.let_go.Given as goal
 
 -- the pages so far have no copy, and each frame that is gone is free
 abbrev pub invariant-loop-page : goal.invariant-loop-page

@@ -1,7 +1,7 @@
 use Rattle.std.proofs.Common.{◌<◌, ◌≤◌, None, length, sym, ◌∙◌, arith}
 use Rattle.std.proofs.lemmas.List.{get_or_default}
 use Rattle.tp_mem.proofs.Copies.{copy_single, AreCopies-gone, free_in-gone, copied_in-next, copied_in-past}
-use Rattle.tp_mem.proofs.cow.let_go.Goals as goal
+use Rattle.tp_mem.proofs.copy_table.let_go.Goals as goal
 
 pub give_copy-requires : goal.give_copy-requires
 give_copy-requires c =

@@ -1,0 +1,177 @@
+//! Parting shared pages from their frozen copies, ahead of writes.
+
+ghost use Rattle.std.specs.Prelude.{◌≡◌, ◌+◌, ◌-◌, ◌*◌, ◌/◌, ◌<◌, ◌≤◌, ◌^◌, [], ◌∷◌, ◌&&◌, not, if◌then◌else◌, true, false, length, get_or, set, ◌↔◌, IfOk, OnOk, OnErr, IsOk, IsSome};
+ghost use Rattle.std.specs.List.{list_any};
+ghost use Rattle.tp_model.specs.SharedPages.{block_ranges, word_ranges, touches, shared_from, private_in, wanted_from};
+
+use crate::copy_table::page_at;
+use crate::cow::CowMemory;
+use crate::fault::NoFrame;
+use crate::touch::{NOWHERE, Range, block, is_shared, is_touched, one_page, shares, wanted};
+use tp_model::limits::PAGE_BYTES;
+
+impl CowMemory {
+    /// Parts a shared page from its frozen copy, whose bytes go into a spare frame.
+    fn part(&mut self, page: usize)
+        requires shared { get_or self.old.shared page false ≡ true }
+        requires room { private_in self.old.shared < self.old.spare }
+        ensures { self.new ≡ record self.old { shared = set self.old.shared page false } }
+    {
+        let Ok(id) = self.pool.take() else {
+            unreachable!()
+        };
+        self.pool.put(&id, page_at(&self.live, page));
+        self.copies[page] = Some(id);
+        self.shared[page] = false;
+    }
+
+    /// Parts a page where it is shared and ranges have bytes in it.
+    fn part_touched(&mut self, page: usize, first: Range, block: Range, words: &[(u32, u32)])
+        requires page { page < length self.old.shared }
+        requires first { first.0 + first.1 < 2 ^ 33 }
+        requires block { block.0 + block.1 < 2 ^ 33 }
+        requires room { private_in self.old.shared + (if get_or self.old.shared page false && list_any (touches page) (first ∷ block ∷ word_ranges words.now) then 1 else 0) ≤ self.old.spare }
+        ensures { self.new ≡ record self.old { shared = set self.old.shared page (get_or self.old.shared page false && not (list_any (touches page) (first ∷ block ∷ word_ranges words.now))) } }
+    {
+        if !self.shared[page] {
+            return;
+        }
+        if !is_touched(page, first, block, words) {
+            return;
+        }
+        self.part(page);
+    }
+
+    /// Parts the shared pages that ranges have bytes in, where the free frames suffice.
+    fn separate_pages(
+        &mut self,
+        first: Range,
+        block: Range,
+        words: &[(u32, u32)],
+    ) -> Result<(), NoFrame>
+        requires frozen { IsSome self.old.frozen }
+        requires first { first.0 + first.1 < 2 ^ 33 }
+        requires block { block.0 + block.1 < 2 ^ 33 }
+        ensures ok { IfOk result (λ _. self.new ≡ record self.old { shared = shared_from 0 self.old.shared (first ∷ block ∷ word_ranges words.now) }) }
+        ensures fits { OnOk result (wanted_from 0 self.old.shared (first ∷ block ∷ word_ranges words.now) ≤ self.old.spare - private_in self.old.shared) }
+        ensures err { OnErr result ((self.new ≡ self.old) × (self.old.spare - private_in self.old.shared < wanted_from 0 self.old.shared (first ∷ block ∷ word_ranges words.now))) }
+    {
+        if wanted(&self.shared, first, block, words) > self.pool.free() {
+            return Err(NoFrame);
+        }
+        let pages = self.shared.len();
+        for page in 0..pages {
+            self.part_touched(page, first, block, words);
+        }
+        Ok(())
+    }
+
+    /// Parts a page where it is shared, if a frame is free.
+    fn separate_page(&mut self, page: usize) -> Result<(), NoFrame>
+        ensures ok { IfOk result (λ _. self.new ≡ record self.old { shared = set self.old.shared page false }) }
+        ensures fits { OnOk result ((if get_or self.old.shared page false then 1 else 0) ≤ self.old.spare - private_in self.old.shared) }
+        ensures err { OnErr result ((self.new ≡ self.old) × (get_or self.old.shared page false ≡ true) × (self.old.spare ≤ private_in self.old.shared)) }
+    {
+        if !is_shared(&self.shared, page) {
+            return Ok(());
+        }
+        if self.pool.free() == 0 {
+            return Err(NoFrame);
+        }
+        self.part(page);
+        Ok(())
+    }
+
+    /// Parts the shared pages that the ranges have bytes in, with a look at one page alone where they have bytes in no other. It is
+    /// never inlined: few writes come here, and the loops of the others stay short.
+    #[inline(never)]
+    fn separate_shared(
+        &mut self,
+        first: Range,
+        block: Range,
+        words: &[(u32, u32)],
+    ) -> Result<(), NoFrame>
+        requires frozen { IsSome self.old.frozen }
+        requires first { first.0 + first.1 < 2 ^ 33 }
+        requires block { block.0 + block.1 < 2 ^ 33 }
+        ensures ok { IfOk result (λ _. self.new ≡ record self.old { shared = shared_from 0 self.old.shared (first ∷ block ∷ word_ranges words.now) }) }
+        ensures fits { OnOk result (wanted_from 0 self.old.shared (first ∷ block ∷ word_ranges words.now) ≤ self.old.spare - private_in self.old.shared) }
+        ensures err { OnErr result ((self.new ≡ self.old) × (self.old.spare - private_in self.old.shared < wanted_from 0 self.old.shared (first ∷ block ∷ word_ranges words.now))) }
+    {
+        match one_page(first, block, words) {
+            Some(page) => self.separate_page(page),
+            None => self.separate_pages(first, block, words),
+        }
+    }
+
+    /// Parts the shared pages that the ranges have bytes in. Where none of their pages is shared, it looks at no others.
+    #[inline(always)]
+    pub(crate) fn separate(
+        &mut self,
+        first: Range,
+        block: Range,
+        words: &[(u32, u32)],
+    ) -> Result<(), NoFrame>
+        requires first { first.0 + first.1 < 2 ^ 33 }
+        requires block { block.0 + block.1 < 2 ^ 33 }
+        ensures ok { IfOk result (λ _. self.new ≡ record self.old { shared = shared_from 0 self.old.shared (first ∷ block ∷ word_ranges words.now) }) }
+        ensures fits { OnOk result (wanted_from 0 self.old.shared (first ∷ block ∷ word_ranges words.now) ≤ self.old.spare - private_in self.old.shared) }
+        ensures err { OnErr result ((self.new ≡ self.old) × IsSome self.old.frozen × (self.old.spare - private_in self.old.shared < wanted_from 0 self.old.shared (first ∷ block ∷ word_ranges words.now))) }
+    {
+        if !self.is_frozen {
+            return Ok(());
+        }
+        if !shares(&self.shared, first, block, words) {
+            return Ok(());
+        }
+        self.separate_shared(first, block, words)
+    }
+
+    /// Parts the shared pages that `words` have bytes in, where memory is frozen. Never inlined: of loops only `call`'s uses it.
+    #[inline(never)]
+    fn separate_frozen_words(&mut self, words: &[(u32, u32)]) -> Result<(), NoFrame>
+        ensures ok { IfOk result (λ _. self.new ≡ record self.old { shared = shared_from 0 self.old.shared ((0, 0) ∷ (0, 0) ∷ word_ranges words.now) }) }
+        ensures err { OnErr result ((self.new ≡ self.old) × IsSome self.old.frozen × (self.old.spare - private_in self.old.shared < wanted_from 0 self.old.shared ((0, 0) ∷ (0, 0) ∷ word_ranges words.now))) }
+    {
+        self.separate(NOWHERE, NOWHERE, words)
+    }
+
+    /// Parts the shared pages that `words` have bytes in. Where memory isn't frozen, it makes no call.
+    #[inline(always)]
+    pub(crate) fn separate_words(&mut self, words: &[(u32, u32)]) -> Result<(), NoFrame>
+        ensures ok { IfOk result (λ _. self.new ≡ record self.old { shared = shared_from 0 self.old.shared ((0, 0) ∷ (0, 0) ∷ word_ranges words.now) }) }
+        ensures err { OnErr result ((self.new ≡ self.old) × IsSome self.old.frozen × (self.old.spare - private_in self.old.shared < wanted_from 0 self.old.shared ((0, 0) ∷ (0, 0) ∷ word_ranges words.now))) }
+    {
+        if !self.is_frozen {
+            return Ok(());
+        }
+        self.separate_frozen_words(words)
+    }
+
+    /// Parts the page of the `count` bytes at `at`, which lie in one page, where it is shared: one flag is looked at.
+    #[inline(always)]
+    pub(crate) fn separate_at(&mut self, at: usize, count: usize) -> Result<(), NoFrame>
+        requires small { at < 2 ^ 32 }
+        requires inside { at + count ≤ PAGE_BYTES * (at / PAGE_BYTES) + PAGE_BYTES }
+        ensures ok { IfOk result (λ _. self.new ≡ record self.old { shared = shared_from 0 self.old.shared ((at, count) ∷ (0, 0) ∷ []) }) }
+        ensures err { OnErr result ((self.new ≡ self.old) × IsSome self.old.frozen × (self.old.spare - private_in self.old.shared < wanted_from 0 self.old.shared ((at, count) ∷ (0, 0) ∷ []))) }
+    {
+        if !self.is_frozen {
+            return Ok(());
+        }
+        if !is_shared(&self.shared, at / PAGE_BYTES) {
+            return Ok(());
+        }
+        self.separate_shared((at, count), NOWHERE, &[])
+    }
+
+    /// Makes the pages of a range private, so that the frozen bytes share none of them. This is done just where the shared
+    /// ones among them are no more than the free frames.
+    pub fn make_private(&mut self, address: u32, count: u32) -> Result<(), NoFrame>
+        ensures ok { IfOk result (λ _. self.new ≡ record self.old { shared = shared_from 0 self.old.shared (block_ranges address count) }) }
+        ensures err { OnErr result (self.new ≡ self.old) }
+        ensures exact { IsOk result ↔ (wanted_from 0 self.old.shared (block_ranges address count) ≤ self.old.spare - private_in self.old.shared) }
+    {
+        self.separate(block(address, count), NOWHERE, &[])
+    }
+}
