@@ -222,7 +222,7 @@ fn play_within<D: Disk + Send + Drop, S: Sink, I: Source, L: Listener, R: Thread
     stream(rt, alloc, task, disk, streams, told, asks)
 }
 
-/// A stream on a device, of which what a crash leaves is told.
+/// A stream on a device; with how it ended stands what a crash leaves then.
 pub(crate) fn play_on<S: Sink, I: Source, L: Listener, R: Threads + Wait + Abort + Sync>(
     rt: &R,
     alloc: Global,

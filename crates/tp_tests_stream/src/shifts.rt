@@ -142,7 +142,7 @@ where
     Ok(device)
 }
 
-/// Whether the second row's network leaves, byte for byte, what it leaves by one worker, where so many are asked for.
+/// Whether the second row's network leaves by `workers`, byte for byte, what it leaves by one.
 fn are_alike<R: Threads + Wait + Abort + Sync>(rt: &R, workers: u8) -> Result<bool, Fail>
 where
     R: AllocGlobal,
@@ -168,7 +168,7 @@ fn light_turns_leave_the_bytes_of_one_worker(rt: HostRuntime) -> Result<(), Fail
 }
 
 /// Which calls of the device fail: the first flush with entries comes behind a round, beside workers.
-const CALLS: &[u64] = &[20, 40, 60];
+const CALLS: &[u64] = &[40, 60, 100];
 
 /// A sink alone.
 fn streams_of(alloc: Global, sink: MemSink) -> Result<Streams<MemSink, Pieces>, AllocError> {
