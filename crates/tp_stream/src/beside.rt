@@ -150,11 +150,12 @@ fn most_of(task: Task, turns: &Turns, workers: u64) -> u64 {
     }
 }
 
-/// Takes the book's lock, and asks under it for a shift of at most `most` turns.
+/// Takes the book's lock, and asks under it for a shift of at most `most` turns. It ends sooner only where [`SHIFT`] in a row had nothing to do: while
+/// one node makes a long turn, others that wait have many.
 fn shift_of<J: Naming, R: Wait>(rt: &R, shared: &Shared<J>, pace: Pace, most: u64) -> Shift {
     let held = shared.book().lock(rt);
     let turns = turns_in(&held, pace, most);
-    Shift::new(turns, 2 * (u64::from(shared.nodes()) + 1))
+    Shift::new(turns, SHIFT)
 }
 
 /// What comes of a shift: the fault of a flush, or why turns were refused.
