@@ -65,7 +65,12 @@ fn is_number(version: HeadVersion, number: u16) -> bool
 pub(crate) fn are_numbers(version: HeadVersion, numbers: &[u16]) -> bool
     ensures { result ≡ list_all (is_end_number version) numbers.now }
 {
-    numbers.iter().all(|number| is_number(version, *number))
+    for number in numbers {
+        if !is_number(version, *number) {
+            return false;
+        }
+    }
+    true
 }
 
 /// The end of a wire that `number` stands for.

@@ -23,14 +23,14 @@ pub const AREA_FRONT_BYTES: usize = 1 + LENGTH_PLACE;
 pub const FIELDS_BYTES: usize = BASE_PLACE + BASE_BYTES;
 
 /// Whether an area's gate is open, and its generation.
-#[derive(Clone, Copy, Debug, PartialEq, Eq)]
+#[derive(Clone, Copy, PartialEq, Eq)]
 pub struct AreaFront {
     pub is_open: bool,
     pub generation: u64,
 }
 
 /// The generation of an area, its form, and the number of entries in its cut.
-#[derive(Clone, Copy, Debug, PartialEq, Eq)]
+#[derive(Clone, Copy)]
 pub struct CutFront {
     pub generation: u64,
     pub form: Form,

@@ -65,7 +65,7 @@ pub fn piece_place(topology: &Topology, node: usize, piece: usize) -> u64
 }
 
 /// Where the first node's image, the first line's record, the first port's record and the first group's gate stand.
-#[derive(Clone, Copy, Debug, PartialEq, Eq)]
+#[derive(Clone, Copy)]
 pub struct Places {
     pub nodes: u64,
     pub lines: u64,

@@ -19,7 +19,7 @@ use tp_net::{Lines, MAX_LINES};
 pub const LINES_BYTES: usize = LINE_BYTES * MAX_LINES;
 
 /// The tokens on a line of a cut, first the one that comes next.
-#[derive(Clone, Copy, Debug, PartialEq, Eq)]
+#[derive(Clone, Copy)]
 pub enum LineTokens {
     Empty,
     Data(u8),

@@ -26,7 +26,7 @@ const OUTPUTS_PLACE: usize = PENDING_PLACE + MAX_HELD;
 
 /// What a port's record says: the pending bytes behind `in_base` bytes that were taken off, and the outputs behind `out_base`
 /// bytes that were confirmed.
-#[derive(Clone, Copy, Debug, PartialEq, Eq)]
+#[derive(Clone, Copy)]
 pub struct PortRecord<'a> {
     pub pending: &'a [u8],
     pub in_base: u64,
@@ -38,7 +38,12 @@ pub struct PortRecord<'a> {
 fn are_zeros(bytes: &[u8]) -> bool
     ensures { result ≡ list_all is_zero bytes.now }
 {
-    bytes.iter().all(|byte| *byte == 0)
+    for byte in bytes {
+        if *byte != 0 {
+            return false;
+        }
+    }
+    true
 }
 
 /// Whether the positions of a port with `shown` outputs are no more than the entries that led to them.

@@ -65,12 +65,23 @@ fn head_pages(version: HeadVersion) -> usize
     }
 }
 
+/// Whether a node may have `count` pages in a head.
+fn are_few(version: HeadVersion, count: u16) -> bool
+    ensures { result ≡ nat_le count (head_pages version) }
+{
+    usize::from(count) <= head_pages(version)
+}
+
 /// Whether nodes may have `pages` pages each in a head.
 fn are_few_pages(version: HeadVersion, pages: &[u16]) -> bool
     ensures { result ≡ list_all (λ count. nat_le count (head_pages version)) pages.now }
 {
-    let most = head_pages(version);
-    pages.iter().all(|count| usize::from(*count) <= most)
+    for count in pages {
+        if !are_few(version, *count) {
+            return false;
+        }
+    }
+    true
 }
 
 /// Whether a head of version `version` can say `topology`.

@@ -66,7 +66,12 @@ fn all_closed(wires: &[Option<WireEnd>], closed: &[bool]) -> bool
 fn all_set(flags: &[bool]) -> bool
     ensures { result ≡ list_all (λ flag. flag) flags.now }
 {
-    flags.iter().all(|flag| *flag)
+    for flag in flags {
+        if !*flag {
+            return false;
+        }
+    }
+    true
 }
 
 impl Running {

@@ -4,7 +4,7 @@ ghost use Rattle.std.specs.Prelude.{◌≡◌, IfErr, IfOk};
 ghost use Rattle.tp_flush.specs.Images.{EndsSo, HasNextImage};
 
 /// What a turn did with the frozen images of the snapshot that runs.
-#[derive(Clone, Copy, Debug, PartialEq, Eq)]
+#[derive(Clone, Copy)]
 pub enum Images {
     /// No snapshot ran.
     NoSnapshot,

@@ -1,7 +1,7 @@
 //! Why the store didn't switch.
 
 /// Why a turn in which a snapshot ran didn't switch the store to its other area.
-#[derive(Clone, Copy, Debug, PartialEq, Eq)]
+#[derive(Clone, Copy)]
 pub enum Unswitched {
     /// The image of a node isn't out.
     ImageMissing,

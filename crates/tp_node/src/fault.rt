@@ -14,6 +14,6 @@ pub enum ImageFault {
 }
 
 /// Memory is frozen and has no free frame. Nothing has changed.
-#[derive(Clone, Copy, Debug, PartialEq, Eq, Error)]
+#[derive(Clone, Copy, Debug, Error)]
 #[error("NoFrame")]
 pub struct NoFrame;

@@ -230,6 +230,7 @@ impl Node {
 
     /// Makes at most `max` steps. What leaves goes into `out`, each token with its link. It ends for want of a frame only
     /// before a step that would write shared pages which outnumber the free frames; that step isn't counted.
+    #[inline(always)]
     #[tactic(auto, using(crate::proofs::Keeps::kept_same))]
     pub fn run(&mut self, max: u16, out: &mut ArrayVec<(u8, Token), 8>) -> Ran
         requires { out.old.items ≡ [] }

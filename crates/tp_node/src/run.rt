@@ -17,7 +17,7 @@ use tp_mem::Mem;
 use tp_model::{Fault, Token};
 
 /// Why a run ended.
-#[derive(Clone, Copy, Debug, PartialEq, Eq)]
+#[derive(Clone, Copy, PartialEq, Eq)]
 pub enum Why {
     /// All steps were made.
     Full,
@@ -87,7 +87,8 @@ fn why_none(halt: Option<Fault>) -> Why
     }
 }
 
-/// Makes at most `max` steps. `advance` makes all that lead on; a step that doesn't is left to `step`.
+/// Makes at most `max` steps. `advance` makes all that it can; the one before which it stops is left to `make_step`.
+#[inline(always)]
 pub(crate) fn run<M: Mem>(
     head: &mut Head,
     mem: &mut M,

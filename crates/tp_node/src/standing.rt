@@ -3,7 +3,7 @@
 use tp_model::Fault;
 
 /// Whether a node has halted, and where, and whether one of its processes waits at a link.
-#[derive(Clone, Copy, Debug, PartialEq, Eq)]
+#[derive(Clone, Copy, PartialEq, Eq)]
 pub enum Standing {
     /// It halted at the instruction at this address.
     Halted { fault: Fault, at: u32 },

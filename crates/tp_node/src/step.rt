@@ -96,7 +96,7 @@ fn input<M: Mem>(head: &mut Head, mem: &mut M, request: InRequest) -> StepOutcom
 }
 
 /// Makes a step, if there is one.
-#[inline]
+#[inline(never)]
 #[tactic(auto, unfolding(tp_model::specs::Node::node_step, tp_model::specs::NodeWrites::node_ranges, tp_model::specs::StepWrites::step_ranges))]
 pub(crate) fn make_step<M: Mem>(head: &mut Head, mem: &mut M) -> StepOutcome
     ensures makes { Makes (node_step (state_with head.old (M.bytes mem.old))) (LacksFrames (M.kept mem.old) (node_ranges (state_with head.old (M.bytes mem.old)))) (state_with head.old (M.bytes mem.old)) result (state_with head.new (M.bytes mem.new)) }

@@ -5,7 +5,7 @@ ghost use Rattle.tp_law_network.specs.Piece.{Covers};
 ghost use Rattle.tp_pieces.specs.Dealt.{dealt, first_of};
 
 /// A run of neighbours among the nodes: the first one, and how many they are.
-#[derive(Clone, Copy, Debug, PartialEq, Eq)]
+#[derive(Clone, Copy)]
 pub struct Neighbours {
     pub first: u8,
     pub count: u8,

@@ -21,7 +21,7 @@ use tp_views::{Refusal, is_device_file, put, refuse};
 use tp_words::StopRequest;
 
 /// Why a request to stop isn't made.
-#[derive(Clone, Copy, Debug, PartialEq, Eq, Error)]
+#[derive(Clone, Copy, Debug, Error)]
 pub enum Unmade {
     /// What stands at its path is none, and stays.
     #[error("StopExists")]

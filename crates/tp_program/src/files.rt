@@ -59,7 +59,10 @@ pub fn trace_file<R: Files + AllocGlobal, O: Write, E: Write>(
 
 /// Reads a whole file.
 pub(crate) fn read_file<R: Files + AllocGlobal>(rt: &R, path: &str) -> Result<Vec<u8>, Refusal> {
-    fs::read(rt, path).map_err(|error| read_refusal(&error))
+    match fs::read(rt, path) {
+        Ok(bytes) => Ok(bytes),
+        Err(error) => Err(read_refusal(&error)),
+    }
 }
 
 /// The path of a node's image.
@@ -150,7 +153,10 @@ pub(crate) fn disk_to_read<R: Files<File = F>, F: FileExt + OpenFile + Drop>(
     if !is_device_file(rt, device) {
         return Err(Refusal::ReadFailed);
     }
-    Counted::open_to_read(rt, device).map_err(|_| Refusal::ReadFailed)
+    match Counted::open_to_read(rt, device) {
+        Ok(disk) => Ok(disk),
+        Err(_) => Err(Refusal::ReadFailed),
+    }
 }
 
 /// `tpnet recover`, on a device's file, which stays as it is.

@@ -15,7 +15,7 @@ use tp_words::StreamRun;
 const STANDARD: &[&str] = &["/dev/stdin", "/dev/stdout", "/dev/stderr"];
 
 /// Why a stream isn't begun, because of the file that is to end it, or of where it may be asked to stop. The device is as it was.
-#[derive(Clone, Copy, Debug, PartialEq, Eq, Error)]
+#[derive(Clone, Copy, Debug, Error)]
 pub enum StopFault {
     /// It is the file of the device, of an end of a port, or of a standard stream.
     #[error("SameFile")]

@@ -35,7 +35,7 @@ const SECONDS_TOLD: u32 = 10;
 const MOST_WORKERS: usize = 4;
 
 /// Why a stream on files ends early.
-#[derive(Clone, Copy, Debug, PartialEq, Eq, Error)]
+#[derive(Clone, Copy, Debug, Error)]
 pub enum FilesFault {
     /// An end isn't opened. The device is as it was.
     #[error(transparent)]

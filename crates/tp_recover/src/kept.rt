@@ -10,7 +10,7 @@ use tp_model::{Form, TwoAreas};
 
 /// What of an opened device is copied: where the areas are, whether the second one is open, its generation and its form, where the closed
 /// gate behind its groups stands, and the number of the next entry.
-#[derive(Clone, Copy, Debug)]
+#[derive(Clone, Copy)]
 pub(crate) struct Kept {
     pub(crate) areas: TwoAreas,
     pub(crate) second: bool,

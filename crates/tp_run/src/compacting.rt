@@ -47,7 +47,7 @@ pub struct Compaction {
 }
 
 /// Why a device isn't compacted.
-#[derive(Clone, Copy, Debug, PartialEq, Eq, Error)]
+#[derive(Clone, Copy, Debug, Error)]
 pub enum CompactFault {
     /// The device isn't opened.
     #[error(transparent)]

@@ -15,7 +15,7 @@ pub enum RunFault {
     /// The port isn't there.
     #[error("Port")]
     Port,
-    /// There is no room on the device for the entries of the input, of which there are some. None was handed in.
+    /// There is no room on the device for the entries of the input, which has some bytes. None was handed in.
     #[error("JournalFull")]
     OfferRefused,
     /// A call of the device failed while the workers made their turns, or behind them. Nothing is printed.

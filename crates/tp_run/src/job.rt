@@ -1,7 +1,7 @@
 //! What a run is asked.
 
 /// How a device's network is run.
-#[derive(Clone, Copy, Debug, PartialEq, Eq)]
+#[derive(Clone, Copy)]
 pub struct Job {
     /// How many turns all workers make together. A refused turn counts.
     pub turns: u32,

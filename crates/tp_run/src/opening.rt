@@ -21,7 +21,13 @@ use tp_work::nodes_of;
 fn has_pages(spare: u16, topology: &Topology) -> bool
     ensures { result ≡ has_pages spare topology.now }
 {
-    topology.pages().iter().all(|pages| spare <= *pages)
+    let counts = topology.pages();
+    for pages in counts {
+        if *pages < spare {
+            return false;
+        }
+    }
+    true
 }
 
 /// What is wrong, where a node has too few pages, or the port isn't there.

@@ -11,7 +11,7 @@ use tp_flush::Flusher;
 use tp_shared::Naming;
 
 /// Why an outlet took no byte.
-#[derive(Clone, Copy, Debug, PartialEq, Eq)]
+#[derive(Clone, Copy)]
 pub enum OutletFault {
     /// It was interrupted, and may be called again.
     Interrupted,

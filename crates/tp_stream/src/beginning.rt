@@ -22,7 +22,13 @@ use tp_stream_files::{Input, Listener, Output, Sink, Source, Streams};
 fn lacks_pages(topology: &Topology, spare: u16) -> bool
     ensures { result ≡ lacks_pages spare topology.now }
 {
-    topology.pages().iter().any(|pages| *pages < spare)
+    let counts = topology.pages();
+    for pages in counts {
+        if *pages < spare {
+            return true;
+        }
+    }
+    false
 }
 
 /// Whether a port has a wire.
@@ -40,7 +46,12 @@ fn port_has_wire(topology: &Topology, port: u8) -> bool
 fn has_sink<S: Sink>(outputs: &[Output<S>], port: u8) -> bool
     ensures { result ≡ has_sink port outputs.now }
 {
-    outputs.iter().any(|output| output.port() == port)
+    for output in outputs {
+        if output.port() == port {
+            return true;
+        }
+    }
+    false
 }
 
 /// The first port with a wire for which there is no sink.

@@ -15,7 +15,12 @@ use tp_stream_files::{Ending, Input, Source, Stop};
 pub(crate) fn are_over<I: Source>(inputs: &[Input<I>]) -> bool
     ensures { result ≡ list_all (λ i. is_over i.ended i.is_blocked) inputs.now }
 {
-    inputs.iter().all(|input| input.is_over())
+    for input in inputs {
+        if !input.is_over() {
+            return false;
+        }
+    }
+    true
 }
 
 /// Whether a step of an input may wait: another turn may be made, nothing is left to do, and the stream doesn't rest meanwhile.

@@ -23,7 +23,7 @@ use tp_stream_files::{Output, Sink, SinkFault};
 use tp_work::{ConfirmFault, confirm};
 
 /// Why a step of an output isn't done: whoever takes it has gone, or the stream ends with a fault.
-#[derive(Clone, Copy, Debug, PartialEq, Eq)]
+#[derive(Clone, Copy)]
 pub(crate) enum StepFault {
     Gone,
     Fault(StreamFault),

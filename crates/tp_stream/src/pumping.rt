@@ -27,7 +27,7 @@ use tp_stream_files::{Input, Output, Sink, Source, Streams};
 const REST: u64 = 20;
 
 /// What steps of streams came to.
-#[derive(Clone, Copy, Debug, PartialEq, Eq)]
+#[derive(Clone, Copy, PartialEq, Eq)]
 pub(crate) enum Pumped {
     /// None has moved.
     Nothing,

@@ -1,7 +1,7 @@
 //! What a stream is asked.
 
 /// How a device's network is run, and when that ends.
-#[derive(Clone, Copy, Debug, PartialEq, Eq)]
+#[derive(Clone, Copy)]
 pub struct Task {
     /// How many turns are made at most; none: there is no bound. A refused turn counts; one that only settles doesn't.
     pub turns: Option<u32>,

@@ -3,7 +3,7 @@
 use tp_model::Fault;
 
 /// Why a stream is over.
-#[derive(Clone, Copy, Debug, PartialEq, Eq)]
+#[derive(Clone, Copy, PartialEq, Eq)]
 pub enum Ending {
     /// It was to end where nothing is left to do, and nothing is.
     Quiet,
@@ -31,14 +31,14 @@ impl Ending {
 }
 
 /// What a stream came to: the number that the next entry gets, all below being stored, and why it is over.
-#[derive(Clone, Copy, Debug, PartialEq, Eq)]
+#[derive(Clone, Copy, PartialEq, Eq)]
 pub struct Ended {
     pub next: u64,
     pub why: Ending,
 }
 
 /// How a node stands that does nothing any more.
-#[derive(Clone, Copy, Debug, PartialEq, Eq)]
+#[derive(Clone, Copy, PartialEq, Eq)]
 pub enum Stopped {
     /// It halted at the instruction at this address.
     Halted { fault: Fault, at: u32 },

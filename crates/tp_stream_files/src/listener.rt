@@ -7,7 +7,7 @@ use crate::ending::Stopped;
 use tp_model::limits::MAX_PORTS;
 
 /// How far a stream has come.
-#[derive(Clone, Copy, Debug, PartialEq, Eq)]
+#[derive(Clone, Copy)]
 pub struct Progress {
     /// The number that the next entry gets.
     pub next: u64,

@@ -22,7 +22,27 @@ use std::os::unix::fs::FileExt;
 
 /// Gives a file its part in the stream.
 fn take(taken: &mut Taken, file: Option<FileNumbers>) -> Result<(), EndFault> {
-    taken.add(file).map_err(|_| EndFault::Memory)
+    match taken.add(file) {
+        Ok(()) => Ok(()),
+        Err(_) => Err(EndFault::Memory),
+    }
+}
+
+/// Gives a file its part, which is open and takes the output of `port`. One that has a part already, or is what standard error goes to, is
+/// refused.
+fn take_sink<S: Looks, F: EndFile>(
+    looks: &S,
+    port: u8,
+    file: &F,
+    taken: &mut Taken,
+) -> Result<(), EndFault> {
+    let Ok(numbers) = file.numbers() else {
+        return Err(EndFault::DeviceFailed(port));
+    };
+    if taken.has(numbers) || are_one(numbers, standard_error(looks)) {
+        return Err(EndFault::SameFile(port));
+    }
+    take(taken, numbers)
 }
 
 /// Opens a file that takes an output, or makes it. One that has a part already, or is what standard error goes to, is refused as it is.
@@ -36,13 +56,14 @@ fn file_sink<S: EndFiles<File = F> + Looks, F: EndFile + Drop>(
 {
     let path = end.path.as_str();
     let failed = EndFault::DeviceFailed(end.port);
-    let file = file_at(files, path).map_err(|_| failed)?;
-    let numbers = file.numbers().map_err(|_| failed)?;
-    if taken.has(numbers) || are_one(numbers, standard_error(files)) {
-        return Err(EndFault::SameFile(end.port));
+    let Ok(file) = file_at(files, path) else {
+        return Err(failed);
+    };
+    take_sink(files, end.port, &file, taken)?;
+    match FileSink::over(files, path, file) {
+        Ok(sink) => Ok(sink),
+        Err(_) => Err(failed),
     }
-    take(taken, numbers)?;
-    FileSink::over(files, path, file).map_err(|_| failed)
 }
 
 /// What takes the output of a port: standard output, which only one may have, or a file.
@@ -64,6 +85,14 @@ fn sink_at<'a, S: EndFiles<File = F> + Looks, F: EndFile + Drop, O: Write>(
     Ok(AnySink::File(file_sink(files, end, taken)?))
 }
 
+/// Gives a file its part, which is open and has the input of `port`.
+fn take_source<F: EndFile>(port: u8, file: &F, taken: &mut Taken) -> Result<(), EndFault> {
+    let Ok(numbers) = file.numbers() else {
+        return Err(EndFault::ReadFailed(port));
+    };
+    take(taken, numbers)
+}
+
 /// Opens a file that an input comes from.
 #[tactic(auto, using(crate::proofs::Keeping::keeps_read))]
 fn file_source<S: EndFiles<File = F>, F: EndFile + Drop>(
@@ -73,11 +102,11 @@ fn file_source<S: EndFiles<File = F>, F: EndFile + Drop>(
 ) -> Result<F, EndFault>
     ensures { KeepsFiles (S.calls files.old) (S.calls files.new) }
 {
-    let failed = EndFault::ReadFailed(end.port);
     let mut how = OpenOptions::new();
-    let opened = files.open(how.read(true), end.path.as_str());
-    let file = opened.map_err(|_| failed)?;
-    take(taken, file.numbers().map_err(|_| failed)?)?;
+    let Ok(file) = files.open(how.read(true), end.path.as_str()) else {
+        return Err(EndFault::ReadFailed(end.port));
+    };
+    take_source(end.port, &file, taken)?;
     Ok(file)
 }
 

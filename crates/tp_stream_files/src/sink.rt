@@ -4,7 +4,7 @@ ghost use Rattle.std.specs.Prelude.{Option, None, OnOk};
 ghost use Rattle.tp_stream_files.specs.Held.{HeldBytes, HasLength, HasPut, HasReach, IsSafe, KeepsBytes, KeepsFront, Reaches};
 
 /// Why bytes couldn't be put, or not be made safe.
-#[derive(Clone, Copy, Debug, PartialEq, Eq)]
+#[derive(Clone, Copy, PartialEq, Eq)]
 pub enum SinkFault {
     /// It failed.
     Failed,

@@ -4,7 +4,7 @@ ghost use Rattle.std.specs.Prelude.{◌≡◌, ◌<◌, ◌≤◌, ℕ, List, le
 ghost use Rattle.tp_stream_files.specs.Inputs.{AreFrom, IsBehind, IsLength};
 
 /// Bytes couldn't be read.
-#[derive(Clone, Copy, Debug, PartialEq, Eq)]
+#[derive(Clone, Copy)]
 pub struct SourceFailed;
 
 /// A port's whole input, from position 0.

@@ -45,7 +45,10 @@ impl<'a, F: EndFile + Drop, I: Feed> Source for AnySource<'a, F, I> {
         ensures asked { WasRead F.calls I.given at result out.new self.old self.new }
     {
         match self {
-            AnySource::File(file) => file.read_at(at, out).map_err(|_| SourceFailed),
+            AnySource::File(file) => match file.read_at(at, out) {
+                Ok(count) => Ok(count),
+                Err(_) => Err(SourceFailed),
+            },
             AnySource::In(pipe) => pipe.read_from(at, out),
         }
     }

@@ -64,11 +64,15 @@ fn give(piece: Option<Piece>, out: &mut [u8; MAX_HELD]) -> Result<usize, SourceF
 /// The next piece, where it comes within `millis` milliseconds; else whether one may come later.
 fn receive<R: Wait + Clock>(rt: &R, pieces: &Receiver<Piece>, millis: u64) -> Result<Piece, bool> {
     if millis == 0 {
-        return pieces.try_recv(rt).map_err(|error| error.is_empty());
+        return match pieces.try_recv(rt) {
+            Ok(piece) => Ok(piece),
+            Err(error) => Err(error.is_empty()),
+        };
     }
-    pieces
-        .recv_timeout(rt, Duration::from_millis(millis))
-        .map_err(|error| error.is_timeout())
+    match pieces.recv_timeout(rt, Duration::from_millis(millis)) {
+        Ok(piece) => Ok(piece),
+        Err(error) => Err(error.is_timeout()),
+    }
 }
 
 /// Bytes that a thread of its own reads. It isn't joined, since a read that waits can't be ended.

@@ -3,7 +3,7 @@
 use tp_model::{DecodeFault, Instr};
 
 /// What the next step of a node that has one does, as docs/MACHINE.md tells the cases apart.
-#[derive(Clone, Copy, Debug, PartialEq, Eq)]
+#[derive(Clone, Copy)]
 pub enum Act {
     /// The process that runs makes an instruction, or halts the node at bytes that are none.
     Instruction(Result<Instr, DecodeFault>),

@@ -124,7 +124,7 @@ fn act_in(node: &Node, cpu: &Cpu) -> Act
 }
 
 /// A node between two steps: its processor, and what its next step does, if it has one.
-#[derive(Clone, Copy, Debug, PartialEq, Eq)]
+#[derive(Clone, Copy)]
 pub struct Moment {
     pub cpu: Cpu,
     pub act: Act,

@@ -11,7 +11,7 @@ use tp_model::Cpu;
 use tp_node::Node;
 
 /// What is seen of a step: what was done, the address of the instruction, and the processor behind it.
-#[derive(Clone, Copy, Debug, PartialEq, Eq)]
+#[derive(Clone, Copy)]
 pub struct Seen {
     pub act: Act,
     pub at: u32,

@@ -21,7 +21,7 @@ pub const ONE_WIRE: [Option<WireEnd>; 5] = [
 ];
 
 /// Why there was no trial.
-#[derive(Clone, Copy, Debug, PartialEq, Eq, Error)]
+#[derive(Clone, Copy, Debug, Error)]
 pub enum TryFault {
     /// The bytes are no image of a node whose links are idle.
     #[error("BadImage")]

@@ -1,7 +1,7 @@
 //! Why a line was left.
 
 /// Why a turn left a line, and took no more from it.
-#[derive(Clone, Copy, Debug, PartialEq, Eq)]
+#[derive(Clone, Copy)]
 pub enum Left {
     /// No wire leads there.
     NoWire,

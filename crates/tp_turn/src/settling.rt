@@ -33,7 +33,6 @@ pub fn settle(book: &mut Book, node: &mut Node, number: u8) -> Result<u64, Refus
     ensures done { Done number (SettledAs number result) (moment_of book.old node.old) (moment_of book.new node.new) }
     ensures is { IsNodeOf book.new number node.new }
 {
-    book.known();
     let first = book.next();
     record_asked(book, node, number);
     for link in 0..4 {

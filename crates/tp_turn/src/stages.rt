@@ -72,8 +72,6 @@ pub fn commit_turn(book: &mut Book, node: &Node, number: u8, stretch: Stretch) -
     ensures added { Added number node.now.live (run_acts number stretch.ran.count) (without_run book.old number) book.new }
     ensures is { IsNodeOf book.new number node.now }
 {
-    let _node = node;
-    book.known();
     let Stretch { ran, sent } = stretch;
     let _note = book.commit_run(number, ran.count(), sent.as_slice());
     ran

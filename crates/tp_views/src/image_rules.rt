@@ -126,10 +126,11 @@ fn push_rule(
     if must_be_idle && push_busy(text, image)? {
         return Ok(true);
     }
-    match Node::from_image(alloc, image, 0) {
-        Err(ImageFault::BadImage) => text.push_str(BAD_END).map(|()| true),
-        _ => Ok(false),
+    let is_bad = matches!(Node::from_image(alloc, image, 0), Err(ImageFault::BadImage));
+    if is_bad {
+        text.push_str(BAD_END)?;
     }
+    Ok(is_bad)
 }
 
 /// Which rule an image breaks, in words, where it breaks one. On a device ends may be at work.

@@ -79,7 +79,8 @@ pub fn read_again<R: Files + AllocGlobal>(
             Err(error) => push_file(text, path, &error),
         }
     };
-    said.map(|()| None)
+    said?;
+    Ok(None)
 }
 
 /// Whether a file that is there can be opened to be written.

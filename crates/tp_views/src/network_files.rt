@@ -24,7 +24,10 @@ fn push_image(
         text,
         "  {path}: {rule}\n  Make the image anew, by tools/make-image or docs/FORMATS.md, section 1.\n"
     );
-    said.map(|()| true)
+    match said {
+        Ok(()) => Ok(true),
+        Err(error) => Err(error),
+    }
 }
 
 /// Says why the image in a file isn't read, or which rule it breaks: whether anything was said.
@@ -73,11 +76,11 @@ fn push_small(text: &mut String, topology: &Topology, area: u64) -> Result<bool,
     if area >= least {
         return Ok(false);
     }
-    let said = write!(
+    write!(
         text,
         "  AREA is {area}, and this network needs at least {least}\n  Take thousands of entries more, at 32 bytes each: tpnet check says how much.\n"
-    );
-    said.map(|()| true)
+    )?;
+    Ok(true)
 }
 
 /// Says what is wrong with the images of a topology, or the area that is asked for: whether anything is.
@@ -103,10 +106,12 @@ fn push_text<R: Files + AllocGlobal>(
     folder: &str,
     area: u64,
 ) -> Result<bool, AllocError> {
-    match Topology::read_named(rt.alloc(), bytes) {
-        Ok(named) => push_named(rt, text, &named, folder, area),
-        Err(fault) => push_topology(rt.alloc(), text, topology, bytes, fault).map(|()| true),
-    }
+    let fault = match Topology::read_named(rt.alloc(), bytes) {
+        Ok(named) => return push_named(rt, text, &named, folder, area),
+        Err(fault) => fault,
+    };
+    push_topology(rt.alloc(), text, topology, bytes, fault)?;
+    Ok(true)
 }
 
 /// Says what is wrong with a topology, its images or the area that is asked for: whether anything is.
@@ -117,10 +122,9 @@ pub(crate) fn push_network<R: Files + AllocGlobal>(
     folder: &str,
     area: u64,
 ) -> Result<bool, AllocError> {
-    match read_again(rt, text, topology)? {
-        Some(bytes) => push_text(rt, text, topology, bytes.as_slice(), folder, area),
-        None => text
-            .push_str("  It was named as the topology: --help has the order of the words.\n")
-            .map(|()| true),
-    }
+    let Some(bytes) = read_again(rt, text, topology)? else {
+        text.push_str("  It was named as the topology: --help has the order of the words.\n")?;
+        return Ok(true);
+    };
+    push_text(rt, text, topology, bytes.as_slice(), folder, area)
 }

@@ -60,7 +60,8 @@ fn reopened<F: FileExt + OpenFile + Drop>(
         Tried::Steady(Err(unopened)) => push_unopened(alloc, text, disk, device, unopened),
         Tried::Changed => push_changed(text, device),
     };
-    said.map(|()| None)
+    said?;
+    Ok(None)
 }
 
 /// Says that what is at a path isn't looked at again.
@@ -78,11 +79,15 @@ pub fn push_opening<R: Files<File = F> + AllocGlobal, F: FileExt + OpenFile + Dr
     device: &str,
 ) -> Result<Option<Opened>, AllocError> {
     if is_special(rt, device) {
-        return push_special(text, device).map(|()| None);
+        push_special(text, device)?;
+        return Ok(None);
     }
     let disk: Result<Counted<RawFile<NotedFile<F>>>, _> = Counted::open_to_read(rt, device);
     match disk {
         Ok(mut disk) => reopened(rt.alloc(), text, &mut disk, device),
-        Err(error) => push_file(text, device, &error).map(|()| None),
+        Err(error) => {
+            push_file(text, device, &error)?;
+            Ok(None)
+        }
     }
 }

@@ -31,10 +31,20 @@ fn says_fault(alloc: Global, text: &[u8], count: usize, fault: NetFault) -> bool
     }
 }
 
+/// How many lines of a text have an end.
+fn ended_lines(text: &[u8]) -> usize {
+    let mut count = 0usize;
+    for byte in text {
+        if *byte == b'\n' {
+            count = count.saturating_add(1);
+        }
+    }
+    count
+}
+
 /// Where a text says `fault` first, as the number of a line from 1 on. Lines behind it change nothing, so it is looked for by halves.
 fn line_of_fault(alloc: Global, text: &[u8], fault: NetFault) -> usize {
-    let lines = text.iter().filter(|byte| **byte == b'\n').count();
-    let (mut without, mut with) = (0usize, lines.saturating_add(1));
+    let (mut without, mut with) = (0usize, ended_lines(text).saturating_add(1));
     for _ in 0..usize::BITS {
         let half = with.saturating_sub(without) / 2;
         let middle = without.saturating_add(half);

@@ -14,7 +14,7 @@ use crate::parsing::{Parsed, parse};
 use crate::stop_args::{StopRequest, request_of};
 use crate::stream_args::{StreamAsked, StreamRun, read_stream_args};
 use crate::stream_ends::EndsFault;
-use crate::stream_words::stream_option;
+use crate::stream_words::{are_of_run, stream_option};
 use crate::words::COMMANDS;
 use clap::ArgMatches;
 use std::alloc::Global;
@@ -77,8 +77,7 @@ impl From<EndsFault> for CommandFault {
 fn are_of_a_stream(words: &[String]) -> bool
     ensures { result ≡ true → has_word (codes "--stream") words.now ≡ true }
 {
-    let is_run = words.get(1).is_some_and(|word| word.as_str() == "run");
-    is_run && has_word(words, "--stream")
+    are_of_run(words) && has_word(words, "--stream")
 }
 
 /// Reads the words of a stream.

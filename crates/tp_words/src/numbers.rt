@@ -27,13 +27,23 @@ fn is_value(word: &String, ending: &str) -> bool
 pub fn has_word(words: &[String], text: &str) -> bool
     ensures { result ≡ has_word text.now words.now }
 {
-    words.iter().any(|word| is_word(word, text))
+    for word in words {
+        if is_word(word, text) {
+            return true;
+        }
+    }
+    false
 }
 
 fn has_value(words: &[String], ending: &str) -> bool
     ensures { result ≡ has_value ending.now words.now }
 {
-    words.iter().any(|word| is_value(word, ending))
+    for word in words {
+        if is_value(word, ending) {
+            return true;
+        }
+    }
+    false
 }
 
 /// Whether this value was typed: a word is it, or ends with `=` and it.

@@ -312,21 +312,46 @@ fn discards_of(alloc: Global, words: &[String], found: &ArgMatches) -> Result<Ve
 fn count_of(files: &[PortFile], port: u8) -> usize
     ensures { result ≡ count_by (λ file. file.port == port) files.now }
 {
-    files.iter().filter(|file| file.port == port).count()
+    let mut count = 0;
+    for file in files {
+        if file.port == port {
+            count += 1;
+        }
+    }
+    count
+}
+
+/// How many of the ports whose output is let go are this one.
+fn discard_count(discards: &[u8], port: u8) -> usize
+    ensures { result ≡ count_by (λ other. other == port) discards.now }
+{
+    let mut count = 0;
+    for other in discards {
+        if *other == port {
+            count += 1;
+        }
+    }
+    count
 }
 
 /// How many of the files are standard output, or standard input.
 fn standards(files: &[PortFile]) -> usize
     ensures { result ≡ standard_count files.now }
 {
-    files.iter().filter(|file| file.is_standard()).count()
+    let mut count = 0;
+    for file in files {
+        if file.is_standard() {
+            count += 1;
+        }
+    }
+    count
 }
 
 /// What is wrong with the ends of a port that has two places for its output, or two inputs.
 fn fault_at(ends: &Ends, port: u8) -> Option<EndsFault>
     ensures { result ≡ fault_at ends.now port }
 {
-    let discards = ends.discards.iter().filter(|other| **other == port).count();
+    let discards = discard_count(&ends.discards, port);
     if count_of(&ends.outs, port).saturating_add(discards) > 1 {
         return Some(EndsFault::TwoOutputs(port));
     }

@@ -52,13 +52,31 @@ fn is_option(word: &str, id: &str) -> bool {
     name.strip_prefix("--") == Some(id)
 }
 
+/// Whether one of the words is the option of this name.
+fn has_option(words: &[String], id: &str) -> bool {
+    for word in words {
+        if is_option(word.as_str(), id) {
+            return true;
+        }
+    }
+    false
+}
+
+/// Whether the words are those of `run`.
+pub fn are_of_run(words: &[String]) -> bool {
+    match words.get(1) {
+        Some(word) => word.as_str() == "run",
+        None => false,
+    }
+}
+
 /// An option among the words of `run` that it has with `--stream` alone.
 pub fn stream_option(words: &[String]) -> Option<&'static str> {
-    if !words.get(1).is_some_and(|word| word.as_str() == "run") {
+    if !are_of_run(words) {
         return None;
     }
     for id in STREAM_OPTIONS {
-        if words.iter().any(|word| is_option(word.as_str(), id)) {
+        if has_option(words, id) {
             return Some(*id);
         }
     }

@@ -2,7 +2,7 @@
 
 /// What is shown of a device that opens: a node's registers, a node's image, a part of the kept entries, and the bytes of a port that are
 /// pending or not confirmed; and the first of these and the last two as JSON.
-#[derive(Clone, Copy, Debug, PartialEq, Eq)]
+#[derive(Clone, Copy)]
 pub enum View {
     Node(u64),
     Image(u64),
@@ -16,7 +16,7 @@ pub enum View {
 
 /// The part of the kept entries that is shown: those whose number is `from` or more and `to` or less, that node `node` made, and of these
 /// the last `last`. An option that isn't given leaves none out. `json`: as JSON.
-#[derive(Clone, Copy, Debug, PartialEq, Eq)]
+#[derive(Clone, Copy)]
 pub struct JournalPart {
     pub from: u64,
     pub to: Option<u64>,

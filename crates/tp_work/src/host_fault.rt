@@ -47,7 +47,7 @@ impl OfferFault {
 }
 
 /// Why outputs can't be confirmed. None was.
-#[derive(Clone, Copy, Debug, PartialEq, Eq, Error)]
+#[derive(Clone, Copy, Debug, Error)]
 pub enum ConfirmFault {
     /// The mark doesn't show the outputs up to the position.
     #[error("NotShown")]
