@@ -13,7 +13,7 @@ use clap::{Arg, ArgAction, Command};
 use std::alloc::{AllocError, Global};
 
 /// The program's version, and what it was proved with.
-const VERSION: &str = "0.1.0\nproved with rattle-kit-13f, logic dac8208d650f15bf";
+const VERSION: &str = "0.1.0\nproved with rattle-kit-13b, logic dac8208d650f15bf";
 
 /// A word of a command: its name, what its value is called where it has one, and what help says of it.
 pub enum Word {
