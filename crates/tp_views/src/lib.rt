@@ -29,7 +29,6 @@ mod places;
 mod refusal;
 mod registers;
 mod reopening;
-mod rules;
 mod shown;
 mod status;
 mod steady;
