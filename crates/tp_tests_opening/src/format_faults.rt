@@ -194,10 +194,18 @@ impl Made {
         Ok(true)
     }
 
-    /// Whether formats of it that stop leave what they ought to.
-    fn is_left(&self, alloc: Global) -> Result<bool, Fail> {
+    /// Whether no format of it that stops in a call is done, and none says anything.
+    fn stops(&self, alloc: Global) -> Result<bool, Fail> {
         let whole = self.device(alloc)?;
-        Ok(self.is_none_at_each(alloc, &whole)? && self.says_each(alloc, &whole)?)
+        let told = self.is_none_at_each(alloc, &whole);
+        told
+    }
+
+    /// Whether one that stops within its head's write says what of that is written.
+    fn stops_in_its_head(&self, alloc: Global) -> Result<bool, Fail> {
+        let whole = self.device(alloc)?;
+        let told = self.says_each(alloc, &whole);
+        told
     }
 }
 
@@ -206,13 +214,19 @@ impl Made {
 /// or isn't reached the format isn't done, and the head may be torn.
 #[test]
 fn a_format_that_stops(rt: HostRuntime) -> Result<(), Fail> {
-    assert!(rt; ONE.is_left(rt.alloc())?);
+    assert!(rt; ONE.stops(rt.alloc())? && ONE.stops_in_its_head(rt.alloc())?);
     Ok(())
 }
 
 #[test]
 fn a_wide_format_that_stops(rt: HostRuntime) -> Result<(), Fail> {
-    assert!(rt; WIDE.is_left(rt.alloc())?);
+    assert!(rt; WIDE.stops(rt.alloc())?);
+    Ok(())
+}
+
+#[test]
+fn a_wide_format_that_stops_in_its_head(rt: HostRuntime) -> Result<(), Fail> {
+    assert!(rt; WIDE.stops_in_its_head(rt.alloc())?);
     Ok(())
 }
 

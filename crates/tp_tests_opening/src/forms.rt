@@ -2,6 +2,7 @@
 
 use crate::apart::{Content, NO, is_said, play, with_pieces};
 use crate::devices::{fresh, leads_from};
+use crate::kept::kept_of;
 use crate::opened_books::grown;
 use std::alloc::Global;
 use std::process::Abort;
@@ -9,7 +10,7 @@ use std::test::Fail;
 use std::thread::Threads;
 use tp_model::OpenFault;
 use tp_model::OpenFault::Damaged;
-use tp_tests_fixtures::{AREA, KEPT};
+use tp_tests_fixtures::AREA;
 
 /// The device of one node with a group of four entries. The base of its first area's cut stands at 525, in six bytes, and the area's form
 /// behind it.
@@ -139,7 +140,7 @@ fn an_area_has_a_form(rt: HostRuntime) -> Result<(), Fail> {
     let alloc = rt.alloc();
     let first = grown(alloc)?;
     play(&rt, alloc, &first, FIRST)?;
-    let second = KEPT[5].bytes(alloc)?;
+    let second = kept_of(5).bytes(alloc)?;
     play(&rt, alloc, &second, SECOND)
 }
 
@@ -221,7 +222,7 @@ fn play_rows<R: Threads + Sync + Abort>(
 fn one_form_has_turns(rt: HostRuntime) -> Result<(), Fail> {
     let alloc = rt.alloc();
     let turns = with_pieces(alloc, &grown(alloc)?, A_TURN)?;
-    let plain = with_pieces(alloc, &KEPT[1].bytes(alloc)?, A_TURN)?;
+    let plain = with_pieces(alloc, &kept_of(1).bytes(alloc)?, A_TURN)?;
     play_rows(&rt, alloc, &turns, &plain)
 }
 

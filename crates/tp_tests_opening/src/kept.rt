@@ -27,6 +27,11 @@ const KEPT_ROWS: [Row; 6] = [
 /// The node takes the acknowledge and makes steps. Behind the checkpoint it takes what the port was handed.
 const TURN_ROWS: [Row; 2] = [(b"rako", b"rakox"), (b"rakocblo", b"rakocblox")];
 
+/// The kept device with a number, the last where there is none. Others ask here: a function that names a table pays for all of it.
+pub(crate) fn kept_of(number: usize) -> Kept {
+    KEPT[number.min(5)]
+}
+
 /// What opening says of a device, by what is written beside it, where its area is of this form, and `more` entries were appended.
 fn look_of(kept: &Kept, form: Form, more: u64) -> Look {
     let next = kept.next.saturating_add(more);
@@ -42,7 +47,7 @@ fn opens<R: Threads + Sync>(
     look: Look,
     entries: &[u8],
 ) -> Result<bool, Fail> {
-    let formatted = KEPT[0].bytes(alloc)?;
+    let formatted = kept_of(0).bytes(alloc)?;
     Ok(
         look_at(alloc, bytes)? == look
             && is_said(rt, alloc, bytes, Ok(look.4))?

@@ -8,6 +8,7 @@ use crate::devices::{
     replayed, store_of,
 };
 use crate::faults::{Case, ENDINGS, Ending, Torn};
+use crate::kept::kept_of;
 use crate::stories::{
     AFTER_A_GROUP, BEHIND_A_STOP, BEHIND_KEPT, BEYOND_THE_GROUPS, OVER_OLD_GROUPS, TWO_GROUPS,
     WITH_TURNS,
@@ -19,7 +20,7 @@ use std::thread::Threads;
 use tp_area::{Store, StoreFault};
 use tp_disk::{Disk, MemDisk};
 use tp_recover::{Opened, open, open_store};
-use tp_tests_fixtures::{AREA, KEPT, SECOND, place};
+use tp_tests_fixtures::{AREA, SECOND, place};
 
 /// A story's device at first; and before each step whose calls have faults, and behind the last, with what a plain replay of the entries
 /// gives.
@@ -33,10 +34,7 @@ struct Known {
 /// The device that a story begins with.
 fn first_of(alloc: Global, story: &Story) -> Result<Vec<u8>, Fail> {
     match story.first {
-        Some(number) => match KEPT.get(number) {
-            Some(kept) => Ok(kept.bytes(alloc)?),
-            None => Err(Fail::new("not kept")),
-        },
+        Some(number) => Ok(kept_of(number).bytes(alloc)?),
         None => fresh(alloc, AREA),
     }
 }
