@@ -1,4 +1,4 @@
-//! What a checkpoint puts into the other area, and the calls that put it there and switch to it.
+//! What a checkpoint puts into the other area, and the calls that put it there and switch to it; and steps on a device.
 
 ghost use Rattle.std.specs.Prelude.{◌≡◌, ◌<◌, ◌&&◌, true, length, OnOk};
 ghost use Rattle.std.specs.Option.{is_some};
@@ -9,59 +9,65 @@ ghost use Rattle.tp_book.specs.PortParts.{port_made};
 ghost use Rattle.tp_area.specs.Other.{OtherIsClosed};
 ghost use Rattle.tp_tests_opening.specs.TailOf.{AreTailOf};
 
-use crate::devices::{Held, replayed};
+use crate::checkpoints::{Cut, Step};
+use crate::devices::{Held, append, append_each, replayed};
+use crate::letters::entry_of;
 use std::alloc::{AllocError, Global};
 use std::test::Fail;
 use tp_area::{Store, StoreFault};
 use tp_book::{Numbered, PortParts};
-use tp_disk::Disk;
+use tp_disk::{Disk, MemDisk};
 use tp_entry::is_in_range;
 use tp_model::limits::{IMAGE_HEAD_BYTES, MAX_HELD, PAGE_BYTES};
-use tp_model::{Entry, Token, WireEnd};
+use tp_model::{Token, WireEnd};
 use tp_net::{Lines, Topology};
+use tp_tests_fixtures::ONE_NODE;
 
 /// The pages of the node.
 const PAGES: usize = 4;
 
-/// A whole cut: the entries in it, and the token that is on a line then; and the entries outside it with their numbers.
-#[derive(Clone, Copy)]
-pub(crate) struct Cut<'a> {
-    pub(crate) entries: &'a [Entry],
-    pub(crate) token: Option<(usize, Token)>,
-    pub(crate) tail: &'a [(Entry, u64)],
-}
-
-/// What is put for it: what a plain replay gives of the entries in it, its lines, and the entries outside it.
+/// What is put for a cut: the network's topology, what a plain replay gives of the entries in it, its lines, and the entries outside it.
 #[derive(Drop)]
-pub(crate) struct Pieces {
+struct Pieces {
+    topology: Topology,
     held: Held,
     lines: Lines,
     tail: Vec<Numbered>,
 }
 
 /// Entries with the numbers beside them.
-fn numbered_of(alloc: Global, tail: &[(Entry, u64)]) -> Result<Vec<Numbered>, AllocError> {
+fn numbered_of(alloc: Global, tail: &[(u8, u64)]) -> Result<Vec<Numbered>, AllocError> {
     let mut all = Vec::with_capacity(alloc, tail.len())?;
-    for (entry, number) in tail {
-        let (entry, number) = (*entry, *number);
+    for (letter, number) in tail {
+        let (entry, number) = (entry_of(*letter), *number);
         all.push(Numbered { entry, number })?;
     }
     Ok(all)
 }
 
-impl Pieces {
-    /// The pieces of a cut over the device with `bytes`, which was just formatted.
-    pub(crate) fn of(alloc: Global, bytes: &[u8], cut: &Cut<'_>) -> Result<Pieces, Fail> {
-        let mut lines = Lines::new(alloc, 5)?;
-        if let Some((line, token)) = cut.token {
-            if line < 5 {
-                lines.push(line, token);
-            }
+/// The lines of a cut.
+fn lines_of(alloc: Global, cut: &Cut) -> Result<Lines, AllocError> {
+    let mut lines = Lines::new(alloc, 5)?;
+    if let Some((line, token)) = cut.token {
+        if line < 5 {
+            lines.push(line, token);
         }
-        let tail = numbered_of(alloc, cut.tail)?;
-        let held = replayed(alloc, bytes, &[cut.entries])?;
-        Ok(Pieces { held, lines, tail })
     }
+    Ok(lines)
+}
+
+/// The pieces of a cut over the device with `first`, with which all began.
+fn pieces_of(alloc: Global, first: &[u8], cut: &Cut) -> Result<Pieces, Fail> {
+    let lines = lines_of(alloc, cut)?;
+    let tail = numbered_of(alloc, cut.tail)?;
+    let topology = Topology::read(alloc, ONE_NODE)?;
+    let held = replayed(alloc, first, cut.entries)?;
+    Ok(Pieces {
+        topology,
+        held,
+        lines,
+        tail,
+    })
 }
 
 /// Whether the record of a line can hold what is on it, here one token at most.
@@ -140,14 +146,11 @@ fn put_image<D: Disk>(
 }
 
 /// Puts all the rest there.
-fn put_rest<D: Disk>(
-    store: &mut Store<D>,
-    topology: &Topology,
-    pieces: &Pieces,
-) -> Result<(), StoreFault>
+fn put_rest<D: Disk>(store: &mut Store<D>, pieces: &Pieces) -> Result<(), StoreFault>
     requires closed { D.keeps → OtherIsClosed store.old.place (D.state store.old.disk) }
     ensures filled { OnOk result (is_some store.new.filled ≡ true) }
 {
+    let topology = &pieces.topology;
     let ports = pieces.held.net.ports.as_slice();
     let base = pieces.held.next;
     let may_be_put = store.place.generation < 1_000
@@ -163,16 +166,38 @@ fn put_rest<D: Disk>(
 }
 
 /// Makes a checkpoint of pieces: the other area is closed, they are put there, and its gate is opened.
-pub(crate) fn switch<D: Disk>(
-    store: &mut Store<D>,
-    topology: &Topology,
-    pieces: &Pieces,
-) -> Result<(), StoreFault> {
+fn switch<D: Disk>(store: &mut Store<D>, pieces: &Pieces) -> Result<(), StoreFault> {
     store.clear_other()?;
     let Some(image) = pieces.held.net.images.first() else {
         return Err(StoreFault::AreaFull);
     };
-    put_image(store, topology, image)?;
-    put_rest(store, topology, pieces)?;
+    put_image(store, &pieces.topology, image)?;
+    put_rest(store, pieces)?;
     store.open_other()
+}
+
+/// Makes a checkpoint on a device, with whose bytes `first` all began.
+fn checkpoint(
+    alloc: Global,
+    store: &mut Store<MemDisk>,
+    first: &[u8],
+    cut: &Cut,
+) -> Result<Result<(), StoreFault>, Fail> {
+    let pieces = pieces_of(alloc, first, cut)?;
+    let done = switch(store, &pieces);
+    Ok(done)
+}
+
+/// Takes a step on such a device.
+pub(crate) fn take_step(
+    alloc: Global,
+    store: &mut Store<MemDisk>,
+    first: &[u8],
+    step: &Step,
+) -> Result<Result<(), StoreFault>, Fail> {
+    match step {
+        Step::Group(letters) => Ok(append(store, letters)),
+        Step::Each(letters) => Ok(append_each(store, letters)),
+        Step::Switch(cut) => checkpoint(alloc, store, first, cut),
+    }
 }

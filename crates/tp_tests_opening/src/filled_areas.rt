@@ -1,18 +1,16 @@
 //! Groups appended until an area is full.
 
-use crate::devices::{append, disk_of, fresh, holds, replayed, store_of};
-use std::alloc::{AllocError, Global};
+use crate::apart::is_said;
+use crate::devices::{append, disk_of, fresh, leads_from, store_of};
+use std::alloc::Global;
 use std::test::Fail;
+use std::thread::Threads;
 use tp_area::{Store, StoreFault};
 use tp_disk::{Disk, MemDisk};
-use tp_model::Entry;
 use tp_recover::open_store;
 
 /// Entries that are always possible here.
-const INPUTS: [Entry; 64] = [Entry::HostIn {
-    port: 0,
-    byte: 0x78,
-}; 64];
+const INPUTS: [u8; 238] = [b'x'; 238];
 
 /// The bytes of an area; groups that fill it, each with how many entries it has and the place where it ends; the next number and the end
 /// then; and how many entries a group has that doesn't fit behind them.
@@ -59,28 +57,18 @@ const FILLINGS: &[Filling<'static>] = &[
 ];
 
 /// The first `count` entries.
-fn inputs(all: &[Entry], count: usize) -> &[Entry] {
+fn inputs(all: &[u8], count: usize) -> &[u8] {
     all.get(..count).unwrap_or(&[])
 }
 
-/// Whether a group of `count` entries doesn't fit, and nothing changes.
-fn refuses(alloc: Global, store: &mut Store<MemDisk>, count: usize) -> Result<bool, Fail> {
+/// Whether no group fits that has one of the counts, and nothing changes.
+fn refuses(alloc: Global, store: &mut Store<MemDisk>, counts: &[usize]) -> Result<bool, Fail> {
     let place = store.place;
     let bytes = Vec::from_slice(alloc, store.disk.bytes())?;
-    let all = INPUTS;
-    let told = append(store, inputs(&all, count)) == Err(StoreFault::AreaFull);
-    Ok(
-        told && store.disk.bytes() == bytes.as_slice()
-            && store.disk.failures() == 0
-            && store.place == place
-            && !store.broken,
-    )
-}
-
-/// Whether no group fits that has one of the counts.
-fn refuses_all(alloc: Global, store: &mut Store<MemDisk>, counts: &[usize]) -> Result<bool, Fail> {
     for count in counts {
-        if !refuses(alloc, store, *count)? {
+        let told = append(store, inputs(&INPUTS, *count));
+        let is_other = store.disk.bytes() != bytes.as_slice() || store.disk.failures() != 0;
+        if told != Err(StoreFault::AreaFull) || is_other || store.place != place || store.broken {
             return Ok(false);
         }
     }
@@ -88,69 +76,18 @@ fn refuses_all(alloc: Global, store: &mut Store<MemDisk>, counts: &[usize]) -> R
 }
 
 /// Appends groups. Answers whether each ends where it ought to.
-fn fill(store: &mut Store<MemDisk>, groups: &[(usize, u64)]) -> Result<bool, StoreFault> {
-    let all = INPUTS;
+fn fill(store: &mut Store<MemDisk>, groups: &[(usize, u64)]) -> bool {
     for (count, end) in groups {
-        append(store, inputs(&all, *count))?;
-        if store.place.end != *end {
-            return Ok(false);
+        if append(store, inputs(&INPUTS, *count)).is_err() || store.place.end != *end {
+            return false;
         }
     }
-    Ok(true)
-}
-
-/// The entries of groups, each the first of `all`.
-fn add_groups<'a>(
-    entries: &mut Vec<&'a [Entry]>,
-    all: &'a [Entry],
-    groups: &[(usize, u64)],
-) -> Result<(), AllocError> {
-    for (count, _) in groups {
-        entries.push(inputs(all, *count))?;
-    }
-    Ok(())
-}
-
-/// Whether a device holds what a plain replay of entries gives.
-fn is_replay(
-    alloc: Global,
-    first: &[u8],
-    bytes: &[u8],
-    entries: &[&[Entry]],
-) -> Result<bool, Fail> {
-    let wanted = replayed(alloc, first, entries)?;
-    let told = holds(alloc, bytes, &wanted);
-    told
-}
-
-/// Whether a device holds what a plain replay of the entries of groups gives.
-fn is_replayed(
-    alloc: Global,
-    first: &[u8],
-    bytes: &[u8],
-    groups: &[(usize, u64)],
-) -> Result<bool, Fail> {
-    let all = INPUTS;
-    let mut entries = Vec::new(alloc);
-    add_groups(&mut entries, &all, groups)?;
-    let told = is_replay(alloc, first, bytes, &entries);
-    told
-}
-
-/// Whether a device of `bytes` is as full once it is opened.
-fn stays_full(alloc: Global, bytes: &[u8], filling: &Filling<'_>) -> Result<bool, Fail> {
-    let (opened, mut store) = open_store(alloc, disk_of(alloc, bytes)?)?;
-    let told = if opened.next() == filling.next && opened.end() == filling.end {
-        refuses_all(alloc, &mut store, filling.refused)
-    } else {
-        Ok(false)
-    };
-    told
+    true
 }
 
 /// Whether a store is full once it has the groups.
 fn is_full(alloc: Global, store: &mut Store<MemDisk>, filling: &Filling<'_>) -> Result<bool, Fail> {
-    Ok(fill(store, filling.groups)? && refuses_all(alloc, store, filling.refused)?)
+    Ok(fill(store, filling.groups) && refuses(alloc, store, filling.refused)?)
 }
 
 /// Whether a store is full once it has the groups, and what a crash leaves then.
@@ -161,45 +98,50 @@ fn filled(alloc: Global, first: &[u8], filling: &Filling<'_>) -> Result<(bool, V
     Ok((is_full?, bytes))
 }
 
-/// Whether what a crash leaves is as full, and holds the groups.
-fn stays(alloc: Global, first: &[u8], bytes: &[u8], filling: &Filling<'_>) -> Result<bool, Fail> {
-    Ok(stays_full(alloc, bytes, filling)? && is_replayed(alloc, first, bytes, filling.groups)?)
+/// Whether a device of `bytes` is as full once it is opened.
+fn stays_full(alloc: Global, bytes: &[u8], filling: &Filling<'_>) -> Result<bool, Fail> {
+    let (opened, mut store) = open_store(alloc, disk_of(alloc, bytes)?)?;
+    let is_end = opened.next() == filling.next && opened.end() == filling.end;
+    let told = refuses(alloc, &mut store, filling.refused)?;
+    Ok(is_end && told)
+}
+
+/// Whether what a crash leaves is as full, and holds what a plain replay gives, in one thread and by any number of workers.
+fn stays<R: Threads + Sync>(
+    rt: &R,
+    alloc: Global,
+    first: &[u8],
+    bytes: &[u8],
+    filling: &Filling<'_>,
+) -> Result<bool, Fail> {
+    let entries = inputs(&INPUTS, filling.next as usize);
+    Ok(
+        stays_full(alloc, bytes, filling)?
+            && leads_from(alloc, bytes, filling.next, first, entries)?
+            && is_said(rt, alloc, bytes, Ok(filling.next))?,
+    )
 }
 
 /// Whether the groups fill a device that was just formatted with `first`, and it stays so.
-fn fills_over(alloc: Global, first: &[u8], filling: &Filling<'_>) -> Result<bool, Fail> {
+fn fills_over<R: Threads + Sync>(
+    rt: &R,
+    alloc: Global,
+    first: &[u8],
+    filling: &Filling<'_>,
+) -> Result<bool, Fail> {
     let (is_full, bytes) = filled(alloc, first, filling)?;
-    let told = if is_full {
-        stays(alloc, first, &bytes, filling)
-    } else {
-        Ok(false)
-    };
-    told
-}
-
-/// Whether the groups fill a device that is formatted for it, and it stays so.
-fn fills(alloc: Global, filling: &Filling<'_>) -> Result<bool, Fail> {
-    let first = fresh(alloc, filling.area)?;
-    let told = fills_over(alloc, &first, filling);
-    told
-}
-
-/// Each device that the groups of a filling fill.
-pub(crate) fn each_filled(alloc: Global) -> Result<Vec<Vec<u8>>, Fail> {
-    let mut devices = Vec::new(alloc);
-    for filling in FILLINGS {
-        let first = fresh(alloc, filling.area)?;
-        let (_, bytes) = filled(alloc, &first, filling)?;
-        devices.push(bytes)?;
-    }
-    Ok(devices)
+    let told = stays(rt, alloc, first, &bytes, filling)?;
+    Ok(is_full && told)
 }
 
 #[test]
 fn areas_are_filled(rt: HostRuntime) -> Result<(), Fail> {
     for (i, filling) in FILLINGS.iter().enumerate() {
-        let told = fills(rt.alloc(), filling)?;
-        assert!(rt; told, "filling {i}");
+        let first = fresh(rt.alloc(), filling.area)?;
+        assert!(rt;
+            fills_over(&rt, rt.alloc(), &first, filling)?,
+            "filling {i}"
+        );
     }
     Ok(())
 }

@@ -1,16 +1,13 @@
 //! Formatting a device whose calls fail, or on which the run stops: what the device then opens as.
 
-use crate::devices::{
-    CALLS_OF_FORMAT, Held, LETTER, Letter, append, disk_of, fresh, holds, what_is_held,
-};
+use crate::devices::{CALLS_OF_FORMAT, LETTER, Letter, disk_of, fresh, grown_by, leads_from};
 use crate::faults::Ending;
-use crate::wide::{LEAST, SEVENTEEN, seventeen};
+use crate::wide::{LEAST, SEVENTEEN};
 use std::alloc::{AllocError, Global};
-use std::process::Abort;
 use std::test::Fail;
 use tp_disk::{MemDisk, PlannedFault};
 use tp_model::OpenFault;
-use tp_recover::{Unopened, open, open_store};
+use tp_recover::{Unopened, open};
 use tp_tests_fixtures::{AREA, ONE_NODE, SIZE, place};
 
 /// What is formatted: its network, the bytes of its head, of its device and of an area; how many calls that makes; what the device says
@@ -61,8 +58,18 @@ const WIDE: Made = Made {
     whole: 287,
 };
 
-/// Each way in which a call ends.
-const EACH: [Ending; 3] = [Ending::Before, Ending::Within, Ending::Fails];
+/// Each way in which a call ends, with the byte that is then everywhere in what isn't synced.
+const WAYS: [(Ending, u8); 9] = [
+    (Ending::Before, 0x00),
+    (Ending::Before, 0xA5),
+    (Ending::Before, 0xFF),
+    (Ending::Within, 0x00),
+    (Ending::Within, 0xA5),
+    (Ending::Within, 0xFF),
+    (Ending::Fails, 0x00),
+    (Ending::Fails, 0xA5),
+    (Ending::Fails, 0xFF),
+];
 
 /// The number of the next entry on a device that opens, or why it doesn't.
 fn opens_as(alloc: Global, bytes: &[u8]) -> Result<Result<u64, Unopened>, AllocError> {
@@ -73,278 +80,191 @@ fn opens_as(alloc: Global, bytes: &[u8]) -> Result<Result<u64, Unopened>, AllocE
     })
 }
 
-/// What a format leaves whose call number `call` has a fault: whether it was done, and the bytes.
-fn formatted(
-    alloc: Global,
-    made: &Made,
-    call: u64,
-    fault: PlannedFault,
-) -> Result<(bool, Vec<u8>), Fail> {
-    let letter = Letter::of(alloc, made.text, made.nodes)?;
-    let mut disk = MemDisk::zeroed(alloc, made.size)?.with_fault(call, fault);
-    let done = letter.format(alloc, &mut disk, made.area).is_ok();
-    Ok((done, disk.crash()))
-}
-
 /// What such a device says.
 const NONE: Result<u64, Unopened> = Err(Unopened::Fault(OpenFault::NotFormatted));
 
-/// Whether a device isn't formatted, also where the front of each area is `byte`.
-fn says_none(alloc: Global, made: &Made, bytes: &mut [u8], byte: u8) -> Result<bool, Fail> {
-    let is_none = opens_as(alloc, bytes)? == NONE;
-    let second = made.head.saturating_add(made.area.min(100_000) as usize);
-    for at in [made.head, second] {
-        place(bytes, at, &[byte; 64]);
+impl Made {
+    /// The device once it is formatted.
+    fn device(&self, alloc: Global) -> Result<Vec<u8>, Fail> {
+        Letter::of(alloc, self.text, self.nodes)?.device(alloc, self.head, self.area)
     }
-    Ok(is_none && opens_as(alloc, bytes)? == NONE)
-}
 
-/// Whether a format that a fault stops isn't done, and the device isn't formatted, also where the front of each area is `byte`.
-fn is_none(
-    alloc: Global,
-    made: &Made,
-    call: u64,
-    fault: PlannedFault,
-    byte: u8,
-) -> Result<bool, Fail> {
-    let (done, mut bytes) = formatted(alloc, made, call, fault)?;
-    let told = if done {
-        Ok(false)
-    } else {
-        says_none(alloc, made, &mut bytes, byte)
-    };
-    told
-}
+    /// What a format leaves whose call number `call` has a fault: whether it was done, and the bytes.
+    fn formatted(
+        &self,
+        alloc: Global,
+        call: u64,
+        fault: PlannedFault,
+    ) -> Result<(bool, Vec<u8>), Fail> {
+        let letter = Letter::of(alloc, self.text, self.nodes)?;
+        let mut disk = MemDisk::zeroed(alloc, self.size)?.with_fault(call, fault);
+        let done = letter.format(alloc, &mut disk, self.area).is_ok();
+        Ok((done, disk.crash()))
+    }
 
-/// Whether the device isn't formatted where a call ends so, and what is torn, `len` bytes, is `byte`.
-fn is_none_where(
-    alloc: Global,
-    made: &Made,
-    call: u64,
-    ending: Ending,
-    len: usize,
-    byte: u8,
-) -> Result<bool, Fail> {
-    let torn = Vec::from_elem(alloc, byte, len)?;
-    is_none(alloc, made, call, ending.fault(torn), byte)
-}
-
-/// Whether the device isn't formatted however a call ends, where what is torn is `byte`.
-fn is_none_however(alloc: Global, made: &Made, call: u64, byte: u8) -> Result<bool, Fail> {
-    for ending in EACH {
-        if !is_none_where(alloc, made, call, ending, 4268, byte)? {
-            return Ok(false);
+    /// Whether what a format leaves that ends in this call isn't formatted: where that is the last, once its head, which is whole, is torn
+    /// to `byte`; and also where the front of each area is `byte`.
+    fn says_none(
+        &self,
+        alloc: Global,
+        call: u64,
+        bytes: &mut [u8],
+        byte: u8,
+        whole: &[u8],
+    ) -> Result<bool, AllocError> {
+        if call.saturating_add(1) == self.calls {
+            if &*bytes != whole {
+                return Ok(false);
+            }
+            place(bytes, 0, &[byte; 512]);
         }
+        let is_none = opens_as(alloc, bytes)? == NONE;
+        place(bytes, self.head, &[byte; 64]);
+        let second = self.head.saturating_add(self.area.min(100_000) as usize);
+        place(bytes, second, &[byte; 64]);
+        Ok(is_none && opens_as(alloc, bytes)? == NONE)
     }
-    Ok(true)
-}
 
-/// Whether the device isn't formatted however a call ends, whichever byte is torn there.
-fn is_none_with_each(alloc: Global, made: &Made, call: u64) -> Result<bool, Fail> {
-    for byte in [0x00, 0xA5, 0xFF] {
-        if !is_none_however(alloc, made, call, byte)? {
-            return Ok(false);
+    /// Whether a format isn't done, and the device isn't formatted, where a call ends so and what is torn there is `byte`.
+    fn is_none(
+        &self,
+        alloc: Global,
+        call: u64,
+        way: (Ending, u8),
+        whole: &[u8],
+    ) -> Result<bool, Fail> {
+        let torn = Vec::from_elem(alloc, way.1, 4268)?;
+        let (done, mut bytes) = self.formatted(alloc, call, way.0.fault(torn))?;
+        let told = self.says_none(alloc, call, &mut bytes, way.1, whole)?;
+        Ok(!done && told)
+    }
+
+    /// Whether the device isn't formatted however a call ends.
+    fn is_none_however(&self, alloc: Global, call: u64, whole: &[u8]) -> Result<bool, Fail> {
+        for way in WAYS {
+            if !self.is_none(alloc, call, way, whole)? {
+                return Ok(false);
+            }
         }
+        Ok(true)
     }
-    Ok(true)
+
+    /// What a device of zeros says once all but the head is written, and `written` bytes of the head.
+    fn says_at(&self, written: usize) -> Result<u64, Unopened> {
+        for (below, answer) in self.says {
+            if written < *below {
+                return match answer {
+                    Ok(next) => Ok(*next),
+                    Err(fault) => Err(Unopened::Fault(*fault)),
+                };
+            }
+        }
+        Ok(0)
+    }
+
+    /// Whether a format that stops once `count` bytes of its head are written isn't done, and the device says what they do.
+    fn says_so(&self, alloc: Global, whole: &[u8], count: usize) -> Result<bool, Fail> {
+        let torn = Vec::from_slice(alloc, whole.get(..count).unwrap_or(&[]))?;
+        let head = self.calls.saturating_sub(2);
+        let (done, bytes) = self.formatted(alloc, head, PlannedFault::StopsWithin { torn })?;
+        let is_whole = bytes.as_slice() == whole;
+        let is_said = opens_as(alloc, &bytes)? == self.says_at(count);
+        Ok(!done && is_whole == (count >= self.whole) && is_said)
+    }
 }
 
-/// Plays a format whose calls in front of that of its head end in each way.
-fn play_calls<R: AllocGlobal + Abort>(rt: &R, made: &Made) -> Result<(), Fail> {
-    for call in 0..made.calls.saturating_sub(2) {
-        assert!(rt; is_none_with_each(rt.alloc(), made, call)?, "call {call}");
+impl Made {
+    /// Whether the device isn't formatted whichever of its calls ends, however it does.
+    fn is_none_at_each(&self, alloc: Global, whole: &[u8]) -> Result<bool, Fail> {
+        for call in 0..self.calls {
+            if !self.is_none_however(alloc, call, whole)? {
+                return Ok(false);
+            }
+        }
+        Ok(true)
     }
-    Ok(())
+
+    /// Whether the device says what of its head is written, however much that is.
+    fn says_each(&self, alloc: Global, whole: &[u8]) -> Result<bool, Fail> {
+        for count in 0..self.whole.saturating_add(10) {
+            if !self.says_so(alloc, whole, count)? {
+                return Ok(false);
+            }
+        }
+        Ok(true)
+    }
+
+    /// Whether no format of it that stops in a call is done, and none says anything.
+    fn stops(&self, alloc: Global) -> Result<bool, Fail> {
+        let whole = self.device(alloc)?;
+        let told = self.is_none_at_each(alloc, &whole);
+        told
+    }
+
+    /// Whether one that stops within its head's write says what of that is written.
+    fn stops_in_its_head(&self, alloc: Global) -> Result<bool, Fail> {
+        let whole = self.device(alloc)?;
+        let told = self.says_each(alloc, &whole);
+        told
+    }
 }
 
-/// Whatever stands in the areas, the device isn't formatted before its head is written.
+/// Whatever stands in the areas, the device isn't formatted before its head is written. Where the run stops within the head's write, what
+/// of it is written says what the device is. Written whole, it is formatted; the format isn't done either way. Where the last sync fails
+/// or isn't reached the format isn't done, and the head may be torn.
 #[test]
-fn a_format_that_stops_before_its_head(rt: HostRuntime) -> Result<(), Fail> {
-    play_calls(&rt, &ONE)?;
-    play_calls(&rt, &WIDE)
+fn a_format_that_stops(rt: HostRuntime) -> Result<(), Fail> {
+    assert!(rt; ONE.stops(rt.alloc())? && ONE.stops_in_its_head(rt.alloc())?);
+    Ok(())
 }
 
-/// What a device of zeros says once all but the head is written, and `written` bytes of the head.
-fn says(made: &Made, written: usize) -> Result<u64, Unopened> {
-    for (below, answer) in made.says {
-        if written < *below {
-            return match answer {
-                Ok(next) => Ok(*next),
-                Err(fault) => Err(Unopened::Fault(*fault)),
-            };
-        }
-    }
-    Ok(0)
-}
-
-/// Whether a format that stops once `count` bytes of its head are written isn't done, and the device says what they do.
-fn says_so(alloc: Global, made: &Made, whole: &[u8], count: usize) -> Result<bool, Fail> {
-    let torn = Vec::from_slice(alloc, whole.get(..count).unwrap_or(&[]))?;
-    let head = made.calls.saturating_sub(2);
-    let (done, bytes) = formatted(alloc, made, head, PlannedFault::StopsWithin { torn })?;
-    let is_whole = bytes.as_slice() == whole;
-    Ok(!done && is_whole == (count >= made.whole) && opens_as(alloc, &bytes)? == says(made, count))
-}
-
-/// The first count of bytes of the head that may be written, where the device doesn't say what they do.
-fn says_otherwise(alloc: Global, made: &Made, whole: &[u8]) -> Result<Option<usize>, Fail> {
-    for count in 0..made.whole.saturating_add(10) {
-        if !says_so(alloc, made, whole, count)? {
-            return Ok(Some(count));
-        }
-    }
-    Ok(None)
-}
-
-/// Whether the device isn't formatted where its head's write fails and leaves one byte.
-fn is_none_torn(alloc: Global, made: &Made) -> Result<bool, Fail> {
-    for byte in [0x00, 0xA5, 0xFF] {
-        let head = made.calls.saturating_sub(2);
-        if !is_none_where(alloc, made, head, Ending::Fails, made.head, byte)? {
-            return Ok(false);
-        }
-    }
-    Ok(true)
-}
-
-/// Whether a format that stops within its head's write isn't done, and what of it is written says what the device is.
-fn is_said_by_its_head(alloc: Global, made: &Made, whole: &[u8]) -> Result<bool, Fail> {
-    Ok(is_none_torn(alloc, made)? && says_otherwise(alloc, made, whole)?.is_none())
-}
-
-/// Where the run stops within the head's write, what of it is written says what the device is. Written whole, it is formatted;
-/// the format isn't done either way.
 #[test]
-fn a_format_that_stops_in_its_head(rt: HostRuntime) -> Result<(), Fail> {
-    let alloc = rt.alloc();
-    let one = is_said_by_its_head(alloc, &ONE, &fresh(alloc, AREA)?)?;
-    let wide = is_said_by_its_head(alloc, &WIDE, &seventeen(alloc)?)?;
-    assert!(rt; one && wide);
+fn a_wide_format_that_stops(rt: HostRuntime) -> Result<(), Fail> {
+    assert!(rt; WIDE.stops(rt.alloc())?);
     Ok(())
 }
 
-/// Whether the device isn't formatted where its head is torn to one byte.
-fn are_none(alloc: Global, bytes: &mut [u8]) -> Result<bool, Fail> {
-    for byte in [0x00, 0xA5, 0xFF] {
-        place(bytes, 0, &[byte; 512]);
-        if opens_as(alloc, bytes)? != NONE {
-            return Ok(false);
-        }
-    }
-    Ok(true)
-}
-
-/// Whether a format that a fault stops behind its head's write isn't done, and leaves the whole device, or none where the head is
-/// torn to one byte.
-fn is_torn(alloc: Global, whole: &[u8], ending: Ending) -> Result<bool, Fail> {
-    let last = CALLS_OF_FORMAT.saturating_sub(1);
-    let fault = ending.fault(Vec::new(alloc));
-    let (done, mut bytes) = formatted(alloc, &ONE, last, fault)?;
-    let told = if done || bytes.as_slice() != whole {
-        Ok(false)
-    } else {
-        are_none(alloc, &mut bytes)
-    };
-    told
-}
-
-/// Whether that is so where the last sync isn't reached, where it fails, and where the run stops within it.
-fn are_torn(alloc: Global, whole: &[u8]) -> Result<bool, Fail> {
-    for ending in EACH {
-        if !is_torn(alloc, whole, ending)? {
-            return Ok(false);
-        }
-    }
-    Ok(true)
-}
-
-/// Where the last sync fails or isn't reached the format isn't done, and the head may be torn.
 #[test]
-fn a_format_that_stops_behind_its_head(rt: HostRuntime) -> Result<(), Fail> {
-    let alloc = rt.alloc();
-    let whole = fresh(alloc, AREA)?;
-    let told = are_torn(alloc, &whole)?;
-    assert!(rt; told);
+fn a_wide_format_that_stops_in_its_head(rt: HostRuntime) -> Result<(), Fail> {
+    assert!(rt; WIDE.stops_in_its_head(rt.alloc())?);
     Ok(())
 }
 
-/// A device in memory with the letter's group appended.
-fn grow(alloc: Global, disk: MemDisk) -> Result<MemDisk, Fail> {
-    let (_, mut store) = open_store(alloc, disk)?;
-    let letter = LETTER;
-    append(&mut store, &letter)?;
-    Ok(store.into_disk())
-}
-
-/// Formats a device over what stood on it.
-fn format_over(alloc: Global, disk: &mut MemDisk) -> Result<(), Fail> {
-    Letter::new(alloc)?.format(alloc, disk, AREA)?;
-    Ok(())
-}
-
-/// A device that is formatted over `before`.
-fn formatted_over(alloc: Global, before: Vec<u8>) -> Result<MemDisk, Fail> {
+/// What a device has that is formatted over `before`.
+fn formatted_over(alloc: Global, before: Vec<u8>) -> Result<Vec<u8>, Fail> {
+    let letter = Letter::of(alloc, ONE_NODE, 1)?;
     let mut disk = MemDisk::of_bytes(before);
-    format_over(alloc, &mut disk)?;
-    Ok(disk)
+    let done = letter.format(alloc, &mut disk, AREA);
+    let left = disk.crash();
+    match done {
+        Ok(()) => Ok(left),
+        Err(fault) => Err(Fail::from(fault)),
+    }
 }
 
-/// Whether a device holds what is wanted once the letter's group is appended.
-fn grows(alloc: Global, disk: MemDisk, grown: &Held) -> Result<bool, Fail> {
-    let disk = grow(alloc, disk)?;
-    let told = holds(alloc, disk.bytes(), grown);
+/// Whether a device holds what `first` does, and so it does with a group.
+fn is_like(alloc: Global, bytes: &[u8], first: &[u8]) -> Result<bool, Fail> {
+    let grown = grown_by(alloc, bytes, &[LETTER])?;
+    Ok(leads_from(alloc, bytes, 0, first, b"")? && leads_from(alloc, &grown, 4, first, LETTER)?)
+}
+
+/// Whether a device that is formatted over `before` does so.
+fn is_like_over(alloc: Global, before: Vec<u8>, first: &[u8]) -> Result<bool, Fail> {
+    let bytes = formatted_over(alloc, before)?;
+    let told = is_like(alloc, &bytes, first);
     told
 }
 
-/// Whether a format over `before` holds what one over zeros does, and so does it with a group.
-fn is_like(alloc: Global, before: Vec<u8>, fresh: &Held, grown: &Held) -> Result<bool, Fail> {
-    let disk = formatted_over(alloc, before)?;
-    let told = match holds(alloc, disk.bytes(), fresh) {
-        Ok(true) => grows(alloc, disk, grown),
-        other => other,
-    };
-    told
-}
-
-/// Whether a format over one byte everywhere holds that.
-fn is_like_over(alloc: Global, byte: u8, fresh: &Held, grown: &Held) -> Result<bool, Fail> {
-    let before = Vec::from_elem(alloc, byte, SIZE)?;
-    is_like(alloc, before, fresh, grown)
-}
-
-/// Whether formats over `used`, which has a group, over opened gates and over ones hold that.
-fn are_like(alloc: Global, used: Vec<u8>, fresh: &Held, grown: &Held) -> Result<bool, Fail> {
-    Ok(
-        is_like(alloc, used, fresh, grown)?
-            && is_like_over(alloc, 0xA5, fresh, grown)?
-            && is_like_over(alloc, 0xFF, fresh, grown)?,
-    )
-}
-
-/// Whether formats over other bytes, a device of `whole` with a group among them, hold `fresh`, and with a group what that device holds.
-fn are_like_over(alloc: Global, whole: Vec<u8>, fresh: &Held) -> Result<bool, Fail> {
-    let disk = grow(alloc, MemDisk::of_bytes(whole))?;
-    let grown = what_is_held(alloc, disk.bytes())?;
-    let told = are_like(alloc, disk.crash(), fresh, &grown);
-    told
-}
-
-/// Whether formats over other bytes hold what a device does that was just formatted and has the bytes `whole`.
-fn is_like_others(alloc: Global, whole: Vec<u8>) -> Result<bool, Fail> {
-    let fresh = what_is_held(alloc, &whole)?;
-    let told = if fresh.next == 0 {
-        are_like_over(alloc, whole, &fresh)
-    } else {
-        Ok(false)
-    };
-    told
-}
-
-/// What stood on the device before makes no difference to what it then holds, nor to a group that is appended.
+/// What stood on the device before makes no difference to what it then holds, nor to a group that is appended: a device with a group,
+/// opened gates, and ones.
 #[test]
 fn a_format_over_other_bytes(rt: HostRuntime) -> Result<(), Fail> {
     let alloc = rt.alloc();
-    let told = is_like_others(alloc, fresh(alloc, AREA)?)?;
-    assert!(rt; told);
+    let first = fresh(alloc, AREA)?;
+    assert!(rt; is_like_over(alloc, grown_by(alloc, &first, &[LETTER])?, &first)?);
+    for byte in [0xA5, 0xFF] {
+        let before = Vec::from_elem(alloc, byte, SIZE)?;
+        assert!(rt; is_like_over(alloc, before, &first)?, "byte {byte}");
+    }
     Ok(())
 }

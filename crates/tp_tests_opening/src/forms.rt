@@ -1,144 +1,138 @@
 //! Areas of both forms: what says an area's form, and which entries each may hold.
 
-use crate::apart::{Content, is_said, play, with_pieces};
-use crate::devices::{LETTER, fresh, leads_from};
+use crate::apart::{Content, NO, is_said, play, with_pieces};
+use crate::devices::{fresh, leads_from};
+use crate::kept::kept_of;
 use crate::opened_books::grown;
 use std::alloc::Global;
 use std::process::Abort;
 use std::test::Fail;
 use std::thread::Threads;
+use tp_model::OpenFault;
 use tp_model::OpenFault::Damaged;
-use tp_model::{Entry, OpenFault};
-use tp_tests_fixtures::{AREA, KEPT};
+use tp_tests_fixtures::AREA;
 
 /// The device of one node with a group of four entries. The base of its first area's cut stands at 525, in six bytes, and the area's form
 /// behind it.
-const FIRST: &[Content<'static>] = &[
-    Content {
-        pieces: &[(531, &[0, 0])],
-        says: Ok(4),
-    },
-    Content {
-        pieces: &[(531, &[1, 0])],
-        says: Err(Damaged(512)),
-    },
-    Content {
-        pieces: &[(531, &[2, 0])],
-        says: Ok(4),
-    },
-    Content {
-        pieces: &[(531, &[3, 0])],
-        says: Err(Damaged(512)),
-    },
-    Content {
-        pieces: &[(531, &[0, 2])],
-        says: Err(Damaged(512)),
-    },
-    Content {
-        pieces: &[(531, &[2, 2])],
-        says: Err(Damaged(512)),
-    },
-    Content {
-        pieces: &[(531, &[2, 0x80])],
-        says: Err(Damaged(512)),
-    },
+const FIRST: &[Content] = &[
+    ([531, 532, NO, NO, NO, NO], [0, 0, 0, 0, 0, 0], Ok(4)),
+    (
+        [531, 532, NO, NO, NO, NO],
+        [1, 0, 0, 0, 0, 0],
+        Err(Damaged(512)),
+    ),
+    ([531, 532, NO, NO, NO, NO], [2, 0, 0, 0, 0, 0], Ok(4)),
+    (
+        [531, 532, NO, NO, NO, NO],
+        [3, 0, 0, 0, 0, 0],
+        Err(Damaged(512)),
+    ),
+    (
+        [531, 532, NO, NO, NO, NO],
+        [0, 2, 0, 0, 0, 0],
+        Err(Damaged(512)),
+    ),
+    (
+        [531, 532, NO, NO, NO, NO],
+        [2, 2, 0, 0, 0, 0],
+        Err(Damaged(512)),
+    ),
+    (
+        [531, 532, NO, NO, NO, NO],
+        [2, 0x80, 0, 0, 0, 0],
+        Err(Damaged(512)),
+    ),
     // The greatest bases. The last number isn't given.
-    Content {
-        pieces: &[(525, &[0, 0, 0, 0, 0, 1])],
-        says: Ok(0x0100_0000_0004),
-    },
-    Content {
-        pieces: &[(525, &[0xFB, 0xFF, 0xFF, 0xFF, 0xFF, 0xFF])],
-        says: Ok(0xFFFF_FFFF_FFFF),
-    },
-    Content {
-        pieces: &[(525, &[0xFC, 0xFF, 0xFF, 0xFF, 0xFF, 0xFF])],
-        says: Err(Damaged(13_097)),
-    },
+    (
+        [525, 526, 527, 528, 529, 530],
+        [0, 0, 0, 0, 0, 1],
+        Ok(0x0100_0000_0004),
+    ),
+    (
+        [525, 526, 527, 528, 529, 530],
+        [0xFB, 0xFF, 0xFF, 0xFF, 0xFF, 0xFF],
+        Ok(0xFFFF_FFFF_FFFF),
+    ),
+    (
+        [525, 526, 527, 528, 529, 530],
+        [0xFC, 0xFF, 0xFF, 0xFF, 0xFF, 0xFF],
+        Err(Damaged(13_097)),
+    ),
     // The length of the cut image is damaged, too; the generation; an image; the first entry.
-    Content {
-        pieces: &[(531, &[1]), (521, &[0xDD])],
-        says: Err(Damaged(512)),
-    },
-    Content {
-        pieces: &[(531, &[0]), (521, &[0xDD])],
-        says: Err(Damaged(512)),
-    },
-    Content {
-        pieces: &[(531, &[0]), (519, &[1])],
-        says: Err(Damaged(512)),
-    },
-    Content {
-        pieces: &[(531, &[1]), (533, &[2])],
-        says: Err(Damaged(512)),
-    },
-    Content {
-        pieces: &[(531, &[0]), (533, &[2])],
-        says: Err(Damaged(533)),
-    },
-    Content {
-        pieces: &[(531, &[1]), (13_049, &[9])],
-        says: Err(Damaged(512)),
-    },
+    (
+        [531, 521, NO, NO, NO, NO],
+        [1, 0xDD, 0, 0, 0, 0],
+        Err(Damaged(512)),
+    ),
+    (
+        [531, 521, NO, NO, NO, NO],
+        [0, 0xDD, 0, 0, 0, 0],
+        Err(Damaged(512)),
+    ),
+    (
+        [531, 519, NO, NO, NO, NO],
+        [0, 1, 0, 0, 0, 0],
+        Err(Damaged(512)),
+    ),
+    (
+        [531, 533, NO, NO, NO, NO],
+        [1, 2, 0, 0, 0, 0],
+        Err(Damaged(512)),
+    ),
+    (
+        [531, 533, NO, NO, NO, NO],
+        [0, 2, 0, 0, 0, 0],
+        Err(Damaged(533)),
+    ),
+    (
+        [531, 13_049, NO, NO, NO, NO],
+        [1, 9, 0, 0, 0, 0],
+        Err(Damaged(512)),
+    ),
 ];
 
 /// A device that was kept, with two runs behind a checkpoint: its second area counts.
-const SECOND: &[Content<'static>] = &[
-    Content {
-        pieces: &[(16_915, &[1])],
-        says: Err(Damaged(16_896)),
-    },
-    Content {
-        pieces: &[(16_915, &[2])],
-        says: Ok(7),
-    },
-    Content {
-        pieces: &[(16_915, &[3])],
-        says: Err(Damaged(16_896)),
-    },
-    Content {
-        pieces: &[(16_916, &[2])],
-        says: Err(Damaged(16_896)),
-    },
+const SECOND: &[Content] = &[
+    (
+        [16_915, NO, NO, NO, NO, NO],
+        [1, 0, 0, 0, 0, 0],
+        Err(Damaged(16_896)),
+    ),
+    ([16_915, NO, NO, NO, NO, NO], [2, 0, 0, 0, 0, 0], Ok(7)),
+    (
+        [16_915, NO, NO, NO, NO, NO],
+        [3, 0, 0, 0, 0, 0],
+        Err(Damaged(16_896)),
+    ),
+    (
+        [16_916, NO, NO, NO, NO, NO],
+        [2, 0, 0, 0, 0, 0],
+        Err(Damaged(16_896)),
+    ),
     // The first one isn't read on.
-    Content {
-        pieces: &[(531, &[1])],
-        says: Ok(7),
-    },
+    ([531, NO, NO, NO, NO, NO], [1, 0, 0, 0, 0, 0], Ok(7)),
     // Its last run as a turn, which takes the acknowledge of nothing, in an area of either form.
-    Content {
-        pieces: &[(29_449, &[5, 0, 16, 0, 0, 0, 0, 0, 6, 0, 0, 0, 0, 0, 2, 0])],
-        says: Err(Damaged(29_449)),
-    },
-    Content {
-        pieces: &[
-            (16_915, &[2]),
-            (29_449, &[5, 0, 16, 0, 0, 0, 0, 0, 6, 0, 0, 0, 0, 0, 2, 0]),
-        ],
-        says: Err(Damaged(29_449)),
-    },
+    (
+        [29_449, 29_463, NO, NO, NO, NO],
+        [5, 2, 0, 0, 0, 0],
+        Err(Damaged(29_449)),
+    ),
+    (
+        [16_915, 29_449, 29_463, NO, NO, NO],
+        [2, 5, 2, 0, 0, 0],
+        Err(Damaged(29_449)),
+    ),
     // The host hands in a byte, which the node takes in a turn: where the area has turns, and not where it has none.
-    Content {
-        pieces: &[
-            (16_915, &[2]),
-            (29_433, &[3, 0, 0x42, 0]),
-            (
-                29_449,
-                &[5, 0, 16, 0, 0x42, 0, 0, 0, 6, 0, 0, 0, 0, 0, 1, 0],
-            ),
-        ],
-        says: Ok(7),
-    },
-    Content {
-        pieces: &[
-            (29_433, &[3, 0, 0x42, 0]),
-            (
-                29_449,
-                &[5, 0, 16, 0, 0x42, 0, 0, 0, 6, 0, 0, 0, 0, 0, 1, 0],
-            ),
-        ],
-        says: Err(Damaged(29_449)),
-    },
+    (
+        [16_915, 29_433, 29_435, 29_449, 29_453, 29_463],
+        [2, 3, 0x42, 5, 0x42, 1],
+        Ok(7),
+    ),
+    (
+        [29_433, 29_435, 29_449, 29_453, 29_463, NO],
+        [3, 0x42, 5, 0x42, 1, 0],
+        Err(Damaged(29_449)),
+    ),
 ];
 
 #[test]
@@ -146,7 +140,7 @@ fn an_area_has_a_form(rt: HostRuntime) -> Result<(), Fail> {
     let alloc = rt.alloc();
     let first = grown(alloc)?;
     play(&rt, alloc, &first, FIRST)?;
-    let second = KEPT[5].bytes(alloc)?;
+    let second = kept_of(5).bytes(alloc)?;
     play(&rt, alloc, &second, SECOND)
 }
 
@@ -228,31 +222,29 @@ fn play_rows<R: Threads + Sync + Abort>(
 fn one_form_has_turns(rt: HostRuntime) -> Result<(), Fail> {
     let alloc = rt.alloc();
     let turns = with_pieces(alloc, &grown(alloc)?, A_TURN)?;
-    let plain = with_pieces(alloc, &KEPT[1].bytes(alloc)?, A_TURN)?;
+    let plain = with_pieces(alloc, &kept_of(1).bytes(alloc)?, A_TURN)?;
     play_rows(&rt, alloc, &turns, &plain)
 }
 
-/// Whether a device with pieces has this next number, and the network to which `entries` lead.
-fn leads(
-    alloc: Global,
-    pieces: &[(usize, &[u8])],
-    next: u64,
-    entries: &[&[Entry]],
-) -> Result<bool, Fail> {
-    let bytes = with_pieces(alloc, &grown(alloc)?, pieces)?;
-    let first = fresh(alloc, AREA)?;
-    let told = leads_from(alloc, &bytes, next, &first, entries);
-    told
-}
+/// Pieces over the device of one node, the next number then, and the entries that lead there: the turn leads where its take and its run
+/// lead; with a run behind it; and without steps, with that run.
+type Row = (&'static [(usize, &'static [u8])], u64, &'static [u8]);
 
-/// The turn leads where its take and its run lead; with a run behind it; and without steps, with that run.
+const ROWS: &[Row] = &[
+    (A_TURN, 3, b"rako"),
+    (A_TURN_AND_A_RUN, 4, b"rakoo"),
+    (AN_IDLE_TURN_AND_A_RUN, 4, b"rako"),
+];
+
 #[test]
 fn a_turn_leads_where_its_entries_lead(rt: HostRuntime) -> Result<(), Fail> {
-    let alloc = rt.alloc();
-    let (letter, round) = (LETTER, [Entry::Run { node: 0, count: 16 }]);
-    let turn = leads(alloc, A_TURN, 3, &[&letter])?;
-    let run = leads(alloc, A_TURN_AND_A_RUN, 4, &[&letter, &round])?;
-    let steps = leads(alloc, AN_IDLE_TURN_AND_A_RUN, 4, &[&letter])?;
-    assert!(rt; turn && run && steps);
+    let first = fresh(rt.alloc(), AREA)?;
+    for (i, (pieces, next, entries)) in ROWS.iter().enumerate() {
+        let bytes = with_pieces(rt.alloc(), &grown(rt.alloc())?, pieces)?;
+        assert!(rt;
+            leads_from(rt.alloc(), &bytes, *next, &first, entries)?,
+            "row {i}"
+        );
+    }
     Ok(())
 }

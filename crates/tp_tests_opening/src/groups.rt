@@ -15,64 +15,60 @@ const ONE_ENTRY: [u8; 33] = [
 
 /// How many entries are read, where a group stands there.
 fn count_in(bytes: &[u8]) -> Result<Option<usize>, BadGroup> {
-    Ok(match read_group(bytes)? {
-        Some(group) => Some(group.entries().len()),
-        None => None,
-    })
+    match read_group(bytes) {
+        Ok(Some(group)) => Ok(Some(group.entries().len())),
+        Ok(None) => Ok(None),
+        Err(fault) => Err(fault),
+    }
 }
 
 /// The group with the byte at `at` changed.
-fn changed(alloc: Global, at: usize, byte: u8) -> Result<Vec<u8>, AllocError> {
-    let mut other = Vec::from_slice(alloc, &ONE_ENTRY)?;
+fn changed(at: usize, byte: u8) -> [u8; 33] {
+    let mut other = ONE_ENTRY;
     if let Some(place) = other.get_mut(at) {
         *place = byte;
     }
-    Ok(other)
+    other
 }
 
 /// Whether the bytes are a group of one entry, which reads as wanted.
-fn reads_as(bytes: &[u8], want: Result<Numbered, BadEntry>) -> Result<bool, BadGroup> {
-    let Some(group) = read_group(bytes)? else {
-        return Ok(false);
+fn reads_as(bytes: &[u8], want: Result<Numbered, BadEntry>) -> bool {
+    let Ok(Some(group)) = read_group(bytes) else {
+        return false;
     };
-    Ok(match group.entries() {
+    match group.entries() {
         [row] => get(row) == want,
         _ => false,
-    })
+    }
 }
 
+/// Bytes of a kind that there isn't make no bad group.
 #[test]
 fn one_entry_is_read(rt: HostRuntime) {
-    let told = reads_as(
-        &ONE_ENTRY,
-        Ok(Numbered {
-            entry: Entry::Run { node: 0, count: 5 },
-            number: 7,
-        }),
-    );
-    assert!(rt; told == Ok(true));
+    let run = Numbered {
+        entry: Entry::Run { node: 0, count: 5 },
+        number: 7,
+    };
+    assert!(rt; reads_as(&ONE_ENTRY, Ok(run)) && reads_as(&changed(16, 9), Err(BadEntry)));
 }
 
-/// How many bytes of the group are read as one, though some are left out; none where there is no such count.
-fn read_part() -> Option<usize> {
-    for (count, _) in ONE_ENTRY.iter().enumerate() {
-        if count_in(ONE_ENTRY.get(..count).unwrap_or(&[])) != Err(BadGroup) {
-            return Some(count);
-        }
-    }
-    None
-}
-
+/// A group without its last bytes is none.
 #[test]
 fn parts_of_a_group_are_none(rt: HostRuntime) {
-    assert!(rt; count_in(&ONE_ENTRY) == Ok(Some(1)) && read_part().is_none());
+    for count in 0..ONE_ENTRY.len() {
+        assert!(rt;
+            count_in(&ONE_ENTRY[..count]) == Err(BadGroup),
+            "{count} bytes"
+        );
+    }
 }
 
 /// A byte of a group: its place, what is there instead, and how many entries are then read.
 type Change = (usize, u8, Result<Option<usize>, BadGroup>);
 
-/// What stands there after one byte was changed.
+/// What stands there, and after one byte was changed.
 const CHANGES: &[Change] = &[
+    (0, 0xA5, Ok(Some(1))),
     (0, 0xA4, Ok(None)),
     (0, 0, Ok(None)),
     (0, 0x5A, Ok(None)),
@@ -94,34 +90,11 @@ const CHANGES: &[Change] = &[
     (32, 1, Ok(Some(1))),
 ];
 
-/// Whether as many entries are read after a change as ought to be.
-fn is_changed(alloc: Global, change: &Change) -> Result<bool, AllocError> {
-    let (at, byte, want) = *change;
-    let other = changed(alloc, at, byte)?;
-    Ok(count_in(&other) == want)
-}
-
 #[test]
-fn one_byte_is_changed(rt: HostRuntime) -> Result<(), Fail> {
-    for change in CHANGES {
-        let told = is_changed(rt.alloc(), change)?;
-        assert!(rt; told, "byte {}", change.0);
+fn one_byte_is_changed(rt: HostRuntime) {
+    for (at, byte, want) in CHANGES {
+        assert!(rt; count_in(&changed(*at, *byte)) == *want, "byte {at}");
     }
-    Ok(())
-}
-
-/// Whether the group is read where its entry's bytes are of a kind that there isn't.
-fn reads_bad_entry(alloc: Global) -> Result<bool, AllocError> {
-    let other = changed(alloc, 16, 9)?;
-    Ok(reads_as(&other, Err(BadEntry)) == Ok(true))
-}
-
-/// Bytes of a kind that there isn't make no bad group.
-#[test]
-fn a_bad_entry_is_read_with_its_group(rt: HostRuntime) -> Result<(), Fail> {
-    let told = reads_bad_entry(rt.alloc())?;
-    assert!(rt; told);
-    Ok(())
 }
 
 /// Two entries behind the gate, with the next gate, closed.
@@ -153,19 +126,28 @@ fn two_entries_are_written(rt: HostRuntime) {
     assert!(rt; group == TWO_ENTRIES.as_slice() && rest == [0xEE, 0xEE].as_slice());
 }
 
-/// Adds a group of entries with `numbers`, each the run of a step.
-fn add_group(bytes: &mut Vec<u8>, numbers: &[u8]) -> Result<(), AllocError> {
-    bytes.extend_from_slice(&[0xA5, 0, numbers.len().min(255) as u8, 0, 0, 0, 0, 0])?;
-    bytes.extend_from_slice(&[numbers.first().copied().unwrap_or(0), 0, 0, 0, 0, 0, 0, 0])?;
+/// A group of entries with `numbers`, each the run of a step.
+fn group_of(alloc: Global, numbers: &[u8]) -> Result<Vec<u8>, AllocError> {
+    let first = numbers.first().copied().unwrap_or(0);
+    let count = numbers.len().min(255) as u8;
+    let header = [0xA5, 0, count, 0, 0, 0, 0, 0, first, 0, 0, 0, 0, 0, 0, 0];
+    let mut bytes = Vec::from_slice(alloc, &header)?;
     for number in numbers {
         bytes.extend_from_slice(&[1, 0, 1, 0, 0, 0, 0, 0, *number, 0, 0, 0, 0, 0, 0, 0])?;
     }
     bytes.push(0)?;
-    Ok(())
+    Ok(bytes)
 }
 
-/// The numbers from 0 on: one more than a group may have.
-const RISING: [u8; 65] = [
+/// As many numbers as a group may have at most.
+const MOST: [u8; 64] = [
+    0, 1, 2, 3, 4, 5, 6, 7, 8, 9, 10, 11, 12, 13, 14, 15, 16, 17, 18, 19, 20, 21, 22, 23, 24, 25,
+    26, 27, 28, 29, 30, 31, 32, 33, 34, 35, 36, 37, 38, 39, 40, 41, 42, 43, 44, 45, 46, 47, 48, 49,
+    50, 51, 52, 53, 54, 55, 56, 57, 58, 59, 60, 61, 62, 63,
+];
+
+/// One more.
+const ONE_MORE: [u8; 65] = [
     0, 1, 2, 3, 4, 5, 6, 7, 8, 9, 10, 11, 12, 13, 14, 15, 16, 17, 18, 19, 20, 21, 22, 23, 24, 25,
     26, 27, 28, 29, 30, 31, 32, 33, 34, 35, 36, 37, 38, 39, 40, 41, 42, 43, 44, 45, 46, 47, 48, 49,
     50, 51, 52, 53, 54, 55, 56, 57, 58, 59, 60, 61, 62, 63, 64,
@@ -181,25 +163,15 @@ const NUMBERS: &[Numbers<'static>] = &[
     (&[7, 7], Err(BadGroup)),
     (&[7, 9, 8], Err(BadGroup)),
     (&[], Err(BadGroup)),
-    (&RISING, Err(BadGroup)),
+    (&MOST, Ok(Some(64))),
+    (&ONE_MORE, Err(BadGroup)),
 ];
-
-/// Whether as many entries are read of a group with such numbers as ought to be.
-fn are_numbers(alloc: Global, row: &Numbers<'_>) -> Result<bool, AllocError> {
-    let (numbers, want) = *row;
-    let mut bytes = Vec::new(alloc);
-    add_group(&mut bytes, numbers)?;
-    Ok(count_in(&bytes) == want)
-}
 
 #[test]
 fn numbers_rise_and_entries_are_few(rt: HostRuntime) -> Result<(), Fail> {
-    for (i, row) in NUMBERS.iter().enumerate() {
-        let told = are_numbers(rt.alloc(), row)?;
-        assert!(rt; told, "row {i}");
+    for (i, (numbers, want)) in NUMBERS.iter().enumerate() {
+        let bytes = group_of(rt.alloc(), numbers)?;
+        assert!(rt; count_in(&bytes) == *want, "row {i}");
     }
-    let most = (RISING.get(..64).unwrap_or(&[]), Ok(Some(64)));
-    let told = are_numbers(rt.alloc(), &most)?;
-    assert!(rt; told);
     Ok(())
 }

@@ -1,10 +1,10 @@
 //! Heads of both versions: which networks have which, and what is no narrow head.
 
-use crate::apart::{Content, is_said, play, with_pieces};
+use crate::apart::{Content, NO, is_said, play, with_pieces};
 use crate::devices::Letter;
 use crate::opened_books::grown;
+use crate::topology_faults::text_of;
 use std::alloc::{AllocError, Global};
-use std::fmt;
 use std::test::Fail;
 use std::thread::Threads;
 use tp_area::FormatFault;
@@ -35,15 +35,6 @@ const ROWS: &[Row] = &[
     (64, 4, 307_118, true),
 ];
 
-/// Adds a line for each node.
-fn add_nodes(text: &mut String, nodes: u16, last: u16) -> Result<(), fmt::Error> {
-    for node in 0..nodes {
-        let pages = if node + 1 < nodes { 4 } else { last };
-        write!(text, "node n{node} {pages}\n")?;
-    }
-    Ok(())
-}
-
 /// The image of a node of `pages` pages in which no process runs.
 fn image(alloc: Global, pages: u16) -> Result<Vec<u8>, AllocError> {
     let mut image = idle(alloc)?;
@@ -61,19 +52,12 @@ fn images(alloc: Global, nodes: u16, last: u16) -> Result<Vec<Vec<u8>>, AllocErr
     Ok(images)
 }
 
-/// The topology of such nodes and of a port.
-fn topology(alloc: Global, nodes: u16, last: u16) -> Result<Topology, Fail> {
-    let mut text = String::new(alloc);
-    add_nodes(&mut text, nodes, last)?;
-    text.push_str("port h\n")?;
-    Ok(Topology::read(alloc, text.as_bytes())?)
-}
-
 /// The network of a row.
 fn network(alloc: Global, row: &Row) -> Result<Letter, Fail> {
     let (nodes, last, _, _) = *row;
     let images = images(alloc, nodes, last)?;
-    let topology = topology(alloc, nodes, last)?;
+    let text = text_of(alloc, nodes, last, 1)?;
+    let topology = Topology::read(alloc, text.as_bytes())?;
     Ok(Letter { topology, images })
 }
 
@@ -142,7 +126,7 @@ fn has_its_head<R: Threads + Sync>(rt: &R, alloc: Global, row: &Row) -> Result<b
     };
     let (device, is_full) = {
         let letter = network(alloc, row)?;
-        let device = letter.device_behind(alloc, head, least)?;
+        let device = letter.device(alloc, head, least)?;
         (device, are_full(alloc, &letter, head, least)?)
     };
     let is_made = is_full && is_of_version(&device, head, version);
@@ -158,66 +142,56 @@ fn networks_have_their_heads(rt: HostRuntime) -> Result<(), Fail> {
 }
 
 /// Changes of the device of one node with a group of four entries, whose head is a narrow one.
-const NARROW: &[Content<'static>] = &[
-    Content {
-        pieces: &[(7, &[0])],
-        says: Err(BadVersion),
-    },
-    Content {
-        pieces: &[(7, &[3])],
-        says: Err(BadVersion),
-    },
-    Content {
-        pieces: &[(7, &[2])],
-        says: Err(Damaged(0)),
-    },
+const NARROW: &[Content] = &[
+    ([7, NO, NO, NO, NO, NO], [0, 0, 0, 0, 0, 0], Err(BadVersion)),
+    ([7, NO, NO, NO, NO, NO], [3, 0, 0, 0, 0, 0], Err(BadVersion)),
+    ([7, NO, NO, NO, NO, NO], [2, 0, 0, 0, 0, 0], Err(Damaged(0))),
     // Nodes, ports, and pages that there may not be.
-    Content {
-        pieces: &[(8, &[0])],
-        says: Err(Damaged(0)),
-    },
-    Content {
-        pieces: &[(8, &[17])],
-        says: Err(Damaged(0)),
-    },
-    Content {
-        pieces: &[(9, &[9])],
-        says: Err(Damaged(0)),
-    },
-    Content {
-        pieces: &[(24, &[1, 1])],
-        says: Err(Damaged(0)),
-    },
+    ([8, NO, NO, NO, NO, NO], [0, 0, 0, 0, 0, 0], Err(Damaged(0))),
+    (
+        [8, NO, NO, NO, NO, NO],
+        [17, 0, 0, 0, 0, 0],
+        Err(Damaged(0)),
+    ),
+    ([9, NO, NO, NO, NO, NO], [9, 0, 0, 0, 0, 0], Err(Damaged(0))),
+    (
+        [24, 25, NO, NO, NO, NO],
+        [1, 1, 0, 0, 0, 0],
+        Err(Damaged(0)),
+    ),
     // The link leads to a port that isn't there, to a node that isn't, and nowhere.
-    Content {
-        pieces: &[(56, &[0x81])],
-        says: Err(Damaged(0)),
-    },
-    Content {
-        pieces: &[(56, &[5])],
-        says: Err(Damaged(0)),
-    },
-    Content {
-        pieces: &[(56, &[0]), (13_033, &[0])],
-        says: Ok(0),
-    },
+    (
+        [56, NO, NO, NO, NO, NO],
+        [0x81, 0, 0, 0, 0, 0],
+        Err(Damaged(0)),
+    ),
+    (
+        [56, NO, NO, NO, NO, NO],
+        [5, 0, 0, 0, 0, 0],
+        Err(Damaged(0)),
+    ),
+    ([56, 13_033, NO, NO, NO, NO], [0, 0, 0, 0, 0, 0], Ok(0)),
     // Bytes that are 00.
-    Content {
-        pieces: &[(10, &[1])],
-        says: Err(Damaged(0)),
-    },
-    Content {
-        pieces: &[(26, &[4])],
-        says: Err(Damaged(0)),
-    },
-    Content {
-        pieces: &[(120, &[1])],
-        says: Err(Damaged(0)),
-    },
-    Content {
-        pieces: &[(511, &[1])],
-        says: Err(Damaged(0)),
-    },
+    (
+        [10, NO, NO, NO, NO, NO],
+        [1, 0, 0, 0, 0, 0],
+        Err(Damaged(0)),
+    ),
+    (
+        [26, NO, NO, NO, NO, NO],
+        [4, 0, 0, 0, 0, 0],
+        Err(Damaged(0)),
+    ),
+    (
+        [120, NO, NO, NO, NO, NO],
+        [1, 0, 0, 0, 0, 0],
+        Err(Damaged(0)),
+    ),
+    (
+        [511, NO, NO, NO, NO, NO],
+        [1, 0, 0, 0, 0, 0],
+        Err(Damaged(0)),
+    ),
 ];
 
 #[test]

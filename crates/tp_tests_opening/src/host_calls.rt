@@ -160,42 +160,33 @@ fn is_row(book: &mut Book, row: &Row<'_>) -> bool
     make(book, call) == answer && is_so(book, next, accepted, confirmed)
 }
 
-/// The first of `rows` that isn't so, one made after another.
-fn first_other(book: &mut Book, rows: &[Row<'_>]) -> Option<usize>
+/// Whether the book is as it ought to be at first, and behind each of `rows`, one made after another.
+fn are_rows(book: &mut Book, rows: &[Row<'_>]) -> bool
     requires { IsUsable book.old }
 {
-    for (i, row) in rows.iter().enumerate() {
+    if !is_lone(book) || !is_so(book, 2, 0, 0) {
+        return false;
+    }
+    for row in rows {
         if !is_row(book, row) {
-            return Some(i);
+            return false;
         }
     }
-    None
+    true
 }
 
-/// Whether the book is as it ought to be at first.
-fn is_begun(book: &Book) -> bool
-    requires { IsUsable book.now }
-{
-    is_lone(book) && is_so(book, 2, 0, 0)
-}
-
-/// The first call of a story behind which the book isn't as it ought to be; a number above all where it isn't so at first.
-fn wrong_call(alloc: Global, story: &Story<'_>) -> Result<Option<usize>, AllocError> {
+/// Whether that is so of a story's book.
+fn is_story(alloc: Global, story: &Story<'_>) -> Result<bool, AllocError> {
     let (room, rows) = *story;
     let mut book = book(alloc, room)?;
-    let wrong = if is_begun(&book) {
-        first_other(&mut book, rows)
-    } else {
-        Some(usize::MAX)
-    };
-    Ok(wrong)
+    let told = are_rows(&mut book, rows);
+    Ok(told)
 }
 
 #[test]
 fn each_call_of_the_host(rt: HostRuntime) -> Result<(), Fail> {
     for (i, story) in STORIES.iter().enumerate() {
-        let wrong = wrong_call(rt.alloc(), story)?;
-        assert!(rt; wrong.is_none(), "story {i}, call {}", wrong.unwrap_or(0));
+        assert!(rt; is_story(rt.alloc(), story)?, "story {i}");
     }
     Ok(())
 }

@@ -6,13 +6,9 @@
 #[cfg(test)]
 mod apart;
 #[cfg(test)]
-mod append_faults;
-#[cfg(test)]
 mod appendable;
 #[cfg(test)]
 mod calls;
-#[cfg(test)]
-mod checkpointed;
 #[cfg(test)]
 mod checkpoints;
 #[cfg(test)]
@@ -47,6 +43,8 @@ mod host_calls;
 #[cfg(test)]
 mod kept;
 #[cfg(test)]
+mod letters;
+#[cfg(test)]
 mod member;
 #[cfg(test)]
 mod node;
@@ -62,15 +60,13 @@ mod stops;
 #[cfg(test)]
 mod stories;
 #[cfg(test)]
-mod switch_faults;
+mod sweeps;
 #[cfg(test)]
 mod threads;
 #[cfg(test)]
 mod topologies;
 #[cfg(test)]
 mod topology_faults;
-#[cfg(test)]
-mod turns;
 #[cfg(test)]
 mod waiting;
 #[cfg(test)]

@@ -5,7 +5,7 @@ ghost use Rattle.tp_book.specs.Opened.{IsWellOpen};
 ghost use Rattle.tp_tests_opening.specs.Lone.{IsUsable};
 
 use crate::calls::{hand_in, is_shown};
-use crate::devices::fresh;
+use crate::devices::{disk_of, fresh};
 use std::alloc::Global;
 use std::test::Fail;
 use tp_book::{Book, NetState, Refusal};
@@ -15,7 +15,7 @@ use tp_recover::open;
 use tp_tests_fixtures::{AREA, GROUPS, letter, place};
 
 /// How many bytes groups may fill: those of an area less the 12,508 of its cut image and the 14 beside it.
-const ROOM: u64 = 3_862;
+pub(crate) const ROOM: u64 = 3_862;
 
 /// A group of the four entries of the node's first turns and the host's: a run of 3 steps, the letter, its acknowledge,
 /// and a run of 16 steps.
@@ -36,7 +36,7 @@ pub(crate) fn grown(alloc: Global) -> Result<Vec<u8>, Fail> {
 }
 
 /// What a device of `bytes` opens as.
-pub(crate) fn state_of(alloc: Global, bytes: Vec<u8>) -> Result<NetState, Fail>
+fn state_of(alloc: Global, bytes: Vec<u8>) -> Result<NetState, Fail>
     ensures { IfOk result (λ state. IsWellOpen state) }
 {
     let mut disk = MemDisk::of_bytes(bytes);
@@ -46,23 +46,24 @@ pub(crate) fn state_of(alloc: Global, bytes: Vec<u8>) -> Result<NetState, Fail>
     }
 }
 
-/// The book of a device of `bytes`.
-pub(crate) fn book_of(alloc: Global, bytes: Vec<u8>) -> Result<Book, Fail>
+/// The book of an opened device, where groups may fill `room` bytes.
+fn book_in(alloc: Global, state: &NetState, room: u64) -> Result<Book, Fail>
+    requires { IsWellOpen state.now }
     ensures { IfOk result (λ book. IsUsable book) }
 {
-    book_with(alloc, bytes, ROOM)
-}
-
-/// The book of a device of `bytes`, where groups may fill `room` bytes.
-pub(crate) fn book_with(alloc: Global, bytes: Vec<u8>, room: u64) -> Result<Book, Fail>
-    ensures { IfOk result (λ book. IsUsable book) }
-{
-    let state = state_of(alloc, bytes)?;
-    let book = Book::open(alloc, &state, Some(room))?;
+    let book = Book::open(alloc, state, Some(room))?;
     if book.ports() == 0 {
         return Err(Fail::new("no port"));
     }
     Ok(book)
+}
+
+/// The book of a device of `bytes`, where groups may fill `room` bytes.
+pub(crate) fn book_of(alloc: Global, bytes: Vec<u8>, room: u64) -> Result<Book, Fail>
+    ensures { IfOk result (λ book. IsUsable book) }
+{
+    let state = state_of(alloc, bytes)?;
+    book_in(alloc, &state, room)
 }
 
 /// Whether a device that was just formatted leaves no entry, and the image that it was formatted with.
@@ -101,21 +102,81 @@ fn says(book: &Book) -> (usize, usize, u64, u64, usize)
     )
 }
 
+/// Whether just `most` bytes find room in a book's journal, one after another.
+fn takes(book: &mut Book, most: u64) -> bool
+    requires { IsUsable book.old }
+    ensures { IsUsable book.new }
+{
+    for number in 0..most {
+        if hand_in(book, b"x") != Ok(number.saturating_add(1)) {
+            return false;
+        }
+    }
+    hand_in(book, b"x") == Err(Refusal::JournalFull) && hand_in(book, b"") == Ok(most)
+}
+
+/// A device with one port: its nodes, how many bytes groups may fill, and for how many bytes of the host there is room.
+pub(crate) struct Filling {
+    pub(crate) nodes: usize,
+    pub(crate) room: u64,
+    pub(crate) most: u64,
+}
+
+/// Whether a book takes as many bytes as there is room for.
+fn is_filled(book: &mut Book, filling: &Filling) -> bool
+    requires { IsUsable book.old }
+{
+    let (nodes, most) = (filling.nodes, filling.most);
+    says(book) == (nodes, 1, 0, 0, 4096)
+        && takes(book, most)
+        && says(book)
+            == (
+                nodes,
+                1,
+                most,
+                most,
+                4096usize.saturating_sub(most as usize),
+            )
+}
+
+/// Whether the book of a device of `bytes` does.
+pub(crate) fn fills(alloc: Global, bytes: Vec<u8>, filling: &Filling) -> Result<bool, Fail> {
+    let mut book = book_of(alloc, bytes, filling.room)?;
+    let told = is_filled(&mut book, filling);
+    Ok(told)
+}
+
+/// How many bytes groups may fill in an area of the device with `bytes`.
+pub(crate) fn room_of(alloc: Global, bytes: &[u8]) -> Result<u64, Fail> {
+    let mut disk = disk_of(alloc, bytes)?;
+    let opened = open(alloc, &mut disk)?;
+    Ok(opened.journal_room())
+}
+
+const ONE_NODE: Filling = Filling {
+    nodes: 1,
+    room: ROOM,
+    most: 105,
+};
+
 /// Five lines keep 480 bytes for a snapshot, and each entry takes at most 32: so 105 find room in 3,862, and no 106th.
 #[test]
 fn the_journal_of_a_device_fills(rt: HostRuntime) -> Result<(), Fail> {
     let alloc = rt.alloc();
-    let mut book = book_of(alloc, fresh(alloc, AREA)?)?;
-    assert!(rt; says(&book) == (1, 1, 0, 0, 4096));
-    for number in 0..105u64 {
-        let told = hand_in(&mut book, b"x") == Ok(number + 1);
-        assert!(rt; told);
-    }
-    let told = hand_in(&mut book, b"x") == Err(Refusal::JournalFull)
-        && hand_in(&mut book, b"") == Ok(105)
-        && says(&book) == (1, 1, 105, 105, 4096 - 105);
-    assert!(rt; told);
+    assert!(rt; fills(alloc, fresh(alloc, AREA)?, &ONE_NODE)?);
     Ok(())
+}
+
+/// Whether the outputs of the kept entries are shown from 0 on, whatever the mark is.
+fn are_shown(book: &Book) -> bool
+    requires { IsUsable book.now }
+{
+    for mark in 0..6u64 {
+        if !is_shown(book, mark, 0, b"A") {
+            return false;
+        }
+    }
+    true
 }
 
 /// Whether the outputs of the kept entries are shown whatever the mark is, and the book goes on behind those entries.
@@ -126,27 +187,16 @@ fn goes_on(book: &mut Book) -> bool
         && says(book) == (1, 1, 4, 0, 4096)
         && book.out_base(0) == 0
         && book.outputs(0) == b"A".as_slice()
-        && is_shown(book, 0, 0, b"A")
-        && is_shown(book, 1, 0, b"A")
-        && is_shown(book, 2, 0, b"A")
-        && is_shown(book, 3, 0, b"A")
-        && is_shown(book, 4, 0, b"A")
-        && is_shown(book, 5, 0, b"A")
+        && are_shown(book)
         && hand_in(book, b"x") == Ok(5)
-}
-
-/// How many entries a device of `bytes` keeps.
-fn keeps(alloc: Global, bytes: Vec<u8>) -> Result<usize, Fail> {
-    let state = state_of(alloc, bytes)?;
-    Ok(state.kept.len())
 }
 
 #[test]
 fn kept_entries_are_in_the_book(rt: HostRuntime) -> Result<(), Fail> {
     let alloc = rt.alloc();
-    let count = keeps(alloc, grown(alloc)?)?;
-    let mut book = book_of(alloc, grown(alloc)?)?;
+    let state = state_of(alloc, grown(alloc)?)?;
+    let mut book = book_in(alloc, &state, ROOM)?;
     let told = goes_on(&mut book);
-    assert!(rt; count == 4 && told);
+    assert!(rt; state.kept.len() == 4 && told);
     Ok(())
 }

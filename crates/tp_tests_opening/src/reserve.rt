@@ -7,9 +7,8 @@ ghost use Rattle.tp_tests_opening.specs.Lone.{IsUsable};
 
 use crate::calls::hand_in;
 use crate::devices::fresh;
-use crate::opened_books::book_of;
+use crate::opened_books::{ROOM, book_of};
 use std::alloc::Global;
-use std::process::Abort;
 use std::test::Fail;
 use tp_book::Refusal::{JournalFull, NothingToTake, SnapshotRunning};
 use tp_book::{Book, Refusal};
@@ -33,7 +32,7 @@ type Row = (Call, Option<Result<(), Refusal>>, u64);
 /// How many entries the device has, whether the node took the host's first byte, and calls one after another.
 type Story<'a> = (u8, bool, &'a [Row]);
 
-pub(crate) const DONE: Option<Result<(), Refusal>> = Some(Ok(()));
+const DONE: Option<Result<(), Refusal>> = Some(Ok(()));
 
 const FULL: Option<Result<(), Refusal>> = Some(Err(JournalFull));
 
@@ -149,7 +148,7 @@ fn device(alloc: Global, entries: u8, took: bool) -> Result<Vec<u8>, Fail> {
 }
 
 /// Whether the book has a line.
-pub(crate) fn has_line(book: &Book, line: u16) -> bool
+fn has_line(book: &Book, line: u16) -> bool
     ensures { result ≡ true → line < length book.now.state.lines }
 {
     book.known();
@@ -215,7 +214,7 @@ fn record(book: &mut Book) -> Option<Result<(), Refusal>>
     DONE
 }
 
-pub(crate) fn close(book: &mut Book, line: u16) -> Option<Result<(), Refusal>>
+fn close(book: &mut Book, line: u16) -> Option<Result<(), Refusal>>
     requires { IsUsable book.old }
     ensures { IsUsable book.new }
 {
@@ -247,21 +246,31 @@ fn make(alloc: Global, book: &mut Book, call: Call) -> Option<Result<(), Refusal
     }
 }
 
-fn play<R: AllocGlobal + Abort>(rt: &R, alloc: Global, story: &Story<'_>) -> Result<(), Fail> {
-    let (entries, took, rows) = *story;
-    let mut book = book_of(alloc, device(alloc, entries, took)?)?;
-    for (i, row) in rows.iter().enumerate() {
+/// Whether each call answers as it ought to, one made after another.
+fn are_rows(alloc: Global, book: &mut Book, rows: &[Row]) -> bool
+    requires { IsUsable book.old }
+{
+    for row in rows {
         let (call, answer, next) = *row;
-        let told = make(alloc, &mut book, call) == answer && book.next() == next;
-        assert!(rt; told, "{entries} entries, call {i}");
+        if make(alloc, book, call) != answer || book.next() != next {
+            return false;
+        }
     }
-    Ok(())
+    true
+}
+
+/// Whether they do so on the book of a story's device.
+fn is_so(alloc: Global, story: &Story<'_>) -> Result<bool, Fail> {
+    let (entries, took, rows) = *story;
+    let mut book = book_of(alloc, device(alloc, entries, took)?, ROOM)?;
+    let told = are_rows(alloc, &mut book, rows);
+    Ok(told)
 }
 
 #[test]
 fn takes_of_a_snapshot_use_what_is_kept(rt: HostRuntime) -> Result<(), Fail> {
-    for story in STORIES {
-        play(&rt, rt.alloc(), story)?;
+    for (i, story) in STORIES.iter().enumerate() {
+        assert!(rt; is_so(rt.alloc(), story)?, "story {i}");
     }
     Ok(())
 }

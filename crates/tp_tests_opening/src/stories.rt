@@ -1,226 +1,244 @@
-//! What is done with a device before a checkpoint, the checkpoint, and what opening then says.
+//! What is done with a device, step by step, and what opening says before each of the last steps and behind them.
 
-use crate::checkpointed::Known;
-use crate::checkpoints::{Calls, Step, Story};
-use crate::copies::Cut;
-use crate::devices::{CALLS_OF_OPEN, LETTER};
-use std::alloc::{AllocError, Global};
-use std::test::Fail;
+use crate::checkpoints::{Calls, Cut, PUTS, Stage, Step, Story, WRITES};
+use crate::devices::{LETTER, MORE};
 use tp_model::Form::{Plain, Turns};
-use tp_model::Received::{JustAck, JustData, Nothing};
-use tp_model::{Entry, Token};
-use tp_tests_fixtures::KEPT;
+use tp_model::Token;
 
-const GO: Entry = Entry::Run { node: 0, count: 5 };
-
-const ROUND: Entry = Entry::Run { node: 0, count: 16 };
-
-/// The port is handed a letter, which the node takes.
-const HANDED: Entry = Entry::HostIn { port: 0, byte: 7 };
-
-const DATA: Token = Token::Data(7);
-
-const TAKEN: Entry = Entry::Take {
-    line: 4,
-    token: DATA,
+/// Two groups are appended.
+pub(crate) const TWO_GROUPS: Story = Story {
+    first: None,
+    before: &[],
+    steps: &[Step::Group(LETTER), Step::Group(MORE)],
+    calls: Calls {
+        each: 4,
+        all: WRITES,
+        skipped: 0,
+        behind: 0,
+    },
+    stages: &[
+        Stage {
+            made: b"",
+            look: (false, 1, 0, 0, 0, Turns),
+            outputs: b"",
+        },
+        Stage {
+            made: b"rako",
+            look: (false, 1, 0, 4, 4, Turns),
+            outputs: b"A",
+        },
+        Stage {
+            made: b"rakoxg",
+            look: (false, 1, 0, 6, 6, Turns),
+            outputs: b"A",
+        },
+    ],
+    bytes: &[],
 };
 
-/// A snapshot begins once the port was handed a first byte. The node goes on twice before it records.
-const MIXED: [Entry; 5] = [HANDED, HANDED, GO, HANDED, GO];
-
-const FORTY: [Entry; 40] = [GO; 40];
-
-/// The entries `first`, and `more` behind them.
-fn joined(alloc: Global, first: &[Entry], more: &[Entry]) -> Result<Vec<Entry>, AllocError> {
-    let mut all = Vec::from_slice(alloc, first)?;
-    all.extend_from_slice(more)?;
-    Ok(all)
-}
-
 /// The tail has the entry that was made after the node recorded, which stood in the open area.
-pub(crate) fn after_a_group(alloc: Global) -> Result<Known, Fail> {
-    let (letter, round) = (LETTER, [ROUND]);
-    let made = joined(alloc, &letter, &round)?;
-    let story = Story {
-        first: None,
-        steps: &[Step::Group(&letter), Step::Group(&round)],
-        last: Cut {
-            entries: &letter,
-            token: None,
-            tail: &[(ROUND, 4)],
+pub(crate) const AFTER_A_GROUP: Story = Story {
+    first: None,
+    before: &[Step::Group(LETTER), Step::Group(b"o")],
+    steps: &[Step::Switch(Cut {
+        entries: LETTER,
+        token: None,
+        tail: &[(b'o', 4)],
+    })],
+    calls: Calls {
+        each: 14,
+        all: PUTS,
+        skipped: 2,
+        behind: 12_553,
+    },
+    stages: &[
+        Stage {
+            made: b"rakoo",
+            look: (false, 1, 0, 5, 5, Turns),
+            outputs: b"A",
         },
-        calls: Calls {
-            opening: CALLS_OF_OPEN,
-            clears: 1,
-            behind: 12_553,
+        Stage {
+            made: b"rakoo",
+            look: (true, 2, 4, 1, 5, Turns),
+            outputs: b"A",
         },
-        looks: [(false, 1, 0, 5, 5, Turns), (true, 2, 4, 1, 5, Turns)],
-        before: &made,
-        after: &made,
-        bytes: &[(512, 0xA5), (16_896, 0xA5)],
-    };
-    let known = Known::of(alloc, &story);
-    known
-}
+    ],
+    bytes: &[(512, 0xA5), (16_896, 0xA5)],
+};
 
-/// The node records when the next number is 9, the cut is whole at 12, and the tail reaches 12.
-pub(crate) fn beyond_the_groups(alloc: Global) -> Result<Known, Fail> {
-    let (letter, mixed) = (LETTER, MIXED);
-    let cut = joined(alloc, &letter, &[HANDED, GO, GO])?;
-    let before = joined(alloc, &letter, &mixed)?;
-    let after = joined(alloc, &before, &[TAKEN, GO, HANDED])?;
-    let story = Story {
-        first: None,
-        steps: &[Step::Group(&letter), Step::Group(&mixed)],
-        last: Cut {
-            entries: &cut,
-            token: Some((4, DATA)),
-            tail: &[(HANDED, 5), (HANDED, 7), (TAKEN, 9), (GO, 10), (HANDED, 11)],
+/// A snapshot begins once the port was handed a first byte. The node goes on twice before it records, when the next number is 9; the cut
+/// is whole at 12, and the tail reaches 12.
+pub(crate) const BEYOND_THE_GROUPS: Story = Story {
+    first: None,
+    before: &[Step::Group(LETTER), Step::Group(b"hhghg")],
+    steps: &[Step::Switch(Cut {
+        entries: b"rakohgg",
+        token: Some((4, Token::Data(7))),
+        tail: &[(b'h', 5), (b'h', 7), (b'd', 9), (b'g', 10), (b'h', 11)],
+    })],
+    calls: Calls {
+        each: 14,
+        all: PUTS,
+        skipped: 2,
+        behind: 12_617,
+    },
+    stages: &[
+        Stage {
+            made: b"rakohhghg",
+            look: (false, 1, 0, 9, 9, Turns),
+            outputs: b"A",
         },
-        calls: Calls {
-            opening: CALLS_OF_OPEN,
-            clears: 1,
-            behind: 12_617,
+        Stage {
+            made: b"rakohhghgdgh",
+            look: (true, 2, 7, 5, 12, Turns),
+            outputs: b"A",
         },
-        looks: [(false, 1, 0, 9, 9, Turns), (true, 2, 7, 5, 12, Turns)],
-        before: &before,
-        after: &after,
-        bytes: &[(512, 0xA5), (16_896, 0xA5)],
-    };
-    let known = Known::of(alloc, &story);
-    known
-}
+    ],
+    bytes: &[(512, 0xA5), (16_896, 0xA5)],
+};
+
+/// Forty times the node goes on.
+const FORTY: &[u8] = b"gggggggggggggggggggggggggggggggggggggggg";
+
+/// The node's first turns, and these.
+const CUT: &[u8] = b"rakogggggggggggggggggggggggggggggggggggggggg";
+
+/// And once more.
+const MADE: &[u8] = b"rakoggggggggggggggggggggggggggggggggggggggggg";
 
 /// The second area has forty groups of its own when the first one is opened again, and then the second one once more: the
 /// tail's only group is written over the first of them, and the others stand behind its closed gate.
-pub(crate) fn over_old_groups(alloc: Global) -> Result<Known, Fail> {
-    let (letter, forty, go) = (LETTER, FORTY, [GO]);
-    let cut = joined(alloc, &letter, &forty)?;
-    let made = joined(alloc, &cut, &go)?;
-    let story = Story {
-        first: None,
-        steps: &[
-            Step::Group(&letter),
-            Step::Switch(Cut {
-                entries: &letter,
-                token: None,
-                tail: &[],
-            }),
-            Step::Each(&forty),
-            Step::Switch(Cut {
-                entries: &cut,
-                token: None,
-                tail: &[],
-            }),
-            Step::Group(&go),
-        ],
-        last: Cut {
-            entries: &cut,
+pub(crate) const OVER_OLD_GROUPS: Story = Story {
+    first: None,
+    before: &[
+        Step::Group(LETTER),
+        Step::Switch(Cut {
+            entries: LETTER,
             token: None,
-            tail: &[(GO, 44)],
+            tail: &[],
+        }),
+        Step::Each(FORTY),
+        Step::Switch(Cut {
+            entries: CUT,
+            token: None,
+            tail: &[],
+        }),
+        Step::Group(b"g"),
+    ],
+    steps: &[Step::Switch(Cut {
+        entries: CUT,
+        token: None,
+        tail: &[(b'g', 44)],
+    })],
+    calls: Calls {
+        each: 16,
+        all: PUTS,
+        skipped: 0,
+        behind: 12_553,
+    },
+    stages: &[
+        Stage {
+            made: MADE,
+            look: (false, 3, 44, 1, 45, Turns),
+            outputs: b"A",
         },
-        calls: Calls {
-            opening: CALLS_OF_OPEN,
-            clears: 3,
-            behind: 12_553,
+        Stage {
+            made: MADE,
+            look: (true, 4, 44, 1, 45, Turns),
+            outputs: b"A",
         },
-        looks: [(false, 3, 44, 1, 45, Turns), (true, 4, 44, 1, 45, Turns)],
-        before: &made,
-        after: &made,
-        bytes: &[(29_417, 0xA5), (29_449, 0x00), (29_481, 0xA5)],
-    };
-    let known = Known::of(alloc, &story);
-    known
-}
+    ],
+    bytes: &[(29_417, 0xA5), (29_449, 0x00), (29_481, 0xA5)],
+};
 
 /// A device that was kept from before areas had forms, behind the node's first turns. A group more is appended, and stands outside
-/// the cut.
-pub(crate) fn behind_kept(alloc: Global) -> Result<Known, Fail> {
-    let round = [ROUND];
-    let story = Story {
-        first: Some(KEPT[1]),
-        steps: &[Step::Group(&round)],
-        last: Cut {
-            entries: &[],
-            token: None,
-            tail: &[(ROUND, 4)],
+/// the cut. What the checkpoint leaves has turns.
+pub(crate) const BEHIND_KEPT: Story = Story {
+    first: Some(1),
+    before: &[Step::Group(b"o")],
+    steps: &[Step::Switch(Cut {
+        entries: b"",
+        token: None,
+        tail: &[(b'o', 4)],
+    })],
+    calls: Calls {
+        each: 14,
+        all: PUTS,
+        skipped: 2,
+        behind: 12_553,
+    },
+    stages: &[
+        Stage {
+            made: b"o",
+            look: (false, 1, 0, 5, 5, Plain),
+            outputs: b"A",
         },
-        calls: Calls {
-            opening: CALLS_OF_OPEN,
-            clears: 1,
-            behind: 12_553,
+        Stage {
+            made: b"o",
+            look: (true, 2, 4, 1, 5, Turns),
+            outputs: b"A",
         },
-        looks: [(false, 1, 0, 5, 5, Plain), (true, 2, 4, 1, 5, Turns)],
-        before: &round,
-        after: &round,
-        bytes: &[(512, 0xA5), (531, 0), (16_896, 0xA5), (16_915, 2)],
-    };
-    let known = Known::of(alloc, &story);
-    known
-}
+    ],
+    bytes: &[(512, 0xA5), (531, 0), (16_896, 0xA5), (16_915, 2)],
+};
 
 /// A device that was kept in the middle of its first checkpoint, and a group more: that is made anew over the second area's bytes.
-pub(crate) fn behind_a_stop(alloc: Global) -> Result<Known, Fail> {
-    let round = [ROUND];
-    let story = Story {
-        first: Some(KEPT[3]),
-        steps: &[Step::Group(&round)],
-        last: Cut {
-            entries: &[],
-            token: None,
-            tail: &[(ROUND, 5)],
+pub(crate) const BEHIND_A_STOP: Story = Story {
+    first: Some(3),
+    before: &[Step::Group(b"o")],
+    steps: &[Step::Switch(Cut {
+        entries: b"",
+        token: None,
+        tail: &[(b'o', 5)],
+    })],
+    calls: Calls {
+        each: 14,
+        all: PUTS,
+        skipped: 2,
+        behind: 12_553,
+    },
+    stages: &[
+        Stage {
+            made: b"o",
+            look: (false, 1, 0, 6, 6, Plain),
+            outputs: b"",
         },
-        calls: Calls {
-            opening: CALLS_OF_OPEN,
-            clears: 1,
-            behind: 12_553,
+        Stage {
+            made: b"o",
+            look: (true, 2, 5, 1, 6, Turns),
+            outputs: b"",
         },
-        looks: [(false, 1, 0, 6, 6, Plain), (true, 2, 5, 1, 6, Turns)],
-        before: &round,
-        after: &round,
-        bytes: &[(512, 0xA5), (531, 0), (16_896, 0xA5), (16_915, 2)],
-    };
-    let known = Known::of(alloc, &story);
-    known
-}
+    ],
+    bytes: &[(512, 0xA5), (531, 0), (16_896, 0xA5), (16_915, 2)],
+};
 
 /// What the node takes and the steps that it then makes are one entry, in the first area and outside the cut: when the next number is 8
 /// the node records, and then it takes the letter that is on its line in the cut.
-pub(crate) fn with_turns(alloc: Global) -> Result<Known, Fail> {
-    let letter = LETTER;
-    let acknowledged = Entry::Turn {
-        node: 0,
-        takes: [JustAck, Nothing, Nothing, Nothing],
-        count: 16,
-    };
-    let handed = Entry::Turn {
-        node: 0,
-        takes: [JustData(7), Nothing, Nothing, Nothing],
-        count: 5,
-    };
-    let mixed = MIXED;
-    let made = joined(alloc, letter.get(..2).unwrap_or(&[]), &[acknowledged])?;
-    let cut = joined(alloc, &made, &[HANDED, GO, GO])?;
-    let before = joined(alloc, &made, &mixed)?;
-    let after = joined(alloc, &before, &[handed, HANDED])?;
-    let story = Story {
-        first: None,
-        steps: &[Step::Group(&made), Step::Group(&mixed)],
-        last: Cut {
-            entries: &cut,
-            token: Some((4, DATA)),
-            tail: &[(HANDED, 4), (HANDED, 6), (handed, 8), (HANDED, 9)],
+pub(crate) const WITH_TURNS: Story = Story {
+    first: None,
+    before: &[Step::Group(b"raT"), Step::Group(b"hhghg")],
+    steps: &[Step::Switch(Cut {
+        entries: b"raThgg",
+        token: Some((4, Token::Data(7))),
+        tail: &[(b'h', 4), (b'h', 6), (b'D', 8), (b'h', 9)],
+    })],
+    calls: Calls {
+        each: 14,
+        all: PUTS,
+        skipped: 2,
+        behind: 12_601,
+    },
+    stages: &[
+        Stage {
+            made: b"raThhghg",
+            look: (false, 1, 0, 8, 8, Turns),
+            outputs: b"A",
         },
-        calls: Calls {
-            opening: CALLS_OF_OPEN,
-            clears: 1,
-            behind: 12_601,
+        Stage {
+            made: b"raThhghgDh",
+            look: (true, 2, 6, 4, 10, Turns),
+            outputs: b"A",
         },
-        looks: [(false, 1, 0, 8, 8, Turns), (true, 2, 6, 4, 10, Turns)],
-        before: &before,
-        after: &after,
-        bytes: &[(531, 2), (13_081, 5), (16_915, 2), (29_465, 5)],
-    };
-    let known = Known::of(alloc, &story);
-    known
-}
+    ],
+    bytes: &[(531, 2), (13_081, 5), (16_915, 2), (29_465, 5)],
+};

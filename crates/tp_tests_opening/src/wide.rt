@@ -1,17 +1,13 @@
 //! The device of seventeen nodes, which has a wide head: all its bytes, what changes of them say, and a turn in its journal.
 
-use crate::apart::{Content, is_said, play, with_pieces};
-use crate::calls::hand_in;
+use crate::apart::{Content, NO, is_said, play, with_pieces};
 use crate::devices::{Letter, leads_from};
-use crate::opened_books::book_with;
+use crate::opened_books::{Filling, fills, room_of};
 use std::alloc::{AllocError, Global};
 use std::test::Fail;
-use tp_book::Refusal;
-use tp_disk::MemDisk;
+use tp_model::OpenFault;
 use tp_model::OpenFault::{BadVersion, Damaged, NoOpenArea, NotFormatted};
 use tp_model::limits::WIDE_HEAD_BYTES;
-use tp_model::{Entry, OpenFault, Token};
-use tp_recover::open;
 use tp_tests_fixtures::{letter, place};
 
 /// Seventeen nodes. The last is wired to the port and to the first.
@@ -49,130 +45,123 @@ const IMAGES: [usize; 17] = [
 ];
 
 /// Changes of that device.
-const WIDE: &[Content<'static>] = &[
-    Content {
-        pieces: &[],
-        says: Ok(0),
-    },
-    Content {
-        pieces: &[(7, &[1])],
-        says: Err(Damaged(0)),
-    },
-    Content {
-        pieces: &[(7, &[3])],
-        says: Err(BadVersion),
-    },
-    Content {
-        pieces: &[(8, &[16])],
-        says: Err(Damaged(0)),
-    },
-    Content {
-        pieces: &[(8, &[65])],
-        says: Err(Damaged(0)),
-    },
-    Content {
-        pieces: &[(24, &[1, 4])],
-        says: Err(Damaged(0)),
-    },
+const WIDE: &[Content] = &[
+    ([NO, NO, NO, NO, NO, NO], [0, 0, 0, 0, 0, 0], Ok(0)),
+    ([7, NO, NO, NO, NO, NO], [1, 0, 0, 0, 0, 0], Err(Damaged(0))),
+    ([7, NO, NO, NO, NO, NO], [3, 0, 0, 0, 0, 0], Err(BadVersion)),
+    (
+        [8, NO, NO, NO, NO, NO],
+        [16, 0, 0, 0, 0, 0],
+        Err(Damaged(0)),
+    ),
+    (
+        [8, NO, NO, NO, NO, NO],
+        [65, 0, 0, 0, 0, 0],
+        Err(Damaged(0)),
+    ),
+    (
+        [24, 25, NO, NO, NO, NO],
+        [1, 4, 0, 0, 0, 0],
+        Err(Damaged(0)),
+    ),
     // Where links lead: one way only; nowhere; to a link of no node; to a second port; to no port at all.
-    Content {
-        pieces: &[(152, &[0])],
-        says: Err(Damaged(0)),
-    },
-    Content {
-        pieces: &[(286, &[0])],
-        says: Err(Damaged(0)),
-    },
-    Content {
-        pieces: &[(152, &[0]), (286, &[0])],
-        says: Ok(0),
-    },
-    Content {
-        pieces: &[(153, &[1])],
-        says: Err(Damaged(0)),
-    },
-    Content {
-        pieces: &[(280, &[1])],
-        says: Err(Damaged(0)),
-    },
-    Content {
-        pieces: &[(281, &[0x81])],
-        says: Err(Damaged(0)),
-    },
+    (
+        [152, NO, NO, NO, NO, NO],
+        [0, 0, 0, 0, 0, 0],
+        Err(Damaged(0)),
+    ),
+    (
+        [286, NO, NO, NO, NO, NO],
+        [0, 0, 0, 0, 0, 0],
+        Err(Damaged(0)),
+    ),
+    ([152, 286, NO, NO, NO, NO], [0, 0, 0, 0, 0, 0], Ok(0)),
+    (
+        [153, NO, NO, NO, NO, NO],
+        [1, 0, 0, 0, 0, 0],
+        Err(Damaged(0)),
+    ),
+    (
+        [280, NO, NO, NO, NO, NO],
+        [1, 0, 0, 0, 0, 0],
+        Err(Damaged(0)),
+    ),
+    (
+        [281, NO, NO, NO, NO, NO],
+        [0x81, 0, 0, 0, 0, 0],
+        Err(Damaged(0)),
+    ),
     // The first link is wired to itself.
-    Content {
-        pieces: &[(152, &[1]), (286, &[0])],
-        says: Ok(0),
-    },
+    ([152, 286, NO, NO, NO, NO], [1, 0, 0, 0, 0, 0], Ok(0)),
     // Bytes that are 00: behind the last node's pages, its ends, and the ends of all.
-    Content {
-        pieces: &[(58, &[4])],
-        says: Err(Damaged(0)),
-    },
-    Content {
-        pieces: &[(288, &[1])],
-        says: Err(Damaged(0)),
-    },
-    Content {
-        pieces: &[(664, &[1])],
-        says: Err(Damaged(0)),
-    },
-    Content {
-        pieces: &[(1_023, &[1])],
-        says: Err(Damaged(0)),
-    },
+    (
+        [58, NO, NO, NO, NO, NO],
+        [4, 0, 0, 0, 0, 0],
+        Err(Damaged(0)),
+    ),
+    (
+        [288, NO, NO, NO, NO, NO],
+        [1, 0, 0, 0, 0, 0],
+        Err(Damaged(0)),
+    ),
+    (
+        [664, NO, NO, NO, NO, NO],
+        [1, 0, 0, 0, 0, 0],
+        Err(Damaged(0)),
+    ),
+    (
+        [1_023, NO, NO, NO, NO, NO],
+        [1, 0, 0, 0, 0, 0],
+        Err(Damaged(0)),
+    ),
     // The area.
-    Content {
-        pieces: &[(1_024, &[0])],
-        says: Err(NoOpenArea),
-    },
-    Content {
-        pieces: &[(1_043, &[1])],
-        says: Err(Damaged(1_024)),
-    },
-    Content {
-        pieces: &[(1_043, &[3])],
-        says: Err(Damaged(1_024)),
-    },
-    Content {
-        pieces: &[(1_043, &[0, 2])],
-        says: Err(Damaged(1_024)),
-    },
-    Content {
-        pieces: &[(1_043, &[0])],
-        says: Ok(0),
-    },
-    Content {
-        pieces: &[(88_746, &[0xA5, 1])],
-        says: Err(Damaged(88_746)),
-    },
+    (
+        [1_024, NO, NO, NO, NO, NO],
+        [0, 0, 0, 0, 0, 0],
+        Err(NoOpenArea),
+    ),
+    (
+        [1_043, NO, NO, NO, NO, NO],
+        [1, 0, 0, 0, 0, 0],
+        Err(Damaged(1_024)),
+    ),
+    (
+        [1_043, NO, NO, NO, NO, NO],
+        [3, 0, 0, 0, 0, 0],
+        Err(Damaged(1_024)),
+    ),
+    (
+        [1_043, 1_044, NO, NO, NO, NO],
+        [0, 2, 0, 0, 0, 0],
+        Err(Damaged(1_024)),
+    ),
+    ([1_043, NO, NO, NO, NO, NO], [0, 0, 0, 0, 0, 0], Ok(0)),
+    (
+        [88_746, 88_747, NO, NO, NO, NO],
+        [0xA5, 1, 0, 0, 0, 0],
+        Err(Damaged(88_746)),
+    ),
     // A group of one entry: the first node runs for 3 steps.
-    Content {
-        pieces: &[(82_089, &[0xA5, 0, 1]), (82_105, &[1, 0, 3])],
-        says: Ok(1),
-    },
-    Content {
-        pieces: &[(82_089, &[0xA5, 0, 1]), (82_105, &[1, 0, 4])],
-        says: Err(Damaged(82_105)),
-    },
-    Content {
-        pieces: &[(82_089, &[0xA5, 0, 1]), (82_105, &[1, 17, 3])],
-        says: Err(Damaged(82_105)),
-    },
-    Content {
-        pieces: &[(82_089, &[0xA5, 0, 1]), (82_105, &[1, 16, 3])],
-        says: Ok(1),
-    },
-    // The last node's turn, as another node's.
-    Content {
-        pieces: &[
-            (82_089, &[0xA5, 0, 3]),
-            (82_105, &[1, 16, 3]),
-            (82_121, &[2, 1, 64, 0, 0x41, 0, 0, 0, 1]),
-            (82_137, &[5, 15, 16, 0, 0, 0, 0, 0, 2, 0, 0, 0, 0, 0, 2]),
-        ],
-        says: Err(Damaged(82_137)),
-    },
+    (
+        [82_089, 82_091, 82_105, 82_107, NO, NO],
+        [0xA5, 1, 1, 3, 0, 0],
+        Ok(1),
+    ),
+    (
+        [82_089, 82_091, 82_105, 82_107, NO, NO],
+        [0xA5, 1, 1, 4, 0, 0],
+        Err(Damaged(82_105)),
+    ),
+    (
+        [82_089, 82_091, 82_105, 82_106, 82_107, NO],
+        [0xA5, 1, 1, 17, 3, 0],
+        Err(Damaged(82_105)),
+    ),
+    (
+        [82_089, 82_091, 82_105, 82_106, 82_107, NO],
+        [0xA5, 1, 1, 16, 3, 0],
+        Ok(1),
+    ),
 ];
 
 /// A group of three entries: the last node runs for 3 steps, the host takes the letter, and in a turn the node takes the
@@ -184,22 +173,11 @@ const A_TURN: &[(usize, &[u8])] = &[
     (82_137, &[5, 16, 16, 0, 0, 0, 0, 0, 2, 0, 0, 0, 0, 0, 2]),
 ];
 
+/// The last node's turn, as another node's.
+const ANOTHER_NODE: &[(usize, &[u8])] = &[(82_138, &[15])];
+
 /// That group's entries, where the turn is said as a take and a run.
-const APART: [Entry; 4] = [
-    Entry::Run { node: 16, count: 3 },
-    Entry::Take {
-        line: 64,
-        token: Token::Data(0x41),
-    },
-    Entry::Take {
-        line: 68,
-        token: Token::Ack,
-    },
-    Entry::Run {
-        node: 16,
-        count: 16,
-    },
-];
+const APART: &[u8] = b"RAKO";
 
 /// How many bytes of it are left, and what it then says.
 const LENGTHS: &[(usize, Result<u64, OpenFault>)] = &[
@@ -214,7 +192,7 @@ const LENGTHS: &[(usize, Result<u64, OpenFault>)] = &[
 
 /// The device of seventeen nodes.
 pub(crate) fn seventeen(alloc: Global) -> Result<Vec<u8>, Fail> {
-    Letter::of(alloc, SEVENTEEN, 17)?.device_behind(alloc, WIDE_HEAD_BYTES, LEAST)
+    Letter::of(alloc, SEVENTEEN, 17)?.device(alloc, WIDE_HEAD_BYTES, LEAST)
 }
 
 #[test]
@@ -250,27 +228,30 @@ fn wide_heads_have_their_bytes(rt: HostRuntime) -> Result<(), Fail> {
     Ok(())
 }
 
-/// A turn of a node above 15 leads where its take and its run lead.
+/// A turn of a node above 15 leads where its take and its run lead, and another node's isn't possible.
 #[test]
 fn the_last_node_turns(rt: HostRuntime) -> Result<(), Fail> {
     let alloc = rt.alloc();
     let device = seventeen(alloc)?;
     let turned = with_pieces(alloc, &device, A_TURN)?;
-    let apart = APART;
-    assert!(rt; leads_from(alloc, &turned, 3, &device, &[&apart])?);
+    assert!(rt; leads_from(alloc, &turned, 3, &device, APART)?);
+    let other = with_pieces(alloc, &turned, ANOTHER_NODE)?;
+    assert!(rt; is_said(&rt, alloc, &other, Err(Damaged(82_137)))?);
     Ok(())
 }
 
 /// One entry that anyone may make has room in the least area, and no second one.
+const FILLING: Filling = Filling {
+    nodes: 17,
+    room: 6_656,
+    most: 1,
+};
+
 #[test]
 fn the_least_area_has_room_for_one_entry(rt: HostRuntime) -> Result<(), Fail> {
     let alloc = rt.alloc();
     let bytes = seventeen(alloc)?;
-    let mut disk = MemDisk::of_bytes(Vec::from_slice(alloc, &bytes)?);
-    let room = open(alloc, &mut disk)?.journal_room();
-    let mut book = book_with(alloc, bytes, room)?;
-    let one = hand_in(&mut book, b"x") == Ok(1);
-    let other = hand_in(&mut book, b"x") == Err(Refusal::JournalFull);
-    assert!(rt; room == 6_656 && one && other);
+    assert!(rt; room_of(alloc, &bytes)? == 6_656);
+    assert!(rt; fills(alloc, bytes, &FILLING)?);
     Ok(())
 }
