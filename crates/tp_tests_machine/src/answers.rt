@@ -4,6 +4,7 @@ use crate::desk::Desk;
 use crate::image::Fact;
 use crate::image::Fact::Stack;
 use crate::part_calls::{Call, make};
+use crate::story::check;
 use std::alloc::Global;
 use std::test::Fail;
 use tp_cpu::{
@@ -31,27 +32,31 @@ const REQUESTS: &[Request<'static>] = &[
     ),
 ];
 
-fn is_request(alloc: Global, row: &Request<'_>) -> Result<bool, Fail> {
-    let (call, given, link, pointer) = *row;
-    let mut desk = Desk::new(alloc, given)?;
-    let told = match make(call, &mut desk) {
-        Err(Undone::Asks(request)) => request.link == link && request.pointer == pointer,
+/// Whether a call on a desk asks for that.
+fn asks(desk: &mut Desk, row: &Request<'_>) -> bool {
+    let pointer = row.3;
+    match make(&row.0, desk) {
+        Err(Undone::Asks(request)) => request.link == row.2 && request.pointer == pointer,
         Err(Undone::Wants(request)) => {
-            let wish = Wish::Message { pointer, count: 4 };
-            request.link == link && request.wish == wish
+            request.link == row.2 && request.wish == Wish::Message { pointer, count: 4 }
         }
         _ => false,
+    }
+}
+
+fn is_request(alloc: Global, row: &Request<'_>) -> bool {
+    let Ok(mut desk) = Desk::new(alloc, row.1) else {
+        return false;
     };
-    Ok(told)
+    let told = asks(&mut desk, row);
+    told
 }
 
 #[test]
-fn requests(rt: HostRuntime) -> Result<(), Fail> {
-    for row in REQUESTS {
-        let told = is_request(rt.alloc(), row)?;
-        assert!(rt; told);
+fn requests(rt: HostRuntime) {
+    for (i, row) in REQUESTS.iter().enumerate() {
+        check(&rt, "requests", i, is_request(rt.alloc(), row));
     }
-    Ok(())
 }
 
 const CHANNELS: &[(u32, ChannelWord)] = &[
@@ -66,9 +71,8 @@ const CHANNELS: &[(u32, ChannelWord)] = &[
 
 #[test]
 fn channels(rt: HostRuntime) {
-    for row in CHANNELS {
-        let told = channel_at(row.0) == row.1;
-        assert!(rt; told);
+    for (i, row) in CHANNELS.iter().enumerate() {
+        check(&rt, "channels", i, channel_at(row.0) == row.1);
     }
 }
 

@@ -4,7 +4,6 @@ use crate::arrival::hearer;
 use crate::image::{Fact, Image, START};
 use arrayvec::ArrayVec;
 use std::alloc::{AllocError, Global};
-use std::test::Fail;
 use tp_model::Token;
 use tp_node::{Node, Why};
 
@@ -34,13 +33,17 @@ fn image_of(node: &mut Node, alloc: Global) -> Result<Vec<u8>, AllocError> {
 }
 
 impl Bench {
-    /// A node that is about to run `code`, but for the facts `given`.
-    pub fn new(alloc: Global, code: &[u8], given: &[Fact<'_>]) -> Result<Bench, Fail> {
-        let mut wanted = Image::new(alloc)?;
-        wanted.put_all(&[Fact::Bytes(START, code)]);
+    /// A node that is about to run `code`, but for the facts `given`. None without memory, or where that is no image.
+    pub fn new(alloc: Global, code: &[u8], given: &[Fact<'_>]) -> Option<Bench> {
+        let Ok(mut wanted) = Image::new(alloc) else {
+            return None;
+        };
+        wanted.put_fact(&Fact::Bytes(START, code));
         wanted.put_all(given);
-        let node = Node::from_image(alloc, &wanted.bytes, 0)?;
-        Ok(Bench {
+        let Ok(node) = Node::from_image(alloc, &wanted.bytes, 0) else {
+            return None;
+        };
+        Some(Bench {
             alloc,
             node,
             wanted,
@@ -65,23 +68,29 @@ impl Bench {
     }
 
     /// Whether the node can take a token on a link, and answers with that one.
-    pub fn takes(&mut self, link: u8, token: Token, answer: Option<Token>) -> Result<bool, Fail> {
-        let bytes = image_of(&mut self.node, self.alloc)?;
-        match hearer(self.alloc, &bytes, link, token) {
-            None => Ok(false),
-            Some(mut node) => {
-                let seen = node.take(link, token)?;
-                self.node = node;
-                Ok(seen == answer)
-            }
-        }
+    pub fn takes(&mut self, link: u8, token: Token, answer: Option<Token>) -> bool {
+        let Ok(bytes) = image_of(&mut self.node, self.alloc) else {
+            return false;
+        };
+        let Some(mut node) = hearer(self.alloc, &bytes, link, token) else {
+            return false;
+        };
+        let is_answer = match node.take(link, token) {
+            Ok(seen) => seen == answer,
+            Err(_) => false,
+        };
+        self.node = node;
+        is_answer
     }
 
-    /// Changes the facts `given` in it.
-    pub fn also(&mut self, given: &[Fact<'_>]) -> Result<(), Fail> {
+    /// Changes the facts `given` in it. Answers whether it is a node's image still.
+    pub fn also(&mut self, given: &[Fact<'_>]) -> bool {
         self.wanted.put_all(given);
-        self.node = Node::from_image(self.alloc, &self.wanted.bytes, 0)?;
-        Ok(())
+        let Ok(node) = Node::from_image(self.alloc, &self.wanted.bytes, 0) else {
+            return false;
+        };
+        self.node = node;
+        true
     }
 
     /// Expects the facts `changed` to change, and perhaps others too.
@@ -90,9 +99,11 @@ impl Bench {
     }
 
     /// Whether the facts `changed` have changed since it was last looked at, and nothing else.
-    pub fn is(&mut self, changed: &[Fact<'_>]) -> Result<bool, Fail> {
+    pub fn is(&mut self, changed: &[Fact<'_>]) -> bool {
         self.wanted.put_all(changed);
-        let seen = image_of(&mut self.node, self.alloc)?;
-        Ok(seen.as_slice() == self.wanted.bytes.as_slice())
+        let Ok(seen) = image_of(&mut self.node, self.alloc) else {
+            return false;
+        };
+        seen.as_slice() == self.wanted.bytes.as_slice()
     }
 }

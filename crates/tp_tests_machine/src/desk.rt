@@ -17,37 +17,37 @@ pub fn four_pages(alloc: Global) -> Result<FlatMemory, AllocError> {
     FlatMemory::new(alloc, 4, &[0; 4096])
 }
 
+/// Nothing is queued.
+const NONE: Queue = Queue {
+    front: 0x8000_0000,
+    back: 0x8000_0000,
+};
+
 /// A low process with the workspace 80000200 is at its second instruction, and nothing is queued.
-fn begun() -> Cpu {
-    let none = Queue {
-        front: 0x8000_0000,
-        back: 0x8000_0000,
-    };
-    Cpu {
-        iptr: 0x8000_0102,
-        wptr: 0x8000_0200,
-        regs: Regs {
-            a: 0,
-            b: 0,
-            c: 0,
-            error: false,
-        },
-        high: none,
-        low: none,
-        state: State::Low,
-        slice: 1,
-        halt: None,
-    }
-}
+const BEGUN: Cpu = Cpu {
+    iptr: 0x8000_0102,
+    wptr: 0x8000_0200,
+    regs: Regs {
+        a: 0,
+        b: 0,
+        c: 0,
+        error: false,
+    },
+    high: NONE,
+    low: NONE,
+    state: State::Low,
+    slice: 1,
+    halt: None,
+};
 
 impl Desk {
     /// A low process that runs, but for the facts `given`. No process was interrupted.
     pub fn new(alloc: Global, given: &[Fact<'_>]) -> Result<Desk, AllocError> {
         let mut desk = Desk {
-            cpu: begun(),
+            cpu: BEGUN,
             mem: four_pages(alloc)?,
         };
-        desk.put_all(&[Fact::Word(0x8000_002C, 0x8000_0000)]);
+        desk.put(&Fact::Word(0x8000_002C, 0x8000_0000));
         desk.put_all(given);
         Ok(desk)
     }
@@ -66,8 +66,8 @@ impl Desk {
     }
 
     /// Puts a fact about the processor or a word. Others aren't told of a desk.
-    fn put(&mut self, fact: Fact<'_>) {
-        match fact {
+    fn put(&mut self, fact: &Fact<'_>) {
+        match *fact {
             Fact::Iptr(word) => self.cpu.iptr = word,
             Fact::Wptr(word) => self.cpu.wptr = word,
             Fact::A(word) => self.cpu.regs.a = word,
@@ -91,7 +91,7 @@ impl Desk {
 
     pub fn put_all(&mut self, facts: &[Fact<'_>]) {
         for fact in facts {
-            self.put(*fact);
+            self.put(fact);
         }
     }
 

@@ -1,5 +1,6 @@
 //! The ends of a link on their own.
 
+use crate::story::check;
 use tp_model::{Arrival, InEnd, News, OutEnd, Started, Token, Transfer};
 use tp_node::{InEngine, LinkBusy, OutEngine};
 
@@ -47,9 +48,14 @@ fn outputs(rt: HostRuntime) {
         place: None,
         news: News::Process(0x8000_0201),
     };
-    assert!(rt; begins());
-    assert!(rt; acked(TWO) == (more, OutEnd::Waits(ONE)));
-    assert!(rt; acked(ONE) == (last, OutEnd::Idle));
+    check(&rt, "a message", 0, begins());
+    check(
+        &rt,
+        "a message",
+        1,
+        acked(TWO) == (more, OutEnd::Waits(ONE)),
+    );
+    check(&rt, "a message", 2, acked(ONE) == (last, OutEnd::Idle));
 }
 
 /// An end, a message that begins there, what comes of it, and the end then.
@@ -99,7 +105,7 @@ fn inputs(rt: HostRuntime) {
         let (before, message, answer, after) = *row;
         let mut engine = InEngine::new(before);
         let told = engine.start(message) == answer && engine.end() == after;
-        assert!(rt; told, "row {i}");
+        check(&rt, "inputs", i, told);
     }
 }
 
@@ -148,9 +154,8 @@ fn arrivals(rt: HostRuntime) {
     for (i, row) in ARRIVALS.iter().enumerate() {
         let (before, arrival, after) = *row;
         let mut engine = InEngine::new(before);
-        assert!(rt; !engine.is_holding(), "row {i}");
-        let told = engine.on_data(7) == arrival && engine.end() == after;
-        assert!(rt; told, "row {i}");
+        let told = !engine.is_holding() && engine.on_data(7) == arrival && engine.end() == after;
+        check(&rt, "arrivals", i, told);
     }
 }
 
@@ -214,6 +219,6 @@ fn is_guard(guard: &Guard) -> bool {
 #[test]
 fn guards(rt: HostRuntime) {
     for (i, row) in GUARDS.iter().enumerate() {
-        assert!(rt; is_guard(row), "row {i}");
+        check(&rt, "guards", i, is_guard(row));
     }
 }

@@ -1,22 +1,26 @@
 //! A frozen node that has no frame for a page.
 
 use crate::image::{Fact, Image, START};
+use crate::story::check;
 use arrayvec::ArrayVec;
 use std::alloc::Global;
-use std::test::Fail;
 use tp_node::{Node, Why};
 
 /// ldc 4, stl 0, ldc 5, stl 128, and a number that is no operation: the first word lies in page 0, the other in page 1.
 const PROGRAM: &[u8] = &[0x44, 0xD0, 0x45, 0x28, 0xD0, 0x22, 0xF2];
 
-/// The node of that program, frozen, with `spare` spare frames.
-fn frozen(alloc: Global, spare: usize) -> Result<Node, Fail> {
-    let mut image = Image::new(alloc)?;
-    image.put_all(&[Fact::Bytes(START, PROGRAM)]);
-    let mut node = Node::from_image(alloc, &image.bytes, spare)?;
+/// The node of that program, frozen, with `spare` spare frames; none without memory.
+fn frozen(alloc: Global, spare: usize) -> Option<Node> {
+    let Ok(mut image) = Image::new(alloc) else {
+        return None;
+    };
+    image.put_fact(&Fact::Bytes(START, PROGRAM));
+    let Ok(mut node) = Node::from_image(alloc, &image.bytes, spare) else {
+        return None;
+    };
     node.drop_frozen();
     node.freeze();
-    Ok(node)
+    Some(node)
 }
 
 /// How many steps a run makes, and why no more.
@@ -46,19 +50,19 @@ fn are_runs(node: &mut Node, wanted: &[(u16, Why)]) -> bool {
     true
 }
 
-fn is_row(alloc: Global, row: &Row) -> Result<bool, Fail> {
+fn is_row(alloc: Global, row: &Row) -> bool {
     let (spare, while_frozen, then) = *row;
-    let mut node = frozen(alloc, spare)?;
+    let Some(mut node) = frozen(alloc, spare) else {
+        return false;
+    };
     let told = are_runs(&mut node, while_frozen);
     node.drop_frozen();
-    Ok(told && run(&mut node) == then)
+    told && run(&mut node) == then
 }
 
 #[test]
-fn frozen_pages_want_frames(rt: HostRuntime) -> Result<(), Fail> {
+fn frozen_pages_want_frames(rt: HostRuntime) {
     for (i, row) in ROWS.iter().enumerate() {
-        let told = is_row(rt.alloc(), row)?;
-        assert!(rt; told, "row {i}");
+        check(&rt, "frames", i, is_row(rt.alloc(), row));
     }
-    Ok(())
 }

@@ -6,8 +6,7 @@ use crate::image::Fact::{
     Waits, Word,
 };
 use crate::story::Event::{Also, Rests, Run, Take, Then};
-use crate::story::{Halting, Row, Story, check_halts, check_rows, play_all};
-use std::test::Fail;
+use crate::story::{Row, Story, check_rows, play_all};
 use tp_model::Token::{Ack, Data};
 use tp_node::Why;
 
@@ -149,21 +148,21 @@ const DISABLING: &[Row<'static>] = &[
 ];
 
 /// A link of the wrong direction, also where the guard is false, and an end that others use.
-const WRONG_AND_BUSY_ENDS: &[Halting<'static>] = &[
-    (&[0x24, 0xF8], &[Stack(0, 0x8000_0004, 0)], 1),
-    (&[0x22, 0xFF], &[Stack(5, 0, 0x8000_000C)], 1),
+const WRONG_AND_BUSY_ENDS: &[Row<'static>] = &[
+    (&[0x24, 0xF8], &[Stack(0, 0x8000_0004, 0)], &[Halt(1)]),
+    (&[0x22, 0xFF], &[Stack(5, 0, 0x8000_000C)], &[Halt(1)]),
     (
         &[0x24, 0xF8],
         &[
             Stack(1, 0x8000_0010, 0),
             Inputs(0, 0x8000_0201, 0x8000_0320, 1),
         ],
-        4,
+        &[Halt(4)],
     ),
     (
         &[0x24, 0xF8],
         &[Stack(1, 0x8000_0010, 0), Enabled(0, 0x8000_0281)],
-        4,
+        &[Halt(4)],
     ),
     (
         &[0x22, 0xFF],
@@ -171,12 +170,12 @@ const WRONG_AND_BUSY_ENDS: &[Halting<'static>] = &[
             Stack(5, 1, 0x8000_0010),
             Inputs(0, 0x8000_0201, 0x8000_0320, 1),
         ],
-        4,
+        &[Halt(4)],
     ),
     (
         &[0x22, 0xFF],
         &[Stack(5, 1, 0x8000_0010), Enabled(0, 0x8000_0281)],
-        4,
+        &[Halt(4)],
     ),
 ];
 
@@ -244,14 +243,10 @@ const HALTED: &[Story<'static>] = &[
 ];
 
 #[test]
-fn guards(rt: HostRuntime) -> Result<(), Fail> {
-    check_rows(&rt, rt.alloc(), "enabling", ENABLING)?;
-    check_rows(&rt, rt.alloc(), "disabling", DISABLING)?;
-    check_halts(&rt, rt.alloc(), "wrong and busy ends", WRONG_AND_BUSY_ENDS)
-}
-
-#[test]
-fn choices_and_halted_nodes(rt: HostRuntime) -> Result<(), Fail> {
-    play_all(&rt, rt.alloc(), CHOICES)?;
-    play_all(&rt, rt.alloc(), HALTED)
+fn guards(rt: HostRuntime) {
+    check_rows(&rt, rt.alloc(), "enabling", ENABLING);
+    check_rows(&rt, rt.alloc(), "disabling", DISABLING);
+    check_rows(&rt, rt.alloc(), "wrong and busy ends", WRONG_AND_BUSY_ENDS);
+    play_all(&rt, rt.alloc(), CHOICES);
+    play_all(&rt, rt.alloc(), HALTED);
 }

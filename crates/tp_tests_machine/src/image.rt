@@ -10,8 +10,12 @@ pub const START: u32 = 0x8000_0100;
 
 pub const WORKSPACE: u32 = 0x8000_0200;
 
-/// Bytes in front of the memory.
+/// Bytes in front of the memory, and where the output ends of links stand in these, and the input ends.
 const HEAD: usize = 172;
+
+const OUTPUTS: u8 = 44;
+
+const INPUTS: u8 = 108;
 
 /// One thing about a node.
 #[derive(Clone, Copy)]
@@ -79,75 +83,56 @@ impl Image {
         }
     }
 
-    fn put_word(&mut self, at: usize, word: u32) {
-        self.put(at, &word.to_le_bytes());
+    /// Puts words one after another.
+    fn put_words(&mut self, at: usize, words: &[u32]) {
+        let mut next = at;
+        for word in words {
+            self.put(next, &word.to_le_bytes());
+            next = next.wrapping_add(4);
+        }
     }
 
-    fn put_queue(&mut self, at: u8, front: u32, back: u32) {
-        self.put_word(usize::from(at), front);
-        self.put_word(usize::from(at) + 4, back);
+    /// Puts a link's end: its state, whether it holds a byte, and that byte; then its process, its pointer, and how many bytes are left.
+    fn put_end(&mut self, first: u8, link: u8, state: [u8; 3], transfer: [u32; 3]) {
+        let at = usize::from(first) + 16 * usize::from(link % 4);
+        self.put(at, &[state[0], state[1], state[2], 0]);
+        self.put_words(at + 4, &transfer);
     }
 
-    /// Puts the fields of a link's end: its state, whether it holds a byte, and that byte.
-    fn put_state(&mut self, at: u8, state: u8, held: u8, byte: u8) {
-        self.put(usize::from(at), &[state, held, byte, 0]);
-        self.put_transfer(at, 0, 0, 0);
-    }
-
-    /// Puts the rest of them: its process, its pointer, and how many bytes are left.
-    fn put_transfer(&mut self, at: u8, process: u32, pointer: u32, left: u32) {
-        self.put_word(usize::from(at) + 4, process);
-        self.put_word(usize::from(at) + 8, pointer);
-        self.put_word(usize::from(at) + 12, left);
-    }
-
-    fn put_way(&mut self, at: u8, process: u32, pointer: u32, left: u32) {
-        self.put_state(at, 1, 0, 0);
-        self.put_transfer(at, process, pointer, left);
-    }
-
-    fn put_stack(&mut self, a: u32, b: u32, c: u32) {
-        self.put_word(12, a);
-        self.put_word(16, b);
-        self.put_word(20, c);
-    }
-
+    /// Puts what runs: Iptr and Wptr, an empty stack, and the state.
     fn put_runs(&mut self, iptr: u32, wptr: u32, state: u8) {
-        self.put_word(4, iptr);
-        self.put_word(8, wptr);
-        self.put_stack(0, 0, 0);
+        self.put_words(4, &[iptr, wptr, 0, 0, 0]);
         self.put(41, &[state]);
     }
 
-    fn put_fact(&mut self, fact: Fact<'_>) {
-        match fact {
+    pub fn put_fact(&mut self, fact: &Fact<'_>) {
+        match *fact {
             Fact::Halt(code) => self.put(1, &[code]),
-            Fact::Iptr(word) => self.put_word(4, word),
-            Fact::Wptr(word) => self.put_word(8, word),
-            Fact::A(word) => self.put_word(12, word),
-            Fact::B(word) => self.put_word(16, word),
-            Fact::C(word) => self.put_word(20, word),
-            Fact::High(front, back) => self.put_queue(24, front, back),
-            Fact::Low(front, back) => self.put_queue(32, front, back),
+            Fact::Iptr(word) => self.put_words(4, &[word]),
+            Fact::Wptr(word) => self.put_words(8, &[word]),
+            Fact::A(word) => self.put_words(12, &[word]),
+            Fact::B(word) => self.put_words(16, &[word]),
+            Fact::C(word) => self.put_words(20, &[word]),
+            Fact::High(front, back) => self.put_words(24, &[front, back]),
+            Fact::Low(front, back) => self.put_words(32, &[front, back]),
             Fact::Error(flag) => self.put(40, &[flag]),
             Fact::State(state) => self.put(41, &[state]),
             Fact::Slice(count) => self.put(42, &count.to_le_bytes()),
-            Fact::Unused(link) => self.put_state(output(link), 0, 0, 0),
+            Fact::Unused(link) => self.put_end(OUTPUTS, link, [0; 3], [0; 3]),
             Fact::Waits(link, process, pointer, left) => {
-                self.put_way(output(link), process, pointer, left);
+                self.put_end(OUTPUTS, link, [1, 0, 0], [process, pointer, left]);
             }
-            Fact::Quiet(link) => self.put_state(input(link), 0, 0, 0),
-            Fact::Holds(link, byte) => self.put_state(input(link), 0, 1, byte),
+            Fact::Quiet(link) => self.put_end(INPUTS, link, [0; 3], [0; 3]),
+            Fact::Holds(link, byte) => self.put_end(INPUTS, link, [0, 1, byte], [0; 3]),
             Fact::Inputs(link, process, pointer, left) => {
-                self.put_way(input(link), process, pointer, left);
+                self.put_end(INPUTS, link, [1, 0, 0], [process, pointer, left]);
             }
             Fact::Enabled(link, process) => {
-                self.put_state(input(link), 2, 0, 0);
-                self.put_transfer(input(link), process, 0, 0);
+                self.put_end(INPUTS, link, [2, 0, 0], [process, 0, 0]);
             }
-            Fact::Word(address, word) => self.put_word(place_of(address), word),
+            Fact::Word(address, word) => self.put_words(place_of(address), &[word]),
             Fact::Bytes(address, bytes) => self.put(place_of(address), bytes),
-            Fact::Stack(a, b, c) => self.put_stack(a, b, c),
+            Fact::Stack(a, b, c) => self.put_words(12, &[a, b, c]),
             Fact::Runs(iptr, wptr) => self.put_runs(iptr, wptr, 2),
             Fact::Gone => self.put_runs(0, 0, 0),
         }
@@ -155,18 +140,9 @@ impl Image {
 
     pub fn put_all(&mut self, facts: &[Fact<'_>]) {
         for fact in facts {
-            self.put_fact(*fact);
+            self.put_fact(fact);
         }
     }
-}
-
-/// Where the ends of a link stand in an image.
-fn output(link: u8) -> u8 {
-    44 + 16 * (link % 4)
-}
-
-fn input(link: u8) -> u8 {
-    108 + 16 * (link % 4)
 }
 
 /// Where the byte of an address stands in an image.

@@ -1,9 +1,9 @@
 //! Images of nodes: which bytes are one, and what a frozen node's are.
 
 use crate::image::{Fact, Image, START};
+use crate::story::check;
 use arrayvec::ArrayVec;
 use std::alloc::Global;
-use std::test::Fail;
 use tp_model::Fault;
 use tp_node::{ImageFault, Node};
 
@@ -81,45 +81,56 @@ const LENGTHS: &[([u8; 2], usize, bool)] = &[
     ([1, 4], 1_049_772, false),
 ];
 
-/// Whether an image that has changed is one still.
-fn is_with(alloc: Global, at: usize, bytes: &[u8], len: usize) -> Result<bool, Fail> {
-    let mut image = Image::new(alloc)?;
+/// Whether an image that has changed is one still; none without memory.
+fn is_with(alloc: Global, at: usize, bytes: &[u8], len: usize) -> Option<bool> {
+    let Ok(mut image) = Image::new(alloc) else {
+        return None;
+    };
     image.put(at, bytes);
-    image.bytes.resize(len, 0)?;
-    Ok(is_image(alloc, &image.bytes))
+    let is_long = image.bytes.resize(len, 0).is_ok();
+    is_long.then_some(is_image(alloc, &image.bytes))
 }
 
-/// Whether an image is one still where this is so.
-fn is_where(alloc: Global, fact: Fact<'_>) -> Result<bool, Fail> {
-    let mut image = Image::new(alloc)?;
-    image.put_all(&[fact]);
-    Ok(is_image(alloc, &image.bytes))
+/// Whether an image is one still where this is so; none without memory.
+fn is_where(alloc: Global, fact: &Fact<'_>) -> Option<bool> {
+    let Ok(mut image) = Image::new(alloc) else {
+        return None;
+    };
+    image.put_fact(fact);
+    Some(is_image(alloc, &image.bytes))
 }
 
 #[test]
-fn bytes_of_heads(rt: HostRuntime) -> Result<(), Fail> {
-    for row in BYTES {
+fn bytes_of_heads(rt: HostRuntime) {
+    for (i, row) in BYTES.iter().enumerate() {
         let (at, byte, wanted) = *row;
-        let seen = is_with(rt.alloc(), at, &[byte], 4268)?;
-        assert!(rt; seen == wanted, "{at}: {byte}");
+        let seen = is_with(rt.alloc(), at, &[byte], 4268);
+        check(&rt, "bytes", i, seen == Some(wanted));
     }
-    Ok(())
 }
 
 #[test]
-fn messages_and_lengths(rt: HostRuntime) -> Result<(), Fail> {
-    for row in MESSAGES {
+fn messages_under_way(rt: HostRuntime) {
+    for (i, row) in MESSAGES.iter().enumerate() {
         let (pointer, left, wanted) = *row;
-        let sends = is_where(rt.alloc(), Fact::Waits(3, 0xFFFF_FFFF, pointer, left))?;
-        let receives = is_where(rt.alloc(), Fact::Inputs(3, 0xFFFF_FFFF, pointer, left))?;
-        assert!(rt; sends == wanted && receives == wanted, "{left}");
+        let sends = is_where(rt.alloc(), &Fact::Waits(3, 0xFFFF_FFFF, pointer, left));
+        let receives = is_where(rt.alloc(), &Fact::Inputs(3, 0xFFFF_FFFF, pointer, left));
+        check(
+            &rt,
+            "messages",
+            i,
+            (sends, receives) == (Some(wanted), Some(wanted)),
+        );
     }
-    for row in LENGTHS {
+}
+
+#[test]
+fn pages_and_lengths(rt: HostRuntime) {
+    for (i, row) in LENGTHS.iter().enumerate() {
         let (pages, len, wanted) = *row;
-        let seen = is_with(rt.alloc(), 2, &pages, len)?;
-        assert!(rt; seen == wanted, "{len}");
+        let seen = is_with(rt.alloc(), 2, &pages, len);
+        check(&rt, "lengths", i, seen == Some(wanted));
     }
-    Ok(())
 }
 
 /// The head of the tests' node up to its links, which have nothing.
@@ -129,13 +140,9 @@ const HEAD: &[u8] = &[
     0x00, 0x00, 0x00, 0x80, 0x00, 0x00, 0x00, 0x80, 0x00, 0x02, 0x00, 0x00,
 ];
 
-fn is_head(head: &[u8]) -> bool {
-    for (i, byte) in head.iter().enumerate() {
-        if *byte != HEAD.get(i).copied().unwrap_or(0) {
-            return false;
-        }
-    }
-    true
+fn is_head(head: &[u8; 172]) -> bool {
+    let (front, links) = head.split_at(44);
+    front == HEAD && links == [0; 128].as_slice()
 }
 
 /// Whether a node that is frozen now has that head.
@@ -174,16 +181,18 @@ fn runs_frozen(node: &mut Node) -> bool {
 }
 
 /// Whether both are so of the tests' node, with the program ldc 4, stl 0, and a number that is no operation.
-fn freezes(alloc: Global) -> Result<bool, Fail> {
-    let mut image = Image::new(alloc)?;
-    image.put_all(&[Fact::Bytes(START, &[0x44, 0xD0, 0x22, 0xF2])]);
-    let mut node = Node::from_image(alloc, &image.bytes, 4)?;
-    Ok(has_head(&mut node) && runs_frozen(&mut node))
+fn freezes(alloc: Global) -> bool {
+    let Ok(mut image) = Image::new(alloc) else {
+        return false;
+    };
+    image.put_fact(&Fact::Bytes(START, &[0x44, 0xD0, 0x22, 0xF2]));
+    let Ok(mut node) = Node::from_image(alloc, &image.bytes, 4) else {
+        return false;
+    };
+    has_head(&mut node) && runs_frozen(&mut node)
 }
 
 #[test]
-fn frozen_nodes(rt: HostRuntime) -> Result<(), Fail> {
-    let told = freezes(rt.alloc())?;
-    assert!(rt; told);
-    Ok(())
+fn frozen_nodes(rt: HostRuntime) {
+    check(&rt, "a frozen node", 0, freezes(rt.alloc()));
 }

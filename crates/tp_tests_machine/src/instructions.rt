@@ -4,8 +4,7 @@ use crate::image::Fact::{
     A, B, Bytes, C, Error, Gone, Halt, High, Iptr, Low, Slice, Stack, State, Word, Wptr,
 };
 use crate::story::Event::{Also, Rests, Run, Then};
-use crate::story::{Halting, Row, Story, check_halts, check_rows, play_all};
-use std::test::Fail;
+use crate::story::{Row, Story, check_rows, play_all};
 use tp_node::Why;
 
 /// ldlp 3, ldl 1, ldl -1, stl 2; then ldnl 2, stnl 2, ldnlp 2 (ldnl and stnl leave out the address's two low bits); lb, sb
@@ -257,61 +256,73 @@ const ENDINGS: &[Story<'static>] = &[
 ];
 
 /// Bytes that are no instruction: ldtimer, a prefix byte too many, and instructions that lie outside memory.
-const NO_INSTRUCTIONS: &[Halting<'static>] = &[
-    (&[0x22, 0xF2], &[], 2),
-    (&[0x20; 17], &[], 3),
-    (&[], &[Iptr(0x8000_0FFF), Bytes(0x8000_0FFF, &[0x24])], 1),
-    (&[], &[Iptr(0x8000_1000)], 1),
-    (&[], &[Iptr(0x7FFF_FFFF)], 1),
+const NO_INSTRUCTIONS: &[Row<'static>] = &[
+    (&[0x22, 0xF2], &[], &[Halt(2)]),
+    (&[0x20; 17], &[], &[Halt(3)]),
+    (
+        &[],
+        &[Iptr(0x8000_0FFF), Bytes(0x8000_0FFF, &[0x24])],
+        &[Halt(1)],
+    ),
+    (&[], &[Iptr(0x8000_1000)], &[Halt(1)]),
+    (&[], &[Iptr(0x7FFF_FFFF)], &[Halt(1)]),
 ];
 
 /// Words that lie outside: of ldl 1, stl 1, ldnl 0, stnl 0, lb, sb, call, ret; and the blocks of move
-const ACCESSES_OUTSIDE: &[Halting<'static>] = &[
-    (&[0x71], &[Wptr(0x8000_0FFC)], 1),
-    (&[0xD1], &[Wptr(0x8000_0FFC)], 1),
-    (&[0x30], &[A(0x8000_1000)], 1),
-    (&[0xE0], &[A(0x7FFF_FFFF)], 1),
-    (&[0xF1], &[A(0x8000_1000)], 1),
-    (&[0x23, 0xFB], &[A(0)], 1),
-    (&[0x95], &[Wptr(0x8000_000C)], 1),
-    (&[0x22, 0xF0], &[Wptr(0x8000_1000)], 1),
-    (&[0x24, 0xFA], &[Stack(4, 0x8000_0300, 0x8000_0FFD)], 1),
-    (&[0x24, 0xFA], &[Stack(4, 0x8000_0FFD, 0x8000_0300)], 1),
+const ACCESSES_OUTSIDE: &[Row<'static>] = &[
+    (&[0x71], &[Wptr(0x8000_0FFC)], &[Halt(1)]),
+    (&[0xD1], &[Wptr(0x8000_0FFC)], &[Halt(1)]),
+    (&[0x30], &[A(0x8000_1000)], &[Halt(1)]),
+    (&[0xE0], &[A(0x7FFF_FFFF)], &[Halt(1)]),
+    (&[0xF1], &[A(0x8000_1000)], &[Halt(1)]),
+    (&[0x23, 0xFB], &[A(0)], &[Halt(1)]),
+    (&[0x95], &[Wptr(0x8000_000C)], &[Halt(1)]),
+    (&[0x22, 0xF0], &[Wptr(0x8000_1000)], &[Halt(1)]),
+    (
+        &[0x24, 0xFA],
+        &[Stack(4, 0x8000_0300, 0x8000_0FFD)],
+        &[Halt(1)],
+    ),
+    (
+        &[0x24, 0xFA],
+        &[Stack(4, 0x8000_0FFD, 0x8000_0300)],
+        &[Halt(1)],
+    ),
     (
         &[0x24, 0xFA],
         &[Stack(0xFFFF_FFFF, 0x8000_0300, 0x8000_0300)],
-        1,
+        &[Halt(1)],
     ),
 ];
 
 /// lend: the count, the index; endp: the count, the place to go on; stopp, startp; and alt, whose word -3 alone lies outside
-const PROCESSES_OUTSIDE: &[Halting<'static>] = &[
-    (&[0x22, 0xF1], &[B(0x8000_0FFC)], 1),
-    (&[0x22, 0xF1], &[B(0x7FFF_FFFC), Word(0x8000_0000, 2)], 1),
-    (&[0xF3], &[A(0x8000_0FFC)], 1),
-    (&[0xF3], &[A(0x7FFF_FFFC), Word(0x8000_0000, 1)], 1),
-    (&[0x21, 0xF5], &[Wptr(0x8000_0000)], 1),
-    (&[0xFD], &[A(0x8000_0000)], 1),
-    (&[0x24, 0xF3], &[Wptr(0x8000_0008)], 1),
+const PROCESSES_OUTSIDE: &[Row<'static>] = &[
+    (&[0x22, 0xF1], &[B(0x8000_0FFC)], &[Halt(1)]),
+    (
+        &[0x22, 0xF1],
+        &[B(0x7FFF_FFFC), Word(0x8000_0000, 2)],
+        &[Halt(1)],
+    ),
+    (&[0xF3], &[A(0x8000_0FFC)], &[Halt(1)]),
+    (&[0xF3], &[A(0x7FFF_FFFC), Word(0x8000_0000, 1)], &[Halt(1)]),
+    (&[0x21, 0xF5], &[Wptr(0x8000_0000)], &[Halt(1)]),
+    (&[0xFD], &[A(0x8000_0000)], &[Halt(1)]),
+    (&[0x24, 0xF3], &[Wptr(0x8000_0008)], &[Halt(1)]),
 ];
 
 #[test]
-fn accesses_and_jumps(rt: HostRuntime) -> Result<(), Fail> {
-    check_rows(&rt, rt.alloc(), "accesses", ACCESSES)?;
-    check_rows(&rt, rt.alloc(), "jumps", JUMPS)?;
-    check_rows(&rt, rt.alloc(), "moves", MOVES)
+fn instructions(rt: HostRuntime) {
+    check_rows(&rt, rt.alloc(), "accesses", ACCESSES);
+    check_rows(&rt, rt.alloc(), "jumps", JUMPS);
+    check_rows(&rt, rt.alloc(), "moves", MOVES);
+    check_rows(&rt, rt.alloc(), "last turns", LAST_TURNS);
+    check_rows(&rt, rt.alloc(), "processes", PROCESSES);
+    play_all(&rt, rt.alloc(), ENDINGS);
 }
 
 #[test]
-fn loops_and_processes(rt: HostRuntime) -> Result<(), Fail> {
-    check_rows(&rt, rt.alloc(), "last turns", LAST_TURNS)?;
-    check_rows(&rt, rt.alloc(), "processes", PROCESSES)?;
-    play_all(&rt, rt.alloc(), ENDINGS)
-}
-
-#[test]
-fn halts(rt: HostRuntime) -> Result<(), Fail> {
-    check_halts(&rt, rt.alloc(), "no instructions", NO_INSTRUCTIONS)?;
-    check_halts(&rt, rt.alloc(), "accesses outside", ACCESSES_OUTSIDE)?;
-    check_halts(&rt, rt.alloc(), "processes outside", PROCESSES_OUTSIDE)
+fn halts(rt: HostRuntime) {
+    check_rows(&rt, rt.alloc(), "no instructions", NO_INSTRUCTIONS);
+    check_rows(&rt, rt.alloc(), "accesses outside", ACCESSES_OUTSIDE);
+    check_rows(&rt, rt.alloc(), "processes outside", PROCESSES_OUTSIDE);
 }

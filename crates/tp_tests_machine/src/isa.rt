@@ -1,7 +1,7 @@
 //! Instructions as bytes.
 
+use crate::story::check;
 use std::alloc::Global;
-use std::test::Fail;
 use tp_cpu::{
     DecodeFault, Decoder, Fun, Instr, Op, decode, encode, encoding_reads_back, fun_at,
     no_spelling_is_shorter, op_at, reading_is_exact,
@@ -96,21 +96,22 @@ fn listed(number: u32) -> Option<Op> {
 }
 
 /// Whether a function's byte is read as that function, and written so.
-fn is_function(alloc: Global, code: u8, fun: Fun) -> Result<bool, Fail> {
+fn is_function(alloc: Global, code: u8, fun: Fun) -> bool {
     let byte = code << 4 | 5;
-    let mut bytes = Vec::new(alloc);
-    encode(fun, 5, &mut bytes)?;
-    Ok(fun_at(byte) == Some(fun) && bytes.as_slice() == [byte].as_slice())
+    fun_at(byte) == Some(fun) && is_written(alloc, &(fun, 5, &[byte]))
 }
 
 #[test]
-fn every_function(rt: HostRuntime) -> Result<(), Fail> {
-    let mut told = fun_at(0x2F).is_none() && fun_at(0x60).is_none();
-    for row in FUNCTIONS {
-        told = told && is_function(rt.alloc(), row.0, row.1)?;
+fn every_function(rt: HostRuntime) {
+    check(
+        &rt,
+        "prefixes",
+        0,
+        fun_at(0x2F).is_none() && fun_at(0x60).is_none(),
+    );
+    for (i, row) in FUNCTIONS.iter().enumerate() {
+        check(&rt, "functions", i, is_function(rt.alloc(), row.0, row.1));
     }
-    assert!(rt; told);
-    Ok(())
 }
 
 /// What two bytes are read as that spell an operation, where there is one.
@@ -132,9 +133,10 @@ fn every_operation(rt: HostRuntime) {
     for number in 0..=0xFF {
         let named = op_at(u32::from(number)) == listed(u32::from(number));
         let read = decode(&[0x20 | number >> 4, 0xF0 | number % 16]) == spelled(number);
-        assert!(rt; named && read, "{number:X}");
+        check(&rt, "operations", usize::from(number), named && read);
     }
-    assert!(rt; op_at(0x100).is_none() && op_at(0x142).is_none() && op_at(0x8000_0042).is_none());
+    let larger = (op_at(0x100), op_at(0x142), op_at(0x8000_0042));
+    check(&rt, "larger numbers", 0, larger == (None, None, None));
 }
 
 const READ: &[(&[u8], Fun, i32, u8)] = &[
@@ -157,10 +159,10 @@ const READ: &[(&[u8], Fun, i32, u8)] = &[
 
 #[test]
 fn reads(rt: HostRuntime) {
-    for row in READ {
+    for (i, row) in READ.iter().enumerate() {
         let (bytes, fun, operand, len) = *row;
         let told = decode(bytes) == Ok(Instr { fun, operand, len });
-        assert!(rt; told, "{operand}");
+        check(&rt, "instructions", i, told);
     }
 }
 
@@ -176,9 +178,7 @@ const NOT_READ: &[(&[u8], DecodeFault)] = &[
 #[test]
 fn reads_no_instruction(rt: HostRuntime) {
     for (i, row) in NOT_READ.iter().enumerate() {
-        let (bytes, fault) = *row;
-        let told = decode(bytes) == Err(fault);
-        assert!(rt; told, "row {i}");
+        check(&rt, "no instructions", i, decode(row.0) == Err(row.1));
     }
 }
 
@@ -201,7 +201,7 @@ fn reads_prefixes() -> bool {
 
 #[test]
 fn many_prefixes(rt: HostRuntime) {
-    assert!(rt; reads_prefixes());
+    check(&rt, "prefixes", 0, reads_prefixes());
 }
 
 const WRITTEN: &[(Fun, i32, &[u8])] = &[
@@ -227,21 +227,18 @@ const WRITTEN: &[(Fun, i32, &[u8])] = &[
 ];
 
 /// Whether an instruction is appended as it ought to be spelt.
-fn is_written(alloc: Global, row: &(Fun, i32, &[u8])) -> Result<bool, Fail> {
+fn is_written(alloc: Global, row: &(Fun, i32, &[u8])) -> bool {
     let (fun, operand, spelling) = *row;
     let mut bytes = Vec::new(alloc);
-    bytes.push(0xAA)?;
-    encode(fun, operand, &mut bytes)?;
-    Ok(bytes.first() == Some(&0xAA) && bytes.get(1..) == Some(spelling))
+    let begun = bytes.push(0xAA).is_ok() && encode(fun, operand, &mut bytes).is_ok();
+    begun && bytes.first() == Some(&0xAA) && bytes.get(1..) == Some(spelling)
 }
 
 #[test]
-fn writes(rt: HostRuntime) -> Result<(), Fail> {
+fn writes(rt: HostRuntime) {
     for (i, row) in WRITTEN.iter().enumerate() {
-        let told = is_written(rt.alloc(), row)?;
-        assert!(rt; told, "row {i}");
+        check(&rt, "written", i, is_written(rt.alloc(), row));
     }
-    Ok(())
 }
 
 /// Functions whose contract is a law do nothing.

@@ -1,13 +1,12 @@
 //! Messages over links: a test hands the tokens.
 
 use crate::image::Fact::{
-    A, Bytes, Enabled, Gone, Holds, Inputs, Iptr, Low, Quiet, Slice, Stack, Unused, Waits, Word,
-    Wptr,
+    A, Bytes, Enabled, Gone, Halt, Holds, Inputs, Iptr, Low, Quiet, Slice, Stack, Unused, Waits,
+    Word, Wptr,
 };
 use crate::image::{FIRST, Fact};
 use crate::story::Event::{Also, Rests, Run, Take, Then};
-use crate::story::{Halting, Row, Story, check_halts, check_rows, play_all};
-use std::test::Fail;
+use crate::story::{Row, Story, check_rows, play_all};
 use tp_model::Token::{Ack, Data};
 use tp_node::Why;
 
@@ -237,17 +236,17 @@ const MESSAGES_OF_NO_BYTES: &[Row<'static>] = &[
 ];
 
 /// The direction of the link is tested first, also for no bytes; then whether the end is in use, wherever the message is.
-const WRONG_AND_BUSY_ENDS: &[Halting<'static>] = &[
-    (&[0xF7], &[Stack(0, 0x8000_0000, 0)], 1),
-    (&[0xFB], &[Stack(0, 0x8000_001C, 0)], 1),
-    (&[0xFE], &[Stack(0, 0x8000_0010, 0)], 1),
+const WRONG_AND_BUSY_ENDS: &[Row<'static>] = &[
+    (&[0xF7], &[Stack(0, 0x8000_0000, 0)], &[Halt(1)]),
+    (&[0xFB], &[Stack(0, 0x8000_001C, 0)], &[Halt(1)]),
+    (&[0xFE], &[Stack(0, 0x8000_0010, 0)], &[Halt(1)]),
     (
         &[0xFB],
         &[
             Stack(1, 0x8000_0000, 0x8000_0310),
             Waits(0, 0x8000_0281, 0x8000_0310, 1),
         ],
-        4,
+        &[Halt(4)],
     ),
     (
         &[0xFB],
@@ -255,7 +254,7 @@ const WRONG_AND_BUSY_ENDS: &[Halting<'static>] = &[
             Stack(2, 0x8000_0000, 0x8000_0FFF),
             Waits(0, 0x8000_0281, 0x8000_0310, 1),
         ],
-        4,
+        &[Halt(4)],
     ),
     (
         &[0xFF],
@@ -263,7 +262,7 @@ const WRONG_AND_BUSY_ENDS: &[Halting<'static>] = &[
             Stack(7, 0x8000_0000, 0),
             Waits(0, 0x8000_0281, 0x8000_0310, 1),
         ],
-        4,
+        &[Halt(4)],
     ),
     (
         &[0xF7],
@@ -271,34 +270,34 @@ const WRONG_AND_BUSY_ENDS: &[Halting<'static>] = &[
             Stack(2, 0x8000_0010, 0x8000_0FFF),
             Inputs(0, 0x8000_0281, 0x8000_0320, 1),
         ],
-        4,
+        &[Halt(4)],
     ),
     // An end is in use also where the own process enabled it.
     (
         &[0xF7],
         &[Stack(1, 0x8000_0010, 0x8000_0320), Enabled(0, 0x8000_0201)],
-        4,
+        &[Halt(4)],
     ),
     (
         &[0xF7],
         &[Stack(1, 0x8000_0010, 0x8000_0320), Enabled(0, 0x8000_0281)],
-        4,
+        &[Halt(4)],
     ),
 ];
 
 /// Last come the range of the message and the word that a stop writes. But an output out of a register stores that first.
-const OUTSIDE: &[Halting<'static>] = &[
-    (&[0xFB], &[Stack(2, 0x8000_0000, 0x8000_0FFF)], 1),
-    (&[0xF7], &[Stack(2, 0x8000_0010, 0x8000_0FFF)], 1),
+const OUTSIDE: &[Row<'static>] = &[
+    (&[0xFB], &[Stack(2, 0x8000_0000, 0x8000_0FFF)], &[Halt(1)]),
+    (&[0xF7], &[Stack(2, 0x8000_0010, 0x8000_0FFF)], &[Halt(1)]),
     (
         &[0xF7],
         &[Stack(2, 0x8000_0010, 0x8000_0FFF), Holds(0, 0x5A)],
-        1,
+        &[Halt(1)],
     ),
     (
         &[0xF7],
         &[Stack(1, 0x8000_0010, 0x8000_0320), Wptr(FIRST)],
-        1,
+        &[Halt(1)],
     ),
     (
         &[0xFE],
@@ -307,25 +306,21 @@ const OUTSIDE: &[Halting<'static>] = &[
             Wptr(0x8000_1000),
             Waits(0, 0x8000_0281, 0x8000_0310, 1),
         ],
-        1,
+        &[Halt(1)],
     ),
 ];
 
 #[test]
-fn messages(rt: HostRuntime) -> Result<(), Fail> {
-    play_all(&rt, rt.alloc(), SENDING)?;
-    play_all(&rt, rt.alloc(), RECEIVING)?;
-    play_all(&rt, rt.alloc(), WIRED_TO_ITSELF)
-}
-
-#[test]
-fn ends(rt: HostRuntime) -> Result<(), Fail> {
+fn messages_and_ends(rt: HostRuntime) {
+    play_all(&rt, rt.alloc(), SENDING);
+    play_all(&rt, rt.alloc(), RECEIVING);
+    play_all(&rt, rt.alloc(), WIRED_TO_ITSELF);
     check_rows(
         &rt,
         rt.alloc(),
         "messages of no bytes",
         MESSAGES_OF_NO_BYTES,
-    )?;
-    check_halts(&rt, rt.alloc(), "wrong and busy ends", WRONG_AND_BUSY_ENDS)?;
-    check_halts(&rt, rt.alloc(), "outside", OUTSIDE)
+    );
+    check_rows(&rt, rt.alloc(), "wrong and busy ends", WRONG_AND_BUSY_ENDS);
+    check_rows(&rt, rt.alloc(), "outside", OUTSIDE);
 }

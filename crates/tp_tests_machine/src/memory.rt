@@ -1,11 +1,11 @@
 //! A node's memory on its own.
 
 use crate::desk::four_pages;
+use crate::story::check;
 use std::test::Fail;
 use tp_mem::{FlatMemory, Freeze, Mem, WriteFault};
 
 /// A call that writes.
-#[derive(Clone, Copy)]
 enum Write<'a> {
     Byte(u32, u8),
     Word(u32, u32),
@@ -20,8 +20,8 @@ enum Write<'a> {
 /// The word in front of blocks.
 const FIRST: (u32, u32) = (0x8000_0330, 0x1122_3344);
 
-fn make(mem: &mut FlatMemory, call: Write<'_>) -> Result<(), WriteFault> {
-    match call {
+fn make(mem: &mut FlatMemory, call: &Write<'_>) -> Result<(), WriteFault> {
+    match *call {
         Write::Byte(address, byte) => mem.write_byte(address, byte),
         Write::Word(address, word) => mem.write_word(address, word),
         Write::Words(words) => mem.write_words(words),
@@ -34,7 +34,7 @@ fn make(mem: &mut FlatMemory, call: Write<'_>) -> Result<(), WriteFault> {
 }
 
 /// Whether a call wrote, or refused since something lies outside.
-fn writes(mem: &mut FlatMemory, call: Write<'_>) -> Option<bool> {
+fn writes(mem: &mut FlatMemory, call: &Write<'_>) -> Option<bool> {
     match make(mem, call) {
         Ok(()) => Some(true),
         Err(WriteFault::Outside) => Some(false),
@@ -111,13 +111,16 @@ const WRITES: &[(Write<'static>, bool, u32, u32)] = &[
     (Write::Words(&[]), true, 0x8000_0350, 9),
 ];
 
+/// Whether a call goes as the row says.
+fn is_write(mem: &mut FlatMemory, row: &(Write<'_>, bool, u32, u32)) -> bool {
+    writes(mem, &row.0) == Some(row.1) && mem.read_word(row.2) == Some(row.3)
+}
+
 #[test]
 fn writing(rt: HostRuntime) -> Result<(), Fail> {
     let mut mem = four_pages(rt.alloc())?;
     for (i, row) in WRITES.iter().enumerate() {
-        let (call, wrote, address, word) = *row;
-        let told = writes(&mut mem, call) == Some(wrote) && mem.read_word(address) == Some(word);
-        assert!(rt; told, "write {i}");
+        check(&rt, "writes", i, is_write(&mut mem, row));
     }
     Ok(())
 }
@@ -165,7 +168,7 @@ fn is_clear(mem: &FlatMemory) -> bool {
 fn keeps(mem: &mut FlatMemory) -> bool {
     mem.drop_frozen();
     mem.freeze();
-    let wrote = writes(mem, Write::Word(0x8000_0400, 6)) == Some(true);
+    let wrote = writes(mem, &Write::Word(0x8000_0400, 6)) == Some(true);
     let kept = is_clear(mem);
     mem.drop_frozen();
     wrote && kept && !mem.is_frozen() && mem.read_word(0x8000_0400) == Some(6)
@@ -174,6 +177,11 @@ fn keeps(mem: &mut FlatMemory) -> bool {
 #[test]
 fn ranges_and_frozen_bytes(rt: HostRuntime) -> Result<(), Fail> {
     let mut mem = four_pages(rt.alloc())?;
-    assert!(rt; are_ranges(&mem) && keeps(&mut mem));
+    check(
+        &rt,
+        "ranges and frozen bytes",
+        0,
+        are_ranges(&mem) && keeps(&mut mem),
+    );
     Ok(())
 }

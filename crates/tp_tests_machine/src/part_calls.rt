@@ -11,7 +11,6 @@ use tp_mem::FlatMemory;
 use tp_model::Cpu;
 
 /// A call that does a part of a step.
-#[derive(Clone, Copy)]
 pub enum Call {
     Queue(u32),
     Enqueue(u32),
@@ -46,8 +45,8 @@ pub enum Call {
     Change,
 }
 
-fn make_memory(call: Call, mem: &mut FlatMemory) -> Result<(), Undone> {
-    match call {
+fn make_memory(call: &Call, mem: &mut FlatMemory) -> Result<(), Undone> {
+    match *call {
         Call::Store => store(mem, 0x8000_0304, 8),
         Call::StoreAll => store_all(mem, &[(0x8000_0304, 8), (0x8000_0308, 9)]),
         Call::Change => change(mem, 0x8000_0310, 0x8000_0304, 8, &[(0x8000_0318, 1)]),
@@ -55,8 +54,8 @@ fn make_memory(call: Call, mem: &mut FlatMemory) -> Result<(), Undone> {
     }
 }
 
-fn make_registers(call: Call, cpu: &mut Cpu) {
-    match call {
+fn make_registers(call: &Call, cpu: &mut Cpu) {
+    match *call {
         Call::Queue(descriptor) => queue(descriptor, cpu),
         Call::End => end(cpu),
         Call::Pass(next) => pass(cpu, next),
@@ -66,8 +65,8 @@ fn make_registers(call: Call, cpu: &mut Cpu) {
     }
 }
 
-fn make_process(call: Call, cpu: &mut Cpu, mem: &mut FlatMemory) -> Result<(), Undone> {
-    match call {
+fn make_process(call: &Call, cpu: &mut Cpu, mem: &mut FlatMemory) -> Result<(), Undone> {
+    match *call {
         Call::Enqueue(descriptor) => enqueue(cpu, mem, descriptor),
         Call::DispatchHigh => dispatch_high(cpu, mem),
         Call::DispatchLow => dispatch_low(cpu, mem),
@@ -83,8 +82,8 @@ fn make_process(call: Call, cpu: &mut Cpu, mem: &mut FlatMemory) -> Result<(), U
     }
 }
 
-fn make_channel(call: Call, cpu: &mut Cpu, mem: &mut FlatMemory) -> Result<(), Undone> {
-    match call {
+fn make_channel(call: &Call, cpu: &mut Cpu, mem: &mut FlatMemory) -> Result<(), Undone> {
+    match *call {
         Call::Out => chan_out(cpu, mem),
         Call::In => chan_in(cpu, mem),
         Call::OutWord => chan_out_word(cpu, mem, 4),
@@ -99,8 +98,8 @@ fn make_channel(call: Call, cpu: &mut Cpu, mem: &mut FlatMemory) -> Result<(), U
 }
 
 /// Makes a call.
-pub fn make(call: Call, desk: &mut Desk) -> Result<(), Undone> {
-    match call {
+pub fn make(call: &Call, desk: &mut Desk) -> Result<(), Undone> {
+    match *call {
         Call::Queue(_)
         | Call::End
         | Call::Pass(_)

@@ -4,19 +4,19 @@ use crate::desk::Desk;
 use crate::image::Fact;
 use crate::image::Fact::{A, Gone, High, Iptr, Low, Runs, Slice, Stack, State, Word, Wptr};
 use crate::part_calls::{Call, make};
+use crate::story::check;
 use std::alloc::Global;
-use std::test::Fail;
 
 /// A call, what is given, and what then has changed.
 type Part<'a> = (Call, &'a [Fact<'a>], &'a [Fact<'a>]);
 
-fn is_part(alloc: Global, part: &Part<'_>) -> Result<bool, Fail> {
-    let (call, given, then) = *part;
-    let mut desk = Desk::new(alloc, given)?;
-    let mut wanted = Desk::new(alloc, given)?;
-    wanted.put_all(then);
-    let made = make(call, &mut desk).is_ok();
-    Ok(made && desk.is(&wanted))
+fn is_part(alloc: Global, part: &Part<'_>) -> bool {
+    let (Ok(mut desk), Ok(mut wanted)) = (Desk::new(alloc, part.1), Desk::new(alloc, part.1)) else {
+        return false;
+    };
+    wanted.put_all(part.2);
+    let made = make(&part.0, &mut desk).is_ok();
+    made && desk.is(&wanted)
 }
 
 const PARTS: &[Part<'static>] = &[
@@ -238,10 +238,8 @@ const PARTS: &[Part<'static>] = &[
 ];
 
 #[test]
-fn parts(rt: HostRuntime) -> Result<(), Fail> {
+fn parts(rt: HostRuntime) {
     for (i, part) in PARTS.iter().enumerate() {
-        let told = is_part(rt.alloc(), part)?;
-        assert!(rt; told, "part {i}");
+        check(&rt, "parts", i, is_part(rt.alloc(), part));
     }
-    Ok(())
 }

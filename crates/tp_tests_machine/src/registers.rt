@@ -1,6 +1,7 @@
 //! Instructions that work on the registers alone.
 
 use crate::isa::OPERATIONS;
+use crate::story::check;
 use std::process::Abort;
 use tp_cpu::{Fun, Instr, Op, Regs, fun_row, op_row, pop, push, register_row, registers, set_a};
 
@@ -43,10 +44,9 @@ fn is_row(row: &Row) -> bool {
         && after(operation(op), regs(before, true)) == Some(regs(wanted, true))
 }
 
-fn check(rt: &impl Abort, rows: &[Row]) {
+fn check_all(rt: &impl Abort, name: &str, rows: &[Row]) {
     for (i, row) in rows.iter().enumerate() {
-        let told = is_row(row);
-        assert!(rt; told, "row {i}");
+        check(rt, name, i, is_row(row));
     }
 }
 
@@ -217,16 +217,16 @@ const COUNTS_OF_BYTES: &[Row] = &[
 /// Every operation that works on the registers alone.
 #[test]
 fn operations(rt: HostRuntime) {
-    check(&rt, SUMS_CHECKED);
-    check(&rt, SUMS_THAT_WRAP);
-    check(&rt, PRODUCTS);
-    check(&rt, QUOTIENTS);
-    check(&rt, BITS);
-    check(&rt, SHIFTS);
-    check(&rt, COMPARISONS);
-    check(&rt, LONG_SUMS);
-    check(&rt, LONG_PRODUCTS);
-    check(&rt, COUNTS_OF_BYTES);
+    check_all(&rt, "checked sums", SUMS_CHECKED);
+    check_all(&rt, "sums that wrap", SUMS_THAT_WRAP);
+    check_all(&rt, "products", PRODUCTS);
+    check_all(&rt, "quotients", QUOTIENTS);
+    check_all(&rt, "bits", BITS);
+    check_all(&rt, "shifts", SHIFTS);
+    check_all(&rt, "comparisons", COMPARISONS);
+    check_all(&rt, "long sums", LONG_SUMS);
+    check_all(&rt, "long products", LONG_PRODUCTS);
+    check_all(&rt, "counts of bytes", COUNTS_OF_BYTES);
 }
 
 /// A function with its operand, with A, B and C before and after it, and whether it sets Error.
@@ -260,7 +260,7 @@ fn functions(rt: HostRuntime) {
     for (i, row) in FUNCTIONS.iter().enumerate() {
         let (fun, operand, before, wanted, error) = *row;
         let told = after(instr(fun, operand), regs(before, false)) == Some(regs(wanted, error));
-        assert!(rt; told, "row {i}");
+        check(&rt, "functions", i, told);
     }
 }
 
@@ -315,24 +315,20 @@ fn is_other(instr: Instr) -> bool {
 fn others(rt: HostRuntime) {
     let before = regs([1, 2, 3], false);
     for (i, op) in OTHERS.iter().enumerate() {
-        assert!(rt;
-            is_other(operation(*op)) && op_row(*op, before).is_none(),
-            "row {i}"
-        );
+        let told = is_other(operation(*op)) && op_row(*op, before).is_none();
+        check(&rt, "other operations", i, told);
     }
-    assert!(rt; OPERATIONS.len() == OTHERS.len() + 31);
+    check(&rt, "how many", 0, OPERATIONS.len() == OTHERS.len() + 31);
 }
 
 #[test]
 fn other_functions(rt: HostRuntime) {
     let before = regs([1, 2, 3], false);
     for (i, fun) in OTHER_FUNCTIONS.iter().enumerate() {
-        assert!(rt;
-            is_other(instr(*fun, 5)) && fun_row(*fun, 5, before).is_none(),
-            "row {i}"
-        );
+        let told = is_other(instr(*fun, 5)) && fun_row(*fun, 5, before).is_none();
+        check(&rt, "other functions", i, told);
     }
-    assert!(rt; is_other(instr(Fun::Opr, 0x22)));
+    check(&rt, "no operation", 0, is_other(instr(Fun::Opr, 0x22)));
 }
 
 /// The stack, and testerr, which tells of Error and clears it.
@@ -347,5 +343,5 @@ fn are_stacks() -> bool {
 
 #[test]
 fn stacks(rt: HostRuntime) {
-    assert!(rt; are_stacks());
+    check(&rt, "stacks", 0, are_stacks());
 }

@@ -3,21 +3,22 @@
 use crate::desk::Desk;
 use crate::image::Fact;
 use crate::image::Fact::{Gone, Halt, Iptr, Slice, Stack, Word};
+use crate::story::check;
 use std::alloc::Global;
-use std::test::Fail;
 use tp_cpu::step;
 use tp_model::{Fault, InRequest, OutRequest, StepEnd, Wish};
 
 /// What is given (the instruction is at 80000102), how the step ends, and what then has changed.
 type Row<'a> = (&'a [Fact<'a>], StepEnd, &'a [Fact<'a>]);
 
-fn is_row(alloc: Global, row: &Row<'_>) -> Result<bool, Fail> {
+fn is_row(alloc: Global, row: &Row<'_>) -> bool {
     let (given, end, then) = *row;
-    let mut desk = Desk::new(alloc, given)?;
-    let mut wanted = Desk::new(alloc, given)?;
+    let (Ok(mut desk), Ok(mut wanted)) = (Desk::new(alloc, given), Desk::new(alloc, given)) else {
+        return false;
+    };
     wanted.put_all(then);
     let seen = step(&mut desk.cpu, &mut desk.mem);
-    Ok(seen == end && desk.is(&wanted))
+    seen == end && desk.is(&wanted)
 }
 
 const ROWS: &[Row<'static>] = &[
@@ -103,10 +104,8 @@ const ROWS: &[Row<'static>] = &[
 ];
 
 #[test]
-fn steps(rt: HostRuntime) -> Result<(), Fail> {
+fn steps(rt: HostRuntime) {
     for (i, row) in ROWS.iter().enumerate() {
-        let told = is_row(rt.alloc(), row)?;
-        assert!(rt; told, "row {i}");
+        check(&rt, "steps", i, is_row(rt.alloc(), row));
     }
-    Ok(())
 }

@@ -1,10 +1,8 @@
 //! The memory that copies before it writes beside its slow twin: commands give equal bytes in both.
 
-ghost use Rattle.std.specs.Prelude.{◌≤◌};
-
 use crate::desk::four_pages;
-use std::alloc::{AllocError, Global};
-use std::test::Fail;
+use crate::story::check;
+use std::alloc::Global;
 use tp_mem::{CowMemory, FlatMemory, Freeze, Mem, WriteFault};
 
 /// Two memories of four pages.
@@ -12,14 +10,6 @@ use tp_mem::{CowMemory, FlatMemory, Freeze, Mem, WriteFault};
 struct Twins {
     cow: CowMemory,
     flat: FlatMemory,
-}
-
-fn make_twins(alloc: Global, spare: usize) -> Result<Twins, AllocError>
-    requires { spare ≤ 4 }
-{
-    let cow = CowMemory::new(alloc, 4, spare, &[0; 4096])?;
-    let flat = four_pages(alloc)?;
-    Ok(Twins { cow, flat })
 }
 
 /// Whether a write goes one way in both, where a frame is not wanted.
@@ -113,20 +103,22 @@ fn agree(twins: &mut Twins) -> bool {
 }
 
 /// Whether they do with `spare` spare frames.
-fn agree_with(alloc: Global, spare: usize) -> Result<bool, AllocError>
-    requires { spare ≤ 4 }
-{
-    let mut twins = make_twins(alloc, spare)?;
-    Ok(agree(&mut twins))
+fn agree_with(alloc: Global, spare: usize) -> bool {
+    let Ok(cow) = CowMemory::new(alloc, 4, spare.min(4), &[0; 4096]) else {
+        return false;
+    };
+    let Ok(flat) = four_pages(alloc) else {
+        return false;
+    };
+    let told = agree(&mut Twins { cow, flat });
+    told
 }
 
 #[test]
-fn two_memories_agree(rt: HostRuntime) -> Result<(), Fail> {
-    let none = agree_with(rt.alloc(), 0)?;
-    let one = agree_with(rt.alloc(), 1)?;
-    let all = agree_with(rt.alloc(), 4)?;
-    assert!(rt; none && one && all);
-    Ok(())
+fn two_memories_agree(rt: HostRuntime) {
+    for spare in [0, 1, 4] {
+        check(&rt, "spare frames", spare, agree_with(rt.alloc(), spare));
+    }
 }
 
 /// Whether a word is written, or a frame is wanted for it.
@@ -139,29 +131,30 @@ fn writes(mem: &mut CowMemory, address: u32) -> Option<bool> {
 }
 
 /// With one spare frame the second page that is written wants another; once the frozen bytes are gone it is written.
-fn is_one_spare(alloc: Global) -> Result<bool, Fail> {
-    let mut mem = CowMemory::new(alloc, 4, 1, &[0; 4096])?;
+fn is_one_spare(alloc: Global) -> bool {
+    let Ok(mut mem) = CowMemory::new(alloc, 4, 1, &[0; 4096]) else {
+        return false;
+    };
     mem.freeze();
     let first = writes(&mut mem, 0x8000_0000) == Some(true);
     let second = writes(&mut mem, 0x8000_0400) == Some(false);
     let again = writes(&mut mem, 0x8000_0004) == Some(true);
     mem.drop_frozen();
     let gone = writes(&mut mem, 0x8000_0400) == Some(true);
-    Ok(first && second && again && gone)
+    first && second && again && gone
 }
 
 /// With none already the first one wants a frame.
-fn is_none_spare(alloc: Global) -> Result<bool, Fail> {
-    let mut mem = CowMemory::new(alloc, 4, 0, &[0; 4096])?;
+fn is_none_spare(alloc: Global) -> bool {
+    let Ok(mut mem) = CowMemory::new(alloc, 4, 0, &[0; 4096]) else {
+        return false;
+    };
     mem.freeze();
-    Ok(writes(&mut mem, 0x8000_0000) == Some(false))
+    writes(&mut mem, 0x8000_0000) == Some(false)
 }
 
 #[test]
-fn frames_are_wanted(rt: HostRuntime) -> Result<(), Fail> {
-    let one = is_one_spare(rt.alloc())?;
-    let none = is_none_spare(rt.alloc())?;
-    assert!(rt; one);
-    assert!(rt; none);
-    Ok(())
+fn frames_are_wanted(rt: HostRuntime) {
+    check(&rt, "spare frames", 1, is_one_spare(rt.alloc()));
+    check(&rt, "spare frames", 0, is_none_spare(rt.alloc()));
 }

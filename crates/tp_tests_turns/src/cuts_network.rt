@@ -93,12 +93,12 @@ pub(crate) fn pair_parts(alloc: Global, first: &[u8], second: &[u8]) -> Result<N
 
 /// That network in one thread.
 pub(crate) fn flat_of(alloc: Global, first: &[u8], second: &[u8]) -> Result<FlatNetwork, Fail> {
-    let one = lone_node(alloc, first)?;
-    let other = lone_node(alloc, second)?;
-    let nodes = Vec::from_array(alloc, [one, other])?;
     let wires = Vec::from_slice(alloc, &WIRES)?;
     let lines = Lines::new(alloc, LINES)?;
     let ports = fresh_ports(alloc, 1)?;
+    let one = lone_node(alloc, first)?;
+    let other = lone_node(alloc, second)?;
+    let nodes = Vec::from_array(alloc, [one, other])?;
     Ok(FlatNetwork::new(wires, nodes, lines, ports))
 }
 

@@ -74,12 +74,9 @@ pub(crate) fn drawn_topology(chance: &mut Chance, nodes: u8, ports: u8) -> Optio
         }
     }
     let mut pages = ArrayVec::new();
-    for _node in 0..nodes {
-        pages.try_push(4).ok()?;
-    }
     let mut wires = ArrayVec::new();
-    for wire in drawn.iter().take(ends as usize) {
-        wires.try_push(*wire).ok()?;
-    }
+    let four = [4; 8];
+    pages.try_extend_from_slice(&four[..nodes as usize]).ok()?;
+    wires.try_extend_from_slice(&drawn[..ends as usize]).ok()?;
     Topology::of_parts(pages, ports, wires)
 }

@@ -17,9 +17,6 @@ pub(crate) trait Game {
 pub(crate) trait Games {
     type Game: Game;
 
-    /// How many acts there are to choose from.
-    fn choices(&self) -> usize;
-
     /// A game before its first choice; none where it can't begin so.
     fn start(&self, alloc: Global) -> Result<Option<Self::Game>, Fail>;
 }
@@ -37,14 +34,14 @@ enum End {
     Wrong,
 }
 
-/// Does the first act that can be done from a choice on. Answers which, where there is one.
+/// Does the first act that can be done from a choice on, of `many`. Answers which, where there is one.
 fn choose<G: Game>(
     alloc: Global,
     game: &mut G,
-    choices: usize,
+    many: usize,
     from: usize,
 ) -> Result<Option<usize>, Fail> {
-    for choice in from..choices {
+    for choice in from..many {
         if game.does(alloc, choice)? {
             return Ok(Some(choice));
         }
@@ -52,38 +49,27 @@ fn choose<G: Game>(
     Ok(None)
 }
 
-/// Puts a choice at its place, or behind the others.
-fn put(choices: &mut Vec<usize>, at: usize, choice: usize) -> Result<(), AllocError> {
-    if let Some(place) = choices.get_mut(at) {
-        *place = choice;
-        return Ok(());
-    }
-    choices.push(choice)?;
-    Ok(())
-}
-
-/// Makes the act at a place, by the choice there or the first that can be done. Answers how the order ends, where none can.
-fn next_act<G: Game>(
-    alloc: Global,
-    game: &mut G,
-    many: usize,
+/// Puts a choice at its place, or behind the others; where there is none, those from that place on are over. Answers how the order ends, if
+/// it does.
+fn put(
     choices: &mut Vec<usize>,
     at: usize,
-) -> Result<Option<End>, Fail> {
-    let before = choices.get(at).copied();
-    let Some(choice) = choose(alloc, game, many, before.unwrap_or(0))? else {
+    choice: Option<usize>,
+) -> Result<Option<End>, AllocError> {
+    let is_later = at < choices.len();
+    let Some(choice) = choice else {
         choices.truncate(at);
-        return Ok(Some(if before.is_some() {
-            End::Spent
-        } else {
-            End::Wrong
-        }));
+        return Ok(Some(if is_later { End::Spent } else { End::Wrong }));
     };
-    put(choices, at, choice)?;
+    if is_later {
+        choices[at] = choice;
+    } else {
+        choices.push(choice)?;
+    }
     Ok(None)
 }
 
-/// Makes the acts of an order, by the choices so far and the first that can be done behind them.
+/// Makes the acts of an order, of `many`, by the choices so far and the first that can be done behind them.
 fn make_acts<G: Game>(
     alloc: Global,
     game: &mut G,
@@ -94,7 +80,9 @@ fn make_acts<G: Game>(
         if let Some(right) = game.is_right(alloc)? {
             return Ok(if right { End::Right } else { End::Wrong });
         }
-        if let Some(end) = next_act(alloc, game, many, choices, at)? {
+        let from = choices.get(at).copied().unwrap_or(0);
+        let choice = choose(alloc, game, many, from)?;
+        if let Some(end) = put(choices, at, choice)? {
             return Ok(end);
         }
     }
@@ -105,12 +93,13 @@ fn make_acts<G: Game>(
 fn play_order<S: Games<Game = G>, G: Game + Drop>(
     alloc: Global,
     games: &S,
+    many: usize,
     choices: &mut Vec<usize>,
 ) -> Result<End, Fail> {
     let Some(mut game) = games.start(alloc)? else {
         return Ok(End::Wrong);
     };
-    let end = make_acts(alloc, &mut game, games.choices(), choices);
+    let end = make_acts(alloc, &mut game, many, choices);
     end
 }
 
@@ -124,15 +113,16 @@ fn go_on(choices: &mut Vec<usize>) -> bool {
     true
 }
 
-/// Plays each order. Answers how many there are; none where one isn't right.
+/// Plays each order of `many` acts. Answers how many there are; none where one isn't right.
 fn play_each<S: Games<Game = G>, G: Game + Drop>(
     alloc: Global,
     games: &S,
+    many: usize,
     choices: &mut Vec<usize>,
 ) -> Result<Option<u32>, Fail> {
     let mut orders = 0u32;
     for _order in 0..MOST_ORDERS {
-        match play_order(alloc, games, choices)? {
+        match play_order(alloc, games, many, choices)? {
             End::Right => orders = orders.saturating_add(1),
             End::Spent => {}
             End::Wrong => return Ok(None),
@@ -144,12 +134,13 @@ fn play_each<S: Games<Game = G>, G: Game + Drop>(
     Ok(None)
 }
 
-/// Plays each order from the first on. Answers how many there are; none where one isn't right.
+/// Plays each order of `many` acts from the first on. Answers how many there are; none where one isn't right.
 pub(crate) fn play_all<S: Games<Game = G>, G: Game + Drop>(
     alloc: Global,
     games: &S,
+    many: usize,
 ) -> Result<Option<u32>, Fail> {
     let mut choices = Vec::new(alloc);
-    let orders = play_each(alloc, games, &mut choices);
+    let orders = play_each(alloc, games, many, &mut choices);
     orders
 }

@@ -34,8 +34,6 @@ mod numbers;
 #[cfg(test)]
 mod one_entry;
 #[cfg(test)]
-mod one_node;
-#[cfg(test)]
 mod open_lines;
 #[cfg(test)]
 mod open_net;
@@ -60,6 +58,8 @@ mod seat;
 mod shared;
 #[cfg(test)]
 mod shared_pair;
+#[cfg(test)]
+mod stories;
 #[cfg(test)]
 mod token_tests;
 #[cfg(test)]

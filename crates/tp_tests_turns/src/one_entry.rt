@@ -3,7 +3,7 @@
 use crate::cuts_replayed::are_same;
 use crate::devices::tasks_device;
 use crate::machines::Task;
-use crate::replayed::flat_of;
+use crate::replayed::{flat_of, goes};
 use std::alloc::Global;
 use std::test::Fail;
 use tp_book::NetParts;
@@ -11,7 +11,6 @@ use tp_model::Entry;
 use tp_model::Received::{self, AckThenData, JustAck, JustData, Nothing};
 use tp_model::Token::{Ack, Data};
 use tp_replay::FlatNetwork;
-use tp_tests_opening::possible::can_count;
 
 /// A node that sends the byte 58 on link 0, and one that hears it there.
 const TWO: &[u8] = b"node a 4\nnode b 4\nport h\nwire a.0 b.0\nwire a.3 h\n";
@@ -99,8 +98,8 @@ fn one_node(before: &[Entry]) -> Start {
     }
 }
 
-/// Where a row begins, takes and runs, and turns that lead where these lead.
-type Leads<'a> = (Start<'a>, &'a [Entry], &'a [Entry]);
+/// Where a row begins, takes and runs, and turns that lead where these lead; whether all of these are possible.
+type Leads<'a> = (Start<'a>, &'a [Entry], &'a [Entry], bool);
 
 /// The turn of a node that takes this and makes `count` steps.
 fn turn(node: u8, takes: [Received; 4], count: u16) -> Entry {
@@ -110,10 +109,7 @@ fn turn(node: u8, takes: [Received; 4], count: u16) -> Entry {
 /// Whether `entries` are possible one after another. The network is then that behind them.
 fn goes_on(network: &mut FlatNetwork, entries: &[Entry]) -> bool {
     for entry in entries {
-        if !can_count(network) {
-            return false;
-        }
-        if network.apply(entry).is_err() {
+        if !goes(network, entry) {
             return false;
         }
     }
@@ -121,20 +117,18 @@ fn goes_on(network: &mut FlatNetwork, entries: &[Entry]) -> bool {
 }
 
 /// The network behind the entries `before` and then `entries`; `None` where those before aren't possible, or whether those are isn't as
-/// `is_possible` says.
+/// `is_possible` says, or without memory.
 fn parts_behind(
     alloc: Global,
     network: &mut FlatNetwork,
     before: &[Entry],
     entries: &[Entry],
     is_possible: bool,
-) -> Result<Option<NetParts>, Fail> {
-    let is_so = goes_on(network, before) && goes_on(network, entries) == is_possible;
-    Ok(if is_so {
-        Some(network.parts(alloc)?)
-    } else {
-        None
-    })
+) -> Option<NetParts> {
+    if !goes_on(network, before) || goes_on(network, entries) != is_possible {
+        return None;
+    }
+    network.parts(alloc).ok()
 }
 
 /// The network behind `entries`, from where a row begins, where they are possible, or one isn't, as `is_possible` says.
@@ -147,15 +141,7 @@ fn behind(
     let mut disk = tasks_device(alloc, start.text, start.tasks)?;
     let mut network = flat_of(alloc, &mut disk)?;
     let parts = parts_behind(alloc, &mut network, start.before, entries, is_possible);
-    parts
-}
-
-/// Whether both are there, with one state.
-fn are_one(one: &Option<NetParts>, other: &Option<NetParts>) -> bool {
-    match (one, other) {
-        (Some(one), Some(other)) => are_same(one, other),
-        _ => false,
-    }
+    Ok(parts)
 }
 
 /// Whether `turns` lead where `entries` lead, which are possible. The turns are, or one isn't, as `is_possible` says.
@@ -168,19 +154,23 @@ fn are_alike(
 ) -> Result<bool, Fail> {
     let one = behind(alloc, start, entries, true)?;
     let other = behind(alloc, start, turns, is_possible)?;
-    Ok(are_one(&one, &other))
+    Ok(match (&one, &other) {
+        (Some(one), Some(other)) => are_same(one, other),
+        _ => false,
+    })
 }
 
-/// The first of `rows` whose turns don't lead where its takes and runs lead.
+/// The first of `rows` whose turns don't lead where its takes and runs lead, or are possible otherwise than it says.
 fn first_apart(alloc: Global, rows: &[Leads]) -> Result<Option<usize>, Fail> {
-    for (i, (start, plain, turns)) in rows.iter().enumerate() {
-        if !are_alike(alloc, *start, *plain, *turns, true)? {
+    for (i, (start, plain, turns, is_possible)) in rows.iter().enumerate() {
+        if !are_alike(alloc, *start, *plain, *turns, *is_possible)? {
             return Ok(Some(i));
         }
     }
     Ok(None)
 }
 
+/// In the last row the hearer can't make the steps of a turn, and the network is where one with fewer leads, in which it took its byte.
 #[test]
 fn a_turn_leads_where_its_takes_and_its_run_lead(rt: HostRuntime) -> Result<(), Fail> {
     let (sent, waiting) = (SENT, WAITING);
@@ -194,13 +184,15 @@ fn a_turn_leads_where_its_takes_and_its_run_lead(rt: HostRuntime) -> Result<(), 
         turn(0, OTHER_LINK, 0),
         turn(0, [Nothing, Nothing, JustAck, Nothing], 0),
     ];
-    let leads: [Leads; 3] = [
-        (two_nodes, &plain, &turns),
-        (two_nodes, &heard, &hearing),
-        (one_node, &own, &own_turns),
+    let (made, long) = ([turn(1, BYTE, 5)], [turn(1, BYTE, 4096)]);
+    let leads: [Leads; 4] = [
+        (two_nodes, &plain, &turns, true),
+        (two_nodes, &heard, &hearing, true),
+        (one_node, &own, &own_turns, true),
+        (two_nodes, &made, &long, false),
     ];
     let apart = first_apart(rt.alloc(), &leads)?;
-    assert!(rt; apart.is_none(), "row {}", apart.unwrap_or(0));
+    assert!(rt; apart.is_none());
     Ok(())
 }
 
@@ -235,15 +227,6 @@ fn a_turn_takes_what_stood_on_its_lines_before_it(rt: HostRuntime) -> Result<(),
         (one_node, turn(0, BYTE_AND_ITS_ACKNOWLEDGE, 0)),
     ];
     let possible = first_possible(rt.alloc(), &refused)?;
-    assert!(rt; possible.is_none(), "row {}", possible.unwrap_or(0));
-    Ok(())
-}
-
-/// The hearer can't make the steps of a turn, and the network is where one with fewer leads, in which it took its byte.
-#[test]
-fn a_turn_that_is_cut_short_has_taken_its_tokens(rt: HostRuntime) -> Result<(), Fail> {
-    let sent = SENT;
-    let (made, long) = ([turn(1, BYTE, 5)], [turn(1, BYTE, 4096)]);
-    assert!(rt; are_alike(rt.alloc(), two_nodes(&sent), &made, &long, false)?);
+    assert!(rt; possible.is_none());
     Ok(())
 }

@@ -103,14 +103,11 @@ fn may_be(play: &OpenPlay, act: OpenAct, opens: &[[u8; 2]; 2]) -> bool {
 
 /// Whether a whole cut is what the plain lists and replays say; and so where there is none.
 fn is_cut(alloc: Global, play: &OpenPlay, images: &Images) -> Result<bool, Fail> {
-    let whole = play.net.book().whole();
-    if whole.is_none() {
+    let Some(cut) = play.net.book().whole() else {
         return Ok(true);
-    }
-    let (first, second) = (images.first.as_slice(), images.second.as_slice());
-    let recorded = was_recorded(alloc, &play.plain, whole, &play.images, first, second)?;
+    };
     let gathered = play.plain.is_gathered(alloc, play.net.book())?;
-    Ok(recorded && gathered)
+    Ok(gathered && was_recorded(alloc, &play.plain, cut, &play.images, images)?)
 }
 
 /// Whether all entries, and the trim, led where they were to lead.
@@ -119,8 +116,7 @@ fn is_led(alloc: Global, play: &mut OpenPlay, images: &Images) -> Result<bool, F
         alloc,
         [play.net.image(alloc, 0)?, play.net.image(alloc, 1)?],
     )?;
-    let (first, second) = (images.first.as_slice(), images.second.as_slice());
-    let swapped = may_be_swapped(alloc, &play.plain, &now, first, second)?;
+    let swapped = may_be_swapped(alloc, &play.plain, &now, images)?;
     Ok(swapped && play.plain.is_behind(play.net.book()))
 }
 
@@ -159,12 +155,8 @@ fn do_all(alloc: Global, play: &mut OpenPlay, acts: &[OpenAct]) -> Result<bool, 
 impl<'a> Games for Turns<'a> {
     type Game = OverTheTrim<'a>;
 
-    fn choices(&self) -> usize {
-        CHOICES.len()
-    }
-
     fn start(&self, alloc: Global) -> Result<Option<OverTheTrim<'a>>, Fail> {
-        let mut play = start(alloc, &self.images.first, &self.images.second)?;
+        let mut play = start(alloc, self.images)?;
         if !do_all(alloc, &mut play, self.case.acts)? {
             return Ok(None);
         }
@@ -184,12 +176,8 @@ fn each_order_of_open_turns_comes_to_a_right_cut(rt: HostRuntime) -> Result<(), 
             case,
             images: &images,
         };
-        let played = play_all(rt.alloc(), &turns)?;
-        assert!(rt;
-            played == Some(case.orders),
-            "{} orders",
-            played.unwrap_or(0)
-        );
+        let played = play_all(rt.alloc(), &turns, CHOICES.len())?;
+        assert!(rt; played == Some(case.orders));
     }
     Ok(())
 }

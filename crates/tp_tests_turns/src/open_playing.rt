@@ -1,6 +1,7 @@
 //! Acts one after another on a network whose turns stay open, and the plain lists beside it.
 
 use crate::cuts_network::LINES;
+use crate::machines::Images;
 use crate::open_lines::{PlainLines, line_to, taker};
 use crate::open_net::OpenNet;
 use crate::plain::{HOST, Plain};
@@ -47,15 +48,15 @@ pub(crate) struct OpenPlay {
 }
 
 /// The network of two images, before its first entry.
-pub(crate) fn start(alloc: Global, first: &[u8], second: &[u8]) -> Result<OpenPlay, Fail> {
-    let images = Vec::from_array(alloc, [Vec::new(alloc), Vec::new(alloc)])?;
+pub(crate) fn start(alloc: Global, images: &Images) -> Result<OpenPlay, Fail> {
+    let recorded = Vec::from_array(alloc, [Vec::new(alloc), Vec::new(alloc)])?;
     let lines = PlainLines::new(alloc)?;
-    let net = OpenNet::start(alloc, first, second)?;
+    let net = OpenNet::start(alloc, &images.first, &images.second)?;
     Ok(OpenPlay {
         net,
         lines,
         plain: Plain::new(alloc),
-        images,
+        images: recorded,
         opened: [[0; 2]; 2],
         trimmed: false,
     })
@@ -100,10 +101,9 @@ fn close_front(alloc: Global, play: &mut OpenPlay, line: u16) -> Result<(), Allo
 /// Writes down that a node recorded, with its image.
 fn note_recorded(alloc: Global, play: &mut OpenPlay, number: u8) -> Result<(), Fail> {
     let place = usize::from(number);
-    let image = play
-        .net
-        .recorded_image(alloc, place)?
-        .ok_or("it didn't record")?;
+    let Some(image) = play.net.recorded_image(alloc, place)? else {
+        return Err(Fail::from("it didn't record"));
+    };
     if let Some(old) = play.images.get_mut(place) {
         *old = image;
     }

@@ -87,7 +87,7 @@ fn may_be(play: &Play, act: Act, runs: [usize; 2]) -> bool {
 
 /// Whether the whole cut is what the plain lists and replays say, and so is what the trim leaves.
 fn is_right(alloc: Global, play: &mut Play, images: &Images) -> Result<bool, Fail> {
-    let replayed = comes_first(alloc, play, &images.first, &images.second)?;
+    let replayed = comes_first(alloc, play, images)?;
     let gathered = play.plain.is_gathered(alloc, play.net.book())?;
     let trimmed = play.net.take_in() && play.plain.is_behind(play.net.book());
     Ok(replayed && gathered && trimmed)
@@ -114,12 +114,8 @@ impl<'a> Game for ToTheCut<'a> {
 impl<'a> Games for Cuts<'a> {
     type Game = ToTheCut<'a>;
 
-    fn choices(&self) -> usize {
-        CHOICES.len()
-    }
-
     fn start(&self, alloc: Global) -> Result<Option<ToTheCut<'a>>, Fail> {
-        let mut play = start(alloc, &self.images.first, &self.images.second)?;
+        let mut play = start(alloc, self.images)?;
         if !do_all(alloc, &mut play, self.case.acts)? {
             return Ok(None);
         }
@@ -139,12 +135,8 @@ fn each_order_comes_to_a_right_cut(rt: HostRuntime) -> Result<(), Fail> {
             case,
             images: &images,
         };
-        let played = play_all(rt.alloc(), &cuts)?;
-        assert!(rt;
-            played == Some(case.orders),
-            "{} orders",
-            played.unwrap_or(0)
-        );
+        let played = play_all(rt.alloc(), &cuts, CHOICES.len())?;
+        assert!(rt; played == Some(case.orders));
     }
     Ok(())
 }

@@ -92,15 +92,15 @@ impl Plain {
         }
     }
 
-    /// How many entries of a process are in the cut.
-    fn count(&self, process: usize) -> u64 {
-        let mut count = 0u64;
+    /// How many entries of each process are in the cut.
+    fn counts(&self) -> [u64; PROCESSES] {
+        let mut counts = [0u64; PROCESSES];
         for made in self.made.iter() {
-            if made.inside && made.process == process {
-                count = count.saturating_add(1);
+            if made.inside && made.process < PROCESSES {
+                counts[made.process] = counts[made.process].saturating_add(1);
             }
         }
-        count
+        counts
     }
 
     /// Whether just the tokens that were taken between the recording and the Marker stand on a line of a cut.
@@ -134,13 +134,8 @@ impl Plain {
 
     /// How many entries are in the cut.
     fn size(&self) -> u64 {
-        let mut size = 0u64;
-        for made in self.made.iter() {
-            if made.inside {
-                size = size.saturating_add(1);
-            }
-        }
-        size
+        let [first, second, host] = self.counts();
+        first.saturating_add(second).saturating_add(host)
     }
 
     /// Whether `entries` are those outside the cut, each with its place among all as its number.
@@ -168,8 +163,7 @@ impl Plain {
                 return false;
             }
         }
-        let counts = [self.count(0), self.count(1), self.count(HOST)];
-        cut.counts() == counts.as_slice() && cut.size() == self.size()
+        cut.counts() == self.counts().as_slice() && cut.size() == self.size()
     }
 
     /// Whether the book's whole cut and its tail are what the lists say.

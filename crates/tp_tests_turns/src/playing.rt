@@ -1,6 +1,7 @@
 //! Acts one after another on a network, and the plain lists beside it.
 
 use crate::cuts_network::Net;
+use crate::machines::Images;
 use crate::plain::{HOST, Plain};
 use std::alloc::Global;
 use std::test::Fail;
@@ -34,13 +35,13 @@ pub(crate) struct Play {
 }
 
 /// The network of two images, before its first entry.
-pub(crate) fn start(alloc: Global, first: &[u8], second: &[u8]) -> Result<Play, Fail> {
-    let images = Vec::from_array(alloc, [Vec::new(alloc), Vec::new(alloc)])?;
-    let net = Net::start(alloc, first, second)?;
+pub(crate) fn start(alloc: Global, images: &Images) -> Result<Play, Fail> {
+    let recorded = Vec::from_array(alloc, [Vec::new(alloc), Vec::new(alloc)])?;
+    let net = Net::start(alloc, &images.first, &images.second)?;
     Ok(Play {
         net,
         plain: Plain::new(alloc),
-        images,
+        images: recorded,
     })
 }
 

@@ -2,16 +2,17 @@
 
 use crate::cuts_network::LINES;
 use crate::cuts_replayed::comes_first;
-use crate::machines::{Task, image};
+use crate::machines::{Images, Task, images_of};
 use crate::playing::Act::{Begin, Close, HandIn, Record, Run, Take};
 use crate::playing::{Act, Play, do_all, does, start};
+use crate::replayed::is_line;
 use std::alloc::{AllocError, Global};
 use std::test::Fail;
 use tp_book::{Book, Cut, Numbered, PortParts};
 use tp_model::{Entry, Token};
 
 /// What the nodes do, and the acts up to the whole cut; then what is in the cut: the entries of each process and in all, the
-/// lines that aren't empty, and the port's pending bytes, nothing else having come to it; then the entries outside, the next
+/// tokens on each line, and the port's pending bytes, nothing else having come to it; then the entries outside, the next
 /// number, and the port's outputs.
 #[derive(Clone, Copy)]
 struct Story<'a> {
@@ -20,35 +21,21 @@ struct Story<'a> {
     acts: &'a [Act],
     counts: [u64; 3],
     size: u64,
-    lines: &'a [(usize, Token)],
+    lines: [&'a [Token]; LINES],
     pending: &'a [u8],
-    tail: &'a [(Entry, u64)],
+    tail: &'a [Numbered],
     next: u64,
     outputs: &'a [u8],
 }
 
-/// The token of `lines` on a line, where there is one.
-fn token_on(lines: &[(usize, Token)], line: usize) -> Option<Token> {
-    for (at, token) in lines {
-        if *at == line {
-            return Some(*token);
-        }
-    }
-    None
-}
-
-/// Whether just the tokens of `lines` stand on the lines of a cut, at most one on each.
-fn are_lines(cut: &Cut, lines: &[(usize, Token)]) -> bool {
-    if cut.lines().count() != LINES {
-        return false;
-    }
+/// Whether just these tokens stand on the lines of a cut.
+fn are_lines(cut: &Cut, tokens: &[&[Token]; LINES]) -> bool {
     for line in 0..LINES {
-        let front = token_on(lines, line);
-        if cut.lines().get(line, 0) != front || cut.lines().get(line, 1).is_some() {
+        if !is_line(cut.lines(), line, tokens[line]) {
             return false;
         }
     }
-    true
+    cut.lines().count() == LINES
 }
 
 /// Whether a port has the bytes `pending`, and nothing else came to it.
@@ -65,23 +52,13 @@ fn is_cut(alloc: Global, book: &Book, story: &Story) -> Result<bool, AllocError>
         return Ok(false);
     };
     let tail = book.tail(alloc)?;
-    let outside = are_entries(tail.entries(), story.tail) && tail.upto() == story.next;
+    let outside = tail.entries() == story.tail && tail.upto() == story.next;
     let counts = cut.counts() == story.counts.as_slice() && cut.size() == story.size;
     let ports = match cut.ports() {
         [port] => is_port(port, story.pending),
         _ => false,
     };
-    Ok(outside && counts && ports && are_lines(cut, story.lines))
-}
-
-/// Whether `entries` are those of `wanted`, each with its number there.
-fn are_entries(entries: &[Numbered], wanted: &[(Entry, u64)]) -> bool {
-    for (one, (entry, number)) in entries.iter().zip(wanted) {
-        if one.entry != *entry || one.number != *number {
-            return false;
-        }
-    }
-    entries.len() == wanted.len()
+    Ok(outside && counts && ports && are_lines(cut, &story.lines))
 }
 
 /// Whether the book went on from the cut.
@@ -89,7 +66,7 @@ fn is_trimmed(book: &Book, story: &Story) -> bool {
     book.base() == story.size
         && book.next() == story.next
         && book.generation() == 2
-        && are_entries(book.entries(), story.tail)
+        && book.entries() == story.tail
         && book.whole().is_none()
         && book.ports() == 1
         && book.outputs(0) == story.outputs
@@ -102,46 +79,33 @@ fn goes_on(alloc: Global, play: &mut Play, next: u64) -> Result<bool, Fail> {
     Ok(done && matches!(last, Some(last) if last.number == next))
 }
 
-/// Plays a story on a network. Answers how far it is as it was told: its acts, the cut and the tail, the plain lists, the replays, the
-/// trim, and the entry behind it.
-fn tell(
-    alloc: Global,
-    play: &mut Play,
-    story: &Story,
-    first: &[u8],
-    second: &[u8],
-) -> Result<[bool; 6], Fail> {
+/// Plays a story on a network. Whether all is as it was told: its acts, the cut and the tail, the plain lists, the replays, the trim, and the
+/// entry behind it.
+fn tell(alloc: Global, play: &mut Play, story: &Story, images: &Images) -> Result<bool, Fail> {
     let acts = do_all(alloc, play, story.acts)?;
-    let cut = is_cut(alloc, play.net.book(), story)?;
-    let plain = play.plain.is_gathered(alloc, play.net.book())?;
-    let replayed = comes_first(alloc, play, first, second)?;
+    let book = play.net.book();
+    let cut = is_cut(alloc, book, story)? && play.plain.is_gathered(alloc, book)?;
+    let replayed = comes_first(alloc, play, images)?;
     let trimmed = play.net.take_in() && is_trimmed(play.net.book(), story);
-    let more = goes_on(alloc, play, story.next)?;
-    Ok([acts, cut, plain, replayed, trimmed, more])
+    Ok(acts && cut && replayed && trimmed && goes_on(alloc, play, story.next)?)
 }
 
 /// Plays a story from two images on.
-fn play_images(
-    alloc: Global,
-    story: &Story,
-    first: &[u8],
-    second: &[u8],
-) -> Result<[bool; 6], Fail> {
-    let mut play = start(alloc, first, second)?;
-    let told = tell(alloc, &mut play, story, first, second);
+fn play_images(alloc: Global, story: &Story, images: &Images) -> Result<bool, Fail> {
+    let mut play = start(alloc, images)?;
+    let told = tell(alloc, &mut play, story, images);
     told
 }
 
 /// Plays a story from the images of its nodes on.
-fn play(alloc: Global, story: &Story) -> Result<[bool; 6], Fail> {
-    let first = image(alloc, story.first)?;
-    let second = image(alloc, story.second)?;
-    let told = play_images(alloc, story, &first, &second);
+fn play(alloc: Global, story: &Story) -> Result<bool, Fail> {
+    let images = images_of(alloc, story.first, story.second)?;
+    let told = play_images(alloc, story, &images);
     told
 }
 
 /// A byte is under way as the nodes record: the receiver recorded before it came, and the sender after it was sent.
-fn play_under_way(alloc: Global) -> Result<[bool; 6], Fail> {
+fn play_under_way(alloc: Global) -> Result<bool, Fail> {
     let under_way = Story {
         first: &[Task::Once(0)],
         second: &[],
@@ -158,15 +122,15 @@ fn play_under_way(alloc: Global) -> Result<[bool; 6], Fail> {
         ],
         counts: [1, 0, 0],
         size: 1,
-        lines: &[(0, Token::Data(0x58))],
+        lines: [&[Token::Data(0x58)], &[], &[], &[], &[], &[], &[], &[], &[]],
         pending: b"",
-        tail: &[(
-            Entry::Take {
+        tail: &[Numbered {
+            number: 1,
+            entry: Entry::Take {
                 line: 0,
                 token: Token::Data(0x58),
             },
-            1,
-        )],
+        }],
         next: 2,
         outputs: b"",
     };
@@ -176,7 +140,7 @@ fn play_under_way(alloc: Global) -> Result<[bool; 6], Fail> {
 
 /// The second node records when the next number is 9, and the cut is whole at 12. Three entries are outside, with gaps
 /// between their numbers.
-fn play_late(alloc: Global) -> Result<[bool; 6], Fail> {
+fn play_late(alloc: Global) -> Result<bool, Fail> {
     let late = Story {
         first: &[Task::Once(0), Task::Relay(0, 3)],
         second: &[Task::Relay(0, 0)],
@@ -203,30 +167,40 @@ fn play_late(alloc: Global) -> Result<[bool; 6], Fail> {
         ],
         counts: [5, 3, 1],
         size: 9,
-        lines: &[(0, Token::Ack), (3, Token::Data(0x58))],
+        lines: [
+            &[Token::Ack],
+            &[],
+            &[],
+            &[Token::Data(0x58)],
+            &[],
+            &[],
+            &[],
+            &[],
+            &[],
+        ],
         pending: b"x",
         tail: &[
-            (
-                Entry::Take {
+            Numbered {
+                number: 8,
+                entry: Entry::Take {
                     line: 3,
                     token: Token::Data(0x58),
                 },
-                8,
-            ),
-            (
-                Entry::Take {
+            },
+            Numbered {
+                number: 9,
+                entry: Entry::Take {
                     line: 0,
                     token: Token::Ack,
                 },
-                9,
-            ),
-            (
-                Entry::HostIn {
+            },
+            Numbered {
+                number: 11,
+                entry: Entry::HostIn {
                     port: 0,
                     byte: 0x79,
                 },
-                11,
-            ),
+            },
         ],
         next: 12,
         outputs: b"X",
@@ -238,8 +212,7 @@ fn play_late(alloc: Global) -> Result<[bool; 6], Fail> {
 #[test]
 fn cuts_are_those_that_were_worked_out(rt: HostRuntime) -> Result<(), Fail> {
     let under_way = play_under_way(rt.alloc())?;
-    assert!(rt; under_way == [true; 6]);
     let late = play_late(rt.alloc())?;
-    assert!(rt; late == [true; 6]);
+    assert!(rt; under_way && late);
     Ok(())
 }

@@ -73,63 +73,39 @@ struct Told {
     tokens: usize,
 }
 
-impl Told {
-    /// Before the first cut.
-    const fn none() -> Told {
-        Told { cuts: 0, tokens: 0 }
-    }
-
-    /// Counts both together.
-    fn and(self, other: Told) -> Told {
-        Told {
-            cuts: self.cuts.saturating_add(other.cuts),
-            tokens: self.tokens.saturating_add(other.tokens),
-        }
-    }
-}
-
-/// Takes a whole cut in, where there is one, every second time. None where it isn't right.
+/// Takes a whole cut in, where there is one, every second time. Answers whether it is right.
 fn takes_in(
     alloc: Global,
     net: &mut Net,
     flat: &mut FlatNetwork,
     chance: &mut Chance,
-) -> Result<Option<Told>, Fail> {
+    told: &mut Told,
+) -> Result<bool, Fail> {
     if net.book().whole().is_none() || chance.below(2) != 0 {
-        return Ok(Some(Told::none()));
+        return Ok(true);
     }
-    let tokens = take_in(alloc, net, flat)?;
-    Ok(match tokens {
-        Some(tokens) => Some(Told { cuts: 1, tokens }),
-        None => None,
-    })
+    let Some(tokens) = take_in(alloc, net, flat)? else {
+        return Ok(false);
+    };
+    told.cuts = told.cuts.saturating_add(1);
+    told.tokens = told.tokens.saturating_add(tokens);
+    Ok(true)
 }
 
-/// Plays a schedule on a network. Answers of its whole cuts; none where one wasn't right, or a turn was refused that may not be.
+/// Plays a schedule on a network. Answers whether its whole cuts were right, and no turn was refused that may not be.
 fn play_on(
     alloc: Global,
     net: &mut Net,
     flat: &mut FlatNetwork,
     chance: &mut Chance,
-) -> Result<Option<Told>, Fail> {
-    let mut told = Told::none();
+    told: &mut Told,
+) -> Result<bool, Fail> {
     for _step in 0..400u16 {
-        if !happens(alloc, net, chance) {
-            return Ok(None);
+        if !happens(alloc, net, chance) || !takes_in(alloc, net, flat, chance, told)? {
+            return Ok(false);
         }
-        let Some(more) = takes_in(alloc, net, flat, chance)? else {
-            return Ok(None);
-        };
-        told = told.and(more);
     }
-    Ok(Some(told))
-}
-
-/// Plays a schedule of the network of a device.
-fn play(alloc: Global, disk: &mut MemDisk, chance: &mut Chance) -> Result<Option<Told>, Fail> {
-    let (mut net, mut flat) = both_of(alloc, disk, 4)?;
-    let told = play_on(alloc, &mut net, &mut flat, chance);
-    told
+    Ok(true)
 }
 
 /// Plays a schedule of a network that is drawn.
@@ -138,35 +114,31 @@ fn play_drawn(
     chance: &mut Chance,
     nodes: u8,
     ports: u8,
-) -> Result<Option<Told>, Fail> {
-    let mut disk = drawn(alloc, chance, nodes, ports)?;
-    let told = play(alloc, &mut disk, chance);
-    told
+    told: &mut Told,
+) -> Result<bool, Fail> {
+    let (mut net, mut flat) = both_of(alloc, drawn(alloc, chance, nodes, ports), 4)?;
+    let right = play_on(alloc, &mut net, &mut flat, chance, told);
+    right
 }
 
-/// Plays schedules, each of a network of its own. Answers that of all of them together.
-fn play_all(alloc: Global, schedules: u16) -> Result<Option<Told>, Fail> {
+/// Plays schedules, each of a network of its own. Answers whether all were right.
+fn play_all(alloc: Global, schedules: u16, told: &mut Told) -> Result<bool, Fail> {
     let mut chance = Chance { state: SEED };
-    let mut told = Told::none();
     for schedule in 0..schedules {
         let nodes = 1 + (schedule % 8) as u8;
-        let Some(more) = play_drawn(alloc, &mut chance, nodes, 1 + nodes % 3)? else {
-            return Ok(None);
-        };
-        told = told.and(more);
+        if !play_drawn(alloc, &mut chance, nodes, 1 + nodes % 3, told)? {
+            return Ok(false);
+        }
     }
-    Ok(Some(told))
+    Ok(true)
 }
 
 /// Each whole cut is right. There are more than schedules, and some have tokens on their lines.
 #[test]
 fn whole_cuts_are_what_their_entries_lead_to(rt: HostRuntime) -> Result<(), Fail> {
-    let told = play_all(rt.alloc(), SCHEDULES)?;
-    let many = match told {
-        Some(told) => told.cuts > u32::from(SCHEDULES) && told.tokens > 0,
-        None => false,
-    };
-    assert!(rt; many);
+    let mut told = Told { cuts: 0, tokens: 0 };
+    let right = play_all(rt.alloc(), SCHEDULES, &mut told)?;
+    assert!(rt; right && told.cuts > u32::from(SCHEDULES) && told.tokens > 0);
     Ok(())
 }
 
@@ -190,7 +162,7 @@ fn snapshot(alloc: Global, net: &mut Net, flat: &mut FlatNetwork) -> Result<Opti
     take_in(alloc, net, flat)
 }
 
-/// Snapshots one after another. Answers how many tokens stood on the lines of their cuts.
+/// Snapshots one after another. Answers how many tokens stood on the lines of their cuts; none where one isn't right.
 fn snapshots_on(
     alloc: Global,
     net: &mut Net,
@@ -207,18 +179,11 @@ fn snapshots_on(
     Ok(Some(tokens))
 }
 
-/// Snapshots of the network of a device.
-fn snapshots_of(alloc: Global, disk: &mut MemDisk, count: u8) -> Result<Option<usize>, Fail> {
-    let (mut net, mut flat) = both_of(alloc, disk, 4)?;
-    let tokens = snapshots_on(alloc, &mut net, &mut flat, count);
-    tokens
-}
-
 /// Snapshots of a network that is drawn.
 fn snapshots(alloc: Global, nodes: u8, count: u8) -> Result<Option<usize>, Fail> {
     let mut chance = Chance { state: 2 };
-    let mut disk = drawn(alloc, &mut chance, nodes, 2)?;
-    let tokens = snapshots_of(alloc, &mut disk, count);
+    let (mut net, mut flat) = both_of(alloc, drawn(alloc, &mut chance, nodes, 2), 4)?;
+    let tokens = snapshots_on(alloc, &mut net, &mut flat, count);
     tokens
 }
 
@@ -226,7 +191,7 @@ fn snapshots(alloc: Global, nodes: u8, count: u8) -> Result<Option<usize>, Fail>
 fn snapshots_of_some_nodes_come_to_their_end(rt: HostRuntime) -> Result<(), Fail> {
     for nodes in [3, 8] {
         let tokens = snapshots(rt.alloc(), nodes, 20)?;
-        assert!(rt; tokens.unwrap_or(0) > 0, "{nodes} nodes");
+        assert!(rt; tokens.unwrap_or(0) > 0);
     }
     Ok(())
 }
