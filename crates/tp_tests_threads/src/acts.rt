@@ -240,7 +240,10 @@ fn hosts<J: Naming, R: Wait>(
     match act {
         Act::Offer(at, bytes) => matches!(desk.offer(rt, at, bytes), Some(Ok(_))),
         Act::Answers(at, bytes, wanted) => desk.offer(rt, at, bytes) == Some(wanted),
-        Act::More(byte) => matches!(desk.offer(rt, accepted(rt, desk), &[byte]), Some(Ok(_))),
+        Act::More(byte) => {
+            let at = accepted(rt, desk);
+            matches!(desk.offer(rt, at, &[byte]), Some(Ok(_)))
+        }
         Act::Shows(from, wanted) => desk.shows(rt, alloc, from, wanted),
         Act::Confirms(upto, number, is_stored) => {
             matches!(desk.confirm(rt, upto), Some(Ok((found, told))) if found == number.wrapping_add(shift) && told == is_stored)

@@ -50,7 +50,7 @@ struct Came {
     left: Vec<u8>,
 }
 
-/// A call that fails, where a write leaves its bytes as they were, but for one that is torn.
+/// A call that fails. All bytes that were written last are as they are in a copy before it is made.
 fn failing(call: u64) -> Fault {
     Fault {
         call,

@@ -184,9 +184,11 @@ fn is_unopened(alloc: Global, bytes: &[u8], fault: Fault) -> Result<bool, Fail> 
 /// The first of the `calls` that open a device at whose end, in whichever way it fails or stops it, it is opened, or isn't as it was.
 fn first_opened(alloc: Global, bytes: &[u8], calls: u64) -> Result<Option<u64>, Fail> {
     for number in 0..calls.saturating_mul(EACH.len() as u64) {
-        match fault_of(EACH, 0, number) {
-            Some(fault) if !is_unopened(alloc, bytes, fault)? => return Ok(Some(fault.call)),
-            _ => {}
+        let Some(fault) = fault_of(EACH, 0, number) else {
+            break;
+        };
+        if !is_unopened(alloc, bytes, fault)? {
+            return Ok(Some(fault.call));
         }
     }
     Ok(None)

@@ -102,10 +102,16 @@ fn tear_range(bytes: &mut [u8], synced: &[u8], range: (usize, usize), torn: Torn
     }
 }
 
+/// Puts a piece over bytes.
+fn put(bytes: &mut [u8], at: usize, piece: &[u8]) {
+    let start = at.min(bytes.len());
+    place(&mut bytes[start..], 0, piece);
+}
+
 /// Puts pieces at their places, one after another.
-fn place_all(bytes: &mut [u8], pieces: Pieces) {
+fn put_all(bytes: &mut [u8], pieces: Pieces) {
     for (at, piece) in pieces {
-        place(bytes, *at, piece);
+        put(bytes, *at, piece);
     }
 }
 
@@ -113,7 +119,7 @@ fn place_all(bytes: &mut [u8], pieces: Pieces) {
 fn put_range(synced: &mut [u8], bytes: &[u8], range: (usize, usize)) {
     let start = range.0.min(bytes.len());
     let rest = &bytes[start..];
-    place(synced, start, &rest[..range.1.min(rest.len())]);
+    put(synced, start, &rest[..range.1.min(rest.len())]);
 }
 
 impl RawUnkind {
@@ -166,7 +172,7 @@ impl RawUnkind {
     {
         match fault.ending {
             Ending::Written(pieces) => {
-                place_all(&mut self.bytes, pieces);
+                put_all(&mut self.bytes, pieces);
                 return Came::Done;
             }
             Ending::Fails => {}
@@ -201,7 +207,7 @@ impl RawUnkind {
         if self.ranges.push((at, bytes.len())).is_err() {
             return Err(DeviceFailed);
         }
-        place(&mut self.bytes, at, bytes);
+        put(&mut self.bytes, at, bytes);
         Ok(())
     }
 
