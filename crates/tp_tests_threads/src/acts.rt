@@ -13,11 +13,11 @@ use crate::unkind::{Fault, RawUnkind, Unkind};
 use std::alloc::Global;
 use std::marker::Brand;
 use std::sync::Wait;
-use std::test::Fail;
 use tp_book::{Book, Refusal};
 use tp_flush::FlushFault;
 use tp_model::{Entry, Received, Token};
 use tp_node::Why;
+use tp_recover::Unopened;
 use tp_shared::Naming;
 use tp_work::{ConfirmFault, OfferFault, ShownFault, TurnFault};
 
@@ -403,7 +403,8 @@ fn play_in<R: Wait>(
     play::<Brand, R>(rt, alloc, opening, quantum, story, told)
 }
 
-/// What a story leaves of a device with `bytes`, where a call of it may end badly. `told` is what was told of it before.
+/// What a story leaves of a device with `bytes`, where a call of it may end badly. `told` is what was told of it before. A turn has
+/// 1 to 4,096 steps.
 pub(crate) fn run<R: Wait>(
     rt: &R,
     alloc: Global,
@@ -411,14 +412,17 @@ pub(crate) fn run<R: Wait>(
     bytes: &[u8],
     fault: Option<Fault>,
     told: Told,
-) -> Result<Left, Fail> {
+) -> Result<Left, Unopened> {
     let quantum = story.quantum;
+    let Ok(disk) = RawUnkind::new(alloc, bytes, fault) else {
+        return Err(Unopened::Memory);
+    };
     if quantum == 0 || quantum > 4096 {
-        return Err(Fail::new("a turn has 1 to 4096 steps"));
+        return Err(Unopened::Memory);
     }
-    let opening = opening_with(alloc, RawUnkind::new(alloc, bytes, fault)?, story.spare)?;
+    let opening = opening_with(alloc, disk, story.spare)?;
     match play_in(rt, alloc, opening, quantum, story, told) {
         Some(left) => Ok(left),
-        None => Err(Fail::new("memory was refused")),
+        None => Err(Unopened::Memory),
     }
 }

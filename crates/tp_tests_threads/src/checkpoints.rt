@@ -7,6 +7,7 @@ use crate::worked::{Wanted, is_plain_too};
 use std::alloc::Global;
 use std::sync::Wait;
 use std::test::Fail;
+use tp_recover::Unopened;
 
 /// The networks over whose devices all rounds are made: of sixteen nodes, of four whose pages have marks, of seventeen, and of sixteen with
 /// a first area that has no turns.
@@ -17,7 +18,12 @@ const PARTS: u8 = 4;
 
 /// Whether all rounds go as they should with `snapshots` begun, the device then holds what the book journalled, and the nodes have what they
 /// have without them.
-fn are_gone<R: Wait>(rt: &R, alloc: Global, network: Network, snapshots: u8) -> Result<bool, Fail> {
+fn are_gone<R: Wait>(
+    rt: &R,
+    alloc: Global,
+    network: Network,
+    snapshots: u8,
+) -> Result<bool, Unopened> {
     let Some(acts) = SNAPSHOTS.get(snapshots as usize) else {
         return Ok(false);
     };
@@ -30,7 +36,7 @@ fn are_gone<R: Wait>(rt: &R, alloc: Global, network: Network, snapshots: u8) -> 
 }
 
 /// With how many snapshots all rounds go as they should, up to the first with which they don't.
-fn gone<R: Wait>(rt: &R, alloc: Global, network: Network) -> Result<u8, Fail> {
+fn gone<R: Wait>(rt: &R, alloc: Global, network: Network) -> Result<u8, Unopened> {
     for snapshots in 0..PARTS {
         if !are_gone(rt, alloc, network, snapshots)? {
             return Ok(snapshots);

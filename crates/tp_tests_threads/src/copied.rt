@@ -35,7 +35,7 @@ pub(crate) const BEHIND: usize = GROUPS + 80;
 
 /// The bytes of the device of the node that sends a letter, freshly formatted.
 pub(crate) fn fresh(alloc: Global) -> Result<Vec<u8>, Fail> {
-    formatted(alloc, &ONE)
+    Ok(formatted(alloc, &ONE)?)
 }
 
 /// A device that has the first turns in its first area. What stood in the other one and behind the groups is left from before.

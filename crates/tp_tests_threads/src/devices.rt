@@ -47,12 +47,12 @@ struct Given {
 }
 
 impl Given {
-    /// A device of zeros.
-    fn new(alloc: Global) -> Result<Given, Fail> {
-        let images = Vec::from_array(alloc, [idle(alloc)?])?;
-        let disk = MemDisk::zeroed(alloc, SIZE)?;
-        let topology = Topology::read(alloc, ONE_NODE)?;
-        Ok(Given {
+    /// A device of zeros; none where memory is refused.
+    fn new(alloc: Global) -> Option<Given> {
+        let images = Vec::from_array(alloc, [idle(alloc).ok()?]).ok()?;
+        let disk = MemDisk::zeroed(alloc, SIZE).ok()?;
+        let topology = Topology::read(alloc, ONE_NODE).ok()?;
+        Some(Given {
             topology,
             images,
             disk,
@@ -99,28 +99,28 @@ fn formatted(alloc: Global) -> Result<Vec<u8>, AllocError> {
 }
 
 /// Whether a format is done, and writes what it should.
-fn formats(alloc: Global) -> Result<bool, Fail> {
-    let wanted = formatted(alloc)?;
+fn formats(alloc: Global) -> Option<bool> {
+    let wanted = formatted(alloc).ok()?;
     let mut given = Given::new(alloc)?;
     let is_done = given.format_again(alloc).is_ok();
-    Ok(is_done && given.disk.failures() == 0 && given.disk.bytes() == wanted.as_slice())
+    Some(is_done && given.disk.failures() == 0 && given.disk.bytes() == wanted.as_slice())
 }
 
 /// Whether a format of a bad image is refused as such, and nothing is written.
-fn is_bad(alloc: Global) -> Result<bool, Fail> {
+fn is_bad(alloc: Global) -> Option<bool> {
     let mut given = Given::new(alloc)?;
     for image in given.images.iter_mut() {
         place(image, 109, &[1]);
     }
-    Ok(given.format_again(alloc) == Err(FormatFault::BadImage) && given.is_blank())
+    Some(given.format_again(alloc) == Err(FormatFault::BadImage) && given.is_blank())
 }
 
 /// Nothing is written where memory is refused, and the next format is as the first would have been. What makes it ready is made again, too.
 #[test]
 fn a_device_is_formatted_again(rt: HostRuntime) -> Result<(), Fail> {
     let told = match formats(rt.alloc()) {
-        Ok(told) => told,
-        Err(_) => formats(rt.alloc())?,
+        Some(told) => told,
+        None => formats(rt.alloc()).unwrap_or(false),
     };
     assert!(rt; told);
     Ok(())
@@ -130,8 +130,8 @@ fn a_device_is_formatted_again(rt: HostRuntime) -> Result<(), Fail> {
 #[test]
 fn a_bad_image_stays_bad(rt: HostRuntime) -> Result<(), Fail> {
     let told = match is_bad(rt.alloc()) {
-        Ok(told) => told,
-        Err(_) => is_bad(rt.alloc())?,
+        Some(told) => told,
+        None => is_bad(rt.alloc()).unwrap_or(false),
     };
     assert!(rt; told);
     Ok(())

@@ -32,9 +32,8 @@ fn is_journalled<R: Wait>(
     let next = journal.len() as u64;
     let is_so = left.done == Done::All
         && left.told.mark == next
-        && left.told.journal.as_slice() == journal
-        && is_last(alloc, &left.bytes, next);
-    Ok(is_so && recovered(alloc, first, &left)? == Some(next))
+        && left.told.journal.as_slice() == journal;
+    Ok(is_so && is_last(alloc, &left.bytes, next)? && recovered(alloc, first, &left)? == Some(next))
 }
 
 /// Over a device whose areas have turns the node takes a byte, which it holds, and makes three steps; it sends a letter, which the host

@@ -13,11 +13,11 @@ use tp_tests_fixtures::idle;
 
 const WIRES: [Option<WireEnd>; 5] = [Some(Port(0)), None, None, None, Some(Link(0, 0))];
 
-/// The network of the device.
-fn network(alloc: Global) -> Result<FlatNetwork, Fail> {
-    let mut disk = MemDisk::of_bytes(grown(alloc)?);
-    let (_, network, _) = open(alloc, &mut disk)?.into_parts();
-    Ok(network)
+/// The network of the device; none where memory is refused.
+fn network(alloc: Global) -> Option<FlatNetwork> {
+    let mut disk = MemDisk::of_bytes(grown(alloc).ok()?);
+    let (_, network, _) = open(alloc, &mut disk).ok()?.into_parts();
+    Some(network)
 }
 
 /// Whether the first byte alone is under way.
@@ -61,20 +61,20 @@ fn parts(alloc: Global, network: &mut FlatNetwork) -> Result<NetParts, AllocErro
 
 /// Whether the network of the device is read out as it should be. Where memory is refused, the network stays as it is, and its parts can be
 /// had again.
-fn reads_out(alloc: Global) -> Result<bool, Fail> {
-    let image = idle(alloc)?;
+fn reads_out(alloc: Global) -> Option<bool> {
+    let image = idle(alloc).ok()?;
     let mut network = network(alloc)?;
     match parts(alloc, &mut network) {
-        Ok(net) => Ok(is_read_out(&net, &image)),
-        Err(_) => Ok(false),
+        Ok(net) => Some(is_read_out(&net, &image)),
+        Err(_) => Some(false),
     }
 }
 
 #[test]
 fn a_network_is_read_out_again(rt: HostRuntime) -> Result<(), Fail> {
     let told = match reads_out(rt.alloc()) {
-        Ok(told) => told,
-        Err(_) => reads_out(rt.alloc())?,
+        Some(told) => told,
+        None => reads_out(rt.alloc()).unwrap_or(false),
     };
     assert!(rt; told);
     Ok(())

@@ -1,11 +1,11 @@
 //! Devices of networks of a few nodes, and of sixteen and seventeen, in memory.
 
 use std::alloc::{AllocError, Global};
-use std::test::Fail;
 use tp_area::format;
 use tp_disk::MemDisk;
 use tp_model::limits::{NARROW_HEAD_BYTES, PAGE_BYTES, WIDE_HEAD_BYTES};
 use tp_net::Topology;
+use tp_recover::Unopened;
 use tp_tests_fixtures::{HEAD, ONE_NODE, SENDS_A, idle, place};
 
 /// The instructions of a node's only process, from 80000100 on, and where its workspace is, from 80000000 on. It is of low priority, and
@@ -145,13 +145,13 @@ fn images(alloc: Global, network: &Network, pages: &[u16]) -> Result<Vec<Vec<u8>
     Ok(images)
 }
 
-/// A device of a topology and images, freshly formatted.
+/// A device of a topology and images, freshly formatted; none where memory is refused.
 fn formatted_with(
     alloc: Global,
     topology: &Topology,
     images: &[Vec<u8>],
     area: u32,
-) -> Result<MemDisk, Fail> {
+) -> Option<MemDisk> {
     // A topology keeps its rules: its page counts say so, which `format` asks.
     let is_wide = topology.pages().len() > NODES as usize;
     let head = if is_wide {
@@ -159,18 +159,26 @@ fn formatted_with(
     } else {
         NARROW_HEAD_BYTES
     };
-    let mut disk = MemDisk::zeroed(alloc, head + 2 * area as usize)?;
-    format(alloc, &mut disk, topology, images, u64::from(area))?;
-    Ok(disk)
+    let mut disk = MemDisk::zeroed(alloc, head + 2 * area as usize).ok()?;
+    format(alloc, &mut disk, topology, images, u64::from(area)).ok()?;
+    Some(disk)
 }
 
-/// The bytes of the device of a network, freshly formatted.
-pub(crate) fn formatted(alloc: Global, network: &Network) -> Result<Vec<u8>, Fail> {
-    let topology = Topology::read(alloc, network.text)?;
-    let images = images(alloc, network, topology.pages())?;
+/// The bytes of the device of a network, freshly formatted; none where memory is refused.
+fn formatted_once(alloc: Global, network: &Network) -> Option<Vec<u8>> {
+    let topology = Topology::read(alloc, network.text).ok()?;
+    let images = images(alloc, network, topology.pages()).ok()?;
     let mut bytes = formatted_with(alloc, &topology, &images, network.area)?.crash();
     if matches!(network.made, Made::WithoutTurns) {
         place(&mut bytes, FORM, &[0, 0]);
     }
-    Ok(bytes)
+    Some(bytes)
+}
+
+/// The bytes of the device of a network, freshly formatted.
+pub(crate) fn formatted(alloc: Global, network: &Network) -> Result<Vec<u8>, Unopened> {
+    match formatted_once(alloc, network) {
+        Some(bytes) => Ok(bytes),
+        None => Err(Unopened::Memory),
+    }
 }

@@ -160,18 +160,16 @@ impl Script {
 
 /// Whether a device that was opened is what the script leaves: its first area was written anew, and of the `next` entries the last run
 /// alone isn't in its cut.
-pub(crate) fn is_last(alloc: Global, bytes: &[u8], next: u64) -> bool {
-    match opened(alloc, bytes) {
-        Ok(opened) => {
-            !opened.second()
-                && opened.generation() == 3
-                && opened.base().checked_add(1) == Some(next)
-                && opened.kept().len() == 1
-                && opened.next() == next
-                && opened.form() == Form::Turns
-        }
-        Err(_) => false,
-    }
+pub(crate) fn is_last(alloc: Global, bytes: &[u8], next: u64) -> Result<bool, Fail> {
+    let opened = opened(alloc, bytes)?;
+    Ok(
+        !opened.second()
+            && opened.generation() == 3
+            && opened.base().checked_add(1) == Some(next)
+            && opened.kept().len() == 1
+            && opened.next() == next
+            && opened.form() == Form::Turns,
+    )
 }
 
 /// Whether a device isn't opened whose call fails or stops the opening, and is as it was.

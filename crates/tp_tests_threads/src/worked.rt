@@ -16,7 +16,7 @@ use std::test::Fail;
 use tp_book::{NetParts, NetState, Numbered};
 use tp_disk::MemDisk;
 use tp_model::{Entry, Form, Received, Token};
-use tp_recover::{Opened, open};
+use tp_recover::{Opened, Unopened, open};
 use tp_tests_fixtures::SECOND;
 
 /// What has to be left: what was worked out, with the entries that opening keeps; or what was told, behind that many switches of the areas.
@@ -106,18 +106,23 @@ fn has_all(bytes: &[u8], net: &NetParts, wanted: &Wanted<'_>) -> bool {
 }
 
 /// The network of what is left, where opening says what it should.
-fn net_of(alloc: Global, left: &Left, wanted: &Wanted<'_>) -> Result<Option<NetParts>, Fail> {
-    let mut disk = MemDisk::of_bytes(Vec::from_slice(alloc, &left.bytes)?);
+fn net_of(alloc: Global, left: &Left, wanted: &Wanted<'_>) -> Result<Option<NetParts>, Unopened> {
+    let Ok(bytes) = Vec::from_slice(alloc, &left.bytes) else {
+        return Err(Unopened::Memory);
+    };
+    let mut disk = MemDisk::of_bytes(bytes);
     let opened = open(alloc, &mut disk)?;
     if !is_opened(&opened, &left.told, wanted) {
         return Ok(None);
     }
-    let NetState { net, .. } = opened.into_state(alloc)?;
+    let Ok(NetState { net, .. }) = opened.into_state(alloc) else {
+        return Err(Unopened::Memory);
+    };
     Ok(Some(net))
 }
 
 /// The network of what is left, where all is as it should be.
-fn opens(alloc: Global, left: &Left, wanted: &Wanted<'_>) -> Result<Option<NetParts>, Fail> {
+fn opens(alloc: Global, left: &Left, wanted: &Wanted<'_>) -> Result<Option<NetParts>, Unopened> {
     let Some(net) = net_of(alloc, left, wanted)? else {
         return Ok(None);
     };
@@ -134,7 +139,7 @@ pub(crate) fn played<R: Wait>(
     alloc: Global,
     story: &Story<'_>,
     stop: Option<(u64, u8)>,
-) -> Result<Left, Fail> {
+) -> Result<Left, Unopened> {
     let bytes = formatted(alloc, &story.network)?;
     let fault = match stop {
         Some((call, byte)) => Some(Fault {
@@ -155,7 +160,7 @@ fn net_after<R: Wait>(
     story: &Story<'_>,
     stop: Option<(u64, u8)>,
     wanted: &Wanted<'_>,
-) -> Result<Option<NetParts>, Fail> {
+) -> Result<Option<NetParts>, Unopened> {
     let left = played(rt, alloc, story, stop)?;
     let is_torn = match stop {
         Some((_, byte)) => stands(&left.bytes, SECOND, &[byte]),
@@ -174,7 +179,7 @@ pub(crate) fn goes<R: Wait>(
     alloc: Global,
     story: &Story<'_>,
     wanted: &Wanted<'_>,
-) -> Result<bool, Fail> {
+) -> Result<bool, Unopened> {
     Ok(net_after(rt, alloc, story, None, wanted)?.is_some())
 }
 
@@ -186,7 +191,7 @@ fn goes_to<R: Wait>(
     stop: Option<(u64, u8)>,
     wanted: &Wanted<'_>,
     other: &NetParts,
-) -> Result<bool, Fail> {
+) -> Result<bool, Unopened> {
     let net = net_after(rt, alloc, story, stop, wanted)?;
     Ok(match &net {
         Some(net) => is_network(net, other),
@@ -201,7 +206,7 @@ pub(crate) fn is_plain_too<R: Wait>(
     story: &Story<'_>,
     stop: Option<(u64, u8)>,
     wanted: &Wanted<'_>,
-) -> Result<bool, Fail> {
+) -> Result<bool, Unopened> {
     let plain = Story {
         is_plain: true,
         ..*story
