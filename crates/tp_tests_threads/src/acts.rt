@@ -124,7 +124,7 @@ fn is_turned<J: Naming, R: Wait>(
 /// Whether that many turns are made.
 fn are_turned<J: Naming, R: Wait>(rt: &R, desk: &mut Desk<J>, count: u32) -> bool {
     for _ in 0..count {
-        if desk.turn(rt).is_err() {
+        if desk.turn_once(rt).is_err() {
             return false;
         }
     }

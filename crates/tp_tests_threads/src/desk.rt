@@ -140,7 +140,7 @@ impl<J: Naming> Desk<J> {
     }
 
     /// A turn of the process that waits longest.
-    fn turn_once<R: Wait>(&mut self, rt: &R) -> Result<Did, TurnFault> {
+    pub(crate) fn turn_once<R: Wait>(&mut self, rt: &R) -> Result<Did, TurnFault> {
         let Desk { net, seat, .. } = self;
         let turn = net.turn(rt, seat)?;
         let ran = match &turn.ran {
