@@ -91,7 +91,7 @@ fn copies(
 }
 
 /// What comes of that.
-fn came(alloc: Global, bytes: &[u8], case: Case) -> Result<Came, Fail> {
+fn copied_as(alloc: Global, bytes: &[u8], case: Case) -> Result<Came, Fail> {
     let (mut source, mut copy) = devices(alloc, bytes, case)?;
     let answer = copies(alloc, bytes, &mut source, &mut copy);
     let (kept, calls) = source.into_raw().into_left();
@@ -118,7 +118,7 @@ fn look(alloc: Global, bytes: &[u8]) -> Result<(u64, Form, usize), Fail> {
 fn is_copied(alloc: Global, bytes: &[u8], start: usize) -> Result<bool, Fail> {
     let end = BEHIND.wrapping_add(start).wrapping_sub(FIRST);
     let sizes = (bytes.len(), bytes.len());
-    let came = came(alloc, bytes, Case { sizes, ..WELL })?;
+    let came = copied_as(alloc, bytes, Case { sizes, ..WELL })?;
     let left = came.left.as_slice();
     let (next, form, _) = look(alloc, bytes)?;
     Ok(
@@ -154,7 +154,7 @@ fn the_open_area_is_copied(rt: HostRuntime) -> Result<(), Fail> {
 
 /// What comes of copying the device of the first turns. What is left of the copy opens just where the copy was made.
 fn turned_came(alloc: Global, case: Case) -> Result<(Answer, u64), Fail> {
-    let came = came(alloc, &turned(alloc)?, case)?;
+    let came = copied_as(alloc, &turned(alloc)?, case)?;
     let is_made = came.answer == Ok(Some(4));
     if case.sizes.1 == SIZE && case.copy.is_none() && opens(alloc, &came.left)? != is_made {
         return Err(Fail::new("a copy that isn't one opens, or one that is doesn't"));

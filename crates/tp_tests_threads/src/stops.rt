@@ -20,7 +20,7 @@ use tp_recover::{Unopened, open};
 const ENDS: [usize; 5] = [0, 3, 4, 6, 7];
 
 /// The script up to an act.
-fn script(count: usize) -> Story<'static> {
+fn script_up_to(count: usize) -> Story<'static> {
     Story {
         acts: SCRIPT.acts.get(..count).unwrap_or(&[]),
         ..SCRIPT
@@ -109,7 +109,7 @@ impl Script {
     fn over<R: Wait>(rt: &R, alloc: Global, first: Vec<u8>) -> Result<Script, Fail> {
         let mut ends = [0u64; 5];
         for (end, count) in ends.iter_mut().zip(ENDS) {
-            *end = calls_of(rt, alloc, &script(count), &first, untold(alloc))?;
+            *end = calls_of(rt, alloc, &script_up_to(count), &first, untold(alloc))?;
         }
         let [from, third, fourth, sixth, to] = ends;
         Ok(Script {
