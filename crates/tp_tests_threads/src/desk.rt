@@ -17,7 +17,7 @@ use tp_model::{Entry, Form};
 use tp_node::Why;
 use tp_ready::Pass;
 use tp_shared::{Naming, NoGate, Sights};
-use tp_work::{ConfirmFault, Net, OfferFault, Seat, Session, ShownFault, TurnFault};
+use tp_work::{ConfirmFault, Net, OfferFault, Receipt, Seat, Session, ShownFault, TurnFault};
 
 /// What a turn did: whose it was, how many tokens it took, and how many steps it ran and why no more, where it runs.
 #[derive(Clone, Copy)]
@@ -119,15 +119,17 @@ impl<J: Naming> Desk<J> {
         self.net.shared().book().lock(rt).book().next()
     }
 
+    /// Reads the mark.
+    fn read_mark(&mut self) -> u64 {
+        let Desk { net, pass, .. } = self;
+        net.shared().mark().load(pass)
+    }
+
     /// Adds what the book has journalled, and reads the mark.
     fn look_once<R: Wait>(&mut self, rt: &R) -> Result<(), AllocError> {
-        let Desk {
-            net,
-            pass,
-            told,
-            ..
-        } = self;
-        told.mark = told.mark.max(net.shared().mark().load(pass));
+        let mark = self.read_mark();
+        let Desk { net, told, .. } = self;
+        told.mark = told.mark.max(mark);
         let held = net.shared().book().lock(rt);
         told.base = held.book().base();
         told.form = held.book().form();
@@ -279,16 +281,32 @@ impl<J: Naming> Desk<J> {
         }
     }
 
+    /// Confirms the outputs of the port up to a position.
+    fn receipt_of<R: Wait>(
+        &mut self,
+        rt: &R,
+        upto: u64,
+    ) -> Option<Result<Receipt<J>, ConfirmFault>> {
+        let Desk { net, pass, .. } = self;
+        let session = Session::new(net.shared(), 0)?;
+        Some(session.confirm(rt, upto, pass, &mut Sights::new()))
+    }
+
+    /// Whether the pass says that a receipt is stored.
+    fn is_stored(&mut self, receipt: &Receipt<J>) -> Option<bool> {
+        let Desk { net, pass, .. } = self;
+        let session = Session::new(net.shared(), 0)?;
+        Some(session.is_stored(receipt, pass))
+    }
+
     /// Confirms the outputs of the port up to a position: the receipt's number, and whether the pass says that it is stored.
     fn confirm_once<R: Wait>(
         &mut self,
         rt: &R,
         upto: u64,
     ) -> Option<Result<(u64, bool), ConfirmFault>> {
-        let Desk { net, pass, .. } = self;
-        let session = Session::new(net.shared(), 0)?;
-        match session.confirm(rt, upto, pass, &mut Sights::new()) {
-            Ok(receipt) => Some(Ok((receipt.number(), session.is_stored(&receipt, pass)))),
+        match self.receipt_of(rt, upto)? {
+            Ok(receipt) => Some(Ok((receipt.number(), self.is_stored(&receipt)?))),
             Err(fault) => Some(Err(fault)),
         }
     }

@@ -41,7 +41,10 @@ const ENTRIES: [Numbered; 2] = [
 
 /// Whether the cut is whole: the first node behind its run, the second one before all, and the byte under way.
 fn is_cut(alloc: Global, book: &Book, wanted: &[Numbered]) -> bool {
-    let (Some(cut), Ok(tail)) = (book.whole(), book.tail(alloc)) else {
+    let Some(cut) = book.whole() else {
+        return false;
+    };
+    let Ok(tail) = book.tail(alloc) else {
         return false;
     };
     let byte = cut.lines().count() == 9 && cut.lines().get(0, 0) == Some(Token::Data(0x58));
