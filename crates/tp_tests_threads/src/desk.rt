@@ -16,8 +16,8 @@ use tp_flush::{FlushFault, Flusher};
 use tp_model::{Entry, Form};
 use tp_node::Why;
 use tp_ready::Pass;
-use tp_shared::{Naming, NoGate, Sights};
-use tp_work::{ConfirmFault, Net, OfferFault, Receipt, Seat, Session, ShownFault, TurnFault};
+use tp_shared::{Naming, NoGate, Receipt, Sights};
+use tp_work::{ConfirmFault, Net, OfferFault, Seat, Session, ShownFault, TurnFault};
 
 /// What a turn did: whose it was, how many tokens it took, and how many steps it ran and why no more, where it runs.
 #[derive(Clone, Copy)]
@@ -248,6 +248,18 @@ impl<J: Naming> Desk<J> {
         first
     }
 
+    /// What the port shows from a position on; none where there is no such port.
+    fn shown_from<R: Wait>(
+        &mut self,
+        rt: &R,
+        alloc: Global,
+        from: u64,
+    ) -> Option<Result<Vec<u8>, ShownFault>> {
+        let Desk { net, pass, .. } = self;
+        let session = Session::new(net.shared(), 0)?;
+        Some(session.shown(rt, alloc, from, pass, &mut Sights::new()))
+    }
+
     /// Whether the port shows just the bytes wanted from a position on, or refuses with that fault.
     fn shows_once<R: Wait>(
         &mut self,
@@ -256,14 +268,11 @@ impl<J: Naming> Desk<J> {
         from: u64,
         wanted: Result<&[u8], ShownFault>,
     ) -> Result<bool, ShownFault> {
-        let Desk { net, pass, .. } = self;
-        let Some(session) = Session::new(net.shared(), 0) else {
-            return Ok(false);
-        };
-        match session.shown(rt, alloc, from, pass, &mut Sights::new()) {
-            Ok(shown) => Ok(matches!(wanted, Ok(bytes) if shown.as_slice() == bytes)),
-            Err(ShownFault::Memory) => Err(ShownFault::Memory),
-            Err(fault) => Ok(matches!(wanted, Err(other) if fault == other)),
+        match self.shown_from(rt, alloc, from) {
+            Some(Ok(shown)) => Ok(matches!(wanted, Ok(bytes) if shown.as_slice() == bytes)),
+            Some(Err(ShownFault::Memory)) => Err(ShownFault::Memory),
+            Some(Err(fault)) => Ok(matches!(wanted, Err(other) if fault == other)),
+            None => Ok(false),
         }
     }
 
