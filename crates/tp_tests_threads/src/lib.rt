@@ -6,11 +6,15 @@
 #[cfg(test)]
 mod acts;
 #[cfg(test)]
+mod again;
+#[cfg(test)]
 mod beside;
 #[cfg(test)]
 mod book_calls;
 #[cfg(test)]
 mod books;
+#[cfg(test)]
+mod changing;
 #[cfg(test)]
 mod checkpoints;
 #[cfg(test)]
@@ -19,6 +23,8 @@ mod copied;
 mod copying;
 #[cfg(test)]
 mod desk;
+#[cfg(test)]
+mod device;
 #[cfg(test)]
 mod devices;
 #[cfg(test)]
@@ -37,6 +43,8 @@ mod limits;
 mod machines;
 #[cfg(test)]
 mod many;
+#[cfg(test)]
+mod marked;
 #[cfg(test)]
 mod meanwhile;
 #[cfg(test)]
@@ -57,6 +65,8 @@ mod playing;
 mod remains;
 #[cfg(test)]
 mod scenes;
+#[cfg(test)]
+mod script;
 #[cfg(test)]
 mod small;
 #[cfg(test)]

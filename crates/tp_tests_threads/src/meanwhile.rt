@@ -18,10 +18,11 @@ pub fn flush_meanwhile<J: Naming, D: Disk, G: Gate, R: Wait>(
     rt: &R,
     alloc: Global,
     shared: &Shared<J>,
-    flusher: &mut Flusher<J, D>,
+    flusher: Flusher<J, D>,
     gate: &G,
     ended: &AtomicBool,
-) -> bool {
+) -> (Flusher<J, D>, bool) {
+    let mut flusher = flusher;
     let mut is_done = true;
     for _ in 0..LOOKS {
         if ended.load(Ordering::SeqCst) {
@@ -32,7 +33,7 @@ pub fn flush_meanwhile<J: Naming, D: Disk, G: Gate, R: Wait>(
         }
         yield_now();
     }
-    is_done
+    (flusher, is_done)
 }
 
 /// Whether a receipt's entries come to be stored.
@@ -124,19 +125,19 @@ pub fn stays_stored<J: Naming + Send + Sync, D: Disk + Drop, R: Threads + Wait +
     rt: &R,
     alloc: Global,
     shared: &Shared<J>,
-    flusher: &mut Flusher<J, D>,
+    flusher: Flusher<J, D>,
     count: u64,
     mut pass: Pass,
-) -> bool
+) -> (Flusher<J, D>, bool)
     requires { pass.mark ≡ J.mark }
 {
     let Some(session) = Session::new(shared, 0) else {
-        return false;
+        return (flusher, false);
     };
     let is_early = is_early(rt, &session, &mut pass);
     let ended = AtomicBool::new(false);
     let (lent, told) = (&session, &ended);
-    let (stored, is_done) = join(
+    let (stored, (flusher, is_done)) = join(
         rt,
         move || -> Result<bool, AllocError>
             requires { pass.mark ≡ J.mark }
@@ -147,5 +148,5 @@ pub fn stays_stored<J: Naming + Send + Sync, D: Disk + Drop, R: Threads + Wait +
         },
         move || flush_meanwhile(rt, alloc, shared, flusher, &NoGate, told),
     );
-    is_early && is_done && matches!(stored, Ok(true))
+    (flusher, is_early && is_done && matches!(stored, Ok(true)))
 }

@@ -68,25 +68,25 @@ fn work_beside<
     turns: u32,
     one: Seat<J>,
     others: Vec<Seat<J>>,
-    flusher: &mut Flusher<J, D>,
+    flusher: Flusher<J, D>,
     gate: &G,
-) -> Option<Work<J>>
+) -> (Flusher<J, D>, Option<Work<J>>)
     requires one { (one.hand.of ≡ Some net.now.queue) × (one.slips ≡ []) }
     requires others { All (λ seat. (seat.hand.of ≡ Some net.now.queue) × (seat.slips ≡ [])) others.items }
 {
     let Some(session) = Session::new(net.shared(), 0) else {
-        return None;
+        return (flusher, None);
     };
     let ended = AtomicBool::new(false);
     let (host, told) = (&session, &ended);
-    let (worked, is_done) = join(
+    let (worked, (flusher, is_done)) = join(
         rt,
         move || -> Result<Work<J>, AllocError>
             requires { (one.hand.of ≡ Some net.now.queue) × (one.slips ≡ []) × All (λ seat. (seat.hand.of ≡ Some net.now.queue) × (seat.slips ≡ [])) others.items }
         { work_and_end(rt, net, host, turns, one, others, told) },
         move || flush_meanwhile(rt, alloc, net.shared(), flusher, gate, told),
     );
-    if is_done { worked.ok() } else { None }
+    (flusher, if is_done { worked.ok() } else { None })
 }
 
 /// One worker ends after its first turn, and the others make the rest of `turns`, while a host hands in bytes and the flusher makes its
@@ -103,20 +103,20 @@ pub fn are_all_beside<
     seats: Vec<Seat<J>>,
     turns: u32,
     first: u64,
-    flusher: &mut Flusher<J, D>,
+    flusher: Flusher<J, D>,
     gate: &G,
-) -> bool
+) -> (Flusher<J, D>, bool)
     requires seats { All (λ seat. (seat.hand.of ≡ Some net.now.queue) × (seat.slips ≡ [])) seats.items }
     requires first { first ≡ J.first }
 {
     let Some((one, others)) = parted(net, seats) else {
-        return false;
+        return (flusher, false);
     };
-    let worked = work_beside(rt, alloc, net, turns, one, others, flusher, gate);
+    let (flusher, worked) = work_beside(rt, alloc, net, turns, one, others, flusher, gate);
     let Some(all) = worked else {
-        return false;
+        return (flusher, false);
     };
     let mut held = net.shared().book().lock(rt);
     let are_all = all.are_all(&mut held, first);
-    are_all
+    (flusher, are_all)
 }
