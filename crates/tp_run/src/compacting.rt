@@ -23,6 +23,7 @@ ghost use Rattle.tp_shared.specs.Named.{Names};
 
 use crate::opening::parts_of;
 use std::alloc::Global;
+use std::fmt;
 use std::marker::Brand;
 use std::snapshot::Snapshot;
 use std::sync::Wait;
@@ -47,7 +48,7 @@ pub struct Compaction {
 }
 
 /// Why a device isn't compacted.
-#[derive(Clone, Copy, Debug, Error)]
+#[derive(Clone, Copy, Error)]
 pub enum CompactFault {
     /// The device isn't opened.
     #[error(transparent)]
@@ -65,6 +66,12 @@ pub enum CompactFault {
     /// Memory was refused, at whatever step.
     #[error("Memory")]
     Memory,
+}
+
+impl fmt::Debug for CompactFault {
+    fn fmt<W: fmt::Write>(&self, f: &mut fmt::Formatter<W>) -> fmt::Result {
+        fmt::Display::fmt(self, f)
+    }
 }
 
 /// How many entries `journal` takes behind those that were made since the kept cut.

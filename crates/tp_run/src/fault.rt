@@ -1,10 +1,11 @@
 //! Why a run ends early.
 
+use std::fmt;
 use thiserror::Error;
 use tp_recover::Unopened;
 
 /// In the order in which the causes are tested. Each but the first four may come once the device was written.
-#[derive(Clone, Copy, Debug, PartialEq, Eq, Error)]
+#[derive(Clone, Copy, PartialEq, Eq, Error)]
 pub enum RunFault {
     /// The device isn't opened.
     #[error(transparent)]
@@ -39,8 +40,8 @@ pub enum RunFault {
     Memory,
 }
 
-impl From<Unopened> for RunFault {
-    fn from(unopened: Unopened) -> RunFault {
-        RunFault::Opening(unopened)
+impl fmt::Debug for RunFault {
+    fn fmt<W: fmt::Write>(&self, f: &mut fmt::Formatter<W>) -> fmt::Result {
+        fmt::Display::fmt(self, f)
     }
 }

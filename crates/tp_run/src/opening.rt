@@ -1,8 +1,14 @@
 //! What is made of a device that opened.
 
-ghost use Rattle.std.specs.Prelude.{◌≡◌, ◌<◌, IfOk, Some};
+ghost use Rattle.std.specs.Prelude.{◌≡◌, ◌<◌, ℕ, IfOk, None, Some, slice_get};
+ghost use Rattle.tp_law_machine.specs.NodeOfBytes.{IsNodeOfBytes};
 ghost use Rattle.tp_model.specs.Journal.{room};
+ghost use Rattle.tp_book.specs.Book.{next_in_book};
+ghost use Rattle.tp_book.specs.Opened.{IsWellOpen, opened_book};
 ghost use Rattle.tp_flush.specs.Made.{IsMadeOf};
+ghost use Rattle.tp_node.specs.NodeContents.{NodeContents};
+ghost use Rattle.tp_ready.specs.Seen.{unrisen};
+ghost use Rattle.tp_shared.specs.Parted.{AreOfOpened};
 ghost use Rattle.tp_run.specs.Made.{fault_by, has_pages, job_fault};
 ghost use Rattle.tp_run.specs.Outset.{outset_in};
 
@@ -10,8 +16,9 @@ use crate::fault::RunFault;
 use crate::job::Job;
 use crate::outset::Outset;
 use std::alloc::{AllocError, Global};
-use tp_book::{Book, opened_books_begin};
+use tp_book::{Book, NetState, opened_books_begin};
 use tp_net::Topology;
+use tp_node::Node;
 use tp_ready::{Mark, Raiser};
 use tp_recover::Opened;
 use tp_shared::Parts;
@@ -49,6 +56,42 @@ pub(crate) fn job_fault(job: Job, topology: &Topology) -> Option<RunFault>
     fault_by(has_pages(job.spare, topology), has_port)
 }
 
+/// The parts of the book of an opened device and of its nodes, and the raiser of their mark, which has the number `first`.
+fn marked(
+    alloc: Global,
+    book: Book,
+    nodes: Vec<Node>,
+    first: u64,
+) -> Result<(Parts, Raiser), AllocError>
+    requires opened { AreOfOpened book nodes.items }
+    requires each { (i : ℕ) (node : NodeContents) → slice_get nodes.items i ≡ Some node → IsNodeOfBytes node.live × (node.frozen ≡ None) }
+    ensures book { IfOk result (λ made. made.0.book ≡ book) }
+    ensures first { IfOk result (λ made. made.0.first ≡ next_in_book book) }
+    ensures raiser { IfOk result (λ made. made.1 ≡ record { mark = made.0.mark; at = first; rises = unrisen first }) }
+{
+    let (mark, raiser, _) = Mark::start(alloc, first, 0)?;
+    let parts = Parts::opened(alloc, book, nodes, mark)?;
+    Ok((parts, raiser))
+}
+
+/// The parts of an opened book and its nodes, each with `spare` frames, and the raiser of their mark.
+fn parts_with(
+    alloc: Global,
+    state: NetState,
+    book: Book,
+    spare: u16,
+) -> Result<(Parts, Raiser), AllocError>
+    requires opened { IsWellOpen state }
+    requires book { book ≡ opened_book state book.room }
+    ensures book { IfOk result (λ made. made.0.book ≡ book) }
+    ensures first { IfOk result (λ made. made.0.first ≡ next_in_book book) }
+    ensures raiser { IfOk result (λ made. made.1 ≡ record { mark = made.0.mark; at = state.next; rises = unrisen state.next }) }
+{
+    let first = state.next;
+    let nodes = nodes_of(alloc, state, spare as usize)?;
+    marked(alloc, book, nodes, first)
+}
+
 /// The book and the nodes of what was opened, the raiser of their mark, and where the port `port` stands. Each node has `spare` frames
 /// for pages that it writes while it is frozen.
 pub(crate) fn parts_of(
@@ -68,8 +111,6 @@ pub(crate) fn parts_of(
     let state = opened.into_state(alloc)?;
     let book = Book::open(alloc, &state, Some(room))?;
     let outset = Outset::of(&book, port);
-    let (mark, raiser, _) = Mark::start(alloc, state.next, 0)?;
-    let nodes = nodes_of(alloc, state, spare as usize)?;
-    let parts = Parts::opened(alloc, book, nodes, mark)?;
+    let (parts, raiser) = parts_with(alloc, state, book, spare)?;
     Ok((parts, raiser, outset))
 }
