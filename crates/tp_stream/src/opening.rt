@@ -1,11 +1,14 @@
 //! What is made of a device that opened.
 
-ghost use Rattle.std.specs.Prelude.{◌≡◌, ◌⊎◌, ◌++◌, IfOk, OnOk, IfErr, Some, length, map};
+ghost use Rattle.std.specs.Prelude.{◌≡◌, ◌⊎◌, ◌++◌, ℕ, IfOk, OnOk, IfErr, None, Some, length, map, slice_get};
+ghost use Rattle.tp_law_machine.specs.NodeOfBytes.{IsNodeOfBytes};
 ghost use Rattle.tp_model.specs.Journal.{room};
 ghost use Rattle.tp_book.specs.Book.{next_in_book};
 ghost use Rattle.tp_book.specs.Opened.{IsWellOpen, opened_book};
 ghost use Rattle.tp_flush.specs.Made.{IsMadeOf};
+ghost use Rattle.tp_node.specs.NodeContents.{NodeContents};
 ghost use Rattle.tp_ready.specs.Seen.{unrisen};
+ghost use Rattle.tp_shared.specs.Parted.{AreOfOpened};
 ghost use Rattle.tp_stream.specs.declared.fault.StreamFault.TheVariants.{Memory};
 ghost use Rattle.tp_stream_files.specs.Inputs.{given_input};
 ghost use Rattle.tp_stream_files.specs.Notices.{Noticed};
@@ -19,11 +22,30 @@ use crate::beginning::begin_all;
 use crate::fault::StreamFault;
 use std::alloc::{AllocError, Global};
 use tp_book::{Book, NetState, opened_books_begin};
+use tp_node::Node;
 use tp_ready::{Mark, Raiser};
 use tp_recover::Opened;
 use tp_shared::Parts;
 use tp_stream_files::{Listener, Sink, Source, Streams};
 use tp_work::nodes_of;
+
+/// The parts of the book of an opened device and of its nodes, and the raiser of their mark, which has the number `first`.
+fn marked(
+    alloc: Global,
+    book: Book,
+    nodes: Vec<Node>,
+    first: u64,
+) -> Result<(Parts, Raiser), AllocError>
+    requires opened { AreOfOpened book nodes.items }
+    requires each { (i : ℕ) (node : NodeContents) → slice_get nodes.items i ≡ Some node → IsNodeOfBytes node.live × (node.frozen ≡ None) }
+    ensures book { IfOk result (λ made. made.0.book ≡ book) }
+    ensures first { IfOk result (λ made. made.0.first ≡ next_in_book book) }
+    ensures raiser { IfOk result (λ made. made.1 ≡ record { mark = made.0.mark; at = first; rises = unrisen first }) }
+{
+    let (mark, raiser, _) = Mark::start(alloc, first, 0)?;
+    let parts = Parts::opened(alloc, book, nodes, mark)?;
+    Ok((parts, raiser))
+}
 
 /// The parts of an opened book and its nodes, each with `spare` frames, and the raiser of their mark.
 fn parts_with(
@@ -38,10 +60,9 @@ fn parts_with(
     ensures first { IfOk result (λ made. made.0.first ≡ next_in_book book) }
     ensures raiser { IfOk result (λ made. made.1 ≡ record { mark = made.0.mark; at = state.next; rises = unrisen state.next }) }
 {
-    let (mark, raiser, _) = Mark::start(alloc, state.next, 0)?;
+    let first = state.next;
     let nodes = nodes_of(alloc, state, spare as usize)?;
-    let parts = Parts::opened(alloc, book, nodes, mark)?;
-    Ok((parts, raiser))
+    marked(alloc, book, nodes, first)
 }
 
 /// The book and the nodes of what was opened, and the raiser of their mark. Each stream is set out where its port stands, and told.
