@@ -9,8 +9,6 @@ use Rattle.tp_words.specs.declared.args.Asked.{Asked}
 use Rattle.tp_words.specs.declared.args.Asked.TheVariants.{Help, Try, Trace, Format, Run as Runs, Compact, Recover, Show, Status, Check, View as Views}
 use Rattle.tp_words.specs.declared.args.Run.{Run}
 use Rattle.tp_words.specs.declared.args.TheConstants.{MAX_AREA, MAX_WORKERS, QUANTUM, STEPS}
-use Rattle.tp_words.specs.declared.device_args.Pace.{Pace}
-use Rattle.tp_words.specs.declared.device_args.RunNumbers.{RunNumbers}
 use Rattle.tp_words.specs.declared.views.JournalPart.{JournalPart}
 use Rattle.tp_words.specs.declared.views.View.{View}
 use Rattle.tp_words.specs.declared.views.View.TheVariants.{Node, Image, Journal, Pending, Outputs, NodeJson, PendingJson, OutputsJson}
@@ -103,28 +101,3 @@ WasTyped words (Status device every json) = (has_word (string_bytes device) word
 WasTyped words (Check topology images json) = (has_word (string_bytes topology) words ≡ true) × (has_word (string_bytes images) words ≡ true)
     × (json ≡ has_flag (codes "--json") words)
 WasTyped words (Views device view) = (has_word (string_bytes device) words ≡ true) × HasTyped words view
-
--- The numbers of a run's turns are in their ranges.
-pub record IsPace (pace : Pace) : Type 0 where
-  pub turns : pace.turns < 2 ^ 32
-  pub workers : (0 < pace.workers) × (pace.workers ≤ MAX_WORKERS)
-  pub quantum : (0 < pace.quantum) × (pace.quantum ≤ MAX_STEPS)
-
--- They are what was typed for them, and else what docs/PROGRAM.md says.
-pub record IsTypedPace (words : List (String Global)) (pace : Pace) : Type 0 where
-  pub turns : given (codes "turns") words ≡ Some (decimal pace.turns)
-  pub workers : IsGivenOr 2 pace.workers (given (codes "workers") words)
-  pub quantum : IsGivenOr QUANTUM pace.quantum (given (codes "quantum") words)
-  pub spare : IsGivenOr 4 pace.spare (given (codes "spare") words)
-
--- So are all numbers of a run in theirs.
-pub record AreRunNumbers (numbers : RunNumbers) : Type 0 where
-  pub pace : IsPace numbers.pace
-  pub every : IsEvery numbers.every
-
--- So they are what was typed.
-pub record AreTypedNumbers (words : List (String Global)) (numbers : RunNumbers) : Type 0 where
-  pub pace : IsTypedPace words numbers.pace
-  pub every : given (codes "every") words ≡ option_map decimal numbers.every
-  pub port : IsGivenOr 0 numbers.port (given (codes "port") words)
-  pub wait_lock : IsGivenOr 0 numbers.wait_lock (given (codes "wait-lock") words)

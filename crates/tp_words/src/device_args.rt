@@ -3,7 +3,7 @@
 ghost use Rattle.std.specs.Prelude.{◌≡◌, ◌≤◌, IfErr, IfOk, OnOk, codes};
 ghost use Rattle.std.specs.Fmt.{decimal};
 ghost use Rattle.std.specs.Option.{option_map};
-ghost use Rattle.tp_words.specs.Args.{AreRunNumbers, AreTypedNumbers, IsEvery, IsInRange, IsPace, IsTypedPace, WasTyped};
+ghost use Rattle.tp_words.specs.Args.{IsEvery, IsInRange, WasTyped};
 ghost use Rattle.tp_words.specs.Given.{given, IsGivenOr};
 ghost use Rattle.tp_words.specs.Numbers.{Fits, IsNumberFault, every_option, wait_option};
 
@@ -19,18 +19,13 @@ pub fn asked_format(alloc: Global, words: &[String], found: &ArgMatches) -> Resu
     ensures range { IfOk result IsInRange }
     ensures typed { IfOk result (WasTyped words.now) }
 {
-    let area = area_of(alloc, words, found)?;
-    let seconds = wait_of(alloc, words, found)?;
-    let device = text_of(alloc, words, found, "DEVICE")?;
-    let topology = text_of(alloc, words, found, "TOPOLOGY")?;
-    let images = text_of(alloc, words, found, "DIR")?;
     Ok(Asked::Format(NewDevice {
-        device,
-        topology,
-        images,
-        area,
+        area: area_of(alloc, words, found)?,
         only_new: found.get_flag("new"),
-        wait_lock: seconds,
+        wait_lock: wait_of(alloc, words, found)?,
+        device: text_of(alloc, words, found, "DEVICE")?,
+        topology: text_of(alloc, words, found, "TOPOLOGY")?,
+        images: text_of(alloc, words, found, "DIR")?,
     }))
 }
 
@@ -58,70 +53,23 @@ pub fn wait_of(alloc: Global, words: &[String], found: &ArgMatches) -> Result<u3
     Ok(option_or(alloc, words, found, "wait-lock", 0, MAX_WAIT, 0)? as u32)
 }
 
-/// How the turns of a run are made, as in `Run`.
-#[derive(Clone, Copy)]
-struct Pace {
-    turns: u32,
-    workers: u8,
-    quantum: u16,
-    spare: u64,
-}
-
-/// The numbers of a run: how its turns are made, and the others, as in `Run`.
-#[derive(Clone, Copy)]
-struct RunNumbers {
-    pace: Pace,
-    every: Option<u32>,
-    port: u64,
-    wait_lock: u32,
-}
-
-/// How the turns of a run are made.
-fn pace_of(alloc: Global, words: &[String], found: &ArgMatches) -> Result<Pace, ArgFault>
-    ensures range { IfOk result IsPace }
-    ensures typed { IfOk result (IsTypedPace words.now) }
-{
-    let (workers, steps) = (MAX_WORKERS as u64, MAX_STEPS as u64);
-    Ok(Pace {
-        turns: turns_of(alloc, words, found)?,
-        workers: option_or(alloc, words, found, "workers", 1, workers, 2)? as u8,
-        quantum: option_or(alloc, words, found, "quantum", 1, steps, QUANTUM as u64)? as u16,
-        spare: option_or(alloc, words, found, "spare", 0, u64::MAX, 4)?,
-    })
-}
-
-/// The numbers of a run.
-fn run_numbers(alloc: Global, words: &[String], found: &ArgMatches) -> Result<RunNumbers, ArgFault>
-    ensures range { IfOk result AreRunNumbers }
-    ensures typed { IfOk result (AreTypedNumbers words.now) }
-{
-    Ok(RunNumbers {
-        pace: pace_of(alloc, words, found)?,
-        every: every_of(alloc, words, found)?,
-        port: option_or(alloc, words, found, "port", 0, u64::MAX, 0)?,
-        wait_lock: wait_of(alloc, words, found)?,
-    })
-}
-
 /// A run of a device's network.
 #[tactic(auto, unfolding(crate::specs::Args::IsRun))]
 pub fn asked_run(alloc: Global, words: &[String], found: &ArgMatches) -> Result<Asked, ArgFault>
     ensures range { IfOk result IsInRange }
     ensures typed { IfOk result (WasTyped words.now) }
 {
-    let numbers = run_numbers(alloc, words, found)?;
-    let input = option_string(alloc, words, found, "in")?;
-    let device = text_of(alloc, words, found, "DEVICE")?;
+    let (workers, steps) = (MAX_WORKERS as u64, MAX_STEPS as u64);
     Ok(Asked::Run(Run {
-        device,
-        turns: numbers.pace.turns,
-        workers: numbers.pace.workers,
-        quantum: numbers.pace.quantum,
-        spare: numbers.pace.spare,
-        every: numbers.every,
-        port: numbers.port,
-        input,
-        wait_lock: numbers.wait_lock,
+        turns: turns_of(alloc, words, found)?,
+        workers: option_or(alloc, words, found, "workers", 1, workers, 2)? as u8,
+        quantum: option_or(alloc, words, found, "quantum", 1, steps, QUANTUM as u64)? as u16,
+        spare: option_or(alloc, words, found, "spare", 0, u64::MAX, 4)?,
+        every: every_of(alloc, words, found)?,
+        port: option_or(alloc, words, found, "port", 0, u64::MAX, 0)?,
+        wait_lock: wait_of(alloc, words, found)?,
+        input: option_string(alloc, words, found, "in")?,
+        device: text_of(alloc, words, found, "DEVICE")?,
     }))
 }
 

@@ -109,23 +109,20 @@ fn run_of(alloc: Global, words: &[String], found: &ArgMatches) -> Result<StreamA
     ensures refused { IfErr result (IsRunRefused found.now words.now) }
 {
     let numbers = numbers_of(alloc, words, found)?;
-    let stop_file = option_string(alloc, words, found, "stop-file")?;
-    let device = text_of(alloc, words, found, "DEVICE")?;
-    let ends = ends_of(alloc, words, found)?;
     Ok(StreamAsked::Run(StreamRun {
-        device,
         turns: numbers.turns,
         until_quiet: found.get_flag("until-quiet"),
         stop_on_halt: found.get_flag("stop-on-halt"),
-        stop_file,
+        stop_file: option_string(alloc, words, found, "stop-file")?,
         has_progress: found.get_flag("progress"),
         progress_every: numbers.progress_every,
         workers: numbers.workers,
         quantum: numbers.quantum,
         spare: numbers.spare,
         every: numbers.every,
-        ends,
         wait_lock: numbers.wait_lock,
+        device: text_of(alloc, words, found, "DEVICE")?,
+        ends: ends_of(alloc, words, found)?,
     }))
 }
 

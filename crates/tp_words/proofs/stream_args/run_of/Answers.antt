@@ -16,10 +16,10 @@ by_file : (found : ArgMatches) (words : List (String Global)) (fault : ArgFault)
 by_file found words fault (inl memory) = subst (λ (f : ArgFault). IsWordFault found words f) (sym memory) tt
 by_file found words fault (inr other) = subst (λ (f : ArgFault). IsWordFault found words f) (sym other.0) (inl other.1)
 
-pub returns-in_err-stop_file-clause-refused : goal.returns-in_err-stop_file-clause-refused
-returns-in_err-stop_file-clause-refused c =
+pub returns-in_err-option_string-clause-refused : goal.returns-in_err-option_string-clause-refused
+returns-in_err-option_string-clause-refused c =
     let found = c.args.found.now in
     let words = c.args.words.now in
-    let fault = c.in_err-stop_file.field-0.0 in
-    on_told c.from_residual-in_err-stop_file.result (Arg fault) (λ (told : CommandFault). IsRunRefused found words told)
-    c.from_residual-in_err-stop_file.ensures.1 (inr (c.in_ok-numbers.ensures.fit, by_file found words fault c.in_err-stop_file.ensures.refused))
+    let fault = c.in_err-option_string.field-0.0 in
+    on_told c.from_residual-in_err-option_string.result (Arg fault) (λ (told : CommandFault). IsRunRefused found words told)
+    c.from_residual-in_err-option_string.ensures.1 (inr (c.in_ok-numbers.ensures.fit, by_file found words fault c.in_err-option_string.ensures.refused))
