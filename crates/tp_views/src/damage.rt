@@ -5,6 +5,7 @@ use crate::image_rules::broken_rule;
 use crate::parts::Part::{Byte, Number, Text};
 use crate::parts::push_parts;
 use crate::places::{Layout, Record, layout_of};
+use crate::rules::push_words;
 use std::alloc::{AllocError, Global};
 use std::fmt::Write;
 use tp_area::head_places::VERSION_PLACE;
@@ -172,7 +173,8 @@ fn push_place(
     start: u64,
 ) -> Result<(), AllocError> {
     write!(text, "  offset {at} is in ")?;
-    layout.record_words(record).push(text)?;
+    let rule = layout.record_words(record);
+    push_words(text, rule.words, &rule.values)?;
     write!(text, ", from {start} on\n")
 }
 

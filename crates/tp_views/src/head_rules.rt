@@ -1,7 +1,7 @@
 //! Which rule of a device's head bytes break.
 
 use crate::parts::Part::{Byte, Number};
-use crate::rules::{NOTHING, Rule};
+use crate::rules::{NOTHING, Rule, push_words};
 use std::alloc::AllocError;
 use std::fmt::Write;
 use tp_area::head_places::{AREA_PLACE, NODES_PLACE, PAGES_PLACE, PORTS_PLACE, ends_place};
@@ -273,7 +273,8 @@ impl Fields<'_> {
             text,
             "  where link {own} of node {node} leads, at {at}, is {end:X}: "
         )?;
-        self.wrong_end(end).push(text)
+        let rule = self.wrong_end(end);
+        push_words(text, rule.words, &rule.values)
     }
 
     /// The first link that leads where it mustn't, and where that is.
@@ -309,7 +310,7 @@ impl Fields<'_> {
 fn push_found(text: &mut String, rule: Option<Rule<5>>) -> Result<bool, AllocError> {
     match rule {
         Some(rule) => {
-            rule.push(text)?;
+            push_words(text, rule.words, &rule.values)?;
             Ok(true)
         }
         None => Ok(false),

@@ -1,7 +1,7 @@
 //! Which rule of a node's image bytes break.
 
 use crate::parts::Part::{Number, Text, Word};
-use crate::rules::{NOTHING, Rule};
+use crate::rules::{NOTHING, Rule, push_words};
 use std::alloc::{AllocError, Global};
 use tp_area::image_length;
 use tp_model::limits::{IMAGE_HEAD_BYTES, IMAGE_VERSION, MAX_PAGES, MIN_PAGES, SLICE};
@@ -223,6 +223,6 @@ pub(crate) fn broken_rule(
         return Ok(None);
     };
     let mut text = String::new(alloc);
-    rule.push(&mut text)?;
+    push_words(&mut text, rule.words, &rule.values)?;
     Ok(Some(text))
 }

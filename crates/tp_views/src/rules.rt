@@ -13,21 +13,23 @@ pub(crate) struct Rule<const N: usize> {
     pub(crate) values: [Part<'static>; N],
 }
 
-impl<const N: usize> Rule<N> {
-    /// Appends the value behind the word with a number from 0 on, where there is one.
-    fn push_value(&self, text: &mut String, at: usize) -> Result<(), AllocError> {
-        match self.values.get(at) {
-            Some(value) => push_parts(text, &[*value]),
-            None => Ok(()),
-        }
+/// Appends the value with a number from 0 on, where there is one.
+fn push_value(text: &mut String, values: &[Part<'_>], at: usize) -> Result<(), AllocError> {
+    match values.get(at) {
+        Some(value) => push_parts(text, &[*value]),
+        None => Ok(()),
     }
+}
 
-    /// Appends the words and values.
-    pub(crate) fn push(&self, text: &mut String) -> Result<(), AllocError> {
-        for (at, word) in self.words.iter().enumerate() {
-            text.push_str(word)?;
-            self.push_value(text, at)?;
-        }
-        Ok(())
+/// Appends words, and behind each of them its value, where there is one.
+pub(crate) fn push_words(
+    text: &mut String,
+    words: &[&str],
+    values: &[Part<'_>],
+) -> Result<(), AllocError> {
+    for (at, word) in words.iter().enumerate() {
+        text.push_str(word)?;
+        push_value(text, values, at)?;
     }
+    Ok(())
 }
