@@ -12,8 +12,8 @@ use crate::stream_words::{STREAM, STREAM_REFUSALS};
 use clap::{Arg, ArgAction, Command};
 use std::alloc::{AllocError, Global};
 
-/// The program's version, and what it was proved with.
-const VERSION: &str = "0.1.0\nproved with rattle-kit-13b, logic dac8208d650f15bf";
+/// The program's version, and the logic that it was proved in, which several kits have.
+const VERSION: &str = "0.1.0\nproved in Rattle's logic dac8208d650f15bf";
 
 /// A word of a command: its name, what its value is called where it has one, and what help says of it.
 pub enum Word {
