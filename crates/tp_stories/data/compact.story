@@ -140,3 +140,15 @@ starts node node 2 pages 4 halt 3 LongPrefix\nIptr 80000100
 tpnet node device 3
 tpnet run device --turns 5 --workers 1 --explain
 tpnet compact device
+
+story last_generation
+# Behind the last generation but one there is one cut more; behind the last one there is none, and the device stays as it is.
+text net.txt node a 4\nport h\nwire a.0 h\n
+image a.img
+tpnet format device net.txt . 16384
+set device 513 FE FF FF FF FF FF 00 00
+tpnet compact device
+copy device last
+tpnet compact device
+equal device last
+tpnet recover device

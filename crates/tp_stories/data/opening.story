@@ -410,3 +410,22 @@ copy turned device
 tpnet compact device
 tpnet recover device
 show device 16909 8
+
+story two_open
+# Both areas stand open, as behind each checkpoint: the one of higher generation is opened, whichever that is, and the other isn't read on.
+# Where both have the same one, the second is damaged.
+text net.txt node a 4\nport h\nwire a.0 h\n
+image a.img
+tpnet format device net.txt . 16384
+part device head 0 512
+part device area 512 16384
+join device head area area
+tpnet recover device
+set device 16897 02
+tpnet show device
+set device 521 DD
+tpnet recover device
+set device 513 03
+tpnet recover device
+set device 521 DC
+tpnet show device

@@ -276,3 +276,16 @@ tpnet format device net.txt . 16384
 tpnet run device --stream --in 0=-
 asked stdin
 stay
+
+story halted
+# A node that has halted has its turns as before: its link takes a byte, and it makes no step. A turn that takes nothing makes no entry.
+text net.txt node a 4\nport h\nwire a.0 h\n
+image a.img 45 30
+tpnet format device net.txt . 16384
+tpnet run device --turns 1 --workers 1
+text input ab
+tpnet run device --turns 5 --workers 1 --in input
+tpnet journal device
+tpnet node device 0 >node
+has node halt 1 BadAddress
+has node in 0 idle held 61

@@ -302,13 +302,14 @@ tpnet run device --stream --until-quiet --every 1 --out 0=-
 tpnet show device
 
 story halted_before
-# The second node halted in an earlier run: a stream that stops on that makes no turn.
+# The second node halted in an earlier run: a stream that stops on that makes no turn. A halt is said before the bound of turns.
 text net.txt node a 4\nnode b 4\nport h\nwire a.0 h\n
 image a.img
 image b.img 40 30
 tpnet format device net.txt . 65536
 tpnet run device --turns 3 --workers 1
 tpnet run device --stream --stop-on-halt --turns 9 --discard 0
+tpnet run device --stream --stop-on-halt --turns 0 --discard 0
 
 story left_over
 # More input than a port holds, and its node takes nothing of it: 4096 bytes are pending, the rest isn't handed in, and nothing is left

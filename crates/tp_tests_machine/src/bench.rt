@@ -83,6 +83,11 @@ impl Bench {
         is_answer
     }
 
+    /// Whether the node can't take a token on a link.
+    pub fn refuses(&self, link: u8, token: Token) -> bool {
+        !self.node.can_take(link, &token)
+    }
+
     /// Changes the facts `given` in it. Answers whether it is a node's image still.
     pub fn also(&mut self, given: &[Fact<'_>]) -> bool {
         self.wanted.put_all(given);

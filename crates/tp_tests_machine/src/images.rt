@@ -31,6 +31,14 @@ const BYTES: &[(usize, u8, bool)] = &[
     (41, 3, false),
     (43, 4, true),
     (43, 5, false),
+    // Iptr, a register, the fronts and the backs of the queues may be any words
+    (4, 1, true),
+    (12, 1, true),
+    (24, 1, true),
+    (27, 0, true),
+    (31, 0x90, true),
+    (32, 3, true),
+    (39, 0x90, true),
     // an idle output end has nothing; one that waits has a byte left; there is no third state
     (44, 1, false),
     (44, 2, false),

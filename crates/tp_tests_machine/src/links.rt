@@ -5,7 +5,7 @@ use crate::image::Fact::{
     Word, Wptr,
 };
 use crate::image::{FIRST, Fact};
-use crate::story::Event::{Also, Rests, Run, Take, Then};
+use crate::story::Event::{Also, Refuses, Rests, Run, Take, Then};
 use crate::story::{Row, Story, check_rows, play_all};
 use tp_model::Token::{Ack, Data};
 use tp_node::Why;
@@ -19,6 +19,7 @@ const SENDING: &[Story<'static>] = &[
             Bytes(0x8000_0310, &[1, 2, 3]),
         ],
         events: &[
+            Refuses(1, Ack),
             Run(1, &[(1, Data(1))]),
             Then(&[
                 Gone,
@@ -33,6 +34,7 @@ const SENDING: &[Story<'static>] = &[
             Then(&[Waits(1, 0x8000_0201, 0x8000_0312, 1)]),
             Take(1, Ack, None),
             Then(&[Unused(1), Low(0x8000_0200, 0x8000_0200)]),
+            Refuses(1, Ack),
         ],
     },
     Story {
@@ -101,6 +103,7 @@ const RECEIVING: &[Story<'static>] = &[
         events: &[
             Take(0, Data(0x5A), None),
             Then(&[Holds(0, 0x5A)]),
+            Refuses(0, Data(1)),
             Also(&[]),
             Run(1, &[(0, Ack)]),
             Then(&[

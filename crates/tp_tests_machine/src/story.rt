@@ -15,6 +15,8 @@ pub enum Event<'a> {
     Rests(Why),
     /// It takes a token on a link, and answers.
     Take(u8, Token, Option<Token>),
+    /// It can't take a token on a link.
+    Refuses(u8, Token),
     /// The test changes the facts in it.
     Also(&'a [Fact<'a>]),
     /// Since the node was last looked at, the facts have changed and nothing else.
@@ -40,6 +42,7 @@ fn happens(bench: &mut Bench, event: &Event<'_>) -> bool {
         Event::Run(steps, sent) => bench.runs(*steps, sent),
         Event::Rests(why) => bench.rests(*why),
         Event::Take(link, token, answer) => bench.takes(*link, *token, *answer),
+        Event::Refuses(link, token) => bench.refuses(*link, *token),
         Event::Also(given) => bench.also(given),
         Event::Then(changed) => bench.is(changed),
     }
