@@ -1,12 +1,12 @@
 //! Devices that are opened each node by itself, by several workers, and in one thread: both calls agree.
 
-use crate::devices::{Held, Letter, disk_of, held_after, is_same};
-use crate::gates::Meeting;
+use crate::devices::{disk_of, formatted, held_after, is_same};
 use crate::opened_books::grown;
-use std::alloc::{AllocError, Global};
+use crate::watched::Watch;
+use std::alloc::Global;
 use std::process::Abort;
-use std::test::Fail;
 use std::thread::Threads;
+use tp_disk::MemDisk;
 use tp_gate::NoGate;
 use tp_model::OpenFault;
 use tp_model::OpenFault::Damaged;
@@ -177,10 +177,12 @@ const TWO: &[Content] = &[
 ];
 
 /// A device of two nodes with that group.
-fn pair(alloc: Global) -> Result<Vec<u8>, Fail> {
-    let mut bytes = Letter::of(alloc, PAIR, 2)?.device(alloc, NARROW_HEAD_BYTES, PAIR_AREA)?;
+fn pair(alloc: Global) -> Option<Vec<u8>> {
+    let Some(mut bytes) = formatted(alloc, PAIR, 2, NARROW_HEAD_BYTES, PAIR_AREA) else {
+        return None;
+    };
     place(&mut bytes, PAIR_GROUPS, PAIR_GROUP);
-    Ok(bytes)
+    Some(bytes)
 }
 
 /// Whether the open areas of two devices are alike.
@@ -191,31 +193,35 @@ fn are_alike(one: &Opened, other: &Opened) -> bool {
         && one.kept() == other.kept()
 }
 
-/// Whether an opened device holds what is wanted.
-fn is_held(alloc: Global, opened: Opened, wanted: &Held) -> Result<bool, Fail> {
-    let held = held_after(alloc, opened, b"")?;
-    Ok(is_same(&held, wanted))
-}
-
 /// Whether two devices, each opened by one of both calls, hold equal things, and have this next number.
-fn hold_same(alloc: Global, one: Opened, other: Opened, next: u64) -> Result<bool, Fail> {
+fn hold_same(alloc: Global, one: Opened, other: Opened, next: u64) -> bool {
     let same = one.next() == next && are_alike(&one, &other);
-    let one = held_after(alloc, one, b"")?;
-    let told = is_held(alloc, other, &one)?;
-    Ok(same && told)
+    let one = held_after(alloc, one, b"");
+    let other = held_after(alloc, other, b"");
+    match (&one, &other) {
+        (Some(one), Some(other)) => same && is_same(one, other),
+        _ => false,
+    }
 }
 
-/// Whether both calls say this.
-fn is_said_by_both(
+/// Whether both calls open the device, and it has this next number.
+fn are_open(
     alloc: Global,
     one: Result<Opened, Unopened>,
     other: Result<Opened, Unopened>,
-    says: Result<u64, OpenFault>,
-) -> Result<bool, Fail> {
-    match (one, other, says) {
-        (Ok(one), Ok(other), Ok(next)) => hold_same(alloc, one, other, next),
-        (Err(one), Err(other), Err(fault)) => { Ok(one == other && one == Unopened::Fault(fault)) }
-        _ => Ok(false),
+    next: u64,
+) -> bool {
+    match (one, other) {
+        (Ok(one), Ok(other)) => hold_same(alloc, one, other, next),
+        _ => false,
+    }
+}
+
+/// Whether a call answers this fault.
+fn is_fault(answer: &Result<Opened, Unopened>, fault: OpenFault) -> bool {
+    match answer {
+        Ok(_) => false,
+        Err(found) => *found == Unopened::Fault(fault),
     }
 }
 
@@ -226,11 +232,16 @@ fn is_said_by<R: Threads + Sync>(
     bytes: &[u8],
     workers: u8,
     says: Result<u64, OpenFault>,
-) -> Result<bool, Fail> {
-    let mut disk = disk_of(alloc, bytes)?;
+) -> bool {
+    let Some(mut disk) = disk_of(alloc, bytes) else {
+        return false;
+    };
     let apart = open_parallel(alloc, &mut disk, workers.clamp(1, 64), &NoGate, rt);
     let whole = open(alloc, &mut disk);
-    is_said_by_both(alloc, whole, apart, says)
+    match says {
+        Ok(next) => are_open(alloc, whole, apart, next),
+        Err(fault) => is_fault(&whole, fault) && is_fault(&apart, fault),
+    }
 }
 
 /// Whether a device says this, opened in one thread and by any number of workers.
@@ -239,13 +250,13 @@ pub(crate) fn is_said<R: Threads + Sync>(
     alloc: Global,
     bytes: &[u8],
     says: Result<u64, OpenFault>,
-) -> Result<bool, Fail> {
+) -> bool {
     for workers in WORKERS {
-        if !is_said_by(rt, alloc, bytes, workers, says)? {
-            return Ok(false);
+        if !is_said_by(rt, alloc, bytes, workers, says) {
+            return false;
         }
     }
-    Ok(true)
+    true
 }
 
 /// A device with pieces over its bytes.
@@ -253,61 +264,70 @@ pub(crate) fn with_pieces(
     alloc: Global,
     device: &[u8],
     pieces: &[(usize, &[u8])],
-) -> Result<Vec<u8>, AllocError> {
-    let mut bytes = Vec::from_slice(alloc, device)?;
+) -> Option<Vec<u8>> {
+    let Ok(mut bytes) = Vec::from_slice(alloc, device) else {
+        return None;
+    };
     for (at, piece) in pieces {
         place(&mut bytes, *at, piece);
     }
-    Ok(bytes)
+    Some(bytes)
 }
 
-/// A device with the bytes of a row.
-fn changed(alloc: Global, device: &[u8], content: &Content) -> Result<Vec<u8>, AllocError> {
-    let mut bytes = Vec::from_slice(alloc, device)?;
+/// Whether a device with the bytes of a row says what the row does.
+fn is_row<R: Threads + Sync>(rt: &R, alloc: Global, device: &[u8], content: &Content) -> bool {
+    let Ok(mut bytes) = Vec::from_slice(alloc, device) else {
+        return false;
+    };
     for (at, byte) in content.0.iter().zip(&content.1) {
         place(&mut bytes, *at, &[*byte]);
     }
-    Ok(bytes)
+    is_said(rt, alloc, &bytes, content.2)
 }
 
 /// Plays a table over a device.
 pub(crate) fn play<R: Threads + Sync + Abort>(
     rt: &R,
     alloc: Global,
-    device: &[u8],
+    device: Option<Vec<u8>>,
     contents: &[Content],
-) -> Result<(), Fail> {
+) {
     for (i, content) in contents.iter().enumerate() {
-        let bytes = changed(alloc, device, content)?;
-        let told = is_said(rt, alloc, &bytes, content.2)?;
+        let told = match &device {
+            Some(device) => is_row(rt, alloc, device, content),
+            None => false,
+        };
         assert!(rt; told, "content {i}");
     }
-    Ok(())
 }
 
 #[test]
-fn one_node_by_itself(rt: HostRuntime) -> Result<(), Fail> {
-    let alloc = rt.alloc();
-    let device = grown(alloc)?;
-    play(&rt, alloc, &device, ONE)
+fn one_node_by_itself(rt: HostRuntime) {
+    play(&rt, rt.alloc(), grown(rt.alloc()), ONE);
 }
 
 #[test]
-fn two_nodes_each_by_itself(rt: HostRuntime) -> Result<(), Fail> {
-    let alloc = rt.alloc();
-    let device = pair(alloc)?;
-    play(&rt, alloc, &device, TWO)
+fn two_nodes_each_by_itself(rt: HostRuntime) {
+    play(&rt, rt.alloc(), pair(rt.alloc()), TWO);
+}
+
+/// Whether the device of two nodes opens by two workers, with what is told the gate.
+fn opens_at<R: Threads + Sync>(rt: &R, alloc: Global, gate: &Watch) -> bool {
+    match pair(alloc) {
+        Some(bytes) => {
+            let mut disk = MemDisk::of_bytes(bytes);
+            let opened = open_parallel(alloc, &mut disk, 2, gate, rt);
+            opened.is_ok()
+        }
+        None => false,
+    }
 }
 
 /// The pieces of both nodes meet at the gate as they begin, and no other one comes there. In one thread the first would look for the
 /// second in vain.
 #[test]
-fn both_pieces_meet_at_the_gate(rt: HostRuntime) -> Result<(), Fail> {
-    let alloc = rt.alloc();
-    let gate = Meeting::new(2);
-    let mut disk = disk_of(alloc, &pair(alloc)?)?;
-    let told = open_parallel(alloc, &mut disk, 2, &gate, &rt).is_ok();
-    assert!(rt; told);
-    assert!(rt; gate.counts() == [2, 2, 1, 1]);
-    Ok(())
+fn both_pieces_meet_at_the_gate(rt: HostRuntime) {
+    let gate = Watch::new(2, 0);
+    let is_open = opens_at(&rt, rt.alloc(), &gate);
+    assert!(rt; is_open && gate.counts() == [2, 2, 1, 1, 0, 0, 0, 0]);
 }

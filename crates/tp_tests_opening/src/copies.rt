@@ -13,26 +13,26 @@ use crate::checkpoints::{Cut, Step};
 use crate::devices::{Held, append, append_each, replayed};
 use crate::letters::entry_of;
 use std::alloc::{AllocError, Global};
-use std::test::Fail;
 use tp_area::{Store, StoreFault};
 use tp_book::{Numbered, PortParts};
 use tp_disk::{Disk, MemDisk};
 use tp_entry::is_in_range;
 use tp_model::limits::{IMAGE_HEAD_BYTES, MAX_HELD, PAGE_BYTES};
-use tp_model::{Token, WireEnd};
+use tp_model::{NetFault, Token, WireEnd};
 use tp_net::{Lines, Topology};
 use tp_tests_fixtures::ONE_NODE;
 
 /// The pages of the node.
 const PAGES: usize = 4;
 
-/// What is put for a cut: the network's topology, what a plain replay gives of the entries in it, its lines, and the entries outside it.
+/// What is put for a cut: the network's topology, what a plain replay gives of the entries in it, its lines, and the entries outside it; each
+/// as it was made, or why it wasn't.
 #[derive(Drop)]
-struct Pieces {
-    topology: Topology,
-    held: Held,
-    lines: Lines,
-    tail: Vec<Numbered>,
+struct Made {
+    topology: Result<Topology, NetFault>,
+    held: Option<Held>,
+    lines: Result<Lines, AllocError>,
+    tail: Result<Vec<Numbered>, AllocError>,
 }
 
 /// Entries with the numbers beside them.
@@ -56,18 +56,14 @@ fn lines_of(alloc: Global, cut: &Cut) -> Result<Lines, AllocError> {
     Ok(lines)
 }
 
-/// The pieces of a cut over the device with `first`, with which all began.
-fn pieces_of(alloc: Global, first: &[u8], cut: &Cut) -> Result<Pieces, Fail> {
-    let lines = lines_of(alloc, cut)?;
-    let tail = numbered_of(alloc, cut.tail)?;
-    let topology = Topology::read(alloc, ONE_NODE)?;
-    let held = replayed(alloc, first, cut.entries)?;
-    Ok(Pieces {
-        topology,
-        held,
-        lines,
-        tail,
-    })
+/// What is made for a cut over the device with `first`, with which all began.
+fn made_for(alloc: Global, first: &[u8], cut: &Cut) -> Made {
+    Made {
+        topology: Topology::read(alloc, ONE_NODE),
+        held: replayed(alloc, first, cut.entries),
+        lines: lines_of(alloc, cut),
+        tail: numbered_of(alloc, cut.tail),
+    }
 }
 
 /// Whether the record of a line can hold what is on it, here one token at most.
@@ -146,58 +142,70 @@ fn put_image<D: Disk>(
 }
 
 /// Puts all the rest there.
-fn put_rest<D: Disk>(store: &mut Store<D>, pieces: &Pieces) -> Result<(), StoreFault>
+fn put_rest<D: Disk>(
+    store: &mut Store<D>,
+    topology: &Topology,
+    held: &Held,
+    lines: &Lines,
+    tail: &[Numbered],
+) -> Result<(), StoreFault>
     requires closed { D.keeps → OtherIsClosed store.old.place (D.state store.old.disk) }
     ensures filled { OnOk result (is_some store.new.filled ≡ true) }
 {
-    let topology = &pieces.topology;
-    let ports = pieces.held.net.ports.as_slice();
-    let base = pieces.held.next;
+    let ports = held.net.ports.as_slice();
+    let base = held.next;
     let may_be_put = store.place.generation < 1_000
         && topology.port_count() == 1
         && ports.len() == 1
         && is_port(base, &ports[0])
-        && are_lines(topology.wires(), &pieces.lines)
-        && are_behind(base, &pieces.tail);
+        && are_lines(topology.wires(), lines)
+        && are_behind(base, tail);
     if !may_be_put {
         return Err(StoreFault::AreaFull);
     }
-    store.put_tail(topology, base, &pieces.lines, ports, &pieces.tail)
+    store.put_tail(topology, base, lines, ports, tail)
 }
 
-/// Makes a checkpoint of pieces: the other area is closed, they are put there, and its gate is opened.
-fn switch<D: Disk>(store: &mut Store<D>, pieces: &Pieces) -> Result<(), StoreFault> {
+/// Makes a checkpoint: the other area is closed, all is put there, and its gate is opened.
+fn switch<D: Disk>(
+    store: &mut Store<D>,
+    topology: &Topology,
+    held: &Held,
+    lines: &Lines,
+    tail: &[Numbered],
+) -> Result<(), StoreFault> {
     store.clear_other()?;
-    let Some(image) = pieces.held.net.images.first() else {
+    let Some(image) = held.net.images.first() else {
         return Err(StoreFault::AreaFull);
     };
-    put_image(store, &pieces.topology, image)?;
-    put_rest(store, pieces)?;
+    put_image(store, topology, image)?;
+    put_rest(store, topology, held, lines, tail)?;
     store.open_other()
 }
 
-/// Makes a checkpoint on a device, with whose bytes `first` all began.
-fn checkpoint(
-    alloc: Global,
-    store: &mut Store<MemDisk>,
-    first: &[u8],
-    cut: &Cut,
-) -> Result<Result<(), StoreFault>, Fail> {
-    let pieces = pieces_of(alloc, first, cut)?;
-    let done = switch(store, &pieces);
-    Ok(done)
+/// Makes a checkpoint of what was made for it. Where that wasn't, it is refused as by a full area, which no test wants.
+fn switch_to(store: &mut Store<MemDisk>, made: &Made) -> Result<(), StoreFault> {
+    match (&made.topology, &made.held, &made.lines, &made.tail) {
+        (Ok(topology), Some(held), Ok(lines), Ok(tail)) => {
+            switch(store, topology, held, lines, tail)
+        }
+        _ => Err(StoreFault::AreaFull),
+    }
 }
 
-/// Takes a step on such a device.
+/// Takes a step on a device, with whose bytes `first` all began.
 pub(crate) fn take_step(
     alloc: Global,
     store: &mut Store<MemDisk>,
     first: &[u8],
     step: &Step,
-) -> Result<Result<(), StoreFault>, Fail> {
+) -> Result<(), StoreFault> {
     match step {
-        Step::Group(letters) => Ok(append(store, letters)),
-        Step::Each(letters) => Ok(append_each(store, letters)),
-        Step::Switch(cut) => checkpoint(alloc, store, first, cut),
+        Step::Group(letters) => append(store, letters),
+        Step::Each(letters) => append_each(store, letters),
+        Step::Switch(cut) => {
+            let made = made_for(alloc, first, cut);
+            switch_to(store, &made)
+        }
     }
 }

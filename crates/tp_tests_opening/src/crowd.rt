@@ -9,7 +9,7 @@ const LOOKS: u32 = 1_000_000_000;
 /// How many have come of a crowd, and how many of these saw that all had.
 #[derive(Drop)]
 pub struct Crowd {
-    size: u32,
+    pub size: u32,
     come: AtomicU32,
     met: AtomicU32,
 }

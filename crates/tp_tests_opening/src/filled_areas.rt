@@ -1,9 +1,8 @@
 //! Groups appended until an area is full.
 
 use crate::apart::is_said;
-use crate::devices::{append, disk_of, fresh, leads_from, store_of};
+use crate::devices::{append, disk_of, fresh, leads_from, left, store_of};
 use std::alloc::Global;
-use std::test::Fail;
 use std::thread::Threads;
 use tp_area::{Store, StoreFault};
 use tp_disk::{Disk, MemDisk};
@@ -62,17 +61,19 @@ fn inputs(all: &[u8], count: usize) -> &[u8] {
 }
 
 /// Whether no group fits that has one of the counts, and nothing changes.
-fn refuses(alloc: Global, store: &mut Store<MemDisk>, counts: &[usize]) -> Result<bool, Fail> {
+fn refuses(alloc: Global, store: &mut Store<MemDisk>, counts: &[usize]) -> bool {
     let place = store.place;
-    let bytes = Vec::from_slice(alloc, store.disk.bytes())?;
+    let Ok(bytes) = Vec::from_slice(alloc, store.disk.bytes()) else {
+        return false;
+    };
     for count in counts {
         let told = append(store, inputs(&INPUTS, *count));
         let is_other = store.disk.bytes() != bytes.as_slice() || store.disk.failures() != 0;
         if told != Err(StoreFault::AreaFull) || is_other || store.place != place || store.broken {
-            return Ok(false);
+            return false;
         }
     }
-    Ok(true)
+    true
 }
 
 /// Appends groups. Answers whether each ends where it ought to.
@@ -85,25 +86,28 @@ fn fill(store: &mut Store<MemDisk>, groups: &[(usize, u64)]) -> bool {
     true
 }
 
-/// Whether a store is full once it has the groups.
-fn is_full(alloc: Global, store: &mut Store<MemDisk>, filling: &Filling<'_>) -> Result<bool, Fail> {
-    Ok(fill(store, filling.groups) && refuses(alloc, store, filling.refused)?)
-}
-
-/// Whether a store is full once it has the groups, and what a crash leaves then.
-fn filled(alloc: Global, first: &[u8], filling: &Filling<'_>) -> Result<(bool, Vec<u8>), Fail> {
-    let mut store = store_of(alloc, first)?;
-    let is_full = is_full(alloc, &mut store, filling);
-    let bytes = store.into_disk().crash();
-    Ok((is_full?, bytes))
+/// What a crash leaves of a store that is full once it has the groups.
+fn filled(alloc: Global, first: &[u8], filling: &Filling<'_>) -> Option<Vec<u8>> {
+    let Some(mut store) = store_of(alloc, first) else {
+        return None;
+    };
+    let is_full = fill(&mut store, filling.groups) && refuses(alloc, &mut store, filling.refused);
+    left(store.into_disk(), is_full)
 }
 
 /// Whether a device of `bytes` is as full once it is opened.
-fn stays_full(alloc: Global, bytes: &[u8], filling: &Filling<'_>) -> Result<bool, Fail> {
-    let (opened, mut store) = open_store(alloc, disk_of(alloc, bytes)?)?;
-    let is_end = opened.next() == filling.next && opened.end() == filling.end;
-    let told = refuses(alloc, &mut store, filling.refused)?;
-    Ok(is_end && told)
+fn stays_full(alloc: Global, bytes: &[u8], filling: &Filling<'_>) -> bool {
+    let Some(disk) = disk_of(alloc, bytes) else {
+        return false;
+    };
+    match open_store(alloc, disk) {
+        Ok((opened, mut store)) => {
+            opened.next() == filling.next
+                && opened.end() == filling.end
+                && refuses(alloc, &mut store, filling.refused)
+        }
+        Err(_) => false,
+    }
 }
 
 /// Whether what a crash leaves is as full, and holds what a plain replay gives, in one thread and by any number of workers.
@@ -113,35 +117,27 @@ fn stays<R: Threads + Sync>(
     first: &[u8],
     bytes: &[u8],
     filling: &Filling<'_>,
-) -> Result<bool, Fail> {
+) -> bool {
     let entries = inputs(&INPUTS, filling.next as usize);
-    Ok(
-        stays_full(alloc, bytes, filling)?
-            && leads_from(alloc, bytes, filling.next, first, entries)?
-            && is_said(rt, alloc, bytes, Ok(filling.next))?,
-    )
+    stays_full(alloc, bytes, filling)
+        && leads_from(alloc, bytes, filling.next, first, entries)
+        && is_said(rt, alloc, bytes, Ok(filling.next))
 }
 
-/// Whether the groups fill a device that was just formatted with `first`, and it stays so.
-fn fills_over<R: Threads + Sync>(
-    rt: &R,
-    alloc: Global,
-    first: &[u8],
-    filling: &Filling<'_>,
-) -> Result<bool, Fail> {
-    let (is_full, bytes) = filled(alloc, first, filling)?;
-    let told = stays(rt, alloc, first, &bytes, filling)?;
-    Ok(is_full && told)
+/// Whether the groups fill a device that was just formatted, and it stays so.
+fn fills<R: Threads + Sync>(rt: &R, alloc: Global, filling: &Filling<'_>) -> bool {
+    let Some(first) = fresh(alloc, filling.area) else {
+        return false;
+    };
+    match filled(alloc, &first, filling) {
+        Some(bytes) => stays(rt, alloc, &first, &bytes, filling),
+        None => false,
+    }
 }
 
 #[test]
-fn areas_are_filled(rt: HostRuntime) -> Result<(), Fail> {
+fn areas_are_filled(rt: HostRuntime) {
     for (i, filling) in FILLINGS.iter().enumerate() {
-        let first = fresh(rt.alloc(), filling.area)?;
-        assert!(rt;
-            fills_over(&rt, rt.alloc(), &first, filling)?,
-            "filling {i}"
-        );
+        assert!(rt; fills(&rt, rt.alloc(), filling), "filling {i}");
     }
-    Ok(())
 }

@@ -1,10 +1,11 @@
 //! Formatting a device whose calls fail, or on which the run stops: what the device then opens as.
 
-use crate::devices::{CALLS_OF_FORMAT, LETTER, Letter, disk_of, fresh, grown_by, leads_from};
+use crate::devices::{
+    CALLS_OF_FORMAT, LETTER, Letter, disk_of, formatted, fresh, grown_by, leads_from, left,
+};
 use crate::faults::Ending;
 use crate::wide::{LEAST, SEVENTEEN};
-use std::alloc::{AllocError, Global};
-use std::test::Fail;
+use std::alloc::Global;
 use tp_disk::{MemDisk, PlannedFault};
 use tp_model::OpenFault;
 use tp_recover::{Unopened, open};
@@ -71,35 +72,42 @@ const WAYS: [(Ending, u8); 9] = [
     (Ending::Fails, 0xFF),
 ];
 
-/// The number of the next entry on a device that opens, or why it doesn't.
-fn opens_as(alloc: Global, bytes: &[u8]) -> Result<Result<u64, Unopened>, AllocError> {
-    let mut disk = disk_of(alloc, bytes)?;
-    Ok(match open(alloc, &mut disk) {
-        Ok(opened) => Ok(opened.next()),
-        Err(fault) => Err(fault),
-    })
+/// Whether a device has this number of the next entry, or doesn't open for this fault.
+fn opens_as(alloc: Global, bytes: &[u8], says: Result<u64, OpenFault>) -> bool {
+    let Some(mut disk) = disk_of(alloc, bytes) else {
+        return false;
+    };
+    match open(alloc, &mut disk) {
+        Ok(opened) => matches!(says, Ok(next) if next == opened.next()),
+        Err(found) => matches!(says, Err(fault) if found == Unopened::Fault(fault)),
+    }
 }
 
 /// What such a device says.
-const NONE: Result<u64, Unopened> = Err(Unopened::Fault(OpenFault::NotFormatted));
+const NONE: Result<u64, OpenFault> = Err(OpenFault::NotFormatted);
 
 impl Made {
     /// The device once it is formatted.
-    fn device(&self, alloc: Global) -> Result<Vec<u8>, Fail> {
-        Letter::of(alloc, self.text, self.nodes)?.device(alloc, self.head, self.area)
+    fn device(&self, alloc: Global) -> Option<Vec<u8>> {
+        formatted(alloc, self.text, self.nodes, self.head, self.area)
     }
 
-    /// What a format leaves whose call number `call` has a fault: whether it was done, and the bytes.
-    fn formatted(
-        &self,
-        alloc: Global,
-        call: u64,
-        fault: PlannedFault,
-    ) -> Result<(bool, Vec<u8>), Fail> {
-        let letter = Letter::of(alloc, self.text, self.nodes)?;
-        let mut disk = MemDisk::zeroed(alloc, self.size)?.with_fault(call, fault);
-        let done = letter.format(alloc, &mut disk, self.area).is_ok();
-        Ok((done, disk.crash()))
+    /// Whether formatting a device ends well; none where there is no memory for its network.
+    fn formats(&self, alloc: Global, disk: &mut MemDisk) -> Option<bool> {
+        match Letter::of(alloc, self.text, self.nodes) {
+            Some(network) => Some(network.format(alloc, disk, self.area).is_ok()),
+            None => None,
+        }
+    }
+
+    /// What a format leaves whose call number `call` has a fault, so that it isn't done.
+    fn stopped(&self, alloc: Global, call: u64, fault: PlannedFault) -> Option<Vec<u8>> {
+        let Ok(disk) = MemDisk::zeroed(alloc, self.size) else {
+            return None;
+        };
+        let mut disk = disk.with_fault(call, fault);
+        let is_stopped = self.formats(alloc, &mut disk) == Some(false);
+        left(disk, is_stopped)
     }
 
     /// Whether what a format leaves that ends in this call isn't formatted: where that is the last, once its head, which is whole, is torn
@@ -111,101 +119,102 @@ impl Made {
         bytes: &mut [u8],
         byte: u8,
         whole: &[u8],
-    ) -> Result<bool, AllocError> {
+    ) -> bool {
         if call.saturating_add(1) == self.calls {
             if &*bytes != whole {
-                return Ok(false);
+                return false;
             }
             place(bytes, 0, &[byte; 512]);
         }
-        let is_none = opens_as(alloc, bytes)? == NONE;
+        let is_none = opens_as(alloc, bytes, NONE);
         place(bytes, self.head, &[byte; 64]);
         let second = self.head.saturating_add(self.area.min(100_000) as usize);
         place(bytes, second, &[byte; 64]);
-        Ok(is_none && opens_as(alloc, bytes)? == NONE)
+        is_none && opens_as(alloc, bytes, NONE)
     }
 
     /// Whether a format isn't done, and the device isn't formatted, where a call ends so and what is torn there is `byte`.
-    fn is_none(
-        &self,
-        alloc: Global,
-        call: u64,
-        way: (Ending, u8),
-        whole: &[u8],
-    ) -> Result<bool, Fail> {
-        let torn = Vec::from_elem(alloc, way.1, 4268)?;
-        let (done, mut bytes) = self.formatted(alloc, call, way.0.fault(torn))?;
-        let told = self.says_none(alloc, call, &mut bytes, way.1, whole)?;
-        Ok(!done && told)
+    fn is_none(&self, alloc: Global, call: u64, way: (Ending, u8), whole: &[u8]) -> bool {
+        let Ok(torn) = Vec::from_elem(alloc, way.1, 4268) else {
+            return false;
+        };
+        match self.stopped(alloc, call, way.0.fault(torn)) {
+            Some(mut bytes) => self.says_none(alloc, call, &mut bytes, way.1, whole),
+            None => false,
+        }
     }
 
     /// Whether the device isn't formatted however a call ends.
-    fn is_none_however(&self, alloc: Global, call: u64, whole: &[u8]) -> Result<bool, Fail> {
+    fn is_none_however(&self, alloc: Global, call: u64, whole: &[u8]) -> bool {
         for way in WAYS {
-            if !self.is_none(alloc, call, way, whole)? {
-                return Ok(false);
+            if !self.is_none(alloc, call, way, whole) {
+                return false;
             }
         }
-        Ok(true)
+        true
     }
 
     /// What a device of zeros says once all but the head is written, and `written` bytes of the head.
-    fn says_at(&self, written: usize) -> Result<u64, Unopened> {
+    fn says_at(&self, written: usize) -> Result<u64, OpenFault> {
         for (below, answer) in self.says {
             if written < *below {
-                return match answer {
-                    Ok(next) => Ok(*next),
-                    Err(fault) => Err(Unopened::Fault(*fault)),
-                };
+                return *answer;
             }
         }
         Ok(0)
     }
 
     /// Whether a format that stops once `count` bytes of its head are written isn't done, and the device says what they do.
-    fn says_so(&self, alloc: Global, whole: &[u8], count: usize) -> Result<bool, Fail> {
-        let torn = Vec::from_slice(alloc, whole.get(..count).unwrap_or(&[]))?;
+    fn says_so(&self, alloc: Global, whole: &[u8], count: usize) -> bool {
+        let Ok(torn) = Vec::from_slice(alloc, whole.get(..count).unwrap_or(&[])) else {
+            return false;
+        };
         let head = self.calls.saturating_sub(2);
-        let (done, bytes) = self.formatted(alloc, head, PlannedFault::StopsWithin { torn })?;
-        let is_whole = bytes.as_slice() == whole;
-        let is_said = opens_as(alloc, &bytes)? == self.says_at(count);
-        Ok(!done && is_whole == (count >= self.whole) && is_said)
+        match self.stopped(alloc, head, PlannedFault::StopsWithin { torn }) {
+            Some(bytes) => {
+                let is_whole = bytes.as_slice() == whole;
+                is_whole == (count >= self.whole) && opens_as(alloc, &bytes, self.says_at(count))
+            }
+            None => false,
+        }
     }
 }
 
 impl Made {
     /// Whether the device isn't formatted whichever of its calls ends, however it does.
-    fn is_none_at_each(&self, alloc: Global, whole: &[u8]) -> Result<bool, Fail> {
+    fn is_none_at_each(&self, alloc: Global, whole: &[u8]) -> bool {
         for call in 0..self.calls {
-            if !self.is_none_however(alloc, call, whole)? {
-                return Ok(false);
+            if !self.is_none_however(alloc, call, whole) {
+                return false;
             }
         }
-        Ok(true)
+        true
     }
 
     /// Whether the device says what of its head is written, however much that is.
-    fn says_each(&self, alloc: Global, whole: &[u8]) -> Result<bool, Fail> {
+    fn says_each(&self, alloc: Global, whole: &[u8]) -> bool {
         for count in 0..self.whole.saturating_add(10) {
-            if !self.says_so(alloc, whole, count)? {
-                return Ok(false);
+            if !self.says_so(alloc, whole, count) {
+                return false;
             }
         }
-        Ok(true)
+        true
     }
 
     /// Whether no format of it that stops in a call is done, and none says anything.
-    fn stops(&self, alloc: Global) -> Result<bool, Fail> {
-        let whole = self.device(alloc)?;
-        let told = self.is_none_at_each(alloc, &whole);
-        told
+    fn stops(&self, alloc: Global) -> bool {
+        match self.device(alloc) {
+            Some(whole) => self.is_none_at_each(alloc, &whole),
+            None => false,
+        }
     }
 
     /// Whether one that stops within its head's write says what of that is written.
-    fn stops_in_its_head(&self, alloc: Global) -> Result<bool, Fail> {
-        let whole = self.device(alloc)?;
-        let told = self.says_each(alloc, &whole);
-        told
+    fn stops_in_its_head(&self, alloc: Global) -> bool {
+        match self.device(alloc) {
+            Some(whole) => self.says_each(alloc, &whole),
+            None => false,
+        }
     }
 }
 
@@ -213,58 +222,69 @@ impl Made {
 /// of it is written says what the device is. Written whole, it is formatted; the format isn't done either way. Where the last sync fails
 /// or isn't reached the format isn't done, and the head may be torn.
 #[test]
-fn a_format_that_stops(rt: HostRuntime) -> Result<(), Fail> {
-    assert!(rt; ONE.stops(rt.alloc())? && ONE.stops_in_its_head(rt.alloc())?);
-    Ok(())
+fn a_format_that_stops(rt: HostRuntime) {
+    assert!(rt; ONE.stops(rt.alloc()) && ONE.stops_in_its_head(rt.alloc()));
 }
 
 #[test]
-fn a_wide_format_that_stops(rt: HostRuntime) -> Result<(), Fail> {
-    assert!(rt; WIDE.stops(rt.alloc())?);
-    Ok(())
+fn a_wide_format_that_stops(rt: HostRuntime) {
+    assert!(rt; WIDE.stops(rt.alloc()));
 }
 
 #[test]
-fn a_wide_format_that_stops_in_its_head(rt: HostRuntime) -> Result<(), Fail> {
-    assert!(rt; WIDE.stops_in_its_head(rt.alloc())?);
-    Ok(())
+fn a_wide_format_that_stops_in_its_head(rt: HostRuntime) {
+    assert!(rt; WIDE.stops_in_its_head(rt.alloc()));
 }
 
 /// What a device has that is formatted over `before`.
-fn formatted_over(alloc: Global, before: Vec<u8>) -> Result<Vec<u8>, Fail> {
-    let letter = Letter::of(alloc, ONE_NODE, 1)?;
+fn formatted_over(alloc: Global, before: Vec<u8>) -> Option<Vec<u8>> {
+    let Some(network) = Letter::of(alloc, ONE_NODE, 1) else {
+        return None;
+    };
     let mut disk = MemDisk::of_bytes(before);
-    let done = letter.format(alloc, &mut disk, AREA);
-    let left = disk.crash();
-    match done {
-        Ok(()) => Ok(left),
-        Err(fault) => Err(Fail::from(fault)),
-    }
+    let is_done = network.format(alloc, &mut disk, AREA).is_ok();
+    left(disk, is_done)
 }
 
 /// Whether a device holds what `first` does, and so it does with a group.
-fn is_like(alloc: Global, bytes: &[u8], first: &[u8]) -> Result<bool, Fail> {
-    let grown = grown_by(alloc, bytes, &[LETTER])?;
-    Ok(leads_from(alloc, bytes, 0, first, b"")? && leads_from(alloc, &grown, 4, first, LETTER)?)
-}
-
-/// Whether a device that is formatted over `before` does so.
-fn is_like_over(alloc: Global, before: Vec<u8>, first: &[u8]) -> Result<bool, Fail> {
-    let bytes = formatted_over(alloc, before)?;
-    let told = is_like(alloc, &bytes, first);
-    told
-}
-
-/// What stood on the device before makes no difference to what it then holds, nor to a group that is appended: a device with a group,
-/// opened gates, and ones.
-#[test]
-fn a_format_over_other_bytes(rt: HostRuntime) -> Result<(), Fail> {
-    let alloc = rt.alloc();
-    let first = fresh(alloc, AREA)?;
-    assert!(rt; is_like_over(alloc, grown_by(alloc, &first, &[LETTER])?, &first)?);
-    for byte in [0xA5, 0xFF] {
-        let before = Vec::from_elem(alloc, byte, SIZE)?;
-        assert!(rt; is_like_over(alloc, before, &first)?, "byte {byte}");
+fn is_like(alloc: Global, bytes: &[u8], first: &[u8]) -> bool {
+    match grown_by(alloc, bytes, LETTER) {
+        Some(grown) => {
+            leads_from(alloc, bytes, 0, first, b"") && leads_from(alloc, &grown, 4, first, LETTER)
+        }
+        None => false,
     }
-    Ok(())
+}
+
+/// What stood on the device before: a device with a group, opened gates, or ones.
+fn before(alloc: Global, first: &[u8], byte: u8) -> Option<Vec<u8>> {
+    if byte == 0 {
+        return grown_by(alloc, first, LETTER);
+    }
+    match Vec::from_elem(alloc, byte, SIZE) {
+        Ok(bytes) => Some(bytes),
+        Err(_) => None,
+    }
+}
+
+/// Whether a device that is formatted over such bytes is like one that is formatted over zeros.
+fn is_like_over(alloc: Global, byte: u8) -> bool {
+    let Some(first) = fresh(alloc, AREA) else {
+        return false;
+    };
+    let Some(before) = before(alloc, &first, byte) else {
+        return false;
+    };
+    match formatted_over(alloc, before) {
+        Some(bytes) => is_like(alloc, &bytes, &first),
+        None => false,
+    }
+}
+
+/// What stood on the device before makes no difference to what it then holds, nor to a group that is appended.
+#[test]
+fn a_format_over_other_bytes(rt: HostRuntime) {
+    for byte in [0, 0xA5, 0xFF] {
+        assert!(rt; is_like_over(rt.alloc(), byte), "byte {byte}");
+    }
 }

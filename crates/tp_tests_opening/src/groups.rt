@@ -1,7 +1,6 @@
 //! Groups of entries and their bytes.
 
 use std::alloc::{AllocError, Global};
-use std::test::Fail;
 use tp_entry::{BadEntry, Numbered, get, put_group_body, read_group};
 use tp_model::Token::Ack;
 use tp_model::{BadGroup, Entry};
@@ -167,11 +166,18 @@ const NUMBERS: &[Numbers<'static>] = &[
     (&ONE_MORE, Err(BadGroup)),
 ];
 
-#[test]
-fn numbers_rise_and_entries_are_few(rt: HostRuntime) -> Result<(), Fail> {
-    for (i, (numbers, want)) in NUMBERS.iter().enumerate() {
-        let bytes = group_of(rt.alloc(), numbers)?;
-        assert!(rt; count_in(&bytes) == *want, "row {i}");
+/// Whether the group of a row's numbers is read so.
+fn is_read(alloc: Global, row: &Numbers<'_>) -> bool {
+    let (numbers, want) = *row;
+    match group_of(alloc, numbers) {
+        Ok(bytes) => count_in(&bytes) == want,
+        Err(_) => false,
     }
-    Ok(())
+}
+
+#[test]
+fn numbers_rise_and_entries_are_few(rt: HostRuntime) {
+    for (i, row) in NUMBERS.iter().enumerate() {
+        assert!(rt; is_read(rt.alloc(), row), "row {i}");
+    }
 }

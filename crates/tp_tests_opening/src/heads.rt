@@ -4,8 +4,7 @@ use crate::apart::{Content, NO, is_said, play, with_pieces};
 use crate::devices::Letter;
 use crate::opened_books::grown;
 use crate::topology_faults::text_of;
-use std::alloc::{AllocError, Global};
-use std::test::Fail;
+use std::alloc::Global;
 use std::thread::Threads;
 use tp_area::FormatFault;
 use tp_disk::MemDisk;
@@ -36,44 +35,80 @@ const ROWS: &[Row] = &[
 ];
 
 /// The image of a node of `pages` pages in which no process runs.
-fn image(alloc: Global, pages: u16) -> Result<Vec<u8>, AllocError> {
-    let mut image = idle(alloc)?;
-    image.resize(IMAGE_HEAD_BYTES + PAGE_BYTES * pages as usize, 0)?;
+fn image(alloc: Global, pages: u16) -> Option<Vec<u8>> {
+    let Ok(mut image) = idle(alloc) else {
+        return None;
+    };
+    let len = IMAGE_HEAD_BYTES + PAGE_BYTES * pages as usize;
+    if image.resize(len, 0).is_err() {
+        return None;
+    }
     place(&mut image, 2, &pages.to_le_bytes());
-    Ok(image)
+    Some(image)
 }
 
 /// The images of nodes, each of four pages but the last.
-fn images(alloc: Global, nodes: u16, last: u16) -> Result<Vec<Vec<u8>>, AllocError> {
+fn images(alloc: Global, nodes: u16, last: u16) -> Option<Vec<Vec<u8>>> {
     let mut images = Vec::new(alloc);
     for node in 1..=nodes {
-        images.push(image(alloc, if node < nodes { 4 } else { last })?)?;
+        let Some(image) = image(alloc, if node < nodes { 4 } else { last }) else {
+            return None;
+        };
+        if images.push(image).is_err() {
+            return None;
+        }
     }
-    Ok(images)
+    Some(images)
+}
+
+/// The topology of such nodes, with one port.
+fn topology(alloc: Global, nodes: u16, last: u16) -> Option<Topology> {
+    let Ok(text) = text_of(alloc, nodes, last, 1) else {
+        return None;
+    };
+    match Topology::read(alloc, text.as_bytes()) {
+        Ok(topology) => Some(topology),
+        Err(_) => None,
+    }
 }
 
 /// The network of a row.
-fn network(alloc: Global, row: &Row) -> Result<Letter, Fail> {
+fn network(alloc: Global, row: &Row) -> Option<Letter> {
     let (nodes, last, _, _) = *row;
-    let images = images(alloc, nodes, last)?;
-    let text = text_of(alloc, nodes, last, 1)?;
-    let topology = Topology::read(alloc, text.as_bytes())?;
-    Ok(Letter { topology, images })
+    let Some(images) = images(alloc, nodes, last) else {
+        return None;
+    };
+    match topology(alloc, nodes, last) {
+        Some(topology) => Some(Letter { topology, images }),
+        None => None,
+    }
 }
 
 /// Whether a device of that size is refused for its areas.
-fn is_full(alloc: Global, letter: &Letter, size: usize, area: u64) -> Result<bool, AllocError> {
-    let mut disk = MemDisk::zeroed(alloc, size)?;
-    Ok(letter.format(alloc, &mut disk, area) == Err(FormatFault::AreaFull))
+fn is_full(alloc: Global, letter: &Letter, size: usize, area: u64) -> bool {
+    match MemDisk::zeroed(alloc, size) {
+        Ok(mut disk) => letter.format(alloc, &mut disk, area) == Err(FormatFault::AreaFull),
+        Err(_) => false,
+    }
 }
 
 /// Whether devices are refused so: one whose areas are smaller than the least by a byte, and one that is too small by a byte.
-fn are_full(alloc: Global, letter: &Letter, head: usize, least: u64) -> Result<bool, AllocError> {
+fn are_full(alloc: Global, letter: &Letter, head: usize, least: u64) -> bool {
     let size = head.saturating_add(2 * least.min(2_000_000) as usize);
-    Ok(
-        is_full(alloc, letter, size, least.saturating_sub(1))?
-            && is_full(alloc, letter, size.saturating_sub(1), least)?,
-    )
+    is_full(alloc, letter, size, least.saturating_sub(1))
+        && is_full(alloc, letter, size.saturating_sub(1), least)
+}
+
+/// The device of a row; none where smaller ones aren't refused.
+fn device_of(alloc: Global, row: &Row, head: usize) -> Option<Vec<u8>> {
+    let Some(letter) = network(alloc, row) else {
+        return None;
+    };
+    if are_full(alloc, &letter, head, row.2) {
+        letter.device(alloc, head, row.2)
+    } else {
+        None
+    }
 }
 
 /// Whether a device has a head of this version, and behind it an open area with turns.
@@ -85,19 +120,22 @@ fn is_of_version(device: &[u8], head: usize, version: u8) -> bool {
 }
 
 /// The device with a head of the other version. No link has a wire, so none says where one leads.
-fn other_head(alloc: Global, device: &[u8], is_wide: bool) -> Result<Vec<u8>, AllocError> {
-    let (narrow, rest) = device.split_at(NARROW_HEAD_BYTES.min(device.len()));
-    let mut other = Vec::from_slice(alloc, narrow)?;
-    if is_wide {
-        let behind = WIDE_HEAD_BYTES - NARROW_HEAD_BYTES;
-        other.extend_from_slice(rest.get(behind..).unwrap_or(&[]))?;
-        place(&mut other, 7, &[1]);
+fn other_head(alloc: Global, device: &[u8], is_wide: bool) -> Option<Vec<u8>> {
+    let (head, other, version) = if is_wide {
+        (WIDE_HEAD_BYTES, NARROW_HEAD_BYTES, 1)
     } else {
-        other.resize(WIDE_HEAD_BYTES, 0)?;
-        other.extend_from_slice(rest)?;
-        place(&mut other, 7, &[2]);
+        (NARROW_HEAD_BYTES, WIDE_HEAD_BYTES, 2)
+    };
+    let front = device.get(..NARROW_HEAD_BYTES).unwrap_or(&[]);
+    let Ok(mut bytes) = Vec::from_slice(alloc, front) else {
+        return None;
+    };
+    let areas = device.get(head..).unwrap_or(&[]);
+    if bytes.resize(other, 0).is_err() || bytes.extend_from_slice(areas).is_err() {
+        return None;
     }
-    Ok(other)
+    place(&mut bytes, 7, &[version]);
+    Some(bytes)
 }
 
 /// What a device says with a head of the other version: a wide one says each network.
@@ -106,39 +144,34 @@ const fn says_with_other(is_wide: bool) -> Result<u64, OpenFault> {
 }
 
 /// Whether a device opens, and with a head of the other version, where that can say it.
-fn opens_with<R: Threads + Sync>(
-    rt: &R,
-    alloc: Global,
-    device: &[u8],
-    is_wide: bool,
-) -> Result<bool, Fail> {
-    let other = other_head(alloc, device, is_wide)?;
-    Ok(is_said(rt, alloc, device, Ok(0))? && is_said(rt, alloc, &other, says_with_other(is_wide))?)
+fn opens_with<R: Threads + Sync>(rt: &R, alloc: Global, device: &[u8], is_wide: bool) -> bool {
+    let Some(other) = other_head(alloc, device, is_wide) else {
+        return false;
+    };
+    is_said(rt, alloc, device, Ok(0)) && is_said(rt, alloc, &other, says_with_other(is_wide))
 }
 
 /// Whether a network is formatted with its head, and opens with it; and with one of the other version, where that can say it.
-fn has_its_head<R: Threads + Sync>(rt: &R, alloc: Global, row: &Row) -> Result<bool, Fail> {
-    let (_, _, least, is_wide) = *row;
+fn has_its_head<R: Threads + Sync>(rt: &R, alloc: Global, row: &Row) -> bool {
+    let is_wide = row.3;
     let (head, version) = if is_wide {
         (WIDE_HEAD_BYTES, 2)
     } else {
         (NARROW_HEAD_BYTES, 1)
     };
-    let (device, is_full) = {
-        let letter = network(alloc, row)?;
-        let device = letter.device(alloc, head, least)?;
-        (device, are_full(alloc, &letter, head, least)?)
-    };
-    let is_made = is_full && is_of_version(&device, head, version);
-    Ok(is_made && opens_with(rt, alloc, &device, is_wide)?)
+    match device_of(alloc, row, head) {
+        Some(device) => {
+            is_of_version(&device, head, version) && opens_with(rt, alloc, &device, is_wide)
+        }
+        None => false,
+    }
 }
 
 #[test]
-fn networks_have_their_heads(rt: HostRuntime) -> Result<(), Fail> {
+fn networks_have_their_heads(rt: HostRuntime) {
     for (i, row) in ROWS.iter().enumerate() {
-        assert!(rt; has_its_head(&rt, rt.alloc(), row)?, "row {i}");
+        assert!(rt; has_its_head(&rt, rt.alloc(), row), "row {i}");
     }
-    Ok(())
 }
 
 /// Changes of the device of one node with a group of four entries, whose head is a narrow one.
@@ -195,22 +228,30 @@ const NARROW: &[Content] = &[
 ];
 
 #[test]
-fn heads_are_changed(rt: HostRuntime) -> Result<(), Fail> {
-    let alloc = rt.alloc();
-    let narrow = grown(alloc)?;
-    play(&rt, alloc, &narrow, NARROW)
+fn heads_are_changed(rt: HostRuntime) {
+    play(&rt, rt.alloc(), grown(rt.alloc()), NARROW);
 }
 
 /// The wide head of the network of one node, whose link leads to its port.
 const ONE_WIDE: &[(usize, &[u8])] = &[(7, &[2]), (56, &[0]), (152, &[0, 0x80])];
 
+/// The device of one node with a wide head.
+fn widened(alloc: Global) -> Option<Vec<u8>> {
+    let Some(narrow) = grown(alloc) else {
+        return None;
+    };
+    match other_head(alloc, &narrow, false) {
+        Some(moved) => with_pieces(alloc, &moved, ONE_WIDE),
+        None => None,
+    }
+}
+
 /// A wide head says a narrow network, too: the device of one node opens with one as it does with its own.
 #[test]
-fn a_wide_head_of_a_small_network(rt: HostRuntime) -> Result<(), Fail> {
-    let alloc = rt.alloc();
-    let narrow = grown(alloc)?;
-    let moved = other_head(alloc, &narrow, false)?;
-    let wide = with_pieces(alloc, &moved, ONE_WIDE)?;
-    assert!(rt; is_said(&rt, alloc, &wide, Ok(4))?);
-    Ok(())
+fn a_wide_head_of_a_small_network(rt: HostRuntime) {
+    let told = match widened(rt.alloc()) {
+        Some(wide) => is_said(&rt, rt.alloc(), &wide, Ok(4)),
+        None => false,
+    };
+    assert!(rt; told);
 }

@@ -4,48 +4,50 @@ ghost use Rattle.tp_tests_opening.specs.Lone.{IsUsable};
 
 use crate::calls::{hand_in, is_shown};
 use crate::fixture::book;
-use std::alloc::{AllocError, Global};
-use std::test::Fail;
+use std::alloc::Global;
 use tp_book::Refusal::{JournalFull, PortFull, StoreBroken};
 use tp_book::{Book, Refusal};
 
 /// What the book's port has put out when it is opened.
 const OUTPUTS: &[u8] = b"hi";
 
-/// A call of the host, or the store breaks.
+/// What is handed in.
+const INPUTS: &[u8] = &[b'a'; 4097];
+
+/// A call of the host, which hands in a count of bytes or confirms up to a position; or the store breaks.
 #[derive(Clone, Copy)]
-enum Call<'a> {
-    HandIn(&'a [u8]),
+enum Call {
+    HandIn(usize),
     Confirm(u64),
     Break,
 }
 
 /// A call; its answer, the receipt's number or the refusal, and none where it may not be made; and then the next number, how many
 /// bytes were accepted, and how many outputs were confirmed.
-type Row<'a> = (Call<'a>, Option<Result<u64, Refusal>>, (u64, u64, u64));
+type Row = (Call, Option<Result<u64, Refusal>>, (u64, u64, u64));
 
 /// The bytes that groups may fill, and calls one after another.
-type Story<'a> = (Option<u64>, &'a [Row<'a>]);
+type Story<'a> = (Option<u64>, &'a [Row]);
 
 const STORIES: &[Story<'static>] = &[
     // Bytes are accepted all or none, as many as the port has room for.
     (
         None,
         &[
-            (Call::HandIn(b"ab"), Some(Ok(4)), (4, 2, 0)),
-            (Call::HandIn(b""), Some(Ok(4)), (4, 2, 0)),
-            (Call::HandIn(&[0; 4095]), Some(Err(PortFull)), (4, 2, 0)),
-            (Call::HandIn(&[0; 4094]), Some(Ok(4098)), (4098, 4096, 0)),
-            (Call::HandIn(b"c"), Some(Err(PortFull)), (4098, 4096, 0)),
+            (Call::HandIn(2), Some(Ok(4)), (4, 2, 0)),
+            (Call::HandIn(0), Some(Ok(4)), (4, 2, 0)),
+            (Call::HandIn(4095), Some(Err(PortFull)), (4, 2, 0)),
+            (Call::HandIn(4094), Some(Ok(4098)), (4098, 4096, 0)),
+            (Call::HandIn(1), Some(Err(PortFull)), (4098, 4096, 0)),
         ],
     ),
     // A port where nothing is pending has room for 4,096 bytes in one offer.
     (
         None,
         &[
-            (Call::HandIn(&[0; 4097]), Some(Err(PortFull)), (2, 0, 0)),
-            (Call::HandIn(&[0; 4096]), Some(Ok(4098)), (4098, 4096, 0)),
-            (Call::HandIn(b"c"), Some(Err(PortFull)), (4098, 4096, 0)),
+            (Call::HandIn(4097), Some(Err(PortFull)), (2, 0, 0)),
+            (Call::HandIn(4096), Some(Ok(4098)), (4098, 4096, 0)),
+            (Call::HandIn(1), Some(Err(PortFull)), (4098, 4096, 0)),
         ],
     ),
     // Confirmed outputs go.
@@ -63,11 +65,11 @@ const STORIES: &[Story<'static>] = &[
     (
         None,
         &[
-            (Call::HandIn(b"a"), Some(Ok(3)), (3, 1, 0)),
+            (Call::HandIn(1), Some(Ok(3)), (3, 1, 0)),
             (Call::Break, None, (3, 1, 0)),
-            (Call::HandIn(b"b"), Some(Err(StoreBroken)), (3, 1, 0)),
-            (Call::HandIn(&[0; 4097]), Some(Err(StoreBroken)), (3, 1, 0)),
-            (Call::HandIn(b""), Some(Ok(3)), (3, 1, 0)),
+            (Call::HandIn(1), Some(Err(StoreBroken)), (3, 1, 0)),
+            (Call::HandIn(4097), Some(Err(StoreBroken)), (3, 1, 0)),
+            (Call::HandIn(0), Some(Ok(3)), (3, 1, 0)),
             (Call::Confirm(1), Some(Err(StoreBroken)), (3, 1, 0)),
             (Call::Confirm(0), Some(Ok(3)), (3, 1, 0)),
         ],
@@ -76,11 +78,11 @@ const STORIES: &[Story<'static>] = &[
     (
         Some(96 + 64 + 7),
         &[
-            (Call::HandIn(b"abc"), Some(Err(JournalFull)), (2, 0, 0)),
-            (Call::HandIn(b"a"), Some(Ok(3)), (3, 1, 0)),
+            (Call::HandIn(3), Some(Err(JournalFull)), (2, 0, 0)),
+            (Call::HandIn(1), Some(Ok(3)), (3, 1, 0)),
             (Call::Confirm(2), Some(Ok(4)), (4, 1, 2)),
-            (Call::HandIn(b"b"), Some(Err(JournalFull)), (4, 1, 2)),
-            (Call::HandIn(b""), Some(Ok(4)), (4, 1, 2)),
+            (Call::HandIn(1), Some(Err(JournalFull)), (4, 1, 2)),
+            (Call::HandIn(0), Some(Ok(4)), (4, 1, 2)),
             (Call::Confirm(2), Some(Ok(4)), (4, 1, 2)),
         ],
     ),
@@ -100,12 +102,12 @@ fn confirm(book: &mut Book, upto: u64) -> Option<Result<u64, Refusal>>
     }
 }
 
-fn make(book: &mut Book, call: Call<'_>) -> Option<Result<u64, Refusal>>
+fn make(book: &mut Book, call: Call) -> Option<Result<u64, Refusal>>
     requires { IsUsable book.old }
     ensures { IsUsable book.new }
 {
     match call {
-        Call::HandIn(bytes) => Some(hand_in(book, bytes)),
+        Call::HandIn(count) => Some(hand_in(book, INPUTS.get(..count).unwrap_or(&[]))),
         Call::Confirm(upto) => confirm(book, upto),
         Call::Break => {
             book.break_store();
@@ -152,7 +154,7 @@ fn is_lone(book: &Book) -> bool
 }
 
 /// Whether a call answers as it ought to, and the book then says so.
-fn is_row(book: &mut Book, row: &Row<'_>) -> bool
+fn is_row(book: &mut Book, row: &Row) -> bool
     requires { IsUsable book.old }
     ensures { IsUsable book.new }
 {
@@ -161,7 +163,7 @@ fn is_row(book: &mut Book, row: &Row<'_>) -> bool
 }
 
 /// Whether the book is as it ought to be at first, and behind each of `rows`, one made after another.
-fn are_rows(book: &mut Book, rows: &[Row<'_>]) -> bool
+fn are_rows(book: &mut Book, rows: &[Row]) -> bool
     requires { IsUsable book.old }
 {
     if !is_lone(book) || !is_so(book, 2, 0, 0) {
@@ -176,17 +178,17 @@ fn are_rows(book: &mut Book, rows: &[Row<'_>]) -> bool
 }
 
 /// Whether that is so of a story's book.
-fn is_story(alloc: Global, story: &Story<'_>) -> Result<bool, AllocError> {
+fn is_story(alloc: Global, story: &Story<'_>) -> bool {
     let (room, rows) = *story;
-    let mut book = book(alloc, room)?;
-    let told = are_rows(&mut book, rows);
-    Ok(told)
+    match book(alloc, room) {
+        Ok(mut book) => are_rows(&mut book, rows),
+        Err(_) => false,
+    }
 }
 
 #[test]
-fn each_call_of_the_host(rt: HostRuntime) -> Result<(), Fail> {
+fn each_call_of_the_host(rt: HostRuntime) {
     for (i, story) in STORIES.iter().enumerate() {
-        assert!(rt; is_story(rt.alloc(), story)?, "story {i}");
+        assert!(rt; is_story(rt.alloc(), story), "story {i}");
     }
-    Ok(())
 }

@@ -3,9 +3,8 @@
 use crate::apart::is_said;
 use crate::checkpoints::Look;
 use crate::devices::{grown_by, leads_from};
-use crate::sweeps::look_at;
+use crate::sweeps::is_look;
 use std::alloc::Global;
-use std::test::Fail;
 use std::thread::Threads;
 use tp_model::Form;
 use tp_model::Form::{Plain, Turns};
@@ -32,6 +31,14 @@ pub(crate) fn kept_of(number: usize) -> Kept {
     KEPT[number.min(5)]
 }
 
+/// The bytes of the kept device with a number.
+pub(crate) fn kept_bytes(alloc: Global, number: usize) -> Option<Vec<u8>> {
+    match kept_of(number).bytes(alloc) {
+        Ok(bytes) => Some(bytes),
+        Err(_) => None,
+    }
+}
+
 /// What opening says of a device, by what is written beside it, where its area is of this form, and `more` entries were appended.
 fn look_of(kept: &Kept, form: Form, more: u64) -> Look {
     let next = kept.next.saturating_add(more);
@@ -46,51 +53,45 @@ fn opens<R: Threads + Sync>(
     bytes: &[u8],
     look: Look,
     entries: &[u8],
-) -> Result<bool, Fail> {
-    let formatted = kept_of(0).bytes(alloc)?;
-    Ok(
-        look_at(alloc, bytes)? == look
-            && is_said(rt, alloc, bytes, Ok(look.4))?
-            && leads_from(alloc, bytes, look.4, &formatted, entries)?,
-    )
+) -> bool {
+    let Some(formatted) = kept_bytes(alloc, 0) else {
+        return false;
+    };
+    is_look(alloc, bytes, look)
+        && is_said(rt, alloc, bytes, Ok(look.4))
+        && leads_from(alloc, bytes, look.4, &formatted, entries)
 }
 
 /// Whether a kept device opens to what is written beside it, and so it does with a group more, in the area that it has.
-fn is_kept<R: Threads + Sync>(
-    rt: &R,
-    alloc: Global,
-    kept: &Kept,
-    form: Form,
-    row: &Row,
-) -> Result<bool, Fail> {
-    let bytes = kept.bytes(alloc)?;
-    let more = grown_by(alloc, &bytes, &[b"x"])?;
-    Ok(
-        opens(rt, alloc, &bytes, look_of(kept, form, 0), row.0)?
-            && opens(rt, alloc, &more, look_of(kept, form, 1), row.1)?,
-    )
+fn is_kept<R: Threads + Sync>(rt: &R, alloc: Global, kept: &Kept, form: Form, row: &Row) -> bool {
+    let Ok(bytes) = kept.bytes(alloc) else {
+        return false;
+    };
+    let Some(more) = grown_by(alloc, &bytes, b"x") else {
+        return false;
+    };
+    opens(rt, alloc, &bytes, look_of(kept, form, 0), row.0)
+        && opens(rt, alloc, &more, look_of(kept, form, 1), row.1)
 }
 
 #[test]
-fn kept_devices_open(rt: HostRuntime) -> Result<(), Fail> {
+fn kept_devices_open(rt: HostRuntime) {
     for (kept, row) in KEPT.iter().zip(&KEPT_ROWS) {
         assert!(rt;
-            is_kept(&rt, rt.alloc(), kept, Plain, row)?,
+            is_kept(&rt, rt.alloc(), kept, Plain, row),
             "next {}",
             kept.next
         );
     }
-    Ok(())
 }
 
 #[test]
-fn devices_with_turns_open(rt: HostRuntime) -> Result<(), Fail> {
+fn devices_with_turns_open(rt: HostRuntime) {
     for (kept, row) in WITH_TURNS.iter().zip(&TURN_ROWS) {
         assert!(rt;
-            is_kept(&rt, rt.alloc(), kept, Turns, row)?,
+            is_kept(&rt, rt.alloc(), kept, Turns, row),
             "next {}",
             kept.next
         );
     }
-    Ok(())
 }

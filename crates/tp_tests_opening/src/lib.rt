@@ -30,8 +30,6 @@ mod format_faults;
 #[cfg(test)]
 mod forms;
 #[cfg(test)]
-mod gates;
-#[cfg(test)]
 mod groups;
 mod halted;
 #[cfg(test)]
@@ -67,8 +65,6 @@ mod threads;
 mod topologies;
 #[cfg(test)]
 mod topology_faults;
-#[cfg(test)]
-mod waiting;
 #[cfg(test)]
 mod watched;
 #[cfg(test)]

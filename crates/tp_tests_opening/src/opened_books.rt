@@ -1,13 +1,12 @@
 //! Books of devices that were formatted and opened: one node of four pages, whose link 0 is wired to a port.
 
-ghost use Rattle.std.specs.Prelude.{IfOk};
+ghost use Rattle.std.specs.Prelude.{IfSome};
 ghost use Rattle.tp_book.specs.Opened.{IsWellOpen};
 ghost use Rattle.tp_tests_opening.specs.Lone.{IsUsable};
 
 use crate::calls::{hand_in, is_shown};
 use crate::devices::{disk_of, fresh};
 use std::alloc::Global;
-use std::test::Fail;
 use tp_book::{Book, NetState, Refusal};
 use tp_disk::MemDisk;
 use tp_model::Form;
@@ -29,41 +28,50 @@ const GROUP: &[u8] = &[
 ];
 
 /// The bytes of the device with that group.
-pub(crate) fn grown(alloc: Global) -> Result<Vec<u8>, Fail> {
-    let mut bytes = fresh(alloc, AREA)?;
+pub(crate) fn grown(alloc: Global) -> Option<Vec<u8>> {
+    let Some(mut bytes) = fresh(alloc, AREA) else {
+        return None;
+    };
     place(&mut bytes, GROUPS, GROUP);
-    Ok(bytes)
+    Some(bytes)
 }
 
 /// What a device of `bytes` opens as.
-fn state_of(alloc: Global, bytes: Vec<u8>) -> Result<NetState, Fail>
-    ensures { IfOk result (λ state. IsWellOpen state) }
+fn state_of(alloc: Global, bytes: Vec<u8>) -> Option<NetState>
+    ensures { IfSome result (λ state. IsWellOpen state) }
 {
     let mut disk = MemDisk::of_bytes(bytes);
-    match open(alloc, &mut disk) {
-        Ok(opened) => Ok(opened.into_state(alloc)?),
-        Err(_) => Err(Fail::new("not opened")),
+    let Ok(opened) = open(alloc, &mut disk) else {
+        return None;
+    };
+    match opened.into_state(alloc) {
+        Ok(state) => Some(state),
+        Err(_) => None,
     }
 }
 
 /// The book of an opened device, where groups may fill `room` bytes.
-fn book_in(alloc: Global, state: &NetState, room: u64) -> Result<Book, Fail>
+fn book_in(alloc: Global, state: &NetState, room: u64) -> Option<Book>
     requires { IsWellOpen state.now }
-    ensures { IfOk result (λ book. IsUsable book) }
+    ensures { IfSome result (λ book. IsUsable book) }
 {
-    let book = Book::open(alloc, state, Some(room))?;
+    let Ok(book) = Book::open(alloc, state, Some(room)) else {
+        return None;
+    };
     if book.ports() == 0 {
-        return Err(Fail::new("no port"));
+        return None;
     }
-    Ok(book)
+    Some(book)
 }
 
 /// The book of a device of `bytes`, where groups may fill `room` bytes.
-pub(crate) fn book_of(alloc: Global, bytes: Vec<u8>, room: u64) -> Result<Book, Fail>
-    ensures { IfOk result (λ book. IsUsable book) }
+pub(crate) fn book_of(alloc: Global, bytes: Vec<u8>, room: u64) -> Option<Book>
+    ensures { IfSome result (λ book. IsUsable book) }
 {
-    let state = state_of(alloc, bytes)?;
-    book_in(alloc, &state, room)
+    match state_of(alloc, bytes) {
+        Some(state) => book_in(alloc, &state, room),
+        None => None,
+    }
 }
 
 /// Whether a device that was just formatted leaves no entry, and the image that it was formatted with.
@@ -80,13 +88,23 @@ fn is_fresh(state: &NetState, image: &[u8]) -> bool {
         && state.open_area == 0
 }
 
+/// Whether the device that was just formatted leaves that.
+fn leaves_nothing(alloc: Global) -> bool {
+    let Ok(image) = letter(alloc) else {
+        return false;
+    };
+    let Some(bytes) = fresh(alloc, AREA) else {
+        return false;
+    };
+    match state_of(alloc, bytes) {
+        Some(state) => is_fresh(&state, &image),
+        None => false,
+    }
+}
+
 #[test]
-fn a_fresh_device_has_nothing_kept(rt: HostRuntime) -> Result<(), Fail> {
-    let alloc = rt.alloc();
-    let image = letter(alloc)?;
-    let state = state_of(alloc, fresh(alloc, AREA)?)?;
-    assert!(rt; is_fresh(&state, &image));
-    Ok(())
+fn a_fresh_device_has_nothing_kept(rt: HostRuntime) {
+    assert!(rt; leaves_nothing(rt.alloc()));
 }
 
 /// What a book says: its nodes and ports, the next number, how many bytes port 0 has accepted, and the room it has left.
@@ -140,17 +158,25 @@ fn is_filled(book: &mut Book, filling: &Filling) -> bool
 }
 
 /// Whether the book of a device of `bytes` does.
-pub(crate) fn fills(alloc: Global, bytes: Vec<u8>, filling: &Filling) -> Result<bool, Fail> {
-    let mut book = book_of(alloc, bytes, filling.room)?;
-    let told = is_filled(&mut book, filling);
-    Ok(told)
+pub(crate) fn fills(alloc: Global, bytes: Option<Vec<u8>>, filling: &Filling) -> bool {
+    let Some(bytes) = bytes else {
+        return false;
+    };
+    match book_of(alloc, bytes, filling.room) {
+        Some(mut book) => is_filled(&mut book, filling),
+        None => false,
+    }
 }
 
-/// How many bytes groups may fill in an area of the device with `bytes`.
-pub(crate) fn room_of(alloc: Global, bytes: &[u8]) -> Result<u64, Fail> {
-    let mut disk = disk_of(alloc, bytes)?;
-    let opened = open(alloc, &mut disk)?;
-    Ok(opened.journal_room())
+/// Whether groups may fill `room` bytes in an area of the device with `bytes`.
+pub(crate) fn has_room(alloc: Global, bytes: &[u8], room: u64) -> bool {
+    let Some(mut disk) = disk_of(alloc, bytes) else {
+        return false;
+    };
+    match open(alloc, &mut disk) {
+        Ok(opened) => opened.journal_room() == room,
+        Err(_) => false,
+    }
 }
 
 const ONE_NODE: Filling = Filling {
@@ -161,10 +187,8 @@ const ONE_NODE: Filling = Filling {
 
 /// Five lines keep 480 bytes for a snapshot, and each entry takes at most 32: so 105 find room in 3,862, and no 106th.
 #[test]
-fn the_journal_of_a_device_fills(rt: HostRuntime) -> Result<(), Fail> {
-    let alloc = rt.alloc();
-    assert!(rt; fills(alloc, fresh(alloc, AREA)?, &ONE_NODE)?);
-    Ok(())
+fn the_journal_of_a_device_fills(rt: HostRuntime) {
+    assert!(rt; fills(rt.alloc(), fresh(rt.alloc(), AREA), &ONE_NODE));
 }
 
 /// Whether the outputs of the kept entries are shown from 0 on, whatever the mark is.
@@ -191,12 +215,28 @@ fn goes_on(book: &mut Book) -> bool
         && hand_in(book, b"x") == Ok(5)
 }
 
+/// Whether the book of a state that keeps four entries does so.
+fn keeps_four(alloc: Global, state: &NetState) -> bool
+    requires { IsWellOpen state.now }
+{
+    match book_in(alloc, state, ROOM) {
+        Some(mut book) => state.kept.len() == 4 && goes_on(&mut book),
+        None => false,
+    }
+}
+
+/// Whether the device with that group leaves such a state.
+fn leaves_four(alloc: Global) -> bool {
+    let Some(bytes) = grown(alloc) else {
+        return false;
+    };
+    match state_of(alloc, bytes) {
+        Some(state) => keeps_four(alloc, &state),
+        None => false,
+    }
+}
+
 #[test]
-fn kept_entries_are_in_the_book(rt: HostRuntime) -> Result<(), Fail> {
-    let alloc = rt.alloc();
-    let state = state_of(alloc, grown(alloc)?)?;
-    let mut book = book_in(alloc, &state, ROOM)?;
-    let told = goes_on(&mut book);
-    assert!(rt; state.kept.len() == 4 && told);
-    Ok(())
+fn kept_entries_are_in_the_book(rt: HostRuntime) {
+    assert!(rt; leaves_four(rt.alloc()));
 }

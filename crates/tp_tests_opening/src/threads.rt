@@ -1,133 +1,155 @@
 //! Parts run at once, at their entries, too; and the gate is called once for each part that has a node, before its first entry.
 
-ghost use Rattle.std.specs.Prelude.{◌≡◌, IfOk, vec_len};
-
-use crate::crowd::Crowd;
-use crate::gates::Meeting;
-use crate::halted::{HaltedNode, Host, Side};
-use crate::waiting::Waiting;
+use crate::halted::{HaltedNode, Host, Member, Side};
 use crate::watched::{Watch, Watched};
 use std::alloc::{AllocError, Global};
-use std::test::Fail;
+use std::thread::Threads;
 use tp_entry::Numbered;
-use tp_gate::NoGate;
 use tp_model::{Entry, Token};
-use tp_pieces::play_whole;
+use tp_pieces::{Played, play_whole};
 
-/// The byte on the first node's line is taken.
-const ENTRIES: [Numbered; 1] = [Numbered {
-    entry: Entry::Take {
-        line: 0,
-        token: Token::Data(65),
+/// The byte on the first node's line is taken, and the second node runs.
+const ENTRIES: [Numbered; 2] = [
+    Numbered {
+        entry: Entry::Take {
+            line: 0,
+            token: Token::Data(65),
+        },
+        number: 0,
     },
-    number: 0,
-}];
+    Numbered {
+        entry: Entry::Run { node: 1, count: 1 },
+        number: 1,
+    },
+];
 
-fn node(side: Side) -> HaltedNode {
-    HaltedNode {
+/// How many parts there are of the first node and the second one in turn, or the host's alone; how many entries; how many parts meet at
+/// the gate, which isn't watched where none do, and at their first entries. And then the watch's counts, how many parts were played, and
+/// where the first of them stops.
+struct Row {
+    nodes: usize,
+    entries: usize,
+    gate: u32,
+    begun: u32,
+    counts: [u32; 8],
+    played: usize,
+    stop: usize,
+}
+
+const NEVER: u32 = u32::MAX;
+
+const ROWS: &[Row] = &[
+    // Both nodes meet at the gate. In one thread the first part would look for the second in vain.
+    Row {
+        nodes: 2,
+        entries: 1,
+        gate: 2,
+        begun: 1,
+        counts: [2, 2, 1, 1, 2, 2, 2, 0],
+        played: 2,
+        stop: 1,
+    },
+    // Six parts meet, as two do: each has a thread of its own.
+    Row {
+        nodes: 6,
+        entries: 1,
+        gate: 6,
+        begun: 1,
+        counts: [6, 6, 3, 3, 6, 6, 6, 0],
+        played: 6,
+        stop: 1,
+    },
+    // The parts meet at their first entries, so it isn't the gate alone that is called in threads.
+    Row {
+        nodes: 6,
+        entries: 1,
+        gate: 0,
+        begun: 6,
+        counts: [0, 0, 0, 0, 6, 6, 6, NEVER],
+        played: 6,
+        stop: 1,
+    },
+    // The host's part has no node, so it calls no gate, though it goes through entries.
+    Row {
+        nodes: 0,
+        entries: 1,
+        gate: 1,
+        begun: 1,
+        counts: [0, 0, 0, 0, 1, 1, 1, NEVER],
+        played: 1,
+        stop: 1,
+    },
+    // The gate is called before the first entry.
+    Row {
+        nodes: 1,
+        entries: 2,
+        gate: 1,
+        begun: 1,
+        counts: [1, 1, 1, 0, 1, 1, 2, 0],
+        played: 1,
+        stop: 2,
+    },
+];
+
+/// The node's part with a place among the parts, or the host's.
+fn member(at: usize, nodes: usize) -> Member {
+    if nodes == 0 {
+        return Member::Host(Host);
+    }
+    let side = if at % 2 == 0 {
+        Side::First
+    } else {
+        Side::Second
+    };
+    Member::Node(HaltedNode {
         side,
         out: Some(65),
         held: None,
-    }
+    })
 }
 
-/// In one thread the first part would look for the second in vain.
-#[test]
-fn both_nodes_meet_at_the_gate(rt: HostRuntime) -> Result<(), Fail> {
-    let alloc = rt.alloc();
-    let gate = Meeting::new(2);
-    let (played, _) = play_whole(
-        &rt,
-        alloc,
-        vec![in alloc; node(Side::First), node(Side::Second)]?,
-        &ENTRIES,
-        &gate,
-    )?;
-    assert!(rt; played.len() == 2);
-    assert!(rt; gate.counts() == [2, 2, 1, 1]);
-    Ok(())
-}
-
-/// Three parts of each node.
-fn three_each(alloc: Global) -> Result<Vec<HaltedNode>, AllocError>
-    ensures { IfOk result (λ nodes. vec_len nodes ≡ 6) }
-{
-    Ok(vec![in alloc;
-        node(Side::First),
-        node(Side::Second),
-        node(Side::First),
-        node(Side::Second),
-        node(Side::First),
-        node(Side::Second),
-    ]?)
-}
-
-/// Six parts meet, as two do: each has a thread of its own.
-#[test]
-fn six_parts_meet_at_the_gate(rt: HostRuntime) -> Result<(), Fail> {
-    let alloc = rt.alloc();
-    let gate = Meeting::new(6);
-    let (played, _) = play_whole(&rt, alloc, three_each(alloc)?, &ENTRIES, &gate)?;
-    assert!(rt; played.len() == 6);
-    assert!(rt; gate.counts() == [6, 6, 3, 3]);
-    Ok(())
-}
-
-/// The parts meet at their first entries, so it isn't the gate alone that is called in threads.
-#[test]
-fn six_parts_meet_at_their_first_entries(rt: HostRuntime) -> Result<(), Fail> {
-    let alloc = rt.alloc();
-    let crowd = Crowd::new(6);
+/// The parts of a row.
+fn parts_of<'a>(
+    alloc: Global,
+    nodes: usize,
+    watch: &'a Watch,
+) -> Result<Vec<Watched<'a>>, AllocError> {
     let mut parts = Vec::new(alloc);
-    for node in three_each(alloc)? {
-        parts.push(Waiting {
-            node,
+    for at in 0..nodes.max(1) {
+        parts.push(Watched {
+            part: member(at, nodes),
             has_begun: false,
-            others: &crowd,
+            watch,
         })?;
     }
-    let (played, _) = play_whole(&rt, alloc, parts, &ENTRIES, &NoGate)?;
-    assert!(rt; played.len() == 6);
-    assert!(rt; crowd.counts() == (6, 6));
-    Ok(())
+    Ok(parts)
 }
 
-/// The host's part has no node, so it calls no gate, though it goes through entries.
-#[test]
-fn the_host_calls_no_gate(rt: HostRuntime) -> Result<(), Fail> {
-    let alloc = rt.alloc();
-    let watch = Watch::new();
-    let (played, _) = play_whole(&rt, alloc, vec![in alloc; Host]?, &ENTRIES, &watch)?;
-    assert!(rt; played[0].stop == 1);
-    assert!(rt; watch.counts() == (0, u32::MAX));
-    Ok(())
+/// Whether as many parts were played as a row says, and the first of them stops where it does.
+fn is_played(played: &[Played<Watched<'_>>], row: &Row) -> bool {
+    match played.first() {
+        Some(first) => played.len() == row.played && first.stop == row.stop,
+        None => false,
+    }
+}
+
+/// Whether the parts of a row are played as it says.
+fn is_row<R: Threads + Sync>(rt: &R, alloc: Global, row: &Row) -> bool {
+    let watch = Watch::new(row.gate, row.begun);
+    let Ok(parts) = parts_of(alloc, row.nodes, &watch) else {
+        return false;
+    };
+    let all = ENTRIES;
+    let entries = all.as_slice().get(..row.entries).unwrap_or(&[]);
+    match play_whole(rt, alloc, parts, entries, &watch) {
+        Ok((played, _)) => is_played(&played, row) && watch.counts() == row.counts,
+        Err(_) => false,
+    }
 }
 
 #[test]
-fn the_gate_is_called_before_the_first_entry(rt: HostRuntime) -> Result<(), Fail> {
-    let alloc = rt.alloc();
-    let watch = Watch::new();
-    let entries = [
-        Numbered {
-            entry: Entry::Take {
-                line: 0,
-                token: Token::Data(65),
-            },
-            number: 0,
-        },
-        Numbered {
-            entry: Entry::Run { node: 1, count: 1 },
-            number: 1,
-        },
-    ];
-    let parts = vec![in alloc;
-        Watched {
-            node: node(Side::First),
-            watch: &watch
-        },
-    ]?;
-    let (played, _) = play_whole(&rt, alloc, parts, &entries, &watch)?;
-    assert!(rt; played[0].stop == 2);
-    assert!(rt; watch.counts() == (2, 0));
-    Ok(())
+fn parts_meet_and_call_the_gate(rt: HostRuntime) {
+    for (i, row) in ROWS.iter().enumerate() {
+        assert!(rt; is_row(&rt, rt.alloc(), row), "row {i}");
+    }
 }

@@ -1,9 +1,8 @@
 //! Texts that say no topology, each with its fault.
 
 use self::Front::{Nodes, Nothing, Ports, Small};
-use std::alloc::{AllocError, Global};
+use std::alloc::Global;
 use std::fmt;
-use std::test::Fail;
 use tp_model::NetFault;
 use tp_model::NetFault::{Syntax, TooMany, TwoWires, UnknownNode};
 use tp_net::Topology;
@@ -26,139 +25,91 @@ enum Front {
     Ports,
 }
 
-/// What a text begins with, what follows, and its fault.
-type Row = (Front, &'static str, NetFault);
+/// What texts begin with, their fault, and what follows in each, one behind another with a stroke between two: each reference within a table
+/// costs a check time.
+type Row = (Front, NetFault, &'static str);
 
-const NOTHING_TO_RUN: &[Row] = &[
-    (Nothing, "", Syntax(0)),
-    (Nothing, "\n\n# nothing\n", Syntax(0)),
-    (Nothing, "\r\n", Syntax(0)),
-    (Nothing, "node a 4\n", Syntax(0)),
-    (Nothing, "port h\n", Syntax(0)),
-    (Nodes, "", Syntax(0)),
-];
-
-const NODE_LINES: &[Row] = &[
-    (Nothing, "node a 3\n", Syntax(1)),
-    (Nothing, "node a 1025\n", Syntax(1)),
-    (Nothing, "node a 0\n", Syntax(1)),
-    (Nothing, "node a 04\n", Syntax(1)),
-    (Nothing, "node a +4\n", Syntax(1)),
-    (Nothing, "node a -4\n", Syntax(1)),
-    (Nothing, "node a 4.0\n", Syntax(1)),
-    (Nothing, "node a 0x10\n", Syntax(1)),
-    (Nothing, "node a 18446744073709551620\n", Syntax(1)),
-    (Nothing, "node a\n", Syntax(1)),
-    (Nothing, "node\n", Syntax(1)),
-    (Nothing, "node 4 a\n", Syntax(1)),
-    (Nothing, "node a 4 5\n", Syntax(1)),
-    (Nothing, "node a four\n", Syntax(1)),
-    (Nothing, "Node a 4\n", Syntax(1)),
-    (Nothing, "nodes a 4\n", Syntax(1)),
-    (Nothing, "node A 4\n", Syntax(1)),
-    (Nothing, "node aB 4\n", Syntax(1)),
-    (Nothing, "node 1a 4\n", Syntax(1)),
-    (Nothing, "node -a 4\n", Syntax(1)),
-    (Nothing, "node a_b 4\n", Syntax(1)),
-    (Nothing, "node a.0 4\n", Syntax(1)),
-    (Nothing, "node abcdefghijklmnopq 4\n", Syntax(1)),
-    (Nothing, "node a 4\nnode a 5\n", Syntax(2)),
-    (Nothing, "port h\nnode h 4\n", Syntax(2)),
-    (Nothing, "node a 4\nnode b 4\nnode a 3\n", Syntax(3)),
-];
-
-const PORT_LINES: &[Row] = &[
-    (Nothing, "port\n", Syntax(1)),
-    (Nothing, "port h 4\n", Syntax(1)),
-    (Nothing, "port H\n", Syntax(1)),
-    (Nothing, "port 1\n", Syntax(1)),
-    (Nothing, "port h.0\n", Syntax(1)),
-    (Nothing, "port abcdefghijklmnopq\n", Syntax(1)),
-    (Nothing, "port h\nport h\n", Syntax(2)),
-    (Nothing, "node a 4\nport a\n", Syntax(2)),
-    (Nothing, "ports h\n", Syntax(1)),
-];
-
-const SPACES_AND_ENDS_OF_LINES: &[Row] = &[
-    (Nothing, " node a 4\n", Syntax(1)),
-    (Nothing, "node a 4 \n", Syntax(1)),
-    (Nothing, " \n", Syntax(1)),
-    (Nothing, " # indented\n", Syntax(1)),
-    (Nothing, "node a 4 # four\n", Syntax(1)),
-    (Nothing, "node\ta 4\n", Syntax(1)),
-    (Nothing, "node a 4\r", Syntax(1)),
-    (Nothing, "node a 4\r\r\n", Syntax(1)),
-    (Nothing, "node a 4\rport h\n", Syntax(1)),
-    (Nothing, "\r", Syntax(1)),
-    (Small, "\r\n\r", Syntax(4)),
-    (Small, "link a h\n", Syntax(3)),
-    (Small, "wire a.0 h\nx", Syntax(4)),
+const TEXTS: &[Row] = &[
+    // Nothing to run.
     (
         Nothing,
-        "# one\n\nnode a 4\n\n# five\nport h\nwire a.0\n",
-        Syntax(7),
+        Syntax(0),
+        "|\n\n# nothing\n|\r\n|node a 4\n|port h\n",
     ),
-];
-
-const WIRE_SHAPES: &[Row] = &[
-    (Small, "wire\n", Syntax(3)),
-    (Small, "wire a.0\n", Syntax(3)),
-    (Small, "wire a.0 h h\n", Syntax(3)),
-    (Small, "wire a h\n", Syntax(3)),
-    (Small, "wire h a\n", Syntax(3)),
-    (Small, "wire a.0 h.0\n", Syntax(3)),
-    (Small, "wire a.4 h\n", Syntax(3)),
-    (Small, "wire a.00 h\n", Syntax(3)),
-    (Small, "wire a.-1 h\n", Syntax(3)),
-    (Small, "wire a. h\n", Syntax(3)),
-    (Small, "wire .0 h\n", Syntax(3)),
-    (Small, "wire a.0.0 h\n", Syntax(3)),
-    (Small, "wire a..0 h\n", Syntax(3)),
-    (Small, "wire a.0, h\n", Syntax(3)),
-    (Small, "wire A.0 h\n", Syntax(3)),
-    (Small, "wire a.0 h \n", Syntax(3)),
-    (Small, "port g\nwire g h\n", Syntax(4)),
-    (Small, "wire h h\n", Syntax(3)),
-];
-
-const UNKNOWN_NAMES: &[Row] = &[
-    (Nothing, "node a 4\nwire a.0 b.1\n", UnknownNode),
-    (Nothing, "wire a.0 b.0\nnode a 4\nnode b 4\n", UnknownNode),
-    (Nothing, "node a 4\nwire a.0 h\nport h\n", UnknownNode),
-    (Small, "wire a.0 g\n", UnknownNode),
-    (Small, "wire b h\n", UnknownNode),
-    (Small, "wire b.0 h.0\n", UnknownNode),
-    (Small, "wire aa.0 h\n", UnknownNode),
-    (Small, "wire a.0 h\nwire a.0 b.0\n", UnknownNode),
-];
-
-const TAKEN_ENDS: &[Row] = &[
-    (Small, "wire a.0 h\nwire a.0 a.1\n", TwoWires),
-    (Small, "wire a.0 h\nwire a.1 a.0\n", TwoWires),
-    (Small, "wire a.0 h\nwire a.1 h\n", TwoWires),
-    (Small, "wire a.0 h\nwire h a.1\n", TwoWires),
-    (Small, "wire a.0 h\nwire a.0 h\n", TwoWires),
-    (Small, "wire a.0 h\nwire h a.0\n", TwoWires),
-    (Small, "wire a.0 a.0\n", TwoWires),
-    (Small, "wire a.3 a.2\nwire h a.2\nnode b 3\n", TwoWires),
-];
-
-const TOO_MANY: &[Row] = &[
-    (Nodes, "node n64 4\n", TooMany),
-    (Nodes, "node n64 3\n", Syntax(65)),
-    (Nodes, "node n0 4\n", Syntax(65)),
-    (Ports, "port i\n", TooMany),
-    (Ports, "port a\n", Syntax(9)),
-    (Ports, "port I\n", Syntax(9)),
-    (Nodes, "port z\nport y\nnode q 4\nnode r 3\n", TooMany),
-];
-
-const FIRST_OF_SEVERAL: &[Row] = &[
-    (Small, "wire a.0\nwire a.0 b.0\n", Syntax(3)),
-    (Small, "wire a.0 b.0\nwire a.0\n", UnknownNode),
-    (Small, "wire b.4 h\n", Syntax(3)),
-    (Small, "wire a.0 h\nwire h h\n", Syntax(4)),
-    (Small, "wire a.0 h\nwire a.0 h.1\n", Syntax(4)),
+    (Nodes, Syntax(0), ""),
+    // Lines of nodes.
+    (
+        Nothing,
+        Syntax(1),
+        "node a 3\n|node a 1025\n|node a 0\n|node a 04\n|node a +4\n|node a -4\n|node a 4.0\n|node a 0x10\n|node a 18446744073709551620\n|node a\n|node\n|node 4 a\n|node a 4 5\n|node a four\n|Node a 4\n|nodes a 4\n|node A 4\n|node aB 4\n|node 1a 4\n|node -a 4\n|node a_b 4\n|node a.0 4\n|node abcdefghijklmnopq 4\n",
+    ),
+    (
+        Nothing,
+        Syntax(2),
+        "node a 4\nnode a 5\n|port h\nnode h 4\n",
+    ),
+    (Nothing, Syntax(3), "node a 4\nnode b 4\nnode a 3\n"),
+    // Lines of ports.
+    (
+        Nothing,
+        Syntax(1),
+        "port\n|port h 4\n|port H\n|port 1\n|port h.0\n|port abcdefghijklmnopq\n|ports h\n",
+    ),
+    (Nothing, Syntax(2), "port h\nport h\n|node a 4\nport a\n"),
+    // Spaces and ends of lines.
+    (
+        Nothing,
+        Syntax(1),
+        " node a 4\n|node a 4 \n| \n| # indented\n|node a 4 # four\n|node\ta 4\n|node a 4\r|node a 4\r\r\n|node a 4\rport h\n|\r",
+    ),
+    (Small, Syntax(4), "\r\n\r|wire a.0 h\nx"),
+    (Small, Syntax(3), "link a h\n"),
+    (
+        Nothing,
+        Syntax(7),
+        "# one\n\nnode a 4\n\n# five\nport h\nwire a.0\n",
+    ),
+    // Shapes of wires.
+    (
+        Small,
+        Syntax(3),
+        "wire\n|wire a.0\n|wire a.0 h h\n|wire a h\n|wire h a\n|wire a.0 h.0\n|wire a.4 h\n|wire a.00 h\n|wire a.-1 h\n|wire a. h\n|wire .0 h\n|wire a.0.0 h\n|wire a..0 h\n|wire a.0, h\n|wire A.0 h\n|wire a.0 h \n|wire h h\n",
+    ),
+    (Small, Syntax(4), "port g\nwire g h\n"),
+    // Names that aren't known.
+    (
+        Nothing,
+        UnknownNode,
+        "node a 4\nwire a.0 b.1\n|wire a.0 b.0\nnode a 4\nnode b 4\n|node a 4\nwire a.0 h\nport h\n",
+    ),
+    (
+        Small,
+        UnknownNode,
+        "wire a.0 g\n|wire b h\n|wire b.0 h.0\n|wire aa.0 h\n|wire a.0 h\nwire a.0 b.0\n",
+    ),
+    // Ends that are taken.
+    (
+        Small,
+        TwoWires,
+        "wire a.0 h\nwire a.0 a.1\n|wire a.0 h\nwire a.1 a.0\n|wire a.0 h\nwire a.1 h\n|wire a.0 h\nwire h a.1\n|wire a.0 h\nwire a.0 h\n|wire a.0 h\nwire h a.0\n|wire a.0 a.0\n|wire a.3 a.2\nwire h a.2\nnode b 3\n",
+    ),
+    // Too many.
+    (
+        Nodes,
+        TooMany,
+        "node n64 4\n|port z\nport y\nnode q 4\nnode r 3\n",
+    ),
+    (Nodes, Syntax(65), "node n64 3\n|node n0 4\n"),
+    (Ports, TooMany, "port i\n"),
+    (Ports, Syntax(9), "port a\n|port I\n"),
+    // The first of several faults.
+    (Small, Syntax(3), "wire a.0\nwire a.0 b.0\n|wire b.4 h\n"),
+    (Small, UnknownNode, "wire a.0 b.0\nwire a.0\n"),
+    (
+        Small,
+        Syntax(4),
+        "wire a.0 h\nwire h h\n|wire a.0 h\nwire a.0 h.1\n",
+    ),
 ];
 
 /// The text of a front.
@@ -171,52 +122,30 @@ fn text_in(front: Front) -> &'static str {
     }
 }
 
-/// Whether the text of a row has its fault.
-fn has_fault(alloc: Global, row: &Row) -> Result<bool, AllocError> {
-    let (front, rest, want) = *row;
+/// Whether a text that begins so has this fault.
+fn has_fault(alloc: Global, front: &str, rest: &str, want: NetFault) -> bool {
     let mut text = String::new(alloc);
-    text.push_str(text_in(front))?;
-    text.push_str(rest)?;
-    Ok(Topology::read(alloc, text.as_bytes()).err() == Some(want))
+    text.push_str(front).is_ok()
+        && text.push_str(rest).is_ok()
+        && Topology::read(alloc, text.as_bytes()).err() == Some(want)
 }
 
-/// Whether each text of a table has its fault.
-fn refuses(alloc: Global, rows: &[Row]) -> Result<bool, AllocError> {
-    for row in rows {
-        if !has_fault(alloc, row)? {
-            return Ok(false);
+/// Whether each text of a row has its fault.
+fn is_row(alloc: Global, row: &Row) -> bool {
+    let (front, want, texts) = *row;
+    for rest in texts.split('|') {
+        if !has_fault(alloc, text_in(front), rest, want) {
+            return false;
         }
     }
-    Ok(true)
+    true
 }
 
 #[test]
-fn lines_of_nodes_are_malformed(rt: HostRuntime) -> Result<(), Fail> {
-    assert!(rt; refuses(rt.alloc(), NOTHING_TO_RUN)?);
-    assert!(rt; refuses(rt.alloc(), NODE_LINES)?);
-    Ok(())
-}
-
-#[test]
-fn lines_are_malformed(rt: HostRuntime) -> Result<(), Fail> {
-    assert!(rt; refuses(rt.alloc(), PORT_LINES)?);
-    assert!(rt; refuses(rt.alloc(), SPACES_AND_ENDS_OF_LINES)?);
-    Ok(())
-}
-
-#[test]
-fn wires_are_malformed(rt: HostRuntime) -> Result<(), Fail> {
-    assert!(rt; refuses(rt.alloc(), WIRE_SHAPES)?);
-    assert!(rt; refuses(rt.alloc(), UNKNOWN_NAMES)?);
-    Ok(())
-}
-
-#[test]
-fn names_and_wires_are_refused(rt: HostRuntime) -> Result<(), Fail> {
-    assert!(rt; refuses(rt.alloc(), TAKEN_ENDS)?);
-    assert!(rt; refuses(rt.alloc(), TOO_MANY)?);
-    assert!(rt; refuses(rt.alloc(), FIRST_OF_SEVERAL)?);
-    Ok(())
+fn texts_have_their_faults(rt: HostRuntime) {
+    for (i, row) in TEXTS.iter().enumerate() {
+        assert!(rt; is_row(rt.alloc(), row), "row {i}");
+    }
 }
 
 /// How many nodes a text has, each of four pages but the last, and the pages of that; how many ports; and the text's fault, if it has one.
@@ -267,20 +196,20 @@ pub(crate) fn text_of(
     Ok(text)
 }
 
-/// The fault of such a text, if it has one.
-fn fault_of(alloc: Global, row: &Limit) -> Result<Option<NetFault>, fmt::Error> {
-    let (nodes, last, ports, _) = *row;
-    let text = text_of(alloc, nodes, last, ports)?;
-    Ok(Topology::read(alloc, text.as_bytes()).err())
+/// Whether such a text has its fault, or none.
+fn is_limit(alloc: Global, row: &Limit) -> bool {
+    let (nodes, last, ports, fault) = *row;
+    match text_of(alloc, nodes, last, ports) {
+        Ok(text) => Topology::read(alloc, text.as_bytes()).err() == fault,
+        Err(_) => false,
+    }
 }
 
 #[test]
-fn counts_are_within_their_limits(rt: HostRuntime) -> Result<(), Fail> {
+fn counts_are_within_their_limits(rt: HostRuntime) {
     for (i, row) in LIMITS.iter().enumerate() {
-        let fault = fault_of(rt.alloc(), row)?;
-        assert!(rt; fault == row.3, "row {i}");
+        assert!(rt; is_limit(rt.alloc(), row), "row {i}");
     }
-    Ok(())
 }
 
 #[test]

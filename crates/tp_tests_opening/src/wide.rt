@@ -1,10 +1,10 @@
 //! The device of seventeen nodes, which has a wide head: all its bytes, what changes of them say, and a turn in its journal.
 
 use crate::apart::{Content, NO, is_said, play, with_pieces};
-use crate::devices::{Letter, leads_from};
-use crate::opened_books::{Filling, fills, room_of};
-use std::alloc::{AllocError, Global};
-use std::test::Fail;
+use crate::devices::{formatted, leads_from};
+use crate::opened_books::{Filling, fills, has_room};
+use std::alloc::Global;
+use std::thread::Threads;
 use tp_model::OpenFault;
 use tp_model::OpenFault::{BadVersion, Damaged, NoOpenArea, NotFormatted};
 use tp_model::limits::WIDE_HEAD_BYTES;
@@ -191,15 +191,13 @@ const LENGTHS: &[(usize, Result<u64, OpenFault>)] = &[
 ];
 
 /// The device of seventeen nodes.
-pub(crate) fn seventeen(alloc: Global) -> Result<Vec<u8>, Fail> {
-    Letter::of(alloc, SEVENTEEN, 17)?.device(alloc, WIDE_HEAD_BYTES, LEAST)
+fn seventeen(alloc: Global) -> Option<Vec<u8>> {
+    formatted(alloc, SEVENTEEN, 17, WIDE_HEAD_BYTES, LEAST)
 }
 
 #[test]
-fn a_wide_device_is_changed(rt: HostRuntime) -> Result<(), Fail> {
-    let alloc = rt.alloc();
-    let wide = seventeen(alloc)?;
-    play(&rt, alloc, &wide, WIDE)
+fn a_wide_device_is_changed(rt: HostRuntime) {
+    play(&rt, rt.alloc(), seventeen(rt.alloc()), WIDE);
 }
 
 /// Puts images at their places.
@@ -210,34 +208,60 @@ fn place_images(bytes: &mut [u8], image: &[u8]) {
 }
 
 /// The device of seventeen nodes, made by hand.
-fn by_hand(alloc: Global) -> Result<Vec<u8>, AllocError> {
-    let mut bytes = Vec::from_elem(alloc, 0u8, SIZE)?;
-    place_images(&mut bytes, &letter(alloc)?);
+fn by_hand(alloc: Global) -> Option<Vec<u8>> {
+    let Ok(mut bytes) = Vec::from_elem(alloc, 0u8, SIZE) else {
+        return None;
+    };
+    let Ok(image) = letter(alloc) else {
+        return None;
+    };
+    place_images(&mut bytes, &image);
     with_pieces(alloc, &bytes, BYTES)
 }
 
-#[test]
-fn wide_heads_have_their_bytes(rt: HostRuntime) -> Result<(), Fail> {
-    let alloc = rt.alloc();
-    let device = seventeen(alloc)?;
-    assert!(rt; device == by_hand(alloc)?);
+/// Whether a device has these bytes, and each front of them says what it ought to.
+fn are_fronts<R: Threads + Sync>(rt: &R, alloc: Global, device: &[u8], bytes: &[u8]) -> bool {
     for (len, says) in LENGTHS {
-        let short = device.get(..*len).unwrap_or(&[]);
-        assert!(rt; is_said(&rt, alloc, short, *says)?, "{len} bytes");
+        if !is_said(rt, alloc, device.get(..*len).unwrap_or(&[]), *says) {
+            return false;
+        }
     }
-    Ok(())
+    device == bytes
 }
 
-/// A turn of a node above 15 leads where its take and its run lead, and another node's isn't possible.
 #[test]
-fn the_last_node_turns(rt: HostRuntime) -> Result<(), Fail> {
-    let alloc = rt.alloc();
-    let device = seventeen(alloc)?;
-    let turned = with_pieces(alloc, &device, A_TURN)?;
-    assert!(rt; leads_from(alloc, &turned, 3, &device, APART)?);
-    let other = with_pieces(alloc, &turned, ANOTHER_NODE)?;
-    assert!(rt; is_said(&rt, alloc, &other, Err(Damaged(82_137)))?);
-    Ok(())
+fn wide_heads_have_their_bytes(rt: HostRuntime) {
+    let device = seventeen(rt.alloc());
+    let bytes = by_hand(rt.alloc());
+    let told = match (&device, &bytes) {
+        (Some(device), Some(bytes)) => are_fronts(&rt, rt.alloc(), device, bytes),
+        _ => false,
+    };
+    assert!(rt; told);
+}
+
+/// Whether a turn of the last node leads where its take and its run lead, and another node's isn't possible.
+fn turns<R: Threads + Sync>(rt: &R, alloc: Global, device: &[u8]) -> bool {
+    let Some(turned) = with_pieces(alloc, device, A_TURN) else {
+        return false;
+    };
+    match with_pieces(alloc, &turned, ANOTHER_NODE) {
+        Some(other) => {
+            leads_from(alloc, &turned, 3, device, APART)
+                && is_said(rt, alloc, &other, Err(Damaged(82_137)))
+        }
+        None => false,
+    }
+}
+
+/// A turn of a node above 15.
+#[test]
+fn the_last_node_turns(rt: HostRuntime) {
+    let told = match seventeen(rt.alloc()) {
+        Some(device) => turns(&rt, rt.alloc(), &device),
+        None => false,
+    };
+    assert!(rt; told);
 }
 
 /// One entry that anyone may make has room in the least area, and no second one.
@@ -248,10 +272,12 @@ const FILLING: Filling = Filling {
 };
 
 #[test]
-fn the_least_area_has_room_for_one_entry(rt: HostRuntime) -> Result<(), Fail> {
-    let alloc = rt.alloc();
-    let bytes = seventeen(alloc)?;
-    assert!(rt; room_of(alloc, &bytes)? == 6_656);
-    assert!(rt; fills(alloc, bytes, &FILLING)?);
-    Ok(())
+fn the_least_area_has_room_for_one_entry(rt: HostRuntime) {
+    let device = seventeen(rt.alloc());
+    let is_room = match &device {
+        Some(bytes) => has_room(rt.alloc(), bytes, 6_656),
+        None => false,
+    };
+    let is_filled = fills(rt.alloc(), device, &FILLING);
+    assert!(rt; is_room && is_filled);
 }
