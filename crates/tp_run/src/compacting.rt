@@ -23,10 +23,11 @@ ghost use Rattle.tp_shared.specs.Named.{Names};
 
 use crate::opening::parts_of;
 use std::alloc::Global;
+use std::error::Error;
+use std::fmt;
 use std::marker::Brand;
 use std::snapshot::Snapshot;
 use std::sync::Wait;
-use thiserror::Error;
 use tp_area::{JournalRoom, Store};
 use tp_book::Refusal;
 use tp_disk::Disk;
@@ -47,25 +48,41 @@ pub struct Compaction {
 }
 
 /// Why a device isn't compacted.
-#[derive(Clone, Copy, Debug, Error)]
+#[derive(Clone, Copy)]
 pub enum CompactFault {
     /// The device isn't opened.
-    #[error(transparent)]
     Opening(Unopened),
     /// No generation is left for another cut.
-    #[error("JournalFull")]
     NoGeneration,
     /// A call of the device failed.
-    #[error("DeviceFailed")]
     DeviceFailed,
     /// The cut didn't become whole, or no snapshot could begin for another reason than want of memory. As nothing runs neither comes; that
     /// is tested, and not proved.
-    #[error("NotWhole")]
     NotWhole,
     /// Memory was refused, at whatever step.
-    #[error("Memory")]
     Memory,
 }
+
+impl fmt::Display for CompactFault {
+    fn fmt<W: fmt::Write>(&self, f: &mut fmt::Formatter<W>) -> fmt::Result {
+        let word = match *self {
+            CompactFault::Opening(unopened) => return fmt::Display::fmt(&unopened, f),
+            CompactFault::NoGeneration => "JournalFull",
+            CompactFault::DeviceFailed => "DeviceFailed",
+            CompactFault::NotWhole => "NotWhole",
+            CompactFault::Memory => "Memory",
+        };
+        f.write_str(word)
+    }
+}
+
+impl fmt::Debug for CompactFault {
+    fn fmt<W: fmt::Write>(&self, f: &mut fmt::Formatter<W>) -> fmt::Result {
+        fmt::Display::fmt(self, f)
+    }
+}
+
+impl Error for CompactFault {}
 
 /// How many entries `journal` takes behind those that were made since the kept cut.
 fn left_in<J: Naming, R: Wait>(rt: &R, shared: &Shared<J>, journal: JournalRoom) -> u64

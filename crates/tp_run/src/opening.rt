@@ -2,7 +2,10 @@
 
 ghost use Rattle.std.specs.Prelude.{◌≡◌, ◌<◌, IfOk, Some};
 ghost use Rattle.tp_model.specs.Journal.{room};
+ghost use Rattle.tp_book.specs.Book.{next_in_book};
+ghost use Rattle.tp_book.specs.Opened.{IsWellOpen, opened_book};
 ghost use Rattle.tp_flush.specs.Made.{IsMadeOf};
+ghost use Rattle.tp_ready.specs.Seen.{unrisen};
 ghost use Rattle.tp_run.specs.Made.{fault_by, has_pages, job_fault};
 ghost use Rattle.tp_run.specs.Outset.{outset_in};
 
@@ -10,7 +13,7 @@ use crate::fault::RunFault;
 use crate::job::Job;
 use crate::outset::Outset;
 use std::alloc::{AllocError, Global};
-use tp_book::{Book, opened_books_begin};
+use tp_book::{Book, NetState, opened_books_begin};
 use tp_net::Topology;
 use tp_ready::{Mark, Raiser};
 use tp_recover::Opened;
@@ -49,6 +52,25 @@ pub(crate) fn job_fault(job: Job, topology: &Topology) -> Option<RunFault>
     fault_by(has_pages(job.spare, topology), has_port)
 }
 
+/// The parts of an opened book and its nodes, each with `spare` frames, and the raiser of their mark.
+fn parts_with(
+    alloc: Global,
+    state: NetState,
+    book: Book,
+    spare: u16,
+) -> Result<(Parts, Raiser), AllocError>
+    requires opened { IsWellOpen state }
+    requires book { book ≡ opened_book state book.room }
+    ensures book { IfOk result (λ made. made.0.book ≡ book) }
+    ensures first { IfOk result (λ made. made.0.first ≡ next_in_book book) }
+    ensures raiser { IfOk result (λ made. made.1 ≡ record { mark = made.0.mark; at = state.next; rises = unrisen state.next }) }
+{
+    let (mark, raiser, _) = Mark::start(alloc, state.next, 0)?;
+    let nodes = nodes_of(alloc, state, spare as usize)?;
+    let parts = Parts::opened(alloc, book, nodes, mark)?;
+    Ok((parts, raiser))
+}
+
 /// The book and the nodes of what was opened, the raiser of their mark, and where the port `port` stands. Each node has `spare` frames
 /// for pages that it writes while it is frozen.
 pub(crate) fn parts_of(
@@ -68,8 +90,6 @@ pub(crate) fn parts_of(
     let state = opened.into_state(alloc)?;
     let book = Book::open(alloc, &state, Some(room))?;
     let outset = Outset::of(&book, port);
-    let (mark, raiser, _) = Mark::start(alloc, state.next, 0)?;
-    let nodes = nodes_of(alloc, state, spare as usize)?;
-    let parts = Parts::opened(alloc, book, nodes, mark)?;
+    let (parts, raiser) = parts_with(alloc, state, book, spare)?;
     Ok((parts, raiser, outset))
 }

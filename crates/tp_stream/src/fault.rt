@@ -1,61 +1,97 @@
 //! Why a stream ends early.
 
-use thiserror::Error;
+use std::error::Error;
+use std::fmt;
 use tp_recover::Unopened;
 
 /// Each of the first nine leaves the device as it is, and nothing was put.
-#[derive(Clone, Copy, Debug, PartialEq, Eq, Error)]
+#[derive(Clone, Copy, PartialEq, Eq)]
 pub enum StreamFault {
     /// The device isn't opened.
-    #[error(transparent)]
     Opening(Unopened),
     /// A node has fewer pages than the spare frames that were asked for.
-    #[error("Spare")]
     Spare,
     /// A sink or a source is for a port that isn't there.
-    #[error("Port {0}")]
     Port(u8),
     /// This port has a wire, and no sink is for it.
-    #[error("Unnamed {0}")]
     Unnamed(u8),
     /// A sink has fewer bytes than are to stand before the next one.
-    #[error("Short {port} {has} {from}")]
     Short { port: u8, has: u64, from: u64 },
     /// A sink has more bytes than the port has put out: those behind are another's.
-    #[error("Long {port} {has} {upto}")]
     Long { port: u8, has: u64, upto: u64 },
     /// A reader has fewer outputs than were confirmed: those between are gone.
-    #[error("Gone {port} {have} {confirmed}")]
     Gone { port: u8, have: u64, confirmed: u64 },
     /// A reader says that it has more outputs than are shown.
-    #[error("NotShown {port} {have} {shown}")]
     NotShown { port: u8, have: u64, shown: u64 },
     /// An input has fewer bytes than its port has accepted: it isn't the port's.
-    #[error("ShortInput {port} {has} {accepted}")]
     ShortInput { port: u8, has: u64, accepted: u64 },
     /// The input of a port can't be read.
-    #[error("ReadFailed")]
     InputFailed(u8),
     /// The output of a port can't be put, or not be made safe. It isn't confirmed.
-    #[error("DeviceFailed")]
     OutputFailed(u8),
     /// A call of the device failed in a flush. None was made since.
-    #[error("DeviceFailed")]
     FlushFailed,
     /// The book or the area takes no entries, or the book has some that a flush hasn't stored, though no call of the device failed in a
     /// flush. As a flush that fails is told first, and the last one comes behind all turns, none of that comes, which no clause says.
-    #[error("DeviceFailed")]
     NotStored,
     /// There is no room on the device, and no checkpoint frees any.
-    #[error("JournalFull")]
     JournalFull,
     /// Memory was refused, at whatever step.
-    #[error("Memory")]
     Memory,
 }
 
-impl From<Unopened> for StreamFault {
-    fn from(unopened: Unopened) -> StreamFault {
-        StreamFault::Opening(unopened)
+/// Writes a word, a port and two numbers.
+fn write_numbers<W: fmt::Write>(
+    f: &mut fmt::Formatter<W>,
+    word: &str,
+    port: u8,
+    first: u64,
+    second: u64,
+) -> fmt::Result {
+    write!(f, "{word} {port} {first} {second}")
+}
+
+/// Writes a word and a port.
+fn write_port<W: fmt::Write>(f: &mut fmt::Formatter<W>, word: &str, port: u8) -> fmt::Result {
+    write!(f, "{word} {port}")
+}
+
+impl fmt::Display for StreamFault {
+    fn fmt<W: fmt::Write>(&self, f: &mut fmt::Formatter<W>) -> fmt::Result {
+        match *self {
+            StreamFault::Opening(unopened) => fmt::Display::fmt(&unopened, f),
+            StreamFault::Spare => f.write_str("Spare"),
+            StreamFault::Port(port) => write_port(f, "Port", port),
+            StreamFault::Unnamed(port) => write_port(f, "Unnamed", port),
+            StreamFault::Short { port, has, from } => write_numbers(f, "Short", port, has, from),
+            StreamFault::Long { port, has, upto } => write_numbers(f, "Long", port, has, upto),
+            StreamFault::Gone {
+                port,
+                have,
+                confirmed,
+            } => write_numbers(f, "Gone", port, have, confirmed),
+            StreamFault::NotShown { port, have, shown } => {
+                write_numbers(f, "NotShown", port, have, shown)
+            }
+            StreamFault::ShortInput {
+                port,
+                has,
+                accepted,
+            } => write_numbers(f, "ShortInput", port, has, accepted),
+            StreamFault::InputFailed(_) => f.write_str("ReadFailed"),
+            StreamFault::OutputFailed(_) | StreamFault::FlushFailed | StreamFault::NotStored => {
+                f.write_str("DeviceFailed")
+            }
+            StreamFault::JournalFull => f.write_str("JournalFull"),
+            StreamFault::Memory => f.write_str("Memory"),
+        }
     }
 }
+
+impl fmt::Debug for StreamFault {
+    fn fmt<W: fmt::Write>(&self, f: &mut fmt::Formatter<W>) -> fmt::Result {
+        fmt::Display::fmt(self, f)
+    }
+}
+
+impl Error for StreamFault {}

@@ -266,6 +266,25 @@ fn step_inputs<J: Naming, I: Source, R: Wait>(
     Ok(Pumped::of(has_moved))
 }
 
+/// A step of each input, behind what steps of the outputs came to. Where none has moved, and it may wait, it waits for input that hasn't come
+/// yet.
+fn pump_inputs<J: Naming, I: Source, R: Wait>(
+    rt: &R,
+    shared: &Shared<J>,
+    pace: Pace,
+    put: Pumped,
+    may_wait: bool,
+    inputs: &mut [Input<I>],
+) -> Result<Pumped, StreamFault>
+    ensures begun { IfErr result CameBetween }
+{
+    let pumped = put.then(step_inputs(rt, shared, pace, false, inputs)?);
+    if pumped != Pumped::Nothing || !may_wait {
+        return Ok(pumped);
+    }
+    step_inputs(rt, shared, pace, true, inputs)
+}
+
 /// A step of each stream. Outputs are put and confirmed up to the flusher's mark: what is put are outputs where its journal leads. Where
 /// none has moved, and it may wait, it waits for input that hasn't come yet. Where whoever takes an output has gone, no port takes more.
 pub(crate) fn pump<J: Naming, D: Disk, S: Sink, I: Source, R: Wait>(
@@ -285,9 +304,5 @@ pub(crate) fn pump<J: Naming, D: Disk, S: Sink, I: Source, R: Wait>(
     if put == Pumped::Gone {
         return Ok(Pumped::Gone);
     }
-    let pumped = put.then(step_inputs(rt, shared, pace, false, &mut streams.inputs)?);
-    if pumped != Pumped::Nothing || !may_wait {
-        return Ok(pumped);
-    }
-    step_inputs(rt, shared, pace, true, &mut streams.inputs)
+    pump_inputs(rt, shared, pace, put, may_wait, &mut streams.inputs)
 }

@@ -2,6 +2,7 @@
 
 use crate::devices::{DEAF, ECHO, LETTERS, ONE};
 use crate::players::{Asked, Desk, NO_INPUT, Played, QUIET, look, play_desk};
+use crate::steps::{EMPTY, Fresh, PLAIN, Step, are_steps_on};
 use std::process::Abort;
 use std::sync::Wait;
 use std::test::Fail;
@@ -23,12 +24,29 @@ const ASKED: Asked = Asked {
 /// How many turns are made between two looks.
 const ROUND: u32 = 1024;
 
+/// A stream that was asked to stop, and has put nothing.
+const STOPPED: Step = Step {
+    asked: ASKED,
+    why: Some(Ending::Stopped),
+    then: Some(EMPTY),
+    ..PLAIN
+};
+
+/// A device of a node with this code.
+fn fresh(code: &'static [u8]) -> Fresh {
+    Fresh {
+        text: ONE,
+        code,
+        begin: 0,
+        area: 1_048_576,
+    }
+}
+
 /// A stream on a device that is freshly formatted, and the number of the next entry that the device opens with.
 #[derive(Clone, Copy)]
 struct Seen {
     played: Played,
     next: u64,
-    generation: u64,
     put: usize,
 }
 
@@ -45,7 +63,6 @@ where
     Ok(Seen {
         played,
         next: left.next,
-        generation: left.generation,
         put: desk.sink.bytes().len(),
     })
 }
@@ -62,9 +79,8 @@ where
 /// Where something is there at the first look, no turn is made.
 #[test]
 fn a_stream_that_is_asked_at_once_makes_no_turn(rt: HostRuntime) -> Result<(), Fail> {
-    let seen = see(&rt, LETTERS, ASKED)?;
-    assert!(rt; seen.played.why() == Some(Ending::Stopped));
-    assert!(rt; seen.next == 0 && seen.put == 0);
+    let step = Step { next: 0, ..STOPPED };
+    assert!(rt; are_steps_on(&rt, fresh(LETTERS), &[step])?);
     Ok(())
 }
 
@@ -142,15 +158,18 @@ fn what_was_put_before_a_stop_is_confirmed(rt: HostRuntime) -> Result<(), Fail> 
 #[test]
 fn a_stream_that_waits_for_input_stops(rt: HostRuntime) -> Result<(), Fail> {
     for (code, looks) in [(ECHO, 5u32), (DEAF, 9)] {
-        let asked = Asked {
-            input: 3,
-            late: u32::MAX,
-            looks: Some(looks),
-            ..ASKED
+        let step = Step {
+            asked: Asked {
+                input: 3,
+                late: u32::MAX,
+                looks: Some(looks),
+                ..ASKED
+            },
+            generations: [1, 1],
+            next: 9,
+            ..STOPPED
         };
-        let seen = see(&rt, code, asked)?;
-        assert!(rt; seen.played.why() == Some(Ending::Stopped));
-        assert!(rt; seen.next < 10 && seen.generation == 1 && seen.put == 0);
+        assert!(rt; are_steps_on(&rt, fresh(code), &[step])?);
     }
     Ok(())
 }
@@ -159,16 +178,17 @@ fn a_stream_that_waits_for_input_stops(rt: HostRuntime) -> Result<(), Fail> {
 #[test]
 fn a_stop_is_told_where_it_was_to_end_so(rt: HostRuntime) -> Result<(), Fail> {
     for (until_asked, why) in [(false, Ending::Turns), (true, Ending::Stopped)] {
-        let asked = Asked {
-            task: Task {
-                turns: Some(0),
-                until_asked,
-                ..QUIET
-            },
-            looks: Some(0),
-            ..NO_INPUT
+        let task = Task {
+            turns: Some(0),
+            until_asked,
+            ..QUIET
         };
-        assert!(rt; see(&rt, LETTERS, asked)?.played.why() == Some(why));
+        let step = Step {
+            asked: Asked { task, ..ASKED },
+            why: Some(why),
+            ..PLAIN
+        };
+        assert!(rt; are_steps_on(&rt, fresh(LETTERS), &[step])?);
     }
     Ok(())
 }

@@ -1,13 +1,11 @@
 //! Why streams end, and which nodes have stopped then.
 
 use crate::devices::{DEAF, ECHO, HALTS, LETTERS, ONE};
-use crate::players::{Asked, Desk, NO_INPUT, QUIET, play_desk};
-use std::process::Abort;
-use std::sync::Wait;
+use crate::players::{Asked, NO_INPUT, QUIET};
+use crate::steps::{Fresh, PLAIN, Step, are_steps_on};
 use std::test::Fail;
-use std::thread::Threads;
 use tp_model::Fault;
-use tp_stream::{Ending, MemSink, Stopped, Task};
+use tp_stream::{Ending, Stopped, Task};
 
 /// A node's code, how many bytes its port is handed, how the stream is asked to end, why it ends, and how the node has stopped.
 #[derive(Clone, Copy)]
@@ -106,93 +104,64 @@ const ROWS: &[Row] = &[
     },
 ];
 
-/// Whether a stream with an empty sink ends as a row says, and the node is told of as it says.
-fn is_ended<R: Threads + Wait + Abort + Sync>(
-    rt: &R,
-    row: &Row,
-    desk: &mut Desk,
-) -> Result<bool, Fail>
-where
-    R: AllocGlobal,
-{
-    desk.sink = MemSink::empty(rt.alloc());
+/// A row's stream, with an empty sink.
+fn step_of(row: &Row) -> Step {
     let task = Task {
         turns: row.turns,
         until_quiet: row.until_quiet,
         stop_on_halt: row.stop_on_halt,
         ..QUIET
     };
-    let asked = Asked {
-        task,
-        input: row.input,
-        most: 4096,
-        ..NO_INPUT
-    };
-    let played = play_desk(rt, asked, desk)?;
-    let is_told = played.told.stopped[0] == row.stopped && played.told.stopped[1].is_none();
-    Ok(is_told && played.why() == Some(row.why))
-}
-
-/// Whether streams one after another do.
-fn are_ended<R: Threads + Wait + Abort + Sync>(
-    rt: &R,
-    rows: &[Row],
-    desk: &mut Desk,
-) -> Result<bool, Fail>
-where
-    R: AllocGlobal,
-{
-    for row in rows {
-        if !is_ended(rt, row, desk)? {
-            return Ok(false);
-        }
+    Step {
+        asked: Asked {
+            task,
+            input: row.input,
+            most: 4096,
+            ..NO_INPUT
+        },
+        why: Some(row.why),
+        stopped: row.stopped,
+        ..PLAIN
     }
-    Ok(true)
 }
 
-/// Whether streams do so one after another, on a device of a node with this code.
-fn are_ended_by<R: Threads + Wait + Abort + Sync>(
-    rt: &R,
-    code: &[u8],
-    rows: &[Row],
-) -> Result<bool, Fail>
-where
-    R: AllocGlobal,
-{
-    let mut desk = Desk::fresh(rt.alloc(), ONE, code, 262_144)?;
-    let told = are_ended(rt, rows, &mut desk);
-    told
+/// A device of a node with this code.
+fn fresh(code: &'static [u8]) -> Fresh {
+    Fresh {
+        text: ONE,
+        code,
+        begin: 0,
+        area: 262_144,
+    }
 }
 
 #[test]
 fn streams_say_why_they_end(rt: HostRuntime) -> Result<(), Fail> {
     for row in ROWS {
-        assert!(rt; are_ended_by(&rt, row.code, &[*row])?);
+        assert!(rt; are_steps_on(&rt, fresh(row.code), &[step_of(row)])?);
     }
     Ok(())
 }
 
-/// A stream of a node that halts, which goes on until its input has gone; and one that is to end once a node has halted.
-const AGAIN: &[Row] = &[
-    Row {
-        code: HALTS,
-        input: 0,
-        stopped: HALTED,
-        ..ROW
-    },
-    Row {
-        code: HALTS,
-        input: 0,
-        stop_on_halt: true,
-        why: Ending::Halted,
-        stopped: HALTED,
-        ..ROW
-    },
-];
+/// A stream of a node that halts, which goes on until its input has gone.
+const GOES_ON: Row = Row {
+    code: HALTS,
+    input: 0,
+    stopped: HALTED,
+    ..ROW
+};
+
+/// One that is to end once a node has halted.
+const HALTS_AT_ONCE: Row = Row {
+    stop_on_halt: true,
+    why: Ending::Halted,
+    ..GOES_ON
+};
 
 /// A node that has halted before ends the next stream too that is to end so, and is told again.
 #[test]
 fn a_node_that_halted_before_ends_a_stream(rt: HostRuntime) -> Result<(), Fail> {
-    assert!(rt; are_ended_by(&rt, HALTS, AGAIN)?);
+    let steps = [step_of(&GOES_ON), step_of(&HALTS_AT_ONCE)];
+    assert!(rt; are_steps_on(&rt, fresh(HALTS), &steps)?);
     Ok(())
 }

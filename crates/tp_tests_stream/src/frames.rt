@@ -1,9 +1,8 @@
 //! Nodes that write more pages than they have spare frames for.
 
 use crate::devices::{ECHO_WRITES, LARGE, WRITES, formatted};
-use crate::players::{
-    Asked, Asks, Desk, NO_INPUT, QUIET, nobody, numbered, play, play_desk, source_of,
-};
+use crate::players::{Asked, Asks, NO_INPUT, QUIET, nobody, numbered, play, source_of};
+use crate::steps::{Bytes, Fresh, PLAIN, Step, are_steps_on};
 use crate::waiting::{Answered, Asking};
 use std::alloc::{AllocError, Global};
 use std::cell::Cell;
@@ -16,41 +15,40 @@ use tp_stream::{Ending, Input, Output, Streams, Task};
 /// How many spare frames there are, where twelve pages are written.
 const SPARES: &[u16] = &[0, 1, 4, 11, 12, 16];
 
-/// Whether the byte comes behind the writes of a node with `spare` frames, and the stream is quiet then, where each entry begins a
-/// snapshot that may.
-fn is_sent<R: Threads + Wait + Abort + Sync>(
-    rt: &R,
-    spare: u16,
-    desk: &mut Desk,
-) -> Result<bool, Fail>
-where
-    R: AllocGlobal,
-{
-    let task = Task {
-        turns: None,
-        spare,
-        every: Some(1),
-        ..QUIET
-    };
-    let played = play_desk(rt, Asked { task, ..NO_INPUT }, desk)?;
-    let is_quiet = played.why() == Some(Ending::Quiet);
-    Ok(is_quiet && desk.sink.bytes() == b"A".as_slice())
-}
+/// The device of a node that writes pages, and sends a letter behind that.
+const FRESH: Fresh = Fresh {
+    text: LARGE,
+    code: WRITES,
+    begin: 0,
+    area: 65_536,
+};
 
-/// Whether the byte comes so on a device that is freshly formatted.
-fn is_sent_with<R: Threads + Wait + Abort + Sync>(rt: &R, spare: u16) -> Result<bool, Fail>
-where
-    R: AllocGlobal,
-{
-    let mut desk = Desk::fresh(rt.alloc(), LARGE, WRITES, 65_536)?;
-    let told = is_sent(rt, spare, &mut desk);
-    told
-}
+/// The letter comes, and the stream is quiet then.
+const IS_SENT: Step = Step {
+    why: Some(Ending::Quiet),
+    then: Some(Bytes {
+        all: Some(b'A'),
+        least: 1,
+        most: 1,
+    }),
+    ..PLAIN
+};
 
+/// The letter comes behind the writes with however many spare frames, where each entry begins a snapshot that may.
 #[test]
 fn a_node_that_wants_frames_is_not_quiet(rt: HostRuntime) -> Result<(), Fail> {
     for spare in SPARES {
-        assert!(rt; is_sent_with(&rt, *spare)?);
+        let task = Task {
+            turns: None,
+            spare: *spare,
+            every: Some(1),
+            ..QUIET
+        };
+        let step = Step {
+            asked: Asked { task, ..NO_INPUT },
+            ..IS_SENT
+        };
+        assert!(rt; are_steps_on(&rt, FRESH, &[step])?);
     }
     Ok(())
 }

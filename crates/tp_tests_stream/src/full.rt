@@ -3,6 +3,7 @@
 use crate::devices::{DEAF, LETTERS, ONE};
 use crate::players::{Asked, Desk, Left, NO_INPUT, QUIET, look, play_desk};
 use crate::runs::run_on;
+use crate::steps::{Fresh, PLAIN, Step, are_steps_on};
 use std::mem;
 use std::process::Abort;
 use std::sync::Wait;
@@ -74,30 +75,30 @@ fn a_journal_that_a_run_filled_lets_a_stream_go_on(rt: HostRuntime) -> Result<()
     Ok(())
 }
 
-/// What a stream is refused for that is handed `input` bytes, where the empty journal has no room for any.
-fn refused<R: Threads + Wait + Abort + Sync>(
-    rt: &R,
-    input: usize,
-) -> Result<Option<StreamFault>, Fail>
-where
-    R: AllocGlobal,
-{
-    let mut desk = Desk::fresh(rt.alloc(), NARROW, DEAF, 17_546)?;
-    let asked = Asked {
-        input,
+/// A device whose empty journal has room for just what a turn and the confirms behind it need.
+const FULL: Fresh = Fresh {
+    text: NARROW,
+    code: DEAF,
+    begin: 0,
+    area: 17_546,
+};
+
+/// No byte of an input finds any room: that is said.
+const REFUSED: Step = Step {
+    asked: Asked {
+        input: 7,
         most: 7,
         ..NO_INPUT
-    };
-    let played = play_desk(rt, asked, &mut desk);
-    Ok(played?.done.err())
-}
+    },
+    fault: Some(StreamFault::JournalFull),
+    ..PLAIN
+};
 
-/// The empty journal has room for just what a turn and the confirms behind it need, so that no byte of an input finds any: that is said,
-/// and the stream doesn't go on for ever. Without a byte it ends.
+/// Where no byte of an input finds any room the stream is refused, and doesn't go on for ever. Without a byte it ends.
 #[test]
 fn input_that_finds_no_room_is_refused(rt: HostRuntime) -> Result<(), Fail> {
-    for (count, wanted) in [(0usize, None), (7, Some(StreamFault::JournalFull))] {
-        assert!(rt; refused(&rt, count)? == wanted);
+    for step in [PLAIN, REFUSED] {
+        assert!(rt; are_steps_on(&rt, FULL, &[step])?);
     }
     Ok(())
 }

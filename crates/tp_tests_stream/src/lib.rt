@@ -40,6 +40,8 @@ mod run_rows;
 #[cfg(test)]
 mod runs;
 #[cfg(test)]
+mod shifts;
+#[cfg(test)]
 mod steps;
 #[cfg(test)]
 mod told;

@@ -1,48 +1,45 @@
 //! A port that fills up beside a busy node, for a long time.
 
 use crate::devices::{BESIDE, LETTERS};
-use crate::players::{Asked, Desk, NO_INPUT, QUIET, look, play_desk};
-use std::process::Abort;
-use std::sync::Wait;
+use crate::players::{Asked, NO_INPUT, QUIET};
+use crate::steps::{Bytes, Fresh, PLAIN, Step, are_steps_on};
 use std::test::Fail;
-use std::thread::Threads;
-use tp_stream::Task;
+use tp_stream::{Ending, Task};
 
-/// Whether more than any port holds is put out, over at least two checkpoints, where so many workers make turns.
-fn goes_round<R: Threads + Wait + Abort + Sync>(
-    rt: &R,
-    workers: u8,
-    desk: &mut Desk,
-) -> Result<bool, Fail>
-where
-    R: AllocGlobal,
-{
-    let task = Task {
-        turns: Some(30_000),
-        until_quiet: false,
-        workers,
-        ..QUIET
-    };
-    let played = play_desk(rt, Asked { task, ..NO_INPUT }, desk)?;
-    let left = look(rt.alloc(), &mut desk.device)?;
-    let is_long = desk.sink.bytes().len() > 4096;
-    Ok(is_long && left.generation > 2 && played.next() == Some(left.next))
-}
+/// The journal of an area has 500 entries.
+const FRESH: Fresh = Fresh {
+    text: BESIDE,
+    code: LETTERS,
+    begin: 0,
+    area: 32_768,
+};
 
-fn goes_round_beside<R: Threads + Wait + Abort + Sync>(rt: &R, workers: u8) -> Result<bool, Fail>
-where
-    R: AllocGlobal,
-{
-    let mut desk = Desk::fresh(rt.alloc(), BESIDE, LETTERS, 32_768)?;
-    let told = goes_round(rt, workers, &mut desk);
-    told
-}
+/// More letters than any port holds are put out, over at least two checkpoints.
+const GOES_ROUND: Step = Step {
+    then: Some(Bytes {
+        all: Some(b'A'),
+        least: 4097,
+        most: usize::MAX,
+    }),
+    why: Some(Ending::Turns),
+    generations: [3, u64::MAX],
+    ..PLAIN
+};
 
-/// More than any port holds is put out, over at least two checkpoints, in a journal of 500 entries.
 #[test]
 fn a_port_never_fills_up_for_ever(rt: HostRuntime) -> Result<(), Fail> {
     for workers in [1u8, 3] {
-        assert!(rt; goes_round_beside(&rt, workers)?, "{workers} workers");
+        let task = Task {
+            turns: Some(30_000),
+            until_quiet: false,
+            workers,
+            ..QUIET
+        };
+        let step = Step {
+            asked: Asked { task, ..NO_INPUT },
+            ..GOES_ROUND
+        };
+        assert!(rt; are_steps_on(&rt, FRESH, &[step])?, "{workers} workers");
     }
     Ok(())
 }

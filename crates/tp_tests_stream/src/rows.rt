@@ -1,59 +1,42 @@
 //! Streams that are done, and those that are refused.
 
 use crate::devices::{ECHO, LETTERS, ONE};
-use crate::players::{
-    Asked, Asks, Desk, NO_INPUT, Pieces, QUIET, are_numbered, look, nobody, play, play_desk,
-};
-use crate::steps::{Bytes, PLAIN, Step, are_all, are_steps, are_steps_on};
+use crate::players::{Asked, Asks, Desk, NO_INPUT, Pieces, QUIET, nobody, play};
+use crate::steps::{Bytes, Fresh, PLAIN, Step, are_steps, are_steps_on, is_step};
 use std::process::Abort;
 use std::sync::Wait;
 use std::test::Fail;
 use std::thread::Threads;
-use tp_stream::{MemSink, StreamFault, Streams, Task};
+use tp_stream::{Ending, MemSink, StreamFault, Streams, Task};
 
 /// How many bytes a long input has: far more than a port holds.
 const LONG: usize = 6000;
 
-/// Whether a long input, `most` bytes at a time, comes back, in an area that is switched again and again, where so many workers make turns.
-fn comes_back<R: Threads + Wait + Abort + Sync>(
-    rt: &R,
-    workers: u8,
-    most: usize,
-    desk: &mut Desk,
-) -> Result<bool, Fail>
-where
-    R: AllocGlobal,
-{
-    let asked = Asked {
-        task: Task { workers, ..QUIET },
+/// A device of a node that gives back what it takes.
+const ECHOES: Fresh = Fresh {
+    text: ONE,
+    code: ECHO,
+    begin: 0,
+    area: 16_384,
+};
+
+/// A long input comes back, from its first byte on, in an area that is switched again and again.
+const COMES_BACK: Step = Step {
+    asked: Asked {
         input: LONG,
-        most,
         ..NO_INPUT
-    };
-    let played = play_desk(rt, asked, desk)?;
-    let left = look(rt.alloc(), &mut desk.device)?;
-    let is_told = played.told.output == Some(0) && played.told.input == Some(0);
-    let is_left = played.next() == Some(left.next) && left.generation > 2;
-    let bytes = desk.sink.bytes();
-    Ok(is_told && is_left && bytes.len() == LONG && are_numbered(bytes))
-}
+    },
+    then: Some(Bytes {
+        all: None,
+        least: LONG,
+        most: LONG,
+    }),
+    begins: Some(0),
+    generations: [3, u64::MAX],
+    ..PLAIN
+};
 
-/// Whether a long input comes back on a device with areas of `area` bytes.
-fn comes_back_in<R: Threads + Wait + Abort + Sync>(
-    rt: &R,
-    workers: u8,
-    most: usize,
-    area: u32,
-) -> Result<bool, Fail>
-where
-    R: AllocGlobal,
-{
-    let mut desk = Desk::fresh(rt.alloc(), ONE, ECHO, area)?;
-    let came = comes_back(rt, workers, most, &mut desk);
-    came
-}
-
-/// Far more bytes than a port holds, in pieces of different sizes: all come back, in an area that is switched again and again.
+/// Far more bytes than a port holds, in pieces of different sizes, by one worker and by more: all come back.
 #[test]
 fn a_long_input_comes_back(rt: HostRuntime) -> Result<(), Fail> {
     for (workers, most, area) in [
@@ -61,10 +44,16 @@ fn a_long_input_comes_back(rt: HostRuntime) -> Result<(), Fail> {
         (1, 7, 16_384),
         (3, 4096, 65_536),
     ] {
-        assert!(rt;
-            comes_back_in(&rt, workers, most, area)?,
-            "{workers} workers"
-        );
+        let step = Step {
+            asked: Asked {
+                task: Task { workers, ..QUIET },
+                most,
+                ..COMES_BACK.asked
+            },
+            ..COMES_BACK
+        };
+        let fresh = Fresh { area, ..ECHOES };
+        assert!(rt; are_steps_on(&rt, fresh, &[step])?, "{workers} workers");
     }
     Ok(())
 }
@@ -74,12 +63,9 @@ const FEW: usize = 300;
 
 const PROCESSES: u32 = 60;
 
-/// Whether a process of fifty turns is done, puts nothing but what is wanted, and leaves a device that opens.
-fn goes_on<R: Threads + Wait + Abort + Sync>(rt: &R, desk: &mut Desk) -> Result<bool, Fail>
-where
-    R: AllocGlobal,
-{
-    let asked = Asked {
+/// A process of fifty turns, which puts nothing but what is wanted.
+const GOES_ON: Step = Step {
+    asked: Asked {
         task: Task {
             turns: Some(50),
             ..QUIET
@@ -87,20 +73,23 @@ where
         input: FEW,
         most: 100,
         ..NO_INPUT
-    };
-    let played = play_desk(rt, asked, desk)?;
-    let _left = look(rt.alloc(), &mut desk.device)?;
-    let bytes = desk.sink.bytes();
-    Ok(played.done.is_ok() && bytes.len() <= FEW && are_numbered(bytes))
-}
+    },
+    front: None,
+    then: Some(Bytes {
+        all: None,
+        least: 0,
+        most: FEW,
+    }),
+    ..PLAIN
+};
 
-/// Whether all such processes do, and all is put then.
+/// Whether all such processes go so, and all is put then.
 fn all_go_on<R: Threads + Wait + Abort + Sync>(rt: &R, desk: &mut Desk) -> Result<bool, Fail>
 where
     R: AllocGlobal,
 {
     for _ in 0..PROCESSES {
-        if !goes_on(rt, desk)? {
+        if !is_step(rt, &GOES_ON, desk)? {
             return Ok(false);
         }
     }
@@ -116,31 +105,35 @@ fn few_turns_at_a_time_come_to_the_same(rt: HostRuntime) -> Result<(), Fail> {
     Ok(())
 }
 
-/// Whether a network that never rests ends with its turns, is told of on the way, and puts its letters.
-fn runs_out<R: Threads + Wait + Abort + Sync>(rt: &R, desk: &mut Desk) -> Result<bool, Fail>
-where
-    R: AllocGlobal,
-{
-    let asked = Asked {
+/// A network that never rests ends with its turns, is told of on the way, and puts its letters.
+const RUNS_OUT: Step = Step {
+    asked: Asked {
         task: Task {
             turns: Some(5000),
             tells: true,
             ..QUIET
         },
         ..NO_INPUT
-    };
-    let played = play_desk(rt, asked, desk)?;
-    let bytes = desk.sink.bytes();
-    let are_letters = bytes.len() > 1000 && are_all(bytes, b'A');
-    Ok(played.done.is_ok() && played.told.progress > 2 && are_letters)
-}
+    },
+    why: Some(Ending::Turns),
+    then: Some(Bytes {
+        all: Some(b'A'),
+        least: 1001,
+        most: usize::MAX,
+    }),
+    told: 3,
+    ..PLAIN
+};
 
-/// A network that never rests ends with its turns, and is told of on the way.
 #[test]
 fn turns_run_out(rt: HostRuntime) -> Result<(), Fail> {
-    let mut desk = Desk::fresh(rt.alloc(), ONE, LETTERS, 65_536)?;
-    let told = runs_out(&rt, &mut desk)?;
-    assert!(rt; told);
+    let fresh = Fresh {
+        code: LETTERS,
+        begin: 0,
+        area: 65_536,
+        ..ECHOES
+    };
+    assert!(rt; are_steps_on(&rt, fresh, &[RUNS_OUT])?);
     Ok(())
 }
 
@@ -166,43 +159,99 @@ where
     done == Err(StreamFault::Unnamed(0))
 }
 
+/// Nine bytes go through.
+const NINE: Step = Step {
+    asked: Asked {
+        input: 9,
+        most: 9,
+        ..NO_INPUT
+    },
+    then: Some(NUMBERED_9),
+    ..PLAIN
+};
+
+const NUMBERED_9: Bytes = Bytes {
+    all: None,
+    least: 9,
+    most: 9,
+};
+
+/// As many bytes of something else.
+const OTHERS_9: Bytes = Bytes {
+    all: Some(b'x'),
+    ..NUMBERED_9
+};
+
+const OTHERS_10: Bytes = Bytes {
+    all: Some(b'x'),
+    least: 10,
+    most: 10,
+};
+
+const OTHERS_1: Bytes = Bytes {
+    all: Some(b'x'),
+    least: 1,
+    most: 1,
+};
+
+/// Fewer than nine, and one more.
+const NUMBERED_4: Bytes = Bytes {
+    all: None,
+    least: 4,
+    most: 4,
+};
+
+const NUMBERED_8: Bytes = Bytes {
+    all: None,
+    least: 8,
+    most: 8,
+};
+
+const NUMBERED_10: Bytes = Bytes {
+    all: None,
+    least: 10,
+    most: 10,
+};
+
 /// Nine bytes go through; then a sink is too short, and a reader says that it has more than is shown, or less than was confirmed.
 const REFUSED: &[Step] = &[
+    NINE,
     Step {
-        input: 9,
-        then: Some(Bytes::Numbered(9)),
-        ..PLAIN
-    },
-    Step {
-        front: Bytes::Numbered(4),
+        front: Some(NUMBERED_4),
         fault: Some(StreamFault::Short {
             port: 0,
             has: 4,
             from: 9,
         }),
-        then: Some(Bytes::Numbered(4)),
+        then: Some(NUMBERED_4),
         ..PLAIN
     },
     Step {
-        have: Some(10),
-        front: Bytes::Numbered(10),
+        asked: Asked {
+            have: Some(10),
+            ..NO_INPUT
+        },
+        front: Some(NUMBERED_10),
         fault: Some(StreamFault::NotShown {
             port: 0,
             have: 10,
             shown: 9,
         }),
-        then: Some(Bytes::Numbered(10)),
+        then: Some(NUMBERED_10),
         ..PLAIN
     },
     Step {
-        have: Some(8),
-        front: Bytes::Numbered(8),
+        asked: Asked {
+            have: Some(8),
+            ..NO_INPUT
+        },
+        front: Some(NUMBERED_8),
         fault: Some(StreamFault::Gone {
             port: 0,
             have: 8,
             confirmed: 9,
         }),
-        then: Some(Bytes::Numbered(8)),
+        then: Some(NUMBERED_8),
         ..PLAIN
     },
 ];
@@ -222,34 +271,38 @@ fn streams_are_refused(rt: HostRuntime) -> Result<(), Fail> {
 /// numbered ones in their place.
 const LONGER: &[Step] = &[
     Step {
-        front: Bytes::Other(1),
+        front: Some(OTHERS_1),
         fault: Some(StreamFault::Long {
             port: 0,
             has: 1,
             upto: 0,
         }),
-        then: Some(Bytes::Other(1)),
+        then: Some(OTHERS_1),
         ..PLAIN
     },
     Step {
-        fails: Some(0),
-        input: 9,
+        asked: Asked {
+            fails: Some(0),
+            input: 9,
+            most: 9,
+            ..NO_INPUT
+        },
         fault: Some(StreamFault::OutputFailed(0)),
         ..PLAIN
     },
     Step {
-        front: Bytes::Other(10),
+        front: Some(OTHERS_10),
         fault: Some(StreamFault::Long {
             port: 0,
             has: 10,
             upto: 9,
         }),
-        then: Some(Bytes::Other(10)),
+        then: Some(OTHERS_10),
         ..PLAIN
     },
     Step {
-        front: Bytes::Other(9),
-        then: Some(Bytes::Numbered(9)),
+        front: Some(OTHERS_9),
+        then: Some(NUMBERED_9),
         ..PLAIN
     },
 ];
@@ -257,6 +310,6 @@ const LONGER: &[Step] = &[
 /// A sink may have as many bytes as its port has put out, confirmed or not, and not one more.
 #[test]
 fn a_sink_has_no_more_than_was_put_out(rt: HostRuntime) -> Result<(), Fail> {
-    assert!(rt; are_steps_on(&rt, LONGER)?);
+    assert!(rt; are_steps_on(&rt, ECHOES, LONGER)?);
     Ok(())
 }

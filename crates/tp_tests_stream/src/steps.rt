@@ -1,16 +1,18 @@
-//! Streams one after another on one device, each with a sink of its own.
+//! Streams one after another on one device, and what is wanted of each.
 
-use crate::devices::{ECHO, ONE};
-use crate::players::{Asked, Desk, NO_INPUT, are_numbered, numbered, play_desk};
+use crate::devices::formatted_from;
+use crate::players::{
+    Asked, Desk, Left, NO_INPUT, Played, are_numbered, look, numbered, play_desk,
+};
 use std::alloc::{AllocError, Global};
 use std::process::Abort;
 use std::sync::Wait;
 use std::test::Fail;
 use std::thread::Threads;
-use tp_stream::{MemSink, StreamFault};
+use tp_stream::{Ending, MemSink, Stopped, StreamFault};
 
 /// Whether all bytes are that one.
-pub(crate) fn are_all(bytes: &[u8], wanted: u8) -> bool {
+fn are_all(bytes: &[u8], wanted: u8) -> bool {
     for byte in bytes {
         if *byte != wanted {
             return false;
@@ -19,55 +21,120 @@ pub(crate) fn are_all(bytes: &[u8], wanted: u8) -> bool {
     true
 }
 
-/// The bytes of a sink: the first numbered ones, or something else.
+/// The bytes of a sink: `least` at least, and `most` at most. All are `all`; or, where that is none, they are the first numbered ones.
 #[derive(Clone, Copy)]
-pub(crate) enum Bytes {
-    Numbered(usize),
-    Other(usize),
+pub(crate) struct Bytes {
+    pub(crate) all: Option<u8>,
+    pub(crate) least: usize,
+    pub(crate) most: usize,
 }
 
-impl Bytes {
-    fn made(self, alloc: Global) -> Result<Vec<u8>, AllocError> {
-        match self {
-            Bytes::Numbered(count) => numbered(alloc, count),
-            Bytes::Other(count) => Vec::from_elem(alloc, b'x', count),
-        }
-    }
-
-    fn are(self, bytes: &[u8]) -> bool {
-        match self {
-            Bytes::Numbered(count) => bytes.len() == count && are_numbered(bytes),
-            Bytes::Other(count) => bytes.len() == count && are_all(bytes, b'x'),
-        }
-    }
-}
-
-/// A stream: what its sink's reader has, the sink's bytes and behind how many calls one fails, how many numbered bytes its source has and
-/// what it says of how many they are; how it is refused; and what the sink has then, where that is looked at.
-#[derive(Clone, Copy)]
-pub(crate) struct Step {
-    pub(crate) have: Option<u64>,
-    pub(crate) front: Bytes,
-    pub(crate) fails: Option<u32>,
-    pub(crate) input: usize,
-    pub(crate) length: Option<u64>,
-    pub(crate) fault: Option<StreamFault>,
-    pub(crate) then: Option<Bytes>,
-}
-
-/// An empty sink, and no input.
-pub(crate) const PLAIN: Step = Step {
-    have: None,
-    front: Bytes::Numbered(0),
-    fails: None,
-    input: 0,
-    length: None,
-    fault: None,
-    then: None,
+/// No byte.
+pub(crate) const EMPTY: Bytes = Bytes {
+    all: None,
+    least: 0,
+    most: 0,
 };
 
+impl Bytes {
+    /// As many as there may be.
+    fn made(self, alloc: Global) -> Result<Vec<u8>, AllocError> {
+        match self.all {
+            Some(byte) => Vec::from_elem(alloc, byte, self.most),
+            None => numbered(alloc, self.most),
+        }
+    }
+
+    /// Whether bytes are so.
+    fn are(self, bytes: &[u8]) -> bool {
+        if bytes.len() < self.least || bytes.len() > self.most {
+            return false;
+        }
+        match self.all {
+            Some(byte) => are_all(bytes, byte),
+            None => are_numbered(bytes),
+        }
+    }
+}
+
+/// A stream, and what is wanted of it.
+#[derive(Clone, Copy)]
+pub(crate) struct Step {
+    /// What is asked of it.
+    pub(crate) asked: Asked,
+    /// The sink's bytes before it, where they aren't those that were there.
+    pub(crate) front: Option<Bytes>,
+    /// Why it ends, where that is looked at.
+    pub(crate) why: Option<Ending>,
+    /// How it is refused.
+    pub(crate) fault: Option<StreamFault>,
+    /// What the sink has then, where that is looked at.
+    pub(crate) then: Option<Bytes>,
+    /// From where on its output is put, and its input is handed in, where that is looked at.
+    pub(crate) begins: Option<u64>,
+    /// How the only node has stopped that has.
+    pub(crate) stopped: Option<Stopped>,
+    /// How often it is told at least how far the stream has come, and how many turns may be made between two times at most.
+    pub(crate) told: u32,
+    pub(crate) turns: [u64; 2],
+    /// Which generations the device may open with, and which number its next entry has at most.
+    pub(crate) generations: [u64; 2],
+    pub(crate) next: u64,
+}
+
+/// An empty sink, and no input, until nothing is left to do; nothing is looked at but that it is done, and stops no node.
+pub(crate) const PLAIN: Step = Step {
+    asked: NO_INPUT,
+    front: Some(EMPTY),
+    why: None,
+    fault: None,
+    then: None,
+    begins: None,
+    stopped: None,
+    told: 0,
+    turns: [0, u64::MAX],
+    generations: [1, u64::MAX],
+    next: u64::MAX,
+};
+
+impl Step {
+    /// Whether a stream ended so.
+    fn is_ended(&self, played: &Played) -> bool {
+        let is_why = self.why.is_none() || played.why() == self.why;
+        let [first, second] = played.told.stopped;
+        is_why && played.done.err() == self.fault && first == self.stopped && second.is_none()
+    }
+
+    /// Whether it was told so where the streams of its port begin, and how far it has come.
+    fn is_told(&self, played: &Played) -> bool {
+        let told = played.told;
+        let is_begun = told.output == self.begins && told.input == self.begins;
+        let [least, most] = self.turns;
+        let are_turns = least <= told.most_turns && told.most_turns <= most;
+        are_turns && told.progress >= self.told && (is_begun || self.begins.is_none())
+    }
+
+    /// Whether it left a device that opens so: where the stream ended, if it was done.
+    fn is_left(&self, played: &Played, left: &Left) -> bool {
+        let is_next = match played.next() {
+            Some(next) => next == left.next,
+            None => true,
+        };
+        let [least, most] = self.generations;
+        is_next && left.next <= self.next && least <= left.generation && left.generation <= most
+    }
+
+    /// Whether it left a sink that has these bytes.
+    fn is_put(&self, bytes: &[u8]) -> bool {
+        match self.then {
+            Some(wanted) => wanted.are(bytes),
+            None => true,
+        }
+    }
+}
+
 /// Whether a stream goes as its step says.
-fn is_step<R: Threads + Wait + Abort + Sync>(
+pub(crate) fn is_step<R: Threads + Wait + Abort + Sync>(
     rt: &R,
     step: &Step,
     desk: &mut Desk,
@@ -75,21 +142,13 @@ fn is_step<R: Threads + Wait + Abort + Sync>(
 where
     R: AllocGlobal,
 {
-    desk.sink = MemSink::new(step.front.made(rt.alloc())?);
-    let asked = Asked {
-        have: step.have,
-        fails: step.fails,
-        input: step.input,
-        most: 9,
-        length: step.length,
-        ..NO_INPUT
-    };
-    let played = play_desk(rt, asked, desk)?;
-    let is_left = match step.then {
-        Some(bytes) => bytes.are(desk.sink.bytes()),
-        None => true,
-    };
-    Ok(played.done.err() == step.fault && is_left)
+    if let Some(front) = step.front {
+        desk.sink = MemSink::new(front.made(rt.alloc())?);
+    }
+    let played = play_desk(rt, step.asked, desk)?;
+    let left = look(rt.alloc(), &mut desk.device)?;
+    let is_so = step.is_ended(&played) && step.is_told(&played);
+    Ok(is_so && step.is_left(&played, &left) && step.is_put(desk.sink.bytes()))
 }
 
 /// Whether all go so, one after another.
@@ -109,15 +168,36 @@ where
     Ok(true)
 }
 
-/// Whether all go so on a device of its own.
+/// A device that is freshly formatted: its network, the code of each node, how many bytes behind the others the first one begins, and how
+/// many bytes an area has.
+#[derive(Clone, Copy)]
+pub(crate) struct Fresh {
+    pub(crate) text: &'static [u8],
+    pub(crate) code: &'static [u8],
+    pub(crate) begin: u8,
+    pub(crate) area: u32,
+}
+
+/// Whether all go so on a device of their own.
 pub(crate) fn are_steps_on<R: Threads + Wait + Abort + Sync>(
     rt: &R,
+    fresh: Fresh,
     steps: &[Step],
 ) -> Result<bool, Fail>
 where
     R: AllocGlobal,
 {
-    let mut desk = Desk::fresh(rt.alloc(), ONE, ECHO, 16_384)?;
+    let Fresh {
+        text,
+        code,
+        begin,
+        area,
+    } = fresh;
+    let device = formatted_from(rt.alloc(), text, code, begin, area)?;
+    let mut desk = Desk {
+        device,
+        sink: MemSink::empty(rt.alloc()),
+    };
     let told = are_steps(rt, steps, &mut desk);
     told
 }

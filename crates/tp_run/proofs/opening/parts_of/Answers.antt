@@ -1,8 +1,6 @@
 use Rattle.std.proofs.Common.{Some, sym, ap, subst, ◌<◌, length, ◌∙◌}
 use Rattle.tp_book.specs.Book.{BookValue, next_in_book}
 use Rattle.tp_run.specs.Outset.{outset_of}
-use Rattle.tp_book.specs.Opened.{opened_book}
-use Rattle.tp_ready.specs.Seen.{unrisen}
 use Rattle.tp_flush.proofs.Made.{kept_is, ports_are, stands}
 use Rattle.tp_run.proofs.Made.{outset_is}
 use Rattle.tp_run.proofs.opening.parts_of.Goals as goal
@@ -14,9 +12,8 @@ returns-clause-parts c =
     let room = Some c.journal_room-room.result in
     let E = c.in_ok-state.ensures in
     let P = c.in_ok-parts.ensures in
-    stands s o room c.in_ok-parts.parts c.in_ok-mark.raiser E.now E.base E.form E.next E.kept c.known.ensures.cut c.known.ensures.leads
-    (c.opened_books_begin.ensures.runs s room o E.opened E.cut (kept_is s o E.kept) E.now) (P.book ∙ c.in_ok-book.ensures) (P.roll.0 ∙ ap next_in_book c.in_ok-book.ensures)
-    (c.in_ok-mark.ensures.raiser ∙ ap (λ m. record { mark = m; at = s.next; rises = unrisen s.next }) (sym P.mark))
+    stands s o room c.in_ok-parts.parts c.in_ok-parts.raiser E.now E.base E.form E.next E.kept c.known.ensures.cut c.known.ensures.leads
+    (c.opened_books_begin.ensures.runs s room o E.opened E.cut (kept_is s o E.kept) E.now) (P.book ∙ c.in_ok-book.ensures) (P.first ∙ ap next_in_book c.in_ok-book.ensures) P.raiser
 
 pub returns-clause-bound : goal.returns-clause-bound
 returns-clause-bound c = ap (λ (b : BookValue). b.room) (c.in_ok-parts.ensures.book ∙ c.in_ok-book.ensures) ∙ ap Some c.journal_room-room.ensures
@@ -32,11 +29,3 @@ returns-clause-outset c =
     let s = c.in_ok-state.state in
     let E = c.in_ok-state.ensures in
     c.of-outset.ensures ∙ ap (λ b. outset_of b c.args.port) c.in_ok-book.ensures ∙ outset_is s c.args.opened (Some c.journal_room-room.result) c.args.port E.now E.base E.kept
-
-pub opened-requires-clause-opened : goal.opened-requires-clause-opened
-opened-requires-clause-opened c = record {
-  state = c.in_ok-state.state;
-  opened = c.in_ok-state.ensures.opened;
-  book_is = c.in_ok-book.ensures ∙ ap (opened_book c.in_ok-state.state) (sym (ap (λ (b : BookValue). b.room) c.in_ok-book.ensures));
-  nodes_are = c.in_ok-nodes.ensures.live;
-}

@@ -1,0 +1,112 @@
+//! Streams whose turns are worth threads: workers make them in shifts, with the flusher beside them.
+
+use crate::devices::{CHAIN, COUNTS, NUMBERS, ONE};
+use crate::players::{Asked, NO_INPUT, QUIET};
+use crate::steps::{Bytes, Fresh, PLAIN, Step, are_steps_on};
+use std::test::Fail;
+use tp_stream::{Ending, Task};
+
+/// How many turns are made at most between two times that it is told how far the stream has come, where no workers make any.
+const ROUND: u64 = 1024;
+
+/// A stream: the network, how many workers there are, how many steps a turn may run, and whether shifts come.
+struct Row {
+    text: &'static [u8],
+    workers: u8,
+    quantum: u16,
+    has_shifts: bool,
+}
+
+/// Turns that are too short for threads by one step of each node's, and others; three nodes that compute side by side, and one worker. In a
+/// round of node and host each node's turn runs as many steps as it may: 64 in the mean with 128, and fewer with 127.
+const ROWS: &[Row] = &[
+    Row {
+        text: ONE,
+        workers: 3,
+        quantum: 127,
+        has_shifts: false,
+    },
+    Row {
+        text: ONE,
+        workers: 3,
+        quantum: 128,
+        has_shifts: true,
+    },
+    Row {
+        text: CHAIN,
+        workers: 3,
+        quantum: 128,
+        has_shifts: true,
+    },
+    Row {
+        text: CHAIN,
+        workers: 1,
+        quantum: 128,
+        has_shifts: false,
+    },
+    Row {
+        text: CHAIN,
+        workers: 16,
+        quantum: 128,
+        has_shifts: true,
+    },
+];
+
+/// The first node sends two numbers, and both are put. The stream is told, so it reads no input that hasn't come: that there is none is
+/// there to be read from the start.
+const COUNTED: Step = Step {
+    asked: Asked {
+        late: 0,
+        ..NO_INPUT
+    },
+    why: Some(Ending::Quiet),
+    then: Some(Bytes {
+        all: None,
+        least: 2,
+        most: 2,
+    }),
+    ..PLAIN
+};
+
+/// The stream of a row: more turns are made between two of its cycles than a round has just where shifts are to come.
+fn step_of(row: &Row) -> Step {
+    let task = Task {
+        workers: row.workers,
+        quantum: row.quantum,
+        tells: true,
+        ..QUIET
+    };
+    Step {
+        asked: Asked {
+            task,
+            ..COUNTED.asked
+        },
+        turns: if row.has_shifts {
+            [ROUND + 1, u64::MAX]
+        } else {
+            [0, ROUND]
+        },
+        ..COUNTED
+    }
+}
+
+/// Where turns have 64 steps in the mean of a round, and more than one worker is asked for, workers make turns between two cycles; what comes
+/// out is what comes out by one.
+#[test]
+fn workers_make_the_turns_that_are_worth_it(rt: HostRuntime) -> Result<(), Fail> {
+    for row in ROWS {
+        let fresh = Fresh {
+            text: row.text,
+            code: COUNTS,
+            begin: NUMBERS,
+            area: 1_048_576,
+        };
+        assert!(rt;
+            are_steps_on(&rt, fresh, &[step_of(row)])?,
+            "{} workers, {} steps",
+            row.workers,
+            row.quantum
+        );
+    }
+    Ok(())
+}
