@@ -100,6 +100,38 @@ pub(crate) fn read_network<'a, R: Files + AllocGlobal>(
     Ok((named, images))
 }
 
+/// `tpnet check`, where the topology's names and the images were read.
+fn check_named<O: Write, E: Write>(
+    alloc: Global,
+    named: &Named<'_>,
+    images: &[Vec<u8>],
+    json: bool,
+    out: &mut O,
+    err: &mut E,
+) -> u8
+    ensures { result ≤ 1 }
+{
+    let _rules = named.topology.pages();
+    check_on(alloc, &named.topology, images, json, out, err)
+}
+
+/// `tpnet check`, where the topology's text was read.
+fn check_text<R: Files + AllocGlobal, O: Write, E: Write>(
+    rt: &R,
+    text: &[u8],
+    folder: &str,
+    json: bool,
+    out: &mut O,
+    err: &mut E,
+) -> u8
+    ensures { result ≤ 1 }
+{
+    match read_network(rt, text, folder) {
+        Ok((named, images)) => check_named(rt.alloc(), &named, images.as_slice(), json, out, err),
+        Err(refusal) => refuse(err, refusal),
+    }
+}
+
 /// `tpnet check`, on files. Nothing is written.
 pub fn check_file<R: Files + AllocGlobal, O: Write, E: Write>(
     rt: &R,
@@ -111,23 +143,10 @@ pub fn check_file<R: Files + AllocGlobal, O: Write, E: Write>(
 ) -> u8
     ensures { result ≤ 1 }
 {
-    let text = match read_file(rt, topology) {
-        Ok(text) => text,
-        Err(refusal) => return refuse(err, refusal),
-    };
-    let (named, images) = match read_network(rt, text.as_slice(), folder) {
-        Ok(network) => network,
-        Err(refusal) => return refuse(err, refusal),
-    };
-    let _rules = named.topology.pages();
-    check_on(
-        rt.alloc(),
-        &named.topology,
-        images.as_slice(),
-        json,
-        out,
-        err,
-    )
+    match read_file(rt, topology) {
+        Ok(text) => check_text(rt, text.as_slice(), folder, json, out, err),
+        Err(refusal) => refuse(err, refusal),
+    }
 }
 
 /// `tpnet node`, `image`, `journal` and `port`, on a device's file, which stays as it is.
