@@ -183,6 +183,35 @@ fn wait_for<R: Files, S: Devices>(
     false
 }
 
+/// Asks the stream that has a device to end, by `file`, where another process has it, and waits for that as long as it is asked.
+fn ask_by<R: Files<File = F>, F: FileExt + OpenFile + Drop, S: Devices>(
+    rt: &R,
+    devices: &mut S,
+    asked: &StopRequest,
+    file: &RequestFile,
+    system: &mut Option<io::Error>,
+) -> Result<(), Unasked>
+    ensures asked { OnOk result (HasAsked asked.now.wait (string_bytes asked.now.device) (S.calls devices.old) (S.calls devices.new)) }
+    ensures refused { IfErr result (λ fault. WasUnasked fault asked.now.wait (string_bytes asked.now.device) (S.calls devices.old) (S.calls devices.new)) }
+{
+    let device = asked.device.as_str();
+    let Err(InUse) = devices.hold(device, 0) else {
+        return Err(nobody_asked(rt, device, file));
+    };
+    if let Err(unmade) = make_request(rt, file, system) {
+        return Err(Unasked::Request(unmade));
+    }
+    let Some(seconds) = asked.wait else {
+        let _free = look_again(rt, devices, device, file);
+        return Ok(());
+    };
+    if wait_for(rt, devices, device, file, seconds) {
+        Ok(())
+    } else {
+        Err(Unasked::StillRunning)
+    }
+}
+
 /// Asks the stream that has a device to end, where another process has it, and waits for that as long as it is asked. Nothing is read
 /// of the device then, and nothing is ever written to it.
 fn ask_to_stop<R: Files<File = F> + AllocGlobal, F: FileExt + OpenFile + Drop, S: Devices>(
@@ -198,23 +227,9 @@ fn ask_to_stop<R: Files<File = F> + AllocGlobal, F: FileExt + OpenFile + Drop, S
     if let Err(refusal) = look_at(rt, device, system) {
         return Err(Unasked::Device(refusal));
     }
-    let Ok(file) = RequestFile::of(rt.alloc(), device) else {
-        return Err(Unasked::Device(Refusal::Memory));
-    };
-    let Err(InUse) = devices.hold(device, 0) else {
-        return Err(nobody_asked(rt, device, &file));
-    };
-    if let Err(unmade) = make_request(rt, &file, system) {
-        return Err(Unasked::Request(unmade));
-    }
-    let Some(seconds) = asked.wait else {
-        let _free = look_again(rt, devices, device, &file);
-        return Ok(());
-    };
-    if wait_for(rt, devices, device, &file, seconds) {
-        Ok(())
-    } else {
-        Err(Unasked::StillRunning)
+    match RequestFile::of(rt.alloc(), device) {
+        Ok(file) => ask_by(rt, devices, asked, &file, system),
+        Err(_) => Err(Unasked::Device(Refusal::Memory)),
     }
 }
 

@@ -73,6 +73,26 @@ pub(crate) fn image_path(alloc: Global, folder: &str, name: &str) -> Result<Stri
     }
 }
 
+/// Reads the image of a node.
+fn read_image<R: Files + AllocGlobal>(rt: &R, folder: &str, name: &str) -> Result<Vec<u8>, Refusal> {
+    let path = image_path(rt.alloc(), folder, name)?;
+    read_file(rt, path.as_str())
+}
+
+/// Reads the image of a node, and appends it to others.
+fn push_image<R: Files + AllocGlobal>(
+    rt: &R,
+    folder: &str,
+    name: &str,
+    images: &mut Vec<Vec<u8>>,
+) -> Result<(), Refusal> {
+    let image = read_image(rt, folder, name)?;
+    match images.push(image) {
+        Ok(()) => Ok(()),
+        Err(_) => Err(Refusal::Memory),
+    }
+}
+
 /// Reads the image of each node, in their order.
 fn read_images<R: Files + AllocGlobal>(
     rt: &R,
@@ -81,10 +101,7 @@ fn read_images<R: Files + AllocGlobal>(
 ) -> Result<Vec<Vec<u8>>, Refusal> {
     let mut images = Vec::new(rt.alloc());
     for name in names {
-        let path = image_path(rt.alloc(), folder, name)?;
-        if images.push(read_file(rt, path.as_str())?).is_err() {
-            return Err(Refusal::Memory);
-        }
+        push_image(rt, folder, name, &mut images)?;
     }
     Ok(images)
 }
