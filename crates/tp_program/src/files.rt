@@ -74,7 +74,11 @@ pub(crate) fn image_path(alloc: Global, folder: &str, name: &str) -> Result<Stri
 }
 
 /// Reads the image of a node.
-fn read_image<R: Files + AllocGlobal>(rt: &R, folder: &str, name: &str) -> Result<Vec<u8>, Refusal> {
+fn read_image<R: Files + AllocGlobal>(
+    rt: &R,
+    folder: &str,
+    name: &str,
+) -> Result<Vec<u8>, Refusal> {
     let path = image_path(rt.alloc(), folder, name)?;
     read_file(rt, path.as_str())
 }
