@@ -12,46 +12,58 @@ use crate::locks::InUse;
 use crate::program::{prints_into, refuse_output};
 use crate::request_file::RequestFile;
 use std::fs::{Files, OpenFile, OpenOptions};
-use std::io;
 use std::io::Write;
 use std::os::unix::fs::FileExt;
-use thiserror::Error;
+use std::{fmt, io};
 use tp_recover::read_head;
 use tp_views::{Refusal, is_device_file, put, refuse};
 use tp_words::StopRequest;
 
 /// Why a request to stop isn't made.
-#[derive(Clone, Copy, Debug, Error)]
+#[derive(Clone, Copy)]
 pub enum Unmade {
     /// What stands at its path is none, and stays.
-    #[error("StopExists")]
     StopExists,
     /// Its file can't be made.
-    #[error("DeviceFailed")]
     DeviceFailed,
     /// Memory was refused.
-    #[error("Memory")]
     Memory,
 }
 
 /// Why a stream isn't asked to stop, or hasn't stopped.
-#[derive(Clone, Copy, Debug, Error)]
+#[derive(Clone, Copy)]
 pub enum Unasked {
     /// The device's file can't be opened to be read and written, or memory was refused, before it was asked who has it.
-    #[error(transparent)]
     Device(Refusal),
     /// No other process has what is there, and by its head it is no device.
-    #[error(transparent)]
     NoDevice(Refusal),
     /// No other process has the device.
-    #[error("NotRunning")]
     NotRunning,
     /// The request isn't made.
-    #[error(transparent)]
     Request(Unmade),
     /// It is asked, and another process has the device still.
-    #[error("StillRunning")]
     StillRunning,
+}
+
+impl fmt::Display for Unmade {
+    fn fmt<W: fmt::Write>(&self, f: &mut fmt::Formatter<W>) -> fmt::Result {
+        f.write_str(match self {
+            Unmade::StopExists => "StopExists",
+            Unmade::DeviceFailed => "DeviceFailed",
+            Unmade::Memory => "Memory",
+        })
+    }
+}
+
+impl fmt::Display for Unasked {
+    fn fmt<W: fmt::Write>(&self, f: &mut fmt::Formatter<W>) -> fmt::Result {
+        match self {
+            Unasked::Device(refusal) | Unasked::NoDevice(refusal) => fmt::Display::fmt(refusal, f),
+            Unasked::NotRunning => f.write_str("NotRunning"),
+            Unasked::Request(unmade) => fmt::Display::fmt(unmade, f),
+            Unasked::StillRunning => f.write_str("StillRunning"),
+        }
+    }
 }
 
 /// Opens the device's file as who runs it does, and lets it go: nothing of it is read or written. What the system said is put into
@@ -171,6 +183,35 @@ fn wait_for<R: Files, S: Devices>(
     false
 }
 
+/// Asks the stream that has a device to end, by `file`, where another process has it, and waits for that as long as it is asked.
+fn ask_by<R: Files<File = F>, F: FileExt + OpenFile + Drop, S: Devices>(
+    rt: &R,
+    devices: &mut S,
+    asked: &StopRequest,
+    file: &RequestFile,
+    system: &mut Option<io::Error>,
+) -> Result<(), Unasked>
+    ensures asked { OnOk result (HasAsked asked.now.wait (string_bytes asked.now.device) (S.calls devices.old) (S.calls devices.new)) }
+    ensures refused { IfErr result (λ fault. WasUnasked fault asked.now.wait (string_bytes asked.now.device) (S.calls devices.old) (S.calls devices.new)) }
+{
+    let device = asked.device.as_str();
+    let Err(InUse) = devices.hold(device, 0) else {
+        return Err(nobody_asked(rt, device, file));
+    };
+    if let Err(unmade) = make_request(rt, file, system) {
+        return Err(Unasked::Request(unmade));
+    }
+    let Some(seconds) = asked.wait else {
+        let _free = look_again(rt, devices, device, file);
+        return Ok(());
+    };
+    if wait_for(rt, devices, device, file, seconds) {
+        Ok(())
+    } else {
+        Err(Unasked::StillRunning)
+    }
+}
+
 /// Asks the stream that has a device to end, where another process has it, and waits for that as long as it is asked. Nothing is read
 /// of the device then, and nothing is ever written to it.
 fn ask_to_stop<R: Files<File = F> + AllocGlobal, F: FileExt + OpenFile + Drop, S: Devices>(
@@ -186,23 +227,9 @@ fn ask_to_stop<R: Files<File = F> + AllocGlobal, F: FileExt + OpenFile + Drop, S
     if let Err(refusal) = look_at(rt, device, system) {
         return Err(Unasked::Device(refusal));
     }
-    let Ok(file) = RequestFile::of(rt.alloc(), device) else {
-        return Err(Unasked::Device(Refusal::Memory));
-    };
-    let Err(InUse) = devices.hold(device, 0) else {
-        return Err(nobody_asked(rt, device, &file));
-    };
-    if let Err(unmade) = make_request(rt, &file, system) {
-        return Err(Unasked::Request(unmade));
-    }
-    let Some(seconds) = asked.wait else {
-        let _free = look_again(rt, devices, device, &file);
-        return Ok(());
-    };
-    if wait_for(rt, devices, device, &file, seconds) {
-        Ok(())
-    } else {
-        Err(Unasked::StillRunning)
+    match RequestFile::of(rt.alloc(), device) {
+        Ok(file) => ask_by(rt, devices, asked, &file, system),
+        Err(_) => Err(Unasked::Device(Refusal::Memory)),
     }
 }
 

@@ -1,13 +1,14 @@
 //! What `--explain` says of a stream that wasn't asked to stop, or hasn't ended: which file, why, and the way out.
 
 use crate::asking::{Unasked, Unmade};
+use crate::opening_again::push_unopened;
 use std::alloc::AllocError;
 use std::fmt::Write as Push;
 use std::fs::{Files, OpenFile};
 use std::io;
 use std::io::Write;
 use std::os::unix::fs::FileExt;
-use tp_views::{Refusal, push_file, push_opening};
+use tp_views::{Refusal, push_file};
 use tp_words::StopRequest;
 
 /// Says why the device's file isn't opened.
@@ -47,31 +48,37 @@ fn push_unmade(
     }
 }
 
-/// What is said of a stream that wasn't asked, or hasn't ended.
-fn explanation<R: Files<File = F> + AllocGlobal, F: FileExt + OpenFile + Drop>(
+/// Says that nobody else has the device.
+fn push_not_running(text: &mut String, device: &str) -> Result<(), AllocError> {
+    write!(
+        text,
+        "  No other tpnet has {device}, as far as the system says: there is nobody to ask. Nothing was changed.\n"
+    )
+}
+
+/// Says that another process has the device still.
+fn push_still_running(text: &mut String, device: &str) -> Result<(), AllocError> {
+    write!(
+        text,
+        "  It is asked to stop, by {device}.stop, and another tpnet has {device} still. A stream ends behind its next flush, and takes the file away;\n  run without --stream, compact and format never look for it.\n  Give the same command again, or end that process: a kill loses nothing that was shown.\n"
+    )
+}
+
+/// Says why a stream wasn't asked, or hasn't ended.
+fn push_explanation<R: Files<File = F> + AllocGlobal, F: FileExt + OpenFile + Drop>(
     rt: &R,
-    asked: &StopRequest,
+    text: &mut String,
+    device: &str,
     fault: Unasked,
     system: Option<&io::Error>,
-) -> Result<String, AllocError> {
-    let mut text = String::new(rt.alloc());
-    let device = asked.device.as_str();
+) -> Result<(), AllocError> {
     match fault {
-        Unasked::Device(refusal) => push_device(&mut text, device, refusal, system)?,
-        Unasked::NoDevice(_) => {
-            let _opened = push_opening(rt, &mut text, device)?;
-        }
-        Unasked::NotRunning => write!(
-            text,
-            "  No other tpnet has {device}, as far as the system says: there is nobody to ask. Nothing was changed.\n"
-        )?,
-        Unasked::Request(unmade) => push_unmade(&mut text, device, unmade, system)?,
-        Unasked::StillRunning => write!(
-            text,
-            "  It is asked to stop, by {device}.stop, and another tpnet has {device} still. A stream ends behind its next flush, and takes the file away;\n  run without --stream, compact and format never look for it.\n  Give the same command again, or end that process: a kill loses nothing that was shown.\n"
-        )?,
+        Unasked::Device(refusal) => push_device(text, device, refusal, system),
+        Unasked::NoDevice(_) => push_unopened(rt, text, device),
+        Unasked::NotRunning => push_not_running(text, device),
+        Unasked::Request(unmade) => push_unmade(text, device, unmade, system),
+        Unasked::StillRunning => push_still_running(text, device),
     }
-    Ok(text)
 }
 
 /// Says more of a stream that wasn't asked to stop, or hasn't ended, on standard error.
@@ -80,7 +87,9 @@ pub(crate) fn explain_unasked<
     F: FileExt + OpenFile + Drop,
     E: Write,
 >(rt: &R, asked: &StopRequest, fault: Unasked, system: Option<&io::Error>, err: &mut E) {
-    if let Ok(text) = explanation(rt, asked, fault, system) {
+    let mut text = String::new(rt.alloc());
+    let device = asked.device.as_str();
+    if push_explanation(rt, &mut text, device, fault, system).is_ok() {
         let _ = err.write_all(text.as_bytes());
     }
 }

@@ -1,6 +1,7 @@
 //! What `--explain` says of a backup that wasn't done: which file, why, and the way out.
 
 use crate::backup_files::Undone;
+use crate::opening_again::opens;
 use std::alloc::AllocError;
 use std::fmt::Write as Push;
 use std::fs::{Files, OpenFile};
@@ -8,7 +9,7 @@ use std::io;
 use std::io::Write;
 use std::os::unix::fs::FileExt;
 use tp_stream_files::is_one_file;
-use tp_views::{push_file, push_opening};
+use tp_views::push_file;
 use tp_words::Backup;
 
 /// Says what stands in the way of the copy's name.
@@ -48,7 +49,7 @@ fn push_uncopied<R: Files<File = F> + AllocGlobal, F: FileExt + OpenFile + Drop>
     text: &mut String,
     device: &str,
 ) -> Result<(), AllocError> {
-    if push_opening(rt, text, device)?.is_none() {
+    if !opens(rt, text, device)? {
         return Ok(());
     }
     write!(
@@ -57,29 +58,38 @@ fn push_uncopied<R: Files<File = F> + AllocGlobal, F: FileExt + OpenFile + Drop>
     )
 }
 
-fn explanation<R: Files<File = F> + AllocGlobal, F: FileExt + OpenFile + Drop>(
+/// Says that another backup makes the copy now, or was stopped.
+fn push_part(text: &mut String, copy: &str) -> Result<(), AllocError> {
+    write!(
+        text,
+        "  {copy}.part: it is there already\n  A backup that was stopped left it: remove it, and give the same command again. Where another backup makes it now, wait until that ends.\n"
+    )
+}
+
+/// Says that the copy is there, and that this couldn't be printed.
+fn push_unprinted(text: &mut String, copy: &str) -> Result<(), AllocError> {
+    write!(
+        text,
+        "  {copy}: it is made, whole and synced. Standard output can't be written.\n"
+    )
+}
+
+/// Says why a backup wasn't done.
+fn push_explanation<R: Files<File = F> + AllocGlobal, F: FileExt + OpenFile + Drop>(
     rt: &R,
+    text: &mut String,
     backup: &Backup,
     undone: &Undone,
-) -> Result<String, AllocError> {
-    let mut text = String::new(rt.alloc());
-    let copy = backup.copy.as_str();
+) -> Result<(), AllocError> {
     match undone {
-        Undone::CopyExists => push_there(rt, &mut text, backup)?,
-        Undone::PartExists => write!(
-            text,
-            "  {copy}.part: it is there already\n  A backup that was stopped left it: remove it, and give the same command again. Where another backup makes it now, wait until that ends.\n"
-        )?,
-        Undone::CopyFailed(error) => push_failed(&mut text, backup, error)?,
-        Undone::Uncopied(Some(error)) => push_failed(&mut text, backup, error)?,
-        Undone::Uncopied(None) => push_uncopied(rt, &mut text, backup.device.as_str())?,
-        Undone::Unprinted => write!(
-            text,
-            "  {copy}: it is made, whole and synced. Standard output can't be written.\n"
-        )?,
-        Undone::Memory => write!(text, "  memory is wanting\n")?,
+        Undone::CopyExists => push_there(rt, text, backup),
+        Undone::PartExists => push_part(text, backup.copy.as_str()),
+        Undone::CopyFailed(error) => push_failed(text, backup, error),
+        Undone::Uncopied(Some(error)) => push_failed(text, backup, error),
+        Undone::Uncopied(None) => push_uncopied(rt, text, backup.device.as_str()),
+        Undone::Unprinted => push_unprinted(text, backup.copy.as_str()),
+        Undone::Memory => text.push_str("  memory is wanting\n"),
     }
-    Ok(text)
 }
 
 /// Says more of a backup that wasn't done on standard error.
@@ -88,7 +98,8 @@ pub(crate) fn explain_backup<
     F: FileExt + OpenFile + Drop,
     E: Write,
 >(rt: &R, backup: &Backup, undone: &Undone, err: &mut E) {
-    if let Ok(text) = explanation(rt, backup, undone) {
+    let mut text = String::new(rt.alloc());
+    if push_explanation(rt, &mut text, backup, undone).is_ok() {
         let _ = err.write_all(text.as_bytes());
     }
 }

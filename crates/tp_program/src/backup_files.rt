@@ -191,6 +191,44 @@ fn make_copy<R: Files<File = F> + AllocGlobal, F: FileExt + OpenFile + Drop, D: 
     made
 }
 
+/// Makes the copy of a device, and prints what is to be printed.
+fn copy_and_print<
+    R: Files<File = F> + AllocGlobal,
+    F: FileExt + OpenFile + Drop,
+    D: Disk,
+    O: Write,
+    E: Write,
+>(rt: &R, source: &mut D, names: &Names<'_>, out: &mut O, err: &mut E) -> Result<(), Undone>
+    ensures { OnOk result (PrintsCopied (O.contents out.old) (O.contents out.new)) }
+{
+    let text = make_copy(rt, source, names, err)?;
+    match put(out, text.as_bytes()) {
+        Ok(()) => Ok(()),
+        Err(_) => Err(Undone::Unprinted),
+    }
+}
+
+/// Makes the copy of a device's file under these names, and prints that.
+fn backup_as<R: Files<File = F> + AllocGlobal, F: FileExt + OpenFile + Drop, O: Write, E: Write>(
+    rt: &R,
+    device: &str,
+    names: &Names<'_>,
+    out: &mut O,
+    err: &mut E,
+) -> Result<(), Undone>
+    ensures { OnOk result (PrintsCopied (O.contents out.old) (O.contents out.new)) }
+{
+    ask_names(rt, device, names)?;
+    let mut source = match disk_to_read(rt, device) {
+        Ok(source) => source,
+        Err(refusal) => {
+            refuse(err, refusal);
+            return Err(Undone::Uncopied(None));
+        }
+    };
+    copy_and_print(rt, &mut source, names, out, err)
+}
+
 /// `tpnet backup`, on files. The copy's names are asked for before the device's file is opened, and its file is made before the
 /// device is read. The device's file is opened to be read alone.
 pub(crate) fn backup_file<
@@ -206,18 +244,5 @@ pub(crate) fn backup_file<
         return Err(Undone::Memory);
     };
     let part = part.as_str();
-    let names = Names { copy, part };
-    ask_names(rt, device, &names)?;
-    let mut source = match disk_to_read(rt, device) {
-        Ok(source) => source,
-        Err(refusal) => {
-            refuse(err, refusal);
-            return Err(Undone::Uncopied(None));
-        }
-    };
-    let text = make_copy(rt, &mut source, &names, err)?;
-    match put(out, text.as_bytes()) {
-        Ok(()) => Ok(()),
-        Err(_) => Err(Undone::Unprinted),
-    }
+    backup_as(rt, device, &Names { copy, part }, out, err)
 }

@@ -73,6 +73,30 @@ pub(crate) fn image_path(alloc: Global, folder: &str, name: &str) -> Result<Stri
     }
 }
 
+/// Reads the image of a node.
+fn read_image<R: Files + AllocGlobal>(
+    rt: &R,
+    folder: &str,
+    name: &str,
+) -> Result<Vec<u8>, Refusal> {
+    let path = image_path(rt.alloc(), folder, name)?;
+    read_file(rt, path.as_str())
+}
+
+/// Reads the image of a node, and appends it to others.
+fn push_image<R: Files + AllocGlobal>(
+    rt: &R,
+    folder: &str,
+    name: &str,
+    images: &mut Vec<Vec<u8>>,
+) -> Result<(), Refusal> {
+    let image = read_image(rt, folder, name)?;
+    match images.push(image) {
+        Ok(()) => Ok(()),
+        Err(_) => Err(Refusal::Memory),
+    }
+}
+
 /// Reads the image of each node, in their order.
 fn read_images<R: Files + AllocGlobal>(
     rt: &R,
@@ -81,10 +105,7 @@ fn read_images<R: Files + AllocGlobal>(
 ) -> Result<Vec<Vec<u8>>, Refusal> {
     let mut images = Vec::new(rt.alloc());
     for name in names {
-        let path = image_path(rt.alloc(), folder, name)?;
-        if images.push(read_file(rt, path.as_str())?).is_err() {
-            return Err(Refusal::Memory);
-        }
+        push_image(rt, folder, name, &mut images)?;
     }
     Ok(images)
 }
@@ -100,6 +121,38 @@ pub(crate) fn read_network<'a, R: Files + AllocGlobal>(
     Ok((named, images))
 }
 
+/// `tpnet check`, where the topology's names and the images were read.
+fn check_named<O: Write, E: Write>(
+    alloc: Global,
+    named: &Named<'_>,
+    images: &[Vec<u8>],
+    json: bool,
+    out: &mut O,
+    err: &mut E,
+) -> u8
+    ensures { result ≤ 1 }
+{
+    let _rules = named.topology.pages();
+    check_on(alloc, &named.topology, images, json, out, err)
+}
+
+/// `tpnet check`, where the topology's text was read.
+fn check_text<R: Files + AllocGlobal, O: Write, E: Write>(
+    rt: &R,
+    text: &[u8],
+    folder: &str,
+    json: bool,
+    out: &mut O,
+    err: &mut E,
+) -> u8
+    ensures { result ≤ 1 }
+{
+    match read_network(rt, text, folder) {
+        Ok((named, images)) => check_named(rt.alloc(), &named, images.as_slice(), json, out, err),
+        Err(refusal) => refuse(err, refusal),
+    }
+}
+
 /// `tpnet check`, on files. Nothing is written.
 pub fn check_file<R: Files + AllocGlobal, O: Write, E: Write>(
     rt: &R,
@@ -111,23 +164,10 @@ pub fn check_file<R: Files + AllocGlobal, O: Write, E: Write>(
 ) -> u8
     ensures { result ≤ 1 }
 {
-    let text = match read_file(rt, topology) {
-        Ok(text) => text,
-        Err(refusal) => return refuse(err, refusal),
-    };
-    let (named, images) = match read_network(rt, text.as_slice(), folder) {
-        Ok(network) => network,
-        Err(refusal) => return refuse(err, refusal),
-    };
-    let _rules = named.topology.pages();
-    check_on(
-        rt.alloc(),
-        &named.topology,
-        images.as_slice(),
-        json,
-        out,
-        err,
-    )
+    match read_file(rt, topology) {
+        Ok(text) => check_text(rt, text.as_slice(), folder, json, out, err),
+        Err(refusal) => refuse(err, refusal),
+    }
 }
 
 /// `tpnet node`, `image`, `journal` and `port`, on a device's file, which stays as it is.

@@ -16,7 +16,7 @@ use std::os::unix::fs::FileExt;
 use tp_area::{head_length, version_for};
 use tp_disk::NewDisk;
 use tp_model::HeadVersion;
-use tp_net::Topology;
+use tp_net::{Named, Topology};
 use tp_stream_files::is_one_file;
 use tp_views::{Refusal, is_device_file, refuse};
 use tp_words::NewDevice;
@@ -141,6 +141,71 @@ fn format_network<
     }
 }
 
+/// Formats the device of a topology that was read, and of the images of its nodes.
+fn format_named<
+    R: Files<File = F> + AllocGlobal,
+    F: FileExt + OpenFile + Drop,
+    S: Devices,
+    O: Write,
+    E: Write,
+>(
+    rt: &R,
+    devices: &S,
+    new: &NewDevice,
+    named: &Named<'_>,
+    images: &[Vec<u8>],
+    system: &mut Option<io::Error>,
+    out: &mut O,
+    err: &mut E,
+) -> u8
+    requires area { new.now.area ≤ MAX_AREA }
+    requires held { S.held devices.now ≡ Some (string_bytes new.now.device) }
+    ensures { result ≤ 2 }
+{
+    if let Some(status) = refuse_sources(rt, new, named.names.as_slice(), err) {
+        return status;
+    }
+    let _rules = named.topology.pages();
+    format_network(rt, devices, new, &named.topology, images, system, out, err)
+}
+
+/// Formats the device of a topology's text that was read.
+fn format_text<
+    R: Files<File = F> + AllocGlobal,
+    F: FileExt + OpenFile + Drop,
+    S: Devices,
+    O: Write,
+    E: Write,
+>(
+    rt: &R,
+    devices: &S,
+    new: &NewDevice,
+    text: &[u8],
+    system: &mut Option<io::Error>,
+    out: &mut O,
+    err: &mut E,
+) -> u8
+    requires area { new.now.area ≤ MAX_AREA }
+    requires held { S.held devices.now ≡ Some (string_bytes new.now.device) }
+    ensures { result ≤ 2 }
+{
+    match read_network(rt, text, new.images.as_str()) {
+        Ok((named, images)) => {
+            format_named(
+                rt,
+                devices,
+                new,
+                &named,
+                images.as_slice(),
+                system,
+                out,
+                err,
+            )
+        }
+        Err(refusal) => refuse(err, refusal),
+    }
+}
+
 /// `tpnet format`, on files, where the device is held. A file that is there stays as it is until nothing is left to refuse; the topology's
 /// and the images' files always do.
 pub(crate) fn format_file<
@@ -161,26 +226,8 @@ pub(crate) fn format_file<
     requires held { S.held devices.now ≡ Some (string_bytes new.now.device) }
     ensures { result ≤ 2 }
 {
-    let text = match read_file(rt, new.topology.as_str()) {
-        Ok(text) => text,
-        Err(refusal) => return refuse(err, refusal),
-    };
-    let (named, images) = match read_network(rt, text.as_slice(), new.images.as_str()) {
-        Ok(network) => network,
-        Err(refusal) => return refuse(err, refusal),
-    };
-    if let Some(status) = refuse_sources(rt, new, named.names.as_slice(), err) {
-        return status;
+    match read_file(rt, new.topology.as_str()) {
+        Ok(text) => format_text(rt, devices, new, text.as_slice(), system, out, err),
+        Err(refusal) => refuse(err, refusal),
     }
-    let _rules = named.topology.pages();
-    format_network(
-        rt,
-        devices,
-        new,
-        &named.topology,
-        images.as_slice(),
-        system,
-        out,
-        err,
-    )
 }

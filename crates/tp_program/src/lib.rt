@@ -16,6 +16,7 @@ mod format_file;
 mod formatting;
 mod in_use;
 mod locks;
+mod opening_again;
 mod program;
 mod request_file;
 mod run_file;

@@ -6,7 +6,6 @@ use crate::request_file::RequestFile;
 use std::fs;
 use std::fs::Files;
 use std::io::{ErrorKind, Write};
-use thiserror::Error;
 use tp_stream::{Noted, Stop};
 use tp_stream_files::{PortFile, is_one_file};
 use tp_words::StreamRun;
@@ -15,22 +14,17 @@ use tp_words::StreamRun;
 const STANDARD: &[&str] = &["/dev/stdin", "/dev/stdout", "/dev/stderr"];
 
 /// Why a stream isn't begun, because of the file that is to end it, or of where it may be asked to stop. The device is as it was.
-#[derive(Clone, Copy, Debug, Error)]
+#[derive(Clone, Copy)]
 pub enum StopFault {
     /// It is the file of the device, of an end of a port, or of a standard stream.
-    #[error("SameFile")]
     SameFile,
     /// Something is at its path already.
-    #[error("There")]
     There,
     /// It can't be said whether something is at its path.
-    #[error("Unseen")]
     Unseen,
     /// The file DEVICE.stop is that of an end of a port, or of a standard stream.
-    #[error("RequestTaken")]
     RequestTaken,
     /// There is a request from before that can't be removed.
-    #[error("RequestLeft")]
     RequestLeft,
 }
 

@@ -1,5 +1,6 @@
 //! What `--explain` says of a stream that was refused: which end, why, and the way out.
 
+use crate::opening_again::push_unopened;
 use crate::streaming::FilesFault;
 use std::alloc::AllocError;
 use std::fmt::Write as Push;
@@ -9,7 +10,7 @@ use std::io::Write;
 use std::os::unix::fs::FileExt;
 use tp_stream::StreamFault;
 use tp_stream_files::{EndFault, FileSink, PortFile};
-use tp_views::{is_special, push_error, push_file, push_opening};
+use tp_views::{is_special, push_error, push_file};
 use tp_words::StreamRun;
 
 /// The path that was typed for a port.
@@ -147,6 +148,69 @@ fn push_end_fault<R: Files<File = F>, F: FileExt + OpenFile + Drop>(
     }
 }
 
+/// Says that an output's file has fewer bytes than were confirmed.
+fn push_short(
+    text: &mut String,
+    asked: &StreamRun,
+    port: u8,
+    has: u64,
+    from: u64,
+) -> Result<(), AllocError> {
+    let path = path_of(&asked.ends.outs, port);
+    write!(
+        text,
+        "  {path} has {has} bytes, and {from} bytes of port {port} were confirmed: it was cut short, or is another file.\n  Restore it. The device hasn't those bytes any more; to go on without them, make the file {from} bytes long.\n"
+    )
+}
+
+/// Says that an output's file has more bytes than were put out.
+fn push_long(
+    text: &mut String,
+    asked: &StreamRun,
+    port: u8,
+    has: u64,
+    upto: u64,
+) -> Result<(), AllocError> {
+    let path = path_of(&asked.ends.outs, port);
+    let device = asked.device.as_str();
+    write!(
+        text,
+        "  {path} has {has} bytes, and port {port} of {device} has put out {upto} in all: it is another file, or {device} is an older copy. It was left as it is.\n  Name the file that has this port's output or, where there is none yet, a new one.\n"
+    )
+}
+
+/// Says that a reader hasn't what was confirmed.
+fn push_gone(text: &mut String, port: u8, have: u64, confirmed: u64) -> Result<(), AllocError> {
+    write!(
+        text,
+        "  The reader has {have} bytes of port {port}, and {confirmed} were confirmed: the device hasn't those between any more.\n  They were written to standard output: what its reader left there is lost. Say --have {port}={confirmed} to go on behind them.\n"
+    )
+}
+
+/// Says that a reader has more than was shown.
+fn push_not_shown(text: &mut String, port: u8, have: u64, shown: u64) -> Result<(), AllocError> {
+    write!(
+        text,
+        "  The reader says that it has {have} bytes of port {port}, and {shown} were shown: are they of another device, or of another port?\n"
+    )
+}
+
+/// Says that an input has fewer bytes than were accepted of it.
+fn push_short_input(
+    text: &mut String,
+    asked: &StreamRun,
+    port: u8,
+    has: u64,
+    accepted: u64,
+) -> Result<(), AllocError> {
+    let path = path_of(&asked.ends.ins, port);
+    let device = asked.device.as_str();
+    write!(
+        text,
+        "  {path} has {has} bytes, and port {port} has accepted {accepted}: it was cut short, or isn't the port's input.\n  Name the file that is all of the port's input, from its first byte on: what was accepted is passed over.\n  tpnet show {device} says what was accepted: in and pending together.\n"
+    )
+}
+
 /// Says how a port's numbers don't fit the device.
 fn push_numbers(
     text: &mut String,
@@ -154,45 +218,19 @@ fn push_numbers(
     fault: StreamFault,
 ) -> Result<(), AllocError> {
     match fault {
-        StreamFault::Short { port, has, from } => {
-            let path = path_of(&asked.ends.outs, port);
-            write!(
-                text,
-                "  {path} has {has} bytes, and {from} bytes of port {port} were confirmed: it was cut short, or is another file.\n  Restore it. The device hasn't those bytes any more; to go on without them, make the file {from} bytes long.\n"
-            )
-        }
-        StreamFault::Long { port, has, upto } => {
-            let path = path_of(&asked.ends.outs, port);
-            let device = asked.device.as_str();
-            write!(
-                text,
-                "  {path} has {has} bytes, and port {port} of {device} has put out {upto} in all: it is another file, or {device} is an older copy. It was left as it is.\n  Name the file that has this port's output or, where there is none yet, a new one.\n"
-            )
-        }
+        StreamFault::Short { port, has, from } => push_short(text, asked, port, has, from),
+        StreamFault::Long { port, has, upto } => push_long(text, asked, port, has, upto),
         StreamFault::Gone {
             port,
             have,
             confirmed,
-        } => write!(
-            text,
-            "  The reader has {have} bytes of port {port}, and {confirmed} were confirmed: the device hasn't those between any more.\n  They were written to standard output: what its reader left there is lost. Say --have {port}={confirmed} to go on behind them.\n"
-        ),
-        StreamFault::NotShown { port, have, shown } => write!(
-            text,
-            "  The reader says that it has {have} bytes of port {port}, and {shown} were shown: are they of another device, or of another port?\n"
-        ),
+        } => push_gone(text, port, have, confirmed),
+        StreamFault::NotShown { port, have, shown } => push_not_shown(text, port, have, shown),
         StreamFault::ShortInput {
             port,
             has,
             accepted,
-        } => {
-            let path = path_of(&asked.ends.ins, port);
-            let device = asked.device.as_str();
-            write!(
-                text,
-                "  {path} has {has} bytes, and port {port} has accepted {accepted}: it was cut short, or isn't the port's input.\n  Name the file that is all of the port's input, from its first byte on: what was accepted is passed over.\n  tpnet show {device} says what was accepted: in and pending together.\n"
-            )
-        }
+        } => push_short_input(text, asked, port, has, accepted),
         _ => Ok(()),
     }
 }
@@ -206,10 +244,7 @@ fn push_stream_fault<R: Files<File = F> + AllocGlobal, F: FileExt + OpenFile + D
 ) -> Result<(), AllocError> {
     let device = asked.device.as_str();
     match fault {
-        StreamFault::Opening(_) => {
-            push_opening(rt, text, device)?;
-            Ok(())
-        }
+        StreamFault::Opening(_) => push_unopened(rt, text, device),
         StreamFault::InputFailed(port) => {
             push_source(rt, text, &asked.ends.ins, port)?;
             write!(
@@ -233,26 +268,35 @@ fn push_stream_fault<R: Files<File = F> + AllocGlobal, F: FileExt + OpenFile + D
     }
 }
 
-fn explanation<R: Files<File = F> + AllocGlobal, F: FileExt + OpenFile + Drop>(
+/// Says why an end of a stream failed, why it was refused or ended early, or why its device wasn't opened.
+fn push_explanation<R: Files<File = F> + AllocGlobal, F: FileExt + OpenFile + Drop>(
     rt: &R,
+    text: &mut String,
+    asked: &StreamRun,
+    fault: Option<FilesFault>,
+    has_failed: bool,
+) -> Result<(), AllocError> {
+    match fault {
+        Some(FilesFault::End(fault)) => push_end_fault(rt, text, asked, fault),
+        Some(FilesFault::Stop(_)) => Ok(()),
+        Some(FilesFault::Stream(fault)) => push_stream_fault(rt, text, asked, fault),
+        None if has_failed => Ok(()),
+        None => push_unopened(rt, text, asked.device.as_str()),
+    }
+}
+
+/// Says what the system said of the device, where a call on it failed, and why the stream was refused or ended early.
+fn push_all<R: Files<File = F> + AllocGlobal, F: FileExt + OpenFile + Drop>(
+    rt: &R,
+    text: &mut String,
     asked: &StreamRun,
     fault: Option<FilesFault>,
     system: Option<&io::Error>,
-) -> Result<String, AllocError> {
-    let mut text = String::new(rt.alloc());
+) -> Result<(), AllocError> {
     if let Some(error) = system {
-        push_file(&mut text, asked.device.as_str(), error)?;
+        push_file(text, asked.device.as_str(), error)?;
     }
-    match fault {
-        Some(FilesFault::End(fault)) => push_end_fault(rt, &mut text, asked, fault)?,
-        Some(FilesFault::Stop(_)) => {}
-        Some(FilesFault::Stream(fault)) => push_stream_fault(rt, &mut text, asked, fault)?,
-        None if system.is_none() => {
-            push_opening(rt, &mut text, asked.device.as_str())?;
-        }
-        None => {}
-    }
-    Ok(text)
+    push_explanation(rt, text, asked, fault, system.is_some())
 }
 
 /// Says more of a refusal on standard error. `system` is what the system said where a call on the device failed.
@@ -263,7 +307,8 @@ pub fn explain_stream<R: Files<File = F> + AllocGlobal, F: FileExt + OpenFile + 
     system: Option<&io::Error>,
     err: &mut E,
 ) {
-    if let Ok(text) = explanation(rt, asked, fault, system) {
+    let mut text = String::new(rt.alloc());
+    if push_all(rt, &mut text, asked, fault, system).is_ok() {
         let _ = err.write_all(text.as_bytes());
     }
 }

@@ -20,7 +20,6 @@ use std::os::unix::fs::FileExt;
 use std::sync::Wait;
 use std::thread;
 use std::thread::Threads;
-use thiserror::Error;
 use tp_disk::Disk;
 use tp_stream::{Ended, Ending, Sink, Source, StreamFault, Streams, Task, stream};
 use tp_stream_files::{
@@ -35,16 +34,13 @@ const SECONDS_TOLD: u32 = 10;
 const MOST_WORKERS: usize = 4;
 
 /// Why a stream on files ends early.
-#[derive(Clone, Copy, Debug, Error)]
+#[derive(Clone, Copy)]
 pub enum FilesFault {
     /// An end isn't opened. The device is as it was.
-    #[error(transparent)]
     End(EndFault),
     /// The file that is to end it isn't taken, or it can't be asked to stop. The device is as it was.
-    #[error(transparent)]
     Stop(StopFault),
     /// The stream ended early.
-    #[error(transparent)]
     Stream(StreamFault),
 }
 

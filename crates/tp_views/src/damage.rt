@@ -2,7 +2,10 @@
 
 use crate::head_rules::push_broken;
 use crate::image_rules::broken_rule;
+use crate::parts::Part::{Byte, Number, Text};
+use crate::parts::push_parts;
 use crate::places::{Layout, Record, layout_of};
+use crate::rules::push_words;
 use std::alloc::{AllocError, Global};
 use std::fmt::Write;
 use tp_area::head_places::VERSION_PLACE;
@@ -56,11 +59,16 @@ fn bytes_at<D: Disk, const N: usize>(disk: &mut D, at: u64) -> Option<[u8; N]> {
 fn push_gate<D: Disk>(text: &mut String, disk: &mut D, at: u64) -> Result<(), AllocError> {
     match bytes_at::<D, 1>(disk, at) {
         Some(bytes) => {
-            let gate = bytes[0];
-            write!(
-                text,
-                "  the gate at {at} is {gate:02X}, and an open one is {GATE_OPEN:02X}\n"
-            )
+            let parts = [
+                Text("  the gate at "),
+                Number(at),
+                Text(" is "),
+                Byte(bytes[0]),
+                Text(", and an open one is "),
+                Byte(GATE_OPEN),
+                Text("\n"),
+            ];
+            push_parts(text, &parts)
         }
         None => write!(text, "  the gate at {at} can't be read\n"),
     }
@@ -96,15 +104,23 @@ fn push_areas(text: &mut String, size: u64, areas: TwoAreas) -> Result<(), Alloc
     let TwoAreas { first, length } = areas;
     let needed = length.saturating_mul(2).saturating_add(first);
     if size < needed {
-        write!(
-            text,
-            "  the device has {size} bytes, and its head says areas of {length}, for which it needs {needed}\n"
-        )
+        let parts = [
+            Text("  the device has "),
+            Number(size),
+            Text(" bytes, and its head says areas of "),
+            Number(length),
+            Text(", for which it needs "),
+            Number(needed),
+            Text("\n"),
+        ];
+        push_parts(text, &parts)
     } else {
-        write!(
-            text,
-            "  its areas of {length} bytes are too small for its nodes and ports: docs/FORMATS.md, section 5\n"
-        )
+        let parts = [
+            Text("  its areas of "),
+            Number(length),
+            Text(" bytes are too small for its nodes and ports: docs/FORMATS.md, section 5\n"),
+        ];
+        push_parts(text, &parts)
     }
 }
 
@@ -130,10 +146,20 @@ fn form_at<D: Disk>(disk: &mut D, start: u64) -> (u64, Option<u64>) {
 fn push_front<D: Disk>(text: &mut String, disk: &mut D, start: u64) -> Result<(), AllocError> {
     let (at, form) = form_at(disk, start);
     match form {
-        Some(form) if form != PLAIN_FORM && form != TURNS_FORM => write!(
-            text,
-            "  the form, at {at}, is {form}, and this program reads {PLAIN_FORM} and {TURNS_FORM}\n"
-        ),
+        Some(form) if form != PLAIN_FORM && form != TURNS_FORM => {
+            let parts = [
+                Text("  the form, at "),
+                Number(at),
+                Text(", is "),
+                Number(form),
+                Text(", and this program reads "),
+                Number(PLAIN_FORM),
+                Text(" and "),
+                Number(TURNS_FORM),
+                Text("\n"),
+            ];
+            push_parts(text, &parts)
+        }
         _ => text.push_str(BAD_FRONT),
     }
 }
@@ -147,7 +173,8 @@ fn push_place(
     start: u64,
 ) -> Result<(), AllocError> {
     write!(text, "  offset {at} is in ")?;
-    layout.push_record(text, record)?;
+    let rule = layout.record_words(record);
+    push_words(text, rule.words, &rule.values)?;
     write!(text, ", from {start} on\n")
 }
 
@@ -201,9 +228,17 @@ fn push_behind<D: Disk>(
 
 /// Says that a device has too few bytes for a head of `wanted` bytes, and the way out.
 fn push_short(text: &mut String, size: u64, wanted: usize, way: &str) -> Result<(), AllocError> {
-    write!(
+    push_parts(
         text,
-        "  it has {size} bytes, fewer than the {wanted} of a head\n  {way}\n"
+        &[
+            Text("  it has "),
+            Number(size),
+            Text(" bytes, fewer than the "),
+            Number(wanted as u64),
+            Text(" of a head\n  "),
+            Text(way),
+            Text("\n"),
+        ],
     )
 }
 
@@ -227,9 +262,19 @@ fn push_wide<D: Disk>(
 
 /// Says that a device has a version that isn't read.
 fn push_version(text: &mut String, version: u8) -> Result<(), AllocError> {
-    write!(
+    push_parts(
         text,
-        "  byte {VERSION_PLACE}, the version, is {version}, and this program reads {NARROW_VERSION} and {WIDE_VERSION}\n  Open it with the program that made it.\n"
+        &[
+            Text("  byte "),
+            Number(VERSION_PLACE as u64),
+            Text(", the version, is "),
+            Number(version as u64),
+            Text(", and this program reads "),
+            Number(NARROW_VERSION as u64),
+            Text(" and "),
+            Number(WIDE_VERSION as u64),
+            Text("\n  Open it with the program that made it.\n"),
+        ],
     )
 }
 

@@ -1,6 +1,8 @@
 //! How full a device's journal is, where a run was refused.
 
 use crate::looking::push_rest;
+use crate::parts::Part::{Number, Text};
+use crate::parts::push_parts;
 use std::alloc::AllocError;
 use std::fmt::Write;
 use tp_area::JournalRoom;
@@ -33,9 +35,17 @@ fn journal_entries(opened: &Opened) -> u64 {
 
 /// Says how many entries a journal has, and how many it has room for.
 fn push_full(text: &mut String, device: &str, entries: u64, most: u64) -> Result<(), AllocError> {
-    write!(
+    push_parts(
         text,
-        "  {device}: its journal has {entries} entries since the checkpoint, and room for {most}.\n"
+        &[
+            Text("  "),
+            Text(device),
+            Text(": its journal has "),
+            Number(entries),
+            Text(" entries since the checkpoint, and room for "),
+            Number(most),
+            Text(".\n"),
+        ],
     )
 }
 
@@ -57,9 +67,17 @@ fn push_compact(text: &mut String, device: &str) -> Result<(), AllocError> {
 
 /// Says that input can come by pieces.
 fn push_pieces(text: &mut String, device: &str, port: u64) -> Result<(), AllocError> {
-    write!(
+    push_parts(
         text,
-        "  tpnet run {device} --stream --in {port}=FILE takes input by pieces, as the journal has room: see tpnet run --stream --help.\n"
+        &[
+            Text("  tpnet run "),
+            Text(device),
+            Text(" --stream --in "),
+            Number(port),
+            Text(
+                "=FILE takes input by pieces, as the journal has room: see tpnet run --stream --help.\n",
+            ),
+        ],
     )
 }
 

@@ -1,5 +1,7 @@
 //! Which rule of a device's head bytes break.
 
+use crate::parts::Part::{Byte, Number};
+use crate::rules::{NOTHING, Rule, push_words};
 use std::alloc::AllocError;
 use std::fmt::Write;
 use tp_area::head_places::{AREA_PLACE, NODES_PLACE, PAGES_PLACE, PORTS_PLACE, ends_place};
@@ -9,6 +11,42 @@ use tp_model::limits::{
     WIDE_HEAD_PAGES, WIDE_PORT,
 };
 use tp_trace::byte_in;
+
+/// What is said of the number of nodes.
+const NODES: &[&str] = &["  byte ", ", the nodes, is ", " and must be 1 to "];
+
+/// What is said of the number of ports.
+const PORTS: &[&str] = &["  byte ", ", the ports, is ", " and must be 1 to "];
+
+/// What is said of a byte of no field.
+const FILLED: &[&str] = &["  byte ", " is ", " and must be 00"];
+
+/// What is said of a node whose pages are too few or too many.
+const PAGES: &[&str] = &[
+    "  the pages of node ",
+    ", at ",
+    ", are ",
+    " and must be ",
+    " to ",
+];
+
+/// What is said of the pages of a node that isn't there.
+const NO_NODE: &[&str] = &[
+    "  the pages of node ",
+    ", at ",
+    ", are ",
+    ", and there are ",
+    " nodes",
+];
+
+/// What is said of a link that leads to one that doesn't lead back.
+const NOT_BACK: &[&str] = &["link ", " of node ", ", which doesn't lead back"];
+
+/// What is said of a link that leads to a port to which another one leads.
+const EARLIER: &[&str] = &["port ", ", to which an earlier link leads"];
+
+/// What is said of a link that leads to nothing.
+const NO_END: &[&str] = &["no link or port that is there"];
 
 /// The most nodes that a head of a version has fields for.
 pub(crate) fn most_nodes(version: HeadVersion) -> usize {
@@ -95,98 +133,187 @@ impl Fields<'_> {
         true
     }
 
-    /// Says that there are too few or too many nodes or ports: whether it is so.
-    fn push_counts(self, text: &mut String) -> Result<bool, AllocError> {
+    /// What is said where there are too few or too many nodes or ports.
+    fn counts_rule(self) -> Option<Rule<5>> {
         let (nodes, ports, most) = (self.nodes, self.ports, most_nodes(self.version));
         if nodes < 1 || nodes > most {
-            write!(
-                text,
-                "  byte {NODES_PLACE}, the nodes, is {nodes} and must be 1 to {most}"
-            )?;
-            return Ok(true);
+            return Some(Rule {
+                words: NODES,
+                values: [
+                    Number(NODES_PLACE as u64),
+                    Number(nodes as u64),
+                    Number(most as u64),
+                    NOTHING,
+                    NOTHING,
+                ],
+            });
         }
         if ports < 1 || ports > MAX_PORTS {
-            write!(
-                text,
-                "  byte {PORTS_PLACE}, the ports, is {ports} and must be 1 to {MAX_PORTS}"
-            )?;
-            return Ok(true);
+            return Some(Rule {
+                words: PORTS,
+                values: [
+                    Number(PORTS_PLACE as u64),
+                    Number(ports as u64),
+                    Number(MAX_PORTS as u64),
+                    NOTHING,
+                    NOTHING,
+                ],
+            });
         }
-        Ok(false)
+        None
     }
 
-    /// Says which byte of a range isn't 00, where one isn't.
-    fn push_filled(self, text: &mut String, from: usize, to: usize) -> Result<bool, AllocError> {
+    /// Which byte of a range isn't 00, where one isn't.
+    fn filled_rule(self, from: usize, to: usize) -> Option<Rule<5>> {
         for at in from..to {
             let byte = byte_in(self.head, at);
             if byte != 0 {
-                write!(text, "  byte {at} is {byte:02X} and must be 00")?;
-                return Ok(true);
+                return Some(Rule {
+                    words: FILLED,
+                    values: [Number(at as u64), Byte(byte), NOTHING, NOTHING, NOTHING],
+                });
             }
         }
-        Ok(false)
+        None
     }
 
-    /// Says which node has a wrong number of pages.
-    fn push_pages(self, text: &mut String) -> Result<bool, AllocError> {
-        let (nodes, most) = (self.nodes, most_pages(self.version));
+    /// What is said of the pages of a node, where their number is wrong.
+    fn node_rule(self, node: usize) -> Option<Rule<5>> {
+        let at = pages_at(node);
+        let pages = usize::from(half_at(self.head, at));
+        let (place, count) = (Number(at as u64), Number(pages as u64));
+        if node >= self.nodes {
+            if pages == 0 {
+                return None;
+            }
+            return Some(Rule {
+                words: NO_NODE,
+                values: [
+                    Number(node as u64),
+                    place,
+                    count,
+                    Number(self.nodes as u64),
+                    NOTHING,
+                ],
+            });
+        }
+        let most = most_pages(self.version);
+        if MIN_PAGES <= pages && pages <= most {
+            return None;
+        }
+        Some(Rule {
+            words: PAGES,
+            values: [
+                Number(node as u64),
+                place,
+                count,
+                Number(MIN_PAGES as u64),
+                Number(most as u64),
+            ],
+        })
+    }
+
+    /// Which node has a wrong number of pages.
+    fn pages_rule(self) -> Option<Rule<5>> {
         for node in 0..most_nodes(self.version) {
-            let at = pages_at(node);
-            let pages = usize::from(half_at(self.head, at));
-            if node < nodes && (pages < MIN_PAGES || pages > most) {
-                write!(
-                    text,
-                    "  the pages of node {node}, at {at}, are {pages} and must be {MIN_PAGES} to {most}"
-                )?;
-                return Ok(true);
-            }
-            if node >= nodes && pages != 0 {
-                write!(
-                    text,
-                    "  the pages of node {node}, at {at}, are {pages}, and there are {nodes} nodes"
-                )?;
-                return Ok(true);
+            if let Some(rule) = self.node_rule(node) {
+                return Some(rule);
             }
         }
-        Ok(false)
+        None
     }
 
-    /// Says what is wrong with where a link leads: whether anything is.
-    fn push_end(self, text: &mut String, link: usize) -> Result<bool, AllocError> {
-        let (end, first) = (self.end(link), first_port(self.version));
+    /// What is said of where a link leads that leads to no end, or to one that doesn't lead back.
+    fn wrong_end(self, end: usize) -> Rule<5> {
+        let (first, other) = (first_port(self.version), end.saturating_sub(1));
         let port = end.saturating_sub(first);
-        let is_link = end <= self.nodes.saturating_mul(4);
-        let is_port = end >= first && port < self.ports;
-        let other = end.saturating_sub(1);
-        let leads_back = self.end(other) == link.saturating_add(1);
-        if end == 0 || is_link && leads_back || is_port && self.is_first(link) {
-            return Ok(false);
+        if end <= self.nodes.saturating_mul(4) {
+            let (node, own) = (other / 4, other % 4);
+            return Rule {
+                words: NOT_BACK,
+                values: [
+                    Number(own as u64),
+                    Number(node as u64),
+                    NOTHING,
+                    NOTHING,
+                    NOTHING,
+                ],
+            };
         }
+        if end >= first && port < self.ports {
+            return Rule {
+                words: EARLIER,
+                values: [Number(port as u64), NOTHING, NOTHING, NOTHING, NOTHING],
+            };
+        }
+        Rule {
+            words: NO_END,
+            values: [NOTHING; 5],
+        }
+    }
+
+    /// Whether a link leads nowhere, or to an end that leads back.
+    fn is_end(self, link: usize, end: usize) -> bool {
+        let first = first_port(self.version);
+        let other = end.saturating_sub(1);
+        if end == 0 {
+            return true;
+        }
+        if end <= self.nodes.saturating_mul(4) && self.end(other) == link.saturating_add(1) {
+            return true;
+        }
+        end >= first && end.saturating_sub(first) < self.ports && self.is_first(link)
+    }
+
+    /// Says what is wrong with where a link leads.
+    fn push_end(self, text: &mut String, link: usize, end: usize) -> Result<(), AllocError> {
         let (node, own) = (link / 4, link % 4);
         let at = self.end_place(link);
         write!(
             text,
             "  where link {own} of node {node} leads, at {at}, is {end:X}: "
         )?;
-        let (node, own) = (other / 4, other % 4);
-        if is_link {
-            write!(text, "link {own} of node {node}, which doesn't lead back")?;
-        } else if is_port {
-            write!(text, "port {port}, to which an earlier link leads")?;
-        } else {
-            write!(text, "no link or port that is there")?;
-        }
-        Ok(true)
+        let rule = self.wrong_end(end);
+        push_words(text, rule.words, &rule.values)
     }
 
-    /// Says what is wrong with where the links lead.
-    fn push_ends(self, text: &mut String) -> Result<bool, AllocError> {
+    /// The first link that leads where it mustn't, and where that is.
+    fn wrong_link(self) -> Option<(usize, usize)> {
         for link in 0..self.nodes.saturating_mul(4) {
-            if self.push_end(text, link)? {
-                return Ok(true);
+            let end = self.end(link);
+            if !self.is_end(link, end) {
+                return Some((link, end));
             }
         }
-        Ok(false)
+        None
+    }
+
+    /// What is said of the fields in front of those that say where the links lead.
+    fn front_rule(self) -> Option<Rule<5>> {
+        if let Some(rule) = self.counts_rule() {
+            return Some(rule);
+        }
+        match self.filled_rule(PORTS_PLACE + 1, AREA_PLACE) {
+            Some(rule) => Some(rule),
+            None => self.pages_rule(),
+        }
+    }
+
+    /// What is said of the bytes behind the fields.
+    fn rest_rule(self) -> Option<Rule<5>> {
+        let behind = self.end_place(self.nodes.saturating_mul(4));
+        self.filled_rule(behind, self.head.len())
+    }
+}
+
+/// Appends a rule, where there is one: whether there is.
+fn push_found(text: &mut String, rule: Option<Rule<5>>) -> Result<bool, AllocError> {
+    match rule {
+        Some(rule) => {
+            push_words(text, rule.words, &rule.values)?;
+            Ok(true)
+        }
+        None => Ok(false),
     }
 }
 
@@ -202,12 +329,14 @@ pub(crate) fn push_broken(
         nodes: usize::from(byte_in(head, NODES_PLACE)),
         ports: usize::from(byte_in(head, PORTS_PLACE)),
     };
-    if fields.push_counts(text)? || fields.push_filled(text, PORTS_PLACE + 1, AREA_PLACE)? {
+    if push_found(text, fields.front_rule())? {
         return Ok(true);
     }
-    if fields.push_pages(text)? || fields.push_ends(text)? {
-        return Ok(true);
+    match fields.wrong_link() {
+        Some((link, end)) => {
+            fields.push_end(text, link, end)?;
+            Ok(true)
+        }
+        None => push_found(text, fields.rest_rule()),
     }
-    let behind = fields.end_place(fields.nodes.saturating_mul(4));
-    fields.push_filled(text, behind, head.len())
 }

@@ -1,7 +1,8 @@
 //! Which rule of a node's image bytes break.
 
+use crate::parts::Part::{Number, Text, Word};
+use crate::rules::{NOTHING, Rule, push_words};
 use std::alloc::{AllocError, Global};
-use std::fmt::Write;
 use tp_area::image_length;
 use tp_model::limits::{IMAGE_HEAD_BYTES, IMAGE_VERSION, MAX_PAGES, MIN_PAGES, SLICE};
 use tp_node::image_places::{
@@ -19,80 +20,151 @@ const BYTES: &[(usize, u8, &str)] = &[
 ];
 
 /// The rule that is left where all others hold.
-const BAD_END: &str = "a link end in bytes 44 to 171 of its head breaks its rule";
+const BAD_END: &[&str] = &["a link end in bytes 44 to 171 of its head breaks its rule"];
 
-/// Appends the rule on lengths that an image breaks, where the topology asks for `wanted` pages: whether it breaks one.
-fn push_length(text: &mut String, image: &[u8], wanted: Option<u16>) -> Result<bool, AllocError> {
-    let length = image.len();
-    if length < IMAGE_HEAD_BYTES {
-        write!(
-            text,
-            "it has {length} bytes, fewer than the {IMAGE_HEAD_BYTES} of an image's head"
-        )?;
-        return Ok(true);
-    }
-    let (version, pages) = (byte_in(image, VERSION_PLACE), half_in(image, PAGES_PLACE));
-    if version != IMAGE_VERSION {
-        write!(
-            text,
-            "byte 0 of its head, the version, must be {IMAGE_VERSION} and is {version}"
-        )?;
-        return Ok(true);
-    }
-    if usize::from(pages) < MIN_PAGES || usize::from(pages) > MAX_PAGES {
-        write!(
-            text,
-            "bytes 2 and 3 of its head, the pages, must be {MIN_PAGES} to {MAX_PAGES} and are {pages}"
-        )?;
-        return Ok(true);
-    }
-    let full = image_length(pages);
-    if length != full {
-        write!(
-            text,
-            "it must have {full} bytes for {pages} pages and has {length}"
-        )?;
-        return Ok(true);
-    }
+/// What is said of an image that is shorter than its head.
+const SHORT: &[&str] = &["it has ", " bytes, fewer than the ", " of an image's head"];
+
+/// What is said of an image of another version.
+const VERSION: &[&str] = &["byte 0 of its head, the version, must be ", " and is "];
+
+/// What is said of an image whose pages are too few or too many.
+const PAGES: &[&str] = &[
+    "bytes 2 and 3 of its head, the pages, must be ",
+    " to ",
+    " and are ",
+];
+
+/// What is said of an image that has other bytes than its pages ask for.
+const LENGTH: &[&str] = &["it must have ", " bytes for ", " pages and has "];
+
+/// What is said of an image whose pages aren't those of the topology.
+const WANTED: &[&str] = &["it has ", " pages and the topology says "];
+
+/// What is said of a byte of the head that is too great.
+const BYTE: &[&str] = &["byte ", " of its head is ", " and must be "];
+
+/// What is said of a workspace pointer between words.
+const WORKSPACE: &[&str] = &[
+    "bytes 8 to 11 of its head, Wptr, are ",
+    " and must have their two low bits 0",
+];
+
+/// What is said of a slice that is too long.
+const SLICE_COUNT: &[&str] = &[
+    "bytes 42 and 43 of its head, the slice count, are ",
+    " and must be at most ",
+];
+
+/// What is said of a link end that is at work.
+const BUSY: &[&str] = &[
+    "the ",
+    " end of link ",
+    ", byte ",
+    " of its head, must be idle and hold no byte",
+];
+
+/// The rule on the pages that an image breaks, where the topology asks for `wanted` of them.
+fn wanted_rule(pages: u16, wanted: Option<u16>) -> Option<Rule<3>> {
     match wanted {
-        Some(count) if count != pages => {
-            write!(text, "it has {pages} pages and the topology says {count}")?;
-            Ok(true)
-        }
-        _ => Ok(false),
+        Some(count) if count != pages => Some(Rule {
+            words: WANTED,
+            values: [Number(pages as u64), Number(count as u64), NOTHING],
+        }),
+        _ => None,
     }
 }
 
+/// The rule on lengths that an image with a head breaks, where the topology asks for `wanted` pages.
+fn pages_rule(image: &[u8], wanted: Option<u16>) -> Option<Rule<3>> {
+    let (length, pages) = (image.len(), half_in(image, PAGES_PLACE));
+    let count = usize::from(pages);
+    if count < MIN_PAGES || count > MAX_PAGES {
+        return Some(Rule {
+            words: PAGES,
+            values: [
+                Number(MIN_PAGES as u64),
+                Number(MAX_PAGES as u64),
+                Number(count as u64),
+            ],
+        });
+    }
+    let full = image_length(pages);
+    if length != full {
+        return Some(Rule {
+            words: LENGTH,
+            values: [
+                Number(full as u64),
+                Number(count as u64),
+                Number(length as u64),
+            ],
+        });
+    }
+    wanted_rule(pages, wanted)
+}
+
+/// The rule on lengths and the version that an image breaks, where the topology asks for `wanted` pages.
+fn length_rule(image: &[u8], wanted: Option<u16>) -> Option<Rule<3>> {
+    let length = image.len();
+    if length < IMAGE_HEAD_BYTES {
+        return Some(Rule {
+            words: SHORT,
+            values: [
+                Number(length as u64),
+                Number(IMAGE_HEAD_BYTES as u64),
+                NOTHING,
+            ],
+        });
+    }
+    let version = byte_in(image, VERSION_PLACE);
+    if version != IMAGE_VERSION {
+        return Some(Rule {
+            words: VERSION,
+            values: [
+                Number(IMAGE_VERSION as u64),
+                Number(version as u64),
+                NOTHING,
+            ],
+        });
+    }
+    pages_rule(image, wanted)
+}
+
 /// The first byte of the head that is too great.
-fn push_byte(text: &mut String, image: &[u8]) -> Result<bool, AllocError> {
+fn byte_rule(image: &[u8]) -> Option<Rule<3>> {
     for row in BYTES {
         let (at, most, what) = *row;
         let byte = byte_in(image, at);
         if byte > most {
-            write!(text, "byte {at} of its head is {byte} and must be {what}")?;
-            return Ok(true);
+            return Some(Rule {
+                words: BYTE,
+                values: [Number(at as u64), Number(byte as u64), Text(what)],
+            });
         }
     }
+    None
+}
+
+/// What is wrong with the workspace pointer or the slice count of the head.
+fn count_rule(image: &[u8]) -> Option<Rule<3>> {
     let (workspace, slice) = (word_in(image, WPTR_PLACE), half_in(image, SLICE_PLACE));
     if workspace % 4 != 0 {
-        write!(
-            text,
-            "bytes 8 to 11 of its head, Wptr, are {workspace:08X} and must have their two low bits 0"
-        )?;
-        return Ok(true);
+        return Some(Rule {
+            words: WORKSPACE,
+            values: [Word(workspace), NOTHING, NOTHING],
+        });
     }
     if usize::from(slice) > SLICE {
-        write!(
-            text,
-            "bytes 42 and 43 of its head, the slice count, are {slice} and must be at most {SLICE}"
-        )?;
-        return Ok(true);
+        return Some(Rule {
+            words: SLICE_COUNT,
+            values: [Number(slice as u64), Number(SLICE as u64), NOTHING],
+        });
     }
-    Ok(false)
+    None
 }
 
 /// The first link end that is at work.
-fn push_busy(text: &mut String, image: &[u8]) -> Result<bool, AllocError> {
+fn busy_rule(image: &[u8]) -> Option<Rule<3>> {
     for end in 0..8u8 {
         let at = OUTPUTS_PLACE + END_BYTES * usize::from(end);
         let (state, held) = (byte_in(image, at), byte_in(image, at + 1));
@@ -102,35 +174,42 @@ fn push_busy(text: &mut String, image: &[u8]) -> Result<bool, AllocError> {
             } else {
                 ("input", end - 4)
             };
-            write!(
-                text,
-                "the {side} end of link {link}, byte {at} of its head, must be idle and hold no byte"
-            )?;
-            return Ok(true);
+            return Some(Rule {
+                words: BUSY,
+                values: [Text(side), Number(link as u64), Number(at as u64)],
+            });
         }
     }
-    Ok(false)
+    None
 }
 
-/// Appends the rule that an image breaks, where it breaks one: whether it does. On a device ends may be at work.
-fn push_rule(
-    alloc: Global,
-    text: &mut String,
-    image: &[u8],
-    pages: Option<u16>,
-    must_be_idle: bool,
-) -> Result<bool, AllocError> {
-    if push_length(text, image, pages)? || push_byte(text, image)? {
-        return Ok(true);
+/// The rule on the bytes of the head that an image breaks. On a device ends may be at work.
+fn head_rule(image: &[u8], must_be_idle: bool) -> Option<Rule<3>> {
+    match byte_rule(image) {
+        Some(rule) => Some(rule),
+        None => match count_rule(image) {
+            Some(rule) => Some(rule),
+            None if must_be_idle => busy_rule(image),
+            None => None,
+        },
     }
-    if must_be_idle && push_busy(text, image)? {
-        return Ok(true);
+}
+
+/// The rule that an image breaks, where it breaks one.
+fn rule_of(alloc: Global, image: &[u8], pages: Option<u16>, must_be_idle: bool) -> Option<Rule<3>> {
+    if let Some(rule) = length_rule(image, pages) {
+        return Some(rule);
     }
-    let is_bad = matches!(Node::from_image(alloc, image, 0), Err(ImageFault::BadImage));
-    if is_bad {
-        text.push_str(BAD_END)?;
+    if let Some(rule) = head_rule(image, must_be_idle) {
+        return Some(rule);
     }
-    Ok(is_bad)
+    match Node::from_image(alloc, image, 0) {
+        Err(ImageFault::BadImage) => Some(Rule {
+            words: BAD_END,
+            values: [NOTHING; 3],
+        }),
+        _ => None,
+    }
 }
 
 /// Which rule an image breaks, in words, where it breaks one. On a device ends may be at work.
@@ -140,10 +219,10 @@ pub(crate) fn broken_rule(
     pages: Option<u16>,
     must_be_idle: bool,
 ) -> Result<Option<String>, AllocError> {
+    let Some(rule) = rule_of(alloc, image, pages, must_be_idle) else {
+        return Ok(None);
+    };
     let mut text = String::new(alloc);
-    if push_rule(alloc, &mut text, image, pages, must_be_idle)? {
-        Ok(Some(text))
-    } else {
-        Ok(None)
-    }
+    push_words(&mut text, rule.words, &rule.values)?;
+    Ok(Some(text))
 }

@@ -194,20 +194,39 @@ fn push_inputs(text: &mut String, ends: &[InEnd]) -> Result<(), AllocError>
     Ok(())
 }
 
+/// Appends the field of the output ends.
 fn push_output_list(text: &mut String, ends: &[OutEnd]) -> Result<(), AllocError>
-    ensures { OnOk result (string_bytes text.new ≡ string_bytes text.old ++ json_list (map output_item ends.now)) }
+    ensures { OnOk result (string_bytes text.new ≡ string_bytes text.old ++ (codes ",\"out\":" ++ json_list (map output_item ends.now))) }
 {
-    push(text, "[")?;
+    push(text, ",\"out\":[")?;
     push_outputs(text, ends)?;
     push(text, "]")
 }
 
+/// Appends the field of the input ends, and ends the object.
 fn push_input_list(text: &mut String, ends: &[InEnd]) -> Result<(), AllocError>
-    ensures { OnOk result (string_bytes text.new ≡ string_bytes text.old ++ json_list (map input_item ends.now)) }
+    ensures { OnOk result (string_bytes text.new ≡ string_bytes text.old ++ (codes ",\"in\":" ++ (json_list (map input_item ends.now) ++ codes "}\n"))) }
 {
-    push(text, "[")?;
+    push(text, ",\"in\":[")?;
     push_inputs(text, ends)?;
-    push(text, "]")
+    push(text, "]}\n")
+}
+
+/// Appends the fields of a node, by its pages, its processor and its ends.
+fn push_fields(
+    text: &mut String,
+    number: u64,
+    pages: usize,
+    cpu: &Cpu,
+    outputs: &[OutEnd],
+    inputs: &[InEnd],
+) -> Result<(), AllocError>
+    ensures { OnOk result (string_bytes text.new ≡ string_bytes text.old ++ node_fields number pages cpu.now outputs.now inputs.now) }
+{
+    push_number(text, number, pages, cpu.halt)?;
+    push_cpu(text, cpu)?;
+    push_output_list(text, outputs)?;
+    push_input_list(text, inputs)
 }
 
 /// The fields of a node, by its pages, its processor and its ends.
@@ -222,13 +241,7 @@ fn node_fields(
     ensures { IfOk result (λ text. string_bytes text ≡ node_fields number pages cpu.now outputs.now inputs.now) }
 {
     let mut text = String::new(alloc);
-    push_number(&mut text, number, pages, cpu.halt)?;
-    push_cpu(&mut text, cpu)?;
-    push(&mut text, ",\"out\":")?;
-    push_output_list(&mut text, outputs)?;
-    push(&mut text, ",\"in\":")?;
-    push_input_list(&mut text, inputs)?;
-    push(&mut text, "}\n")?;
+    push_fields(&mut text, number, pages, cpu, outputs, inputs)?;
     Ok(text)
 }
 

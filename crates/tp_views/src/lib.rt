@@ -29,6 +29,7 @@ mod places;
 mod refusal;
 mod registers;
 mod reopening;
+mod rules;
 mod shown;
 mod status;
 mod steady;

@@ -1,13 +1,41 @@
 //! What stands at a place of a device, in words.
 
 use crate::head_rules::{half_at, most_nodes, number_at, pages_at};
-use std::alloc::AllocError;
-use std::fmt::Write;
+use crate::parts::Part::Number;
+use crate::rules::{NOTHING, Rule};
 use tp_area::head_places::{AREA_PLACE, NODES_PLACE, PORTS_PLACE};
 use tp_area::{FIELDS_BYTES, areas_of_length, image_length};
 use tp_model::limits::{LINE_BYTES, MAX_NODES, MAX_PORTS, PORT_BYTES};
 use tp_model::{HeadVersion, TwoAreas};
 use tp_trace::byte_in;
+
+/// What the head of a device is called.
+const HEAD: &[&str] = &["the head of the device, its first ", " bytes"];
+
+/// What the front of an area is called.
+const FRONT: &[&str] = &[
+    "the front of an area: gate, generation, the cut's length, its base and the form",
+];
+
+/// What the image of a node is called.
+const IMAGE: &[&str] = &["the image of node ", ", of ", " pages"];
+
+/// What the record of a line is called that a link sends.
+const LINK_LINE: &[&str] = &[
+    "the record of line ",
+    ", which link ",
+    " of node ",
+    " sends",
+];
+
+/// What the record of a line is called that a port sends.
+const PORT_LINE: &[&str] = &["the record of line ", ", which port ", " sends"];
+
+/// What the record of a port is called.
+const PORT: &[&str] = &["the record of port "];
+
+/// What the journal is called.
+const JOURNAL: &[&str] = &["a group of journal entries, or an entry of one"];
 
 /// What a device's head says of where its records stand.
 #[derive(Clone, Copy)]
@@ -125,35 +153,34 @@ impl Layout {
         }
     }
 
-    /// Appends what a record is.
-    pub(crate) fn push_record(&self, text: &mut String, record: Record) -> Result<(), AllocError> {
+    /// What the record of a line is.
+    fn line_words(&self, line: u64) -> Rule<3> {
         let links = self.nodes.saturating_mul(4);
-        match record {
-            Record::Head => {
-                let length = self.areas.first;
-                write!(text, "the head of the device, its first {length} bytes")
-            }
-            Record::Front => write!(
-                text,
-                "the front of an area: gate, generation, the cut's length, its base and the form"
-            ),
-            Record::Image { node, pages } => write!(
-                text,
-                "the image of node {node}, of {pages} pages"
-            ),
-            Record::Line(line) if line < links => {
-                let (node, link) = (line / 4, line % 4);
-                write!(
-                    text,
-                    "the record of line {line}, which link {link} of node {node} sends"
-                )
-            }
-            Record::Line(line) => {
-                let port = line.saturating_sub(links);
-                write!(text, "the record of line {line}, which port {port} sends")
-            }
-            Record::Port(port) => write!(text, "the record of port {port}"),
-            Record::Journal => write!(text, "a group of journal entries, or an entry of one"),
+        if line < links {
+            return Rule {
+                words: LINK_LINE,
+                values: [Number(line), Number(line % 4), Number(line / 4)],
+            };
+        }
+        Rule {
+            words: PORT_LINE,
+            values: [Number(line), Number(line.saturating_sub(links)), NOTHING],
+        }
+    }
+
+    /// What a record is.
+    pub(crate) fn record_words(&self, record: Record) -> Rule<3> {
+        let (words, first, second) = match record {
+            Record::Line(line) => return self.line_words(line),
+            Record::Head => (HEAD, Number(self.areas.first), NOTHING),
+            Record::Front => (FRONT, NOTHING, NOTHING),
+            Record::Image { node, pages } => (IMAGE, Number(node), Number(pages as u64)),
+            Record::Port(port) => (PORT, Number(port), NOTHING),
+            Record::Journal => (JOURNAL, NOTHING, NOTHING),
+        };
+        Rule {
+            words,
+            values: [first, second, NOTHING],
         }
     }
 }

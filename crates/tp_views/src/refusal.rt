@@ -1,44 +1,51 @@
 //! Why a command was not done.
 
-use thiserror::Error;
+use std::fmt;
 use tp_area::FormatFault;
 use tp_model::NetFault;
 use tp_recover::Unopened;
 use tp_turn::TryFault;
 
 /// The program then ends with status 1 and this name on standard error.
-#[derive(Clone, Copy, Debug, Error)]
+#[derive(Clone, Copy)]
 pub enum Refusal {
     /// The node of the image wasn't tried.
-    #[error(transparent)]
     Trial(TryFault),
     /// The text says no topology.
-    #[error(transparent)]
     Topology(NetFault),
     /// The device wasn't formatted.
-    #[error(transparent)]
     Format(FormatFault),
     /// The device wasn't opened.
-    #[error(transparent)]
     Opening(Unopened),
     /// A file can't be read.
-    #[error("ReadFailed")]
     ReadFailed,
     /// The device's file is there already, where it has to be new.
-    #[error("DeviceExists")]
     DeviceExists,
     /// What was to be written couldn't be.
-    #[error("DeviceFailed")]
     DeviceFailed,
     /// Another process holds the device.
-    #[error("InUse")]
     InUse,
     /// Memory was refused.
-    #[error("Memory")]
     Memory,
     /// Another process writes the device so fast that no moment of it could be read.
-    #[error("Busy")]
     Busy,
+}
+
+impl fmt::Display for Refusal {
+    fn fmt<W: fmt::Write>(&self, f: &mut fmt::Formatter<W>) -> fmt::Result {
+        match self {
+            Refusal::Trial(cause) => fmt::Display::fmt(cause, f),
+            Refusal::Topology(cause) => fmt::Display::fmt(cause, f),
+            Refusal::Format(cause) => fmt::Display::fmt(cause, f),
+            Refusal::Opening(cause) => fmt::Display::fmt(cause, f),
+            Refusal::ReadFailed => f.write_str("ReadFailed"),
+            Refusal::DeviceExists => f.write_str("DeviceExists"),
+            Refusal::DeviceFailed => f.write_str("DeviceFailed"),
+            Refusal::InUse => f.write_str("InUse"),
+            Refusal::Memory => f.write_str("Memory"),
+            Refusal::Busy => f.write_str("Busy"),
+        }
+    }
 }
 
 impl From<NetFault> for Refusal {
