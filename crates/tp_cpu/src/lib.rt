@@ -12,7 +12,6 @@ mod effect;
 mod encoding;
 mod fetch;
 mod laws;
-mod often;
 mod operation;
 mod plain;
 mod plain_channel;
