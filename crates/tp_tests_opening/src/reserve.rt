@@ -9,10 +9,13 @@ use crate::calls::hand_in;
 use crate::devices::fresh;
 use crate::opened_books::{ROOM, book_of};
 use std::alloc::Global;
-use tp_book::Refusal::{JournalFull, NothingToTake, SnapshotRunning};
+use tp_book::Refusal::{JournalFull, NothingToTake, SnapshotRunning, StoreBroken};
 use tp_book::{Book, Refusal};
 use tp_model::WireEnd;
 use tp_tests_fixtures::{AREA, GROUPS, place};
+
+/// The place of the first area's generation on the device.
+const GENERATION: usize = 513;
 
 /// A call on the book. A take that was made ready is given back.
 #[derive(Clone, Copy)]
@@ -23,6 +26,7 @@ enum Call {
     Begin,
     Record,
     Close(u16),
+    Break,
 }
 
 /// A call; its answer, and none where it may not be made; and then the next number.
@@ -36,6 +40,8 @@ const DONE: Option<Result<(), Refusal>> = Some(Ok(()));
 const FULL: Option<Result<(), Refusal>> = Some(Err(JournalFull));
 
 const NOTHING: Option<Result<(), Refusal>> = Some(Err(NothingToTake));
+
+const BROKEN: Option<Result<(), Refusal>> = Some(Err(StoreBroken));
 
 const STORIES: &[Story<'static>] = &[
     // Without a snapshot: the 105th entry has 3,360 bytes of at most 3,382, and the 106th would have 3,392.
@@ -117,6 +123,36 @@ const STORIES: &[Story<'static>] = &[
             (Call::ReadyTake(4), FULL, 105),
         ],
     ),
+    // A broken store begins none and takes nothing.
+    (
+        104,
+        false,
+        &[
+            (Call::Break, None, 104),
+            (Call::Begin, BROKEN, 104),
+            (Call::ReadyTake(4), BROKEN, 104),
+            (Call::HostTake(0), BROKEN, 104),
+            (Call::HandIn, BROKEN, 104),
+        ],
+    ),
+    // That one runs is said first.
+    (
+        104,
+        false,
+        &[
+            (Call::Begin, DONE, 104),
+            (Call::Break, None, 104),
+            (Call::Begin, Some(Err(SnapshotRunning)), 104),
+        ],
+    ),
+];
+
+/// No generation is left behind the last one: no snapshot begins, all else goes on. That the store is broken is said first.
+const LAST: &[Row] = &[
+    (Call::Begin, FULL, 104),
+    (Call::HostTake(0), DONE, 105),
+    (Call::Break, None, 105),
+    (Call::Begin, BROKEN, 105),
 ];
 
 /// An entry's bytes: the node sends its letter, and the host hands in bytes, and the node may take the first.
@@ -244,6 +280,10 @@ fn make(alloc: Global, book: &mut Book, call: Call) -> Option<Result<(), Refusal
         Call::Begin => Some(book.begin(alloc)),
         Call::Record => record(book),
         Call::Close(line) => close(book, line),
+        Call::Break => {
+            book.break_store();
+            None
+        }
     }
 }
 
@@ -272,9 +312,30 @@ fn is_so(alloc: Global, story: &Story<'_>) -> bool {
     }
 }
 
+/// Whether they do so on the book of a device whose open area has the last generation.
+fn is_last(alloc: Global) -> bool {
+    let Some(mut bytes) = device(alloc, 104, false) else {
+        return false;
+    };
+    place(
+        &mut bytes,
+        GENERATION,
+        &[0xFF, 0xFF, 0xFF, 0xFF, 0xFF, 0xFF, 0, 0],
+    );
+    match book_of(alloc, bytes, ROOM) {
+        Some(mut book) => are_rows(alloc, &mut book, LAST),
+        None => false,
+    }
+}
+
 #[test]
 fn takes_of_a_snapshot_use_what_is_kept(rt: HostRuntime) {
     for (i, story) in STORIES.iter().enumerate() {
         assert!(rt; is_so(rt.alloc(), story), "story {i}");
     }
+}
+
+#[test]
+fn the_last_generation_begins_no_snapshot(rt: HostRuntime) {
+    assert!(rt; is_last(rt.alloc()));
 }
