@@ -131,11 +131,15 @@ fn are_turned<J: Naming, R: Wait>(rt: &R, desk: &mut Desk<J>, count: u32) -> boo
     true
 }
 
-/// Whether a turn of the flusher switches the areas; none where it doesn't bring all to the device.
+/// Whether a turn of the flusher switches the areas; none where it doesn't bring all to the device. Tells whether the device failed.
 fn flushed<J: Naming, R: Wait>(rt: &R, alloc: Global, desk: &mut Desk<J>) -> Option<bool> {
     let next = desk.next(rt);
     match desk.flush(rt, alloc) {
         Ok((mark, switched)) if mark == next => Some(switched),
+        Err(FlushFault::DeviceFailed) => {
+            desk.told.failed = true;
+            None
+        }
         _ => None,
     }
 }
@@ -334,10 +338,10 @@ fn is_still<J: Naming, R: Wait>(rt: &R, desk: &mut Desk<J>) -> bool {
 
 /// Whether all that would be journalled is refused, once the device has failed, and nothing is journalled.
 fn refuses_all<J: Naming, R: Wait>(rt: &R, alloc: Global, desk: &mut Desk<J>) -> bool {
-    let at = accepted(rt, desk);
-    let begun = desk.begin(rt, alloc);
     let is_looked = desk.look(rt);
     let count = desk.told.journal.len();
+    let at = accepted(rt, desk);
+    let begun = desk.begin(rt, alloc);
     is_looked
         && desk.offer(rt, at, b"z") == Some(Err(OfferFault::StoreBroken))
         && matches!(begun, Err(Refusal::StoreBroken | Refusal::SnapshotRunning))
@@ -361,10 +365,12 @@ fn play_all<J: Naming, R: Wait>(
     if is_broken && !refuses_all(rt, alloc, desk) {
         return Done::Wrong;
     }
-    match (are_done, is_broken) {
-        (true, _) => Done::All,
-        (false, true) => Done::Failed,
-        (false, false) => Done::Wrong,
+    if are_done {
+        Done::All
+    } else if is_broken && desk.told.failed {
+        Done::Failed
+    } else {
+        Done::Wrong
     }
 }
 

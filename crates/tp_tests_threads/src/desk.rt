@@ -27,14 +27,15 @@ pub(crate) struct Did {
     pub(crate) ran: Option<(u16, Why)>,
 }
 
-/// What was read of the mark at most, all that was journalled since the device was formatted, and what the book said last of the entries
-/// in its cut and of its form.
+/// What was read of the mark at most, all that was journalled since the device was formatted, what the book said last of the entries in its
+/// cut and of its form, and whether the flusher said that the device failed where it was told that it doesn't.
 #[derive(Drop)]
 pub(crate) struct Told {
     pub(crate) mark: u64,
     pub(crate) journal: Vec<Entry>,
     pub(crate) base: u64,
     pub(crate) form: Form,
+    pub(crate) failed: bool,
 }
 
 /// How far it came: all was done, the device failed, or something was answered that must not be.
@@ -121,8 +122,7 @@ impl<J: Naming> Desk<J> {
 
     /// Reads the mark.
     fn read_mark(&mut self) -> u64 {
-        let Desk { net, pass, .. } = self;
-        net.shared().mark().load(pass)
+        self.net.shared().mark().load(&mut self.pass)
     }
 
     /// Adds what the book has journalled, and reads the mark.
@@ -186,8 +186,7 @@ impl<J: Naming> Desk<J> {
     }
 
     fn flush_once<R: Wait>(&mut self, rt: &R, alloc: Global) -> Result<(u64, bool), FlushFault> {
-        let Desk { net, flusher, .. } = self;
-        flushing::flush(rt, alloc, net.shared(), flusher)
+        flushing::flush(rt, alloc, self.net.shared(), &mut self.flusher)
     }
 
     /// A turn of the flusher: the mark, and whether it switched the areas. Where memory was refused in it, the mark didn't fall.
@@ -255,9 +254,8 @@ impl<J: Naming> Desk<J> {
         alloc: Global,
         from: u64,
     ) -> Option<Result<Vec<u8>, ShownFault>> {
-        let Desk { net, pass, .. } = self;
-        let session = Session::new(net.shared(), 0)?;
-        Some(session.shown(rt, alloc, from, pass, &mut Sights::new()))
+        let session = Session::new(self.net.shared(), 0)?;
+        Some(session.shown(rt, alloc, from, &mut self.pass, &mut Sights::new()))
     }
 
     /// Whether the port shows just the bytes wanted from a position on, or refuses with that fault.
@@ -296,16 +294,14 @@ impl<J: Naming> Desk<J> {
         rt: &R,
         upto: u64,
     ) -> Option<Result<Receipt<J>, ConfirmFault>> {
-        let Desk { net, pass, .. } = self;
-        let session = Session::new(net.shared(), 0)?;
-        Some(session.confirm(rt, upto, pass, &mut Sights::new()))
+        let session = Session::new(self.net.shared(), 0)?;
+        Some(session.confirm(rt, upto, &mut self.pass, &mut Sights::new()))
     }
 
     /// Whether the pass says that a receipt is stored.
     fn is_stored(&mut self, receipt: &Receipt<J>) -> Option<bool> {
-        let Desk { net, pass, .. } = self;
-        let session = Session::new(net.shared(), 0)?;
-        Some(session.is_stored(receipt, pass))
+        let session = Session::new(self.net.shared(), 0)?;
+        Some(session.is_stored(receipt, &mut self.pass))
     }
 
     /// Confirms the outputs of the port up to a position: the receipt's number, and whether the pass says that it is stored.

@@ -25,6 +25,7 @@ pub(crate) fn untold(alloc: Global) -> Told {
         journal: Vec::new(alloc),
         base: 0,
         form: Form::Turns,
+        failed: false,
     }
 }
 
@@ -36,6 +37,7 @@ pub(crate) fn known(alloc: Global, told: &Told, next: u64) -> Result<Told, Alloc
         journal: Vec::from_slice(alloc, kept)?,
         base: told.base,
         form: told.form,
+        failed: false,
     })
 }
 
