@@ -63,6 +63,8 @@ pub(crate) enum Act {
     Shows(u64, Result<&'static [u8], ShownFault>),
     /// Its outputs are confirmed up to a position, with a receipt of that number, which is stored or isn't.
     Confirms(u64, u64, bool),
+    /// They are confirmed, with a receipt that isn't stored until the flusher has made a turn.
+    Stores(u64),
     /// They aren't shown up to there.
     NotShown(u64),
     /// There is one port.
@@ -252,6 +254,7 @@ fn hosts<J: Naming, R: Wait>(
         Act::Confirms(upto, number, is_stored) => {
             matches!(desk.confirm(rt, upto), Some(Ok((found, told))) if found == number.wrapping_add(shift) && told == is_stored)
         }
+        Act::Stores(upto) => desk.stores(rt, alloc, upto),
         Act::NotShown(upto) => {
             matches!(desk.confirm(rt, upto), Some(Err(ConfirmFault::NotShown)))
         }

@@ -299,9 +299,21 @@ impl<J: Naming> Desk<J> {
     }
 
     /// Whether the pass says that a receipt is stored.
-    fn is_stored(&mut self, receipt: &Receipt<J>) -> Option<bool> {
-        let session = Session::new(self.net.shared(), 0)?;
-        Some(session.is_stored(receipt, &mut self.pass))
+    fn is_stored(&mut self, receipt: &Receipt<J>) -> bool {
+        match Session::new(self.net.shared(), 0) {
+            Some(session) => session.is_stored(receipt, &mut self.pass),
+            None => false,
+        }
+    }
+
+    /// Whether the pass says of a receipt of confirmed outputs that it is stored behind a turn of the flusher, and not before it.
+    pub(crate) fn stores<R: Wait>(&mut self, rt: &R, alloc: Global, upto: u64) -> bool {
+        let Some(Ok(receipt)) = self.receipt_of(rt, upto) else {
+            return false;
+        };
+        let is_early = self.is_stored(&receipt);
+        let is_flushed = self.flush(rt, alloc).is_ok();
+        !is_early && is_flushed && self.is_stored(&receipt)
     }
 
     /// Confirms the outputs of the port up to a position: the receipt's number, and whether the pass says that it is stored.
@@ -311,7 +323,7 @@ impl<J: Naming> Desk<J> {
         upto: u64,
     ) -> Option<Result<(u64, bool), ConfirmFault>> {
         match self.receipt_of(rt, upto)? {
-            Ok(receipt) => Some(Ok((receipt.number(), self.is_stored(&receipt)?))),
+            Ok(receipt) => Some(Ok((receipt.number(), self.is_stored(&receipt)))),
             Err(fault) => Some(Err(fault)),
         }
     }

@@ -2,7 +2,7 @@
 
 use crate::acts::Act::{
     Answers, Begin, Confirms, Fails, Flush, Next, NotShown, OnePort, Refused, Rounds, Runs, Shows,
-    Switch, Turn, Whole,
+    Stores, Switch, Turn, Whole,
 };
 use crate::acts::{Act, Story};
 use crate::small::ONE;
@@ -170,7 +170,7 @@ pub(crate) const HOSTS: Story<'static> = Story {
         Flush(false),
         Next(5),
         Confirms(1, 6, false),
-        Flush(false),
+        Stores(1),
         Confirms(1, 6, true),
         Next(6),
         Shows(0, Err(ShownFault::TooOld)),
