@@ -16,7 +16,7 @@ use tp_flush::{FlushFault, Flusher};
 use tp_model::{Entry, Form};
 use tp_node::Why;
 use tp_ready::Pass;
-use tp_shared::{Naming, NoGate, Receipt, Sights};
+use tp_shared::{Naming, NoGate, Receipt, Shared, Sights};
 use tp_work::{ConfirmFault, Net, OfferFault, Seat, Session, ShownFault, TurnFault};
 
 /// What a turn did: whose it was, how many tokens it took, and how many steps it ran and why no more, where it runs.
@@ -104,6 +104,20 @@ pub(crate) fn begin<J: Naming, R: Wait>(
     })
 }
 
+/// Adds to what was told what the book has journalled, and a mark that was read.
+fn look_at<J: Naming, R: Wait>(
+    rt: &R,
+    shared: &Shared<J>,
+    mark: u64,
+    told: &mut Told,
+) -> Result<(), AllocError> {
+    told.mark = told.mark.max(mark);
+    let held = shared.book().lock(rt);
+    told.base = held.book().base();
+    told.form = held.book().form();
+    add_new(&mut told.journal, held.book().entries())
+}
+
 impl<J: Naming> Desk<J> {
     /// The network.
     pub(crate) fn net(&self) -> &Net<J, NoGate> {
@@ -125,15 +139,15 @@ impl<J: Naming> Desk<J> {
         self.net.shared().mark().load(&mut self.pass)
     }
 
+    /// Looks at the book, where the mark was read.
+    fn look_at_book<R: Wait>(&mut self, rt: &R, mark: u64) -> Result<(), AllocError> {
+        look_at(rt, self.net.shared(), mark, &mut self.told)
+    }
+
     /// Adds what the book has journalled, and reads the mark.
     fn look_once<R: Wait>(&mut self, rt: &R) -> Result<(), AllocError> {
         let mark = self.read_mark();
-        let Desk { net, told, .. } = self;
-        told.mark = told.mark.max(mark);
-        let held = net.shared().book().lock(rt);
-        told.base = held.book().base();
-        told.form = held.book().form();
-        add_new(&mut told.journal, held.book().entries())
+        self.look_at_book(rt, mark)
     }
 
     /// Looks at the book and the mark. Answers whether it did.
