@@ -3,144 +3,160 @@
 use crate::flushing::flush;
 use crate::hold::Hold;
 use crate::plain::next_of;
-use crate::turns::turn_node;
+use crate::turns::{turn_host, turn_node, turn_nodes};
 use std::alloc::Global;
 use std::sync::Wait;
 use std::thread::{Threads, join};
 use tp_disk::Disk;
-use tp_flush::Flusher;
-use tp_shared::{Gate, Naming, NoGate, Shared};
+use tp_flush::{FLUSHER, Flusher};
+use tp_shared::gate::{BACKLOG_COPIED, PAGE_COPIED, RUN_DONE};
+use tp_shared::{Naming, NoGate, Shared};
 
-/// Whether the node `number` makes a turn, and a run with it.
-fn is_run<J: Naming, G: Gate, R: Wait>(rt: &R, shared: &Shared<J>, gate: &G, number: u8) -> bool {
-    turn_node(rt, shared, gate, number).unwrap_or(0) > 0
+/// Who is held, until the other one made its turn.
+#[derive(Clone, Copy)]
+pub(crate) enum Held {
+    /// A node behind its run, beside a turn of the flusher.
+    Node,
+    /// The flusher behind its copy, beside a run, which isn't stored by that turn, but by the next one: the mark is then at most the run's
+    /// number, and above it.
+    Copy,
+    /// The flusher behind the first page of a node that has recorded, beside a run of that node, which writes its second page. That turn of
+    /// the flusher stores only what was journalled before the run.
+    Page,
+    /// The node that sends a letter behind its run, beside a turn of the flusher that switches the areas.
+    Switch,
 }
 
-/// Whether the flusher's turn is done while the node `number` is held, at a gate that holds it behind its run.
-pub fn is_flushed_beside_a_run<J: Naming + Send + Sync, D: Disk + Drop, R: Threads + Wait + Sync>(
+impl Held {
+    /// The gate that holds it, and the node.
+    pub(crate) fn gate(self) -> (Hold, u8) {
+        match self {
+            Held::Node => (Hold::new(1, RUN_DONE), 1),
+            Held::Copy => (Hold::new(FLUSHER, BACKLOG_COPIED), 1),
+            Held::Page => (Hold::new(FLUSHER, PAGE_COPIED), 1),
+            Held::Switch => (Hold::new(0, RUN_DONE), 0),
+        }
+    }
+}
+
+/// Whether the node `number` makes a run, a snapshot begins, and it records in its next run.
+fn is_recorded<J: Naming, D: Disk, R: Wait>(
     rt: &R,
     alloc: Global,
     shared: &Shared<J>,
-    flusher: Flusher<J, D>,
+    flusher: &Flusher<J, D>,
     number: u8,
-    gate: &Hold,
-) -> (Flusher<J, D>, bool) {
-    let (is_made, (flusher, is_flushed)) = join(
-        rt,
-        move || is_run(rt, shared, gate, number),
-        move || flush_beside(rt, alloc, shared, flusher, gate),
-    );
-    (flusher, is_made && is_flushed && gate.was_let_go())
+) -> bool {
+    let is_run = turn_node(rt, shared, &NoGate, number).unwrap_or(0) > 0;
+    let is_begun = flusher.snapshot(rt, alloc, shared).answer().is_ok();
+    is_run && is_begun && turn_node(rt, shared, &NoGate, number).unwrap_or(0) > 0
 }
 
-// A turn of the flusher once a node is held, which is let go then. Answers whether it was there, and the turn was done.
+/// The node `number` sends its letter, and a snapshot begins, in which all nodes record. The flusher copies their images, and doesn't
+/// switch, since the letter is on its line, and a Marker behind it. Then the host takes both, and nothing is wanting any more.
+fn comes_whole<J: Naming, D: Disk, R: Wait>(
+    rt: &R,
+    alloc: Global,
+    shared: &Shared<J>,
+    flusher: &mut Flusher<J, D>,
+    number: u8,
+) -> bool {
+    let is_sent = turn_node(rt, shared, &NoGate, number).is_some();
+    let is_begun = flusher.snapshot(rt, alloc, shared).answer().is_ok();
+    let are_recorded = turn_nodes(rt, shared);
+    let is_copied = matches!(flush(rt, alloc, shared, flusher), Ok((_, false)));
+    let is_taken = turn_host(rt, shared);
+    is_sent && is_begun && are_recorded && is_copied && is_taken
+}
+
+/// What comes first, and whether it does.
+fn is_ready<J: Naming, D: Disk, R: Wait>(
+    rt: &R,
+    alloc: Global,
+    held: Held,
+    shared: &Shared<J>,
+    flusher: &mut Flusher<J, D>,
+    number: u8,
+) -> bool {
+    match held {
+        Held::Node | Held::Copy => true,
+        Held::Page => is_recorded(rt, alloc, shared, flusher, number),
+        Held::Switch => comes_whole(rt, alloc, shared, flusher, number),
+    }
+}
+
+/// A turn of the node `number`: how many steps it made, and the number of the next entry then; none where the other one didn't come.
+fn turn_beside<J: Naming, R: Wait>(
+    rt: &R,
+    shared: &Shared<J>,
+    gate: &Hold,
+    number: u8,
+) -> Option<(u16, u64)> {
+    let came = gate.wait_as(number);
+    let steps = turn_node(rt, shared, gate, number);
+    let next = next_of(rt, shared);
+    gate.open_as(number);
+    match steps {
+        Some(steps) if came => Some((steps, next)),
+        _ => None,
+    }
+}
+
+/// A turn of the flusher: the mark, and whether it switched the areas; none where the other one didn't come.
 fn flush_beside<J: Naming, D: Disk, R: Wait>(
     rt: &R,
     alloc: Global,
     shared: &Shared<J>,
-    flusher: Flusher<J, D>,
+    flusher: &mut Flusher<J, D>,
     gate: &Hold,
-) -> (Flusher<J, D>, bool) {
-    let mut flusher = flusher;
-    let came = gate.wait();
-    let is_done = flush(rt, alloc, shared, &mut flusher).is_ok();
-    gate.open();
-    (flusher, came && is_done)
+) -> Option<(u64, bool)> {
+    let came = gate.wait_as(FLUSHER);
+    let done = flusher.turn_with(rt, alloc, shared, gate);
+    gate.open_as(FLUSHER);
+    match done {
+        Ok(flushed) if came => Some((flushed.mark, flushed.switched)),
+        _ => None,
+    }
 }
 
-// A turn of the flusher that the gate holds. Answers the mark.
-fn flush_held<J: Naming, D: Disk, R: Wait>(
+/// Whether both turns are as they should be.
+fn are_so(held: Held, turned: Option<(u16, u64)>, flushed: Option<(u64, bool)>) -> bool {
+    match (turned, flushed) {
+        (Some((steps, next)), Some((mark, switched))) => match held {
+            Held::Node => steps > 0,
+            Held::Copy | Held::Page => steps > 0 && mark < next,
+            Held::Switch => switched,
+        },
+        _ => false,
+    }
+}
+
+/// Whether a turn of the node `number` and one of the flusher go as they should beside each other, while a gate holds one of them.
+pub(crate) fn go_on<J: Naming + Send + Sync, D: Disk + Drop, R: Threads + Wait + Sync>(
+    rt: &R,
+    alloc: Global,
+    held: Held,
+    shared: &Shared<J>,
+    flusher: &mut Flusher<J, D>,
+    number: u8,
+    gate: &Hold,
+) -> bool {
+    let is_ready = is_ready(rt, alloc, held, shared, flusher, number);
+    let (turned, flushed) = join(
+        rt,
+        move || turn_beside(rt, shared, gate, number),
+        move || flush_beside(rt, alloc, shared, flusher, gate),
+    );
+    is_ready && are_so(held, turned, flushed) && gate.was_let_go()
+}
+
+/// Whether the next turn of the flusher stores all.
+pub(crate) fn stores_all<J: Naming, D: Disk, R: Wait>(
     rt: &R,
     alloc: Global,
     shared: &Shared<J>,
-    flusher: Flusher<J, D>,
-    gate: &Hold,
-) -> (Flusher<J, D>, Option<u64>) {
-    let mut flusher = flusher;
-    let mark = match flusher.turn_with(rt, alloc, shared, gate) {
-        Ok(flushed) => Some(flushed.mark),
-        Err(_) => None,
-    };
-    (flusher, mark)
-}
-
-// A run of the node `number` once the flusher is held, which is let go then. Answers the run's number.
-fn run_beside<J: Naming, R: Wait>(
-    rt: &R,
-    shared: &Shared<J>,
-    gate: &Hold,
-    number: u8,
-) -> Option<u64> {
-    let came = gate.wait();
-    let is_made = is_run(rt, shared, &NoGate, number);
+    flusher: &mut Flusher<J, D>,
+) -> bool {
     let next = next_of(rt, shared);
-    gate.open();
-    if came && is_made {
-        next.checked_sub(1)
-    } else {
-        None
-    }
-}
-
-// Whether the mark of one turn of the flusher is at most a run's number, and that of the next one above it.
-fn is_between(first: Option<u64>, run: Option<u64>, second: Option<(u64, bool)>) -> bool {
-    match (first, run, second) {
-        (Some(first), Some(run), Some((second, _))) => first <= run && run < second,
-        _ => false,
-    }
-}
-
-/// Whether a run of the node `number`, which is journalled while the flusher is held, at a gate that holds it behind its copy, isn't stored
-/// by that turn, but by the next one: the mark is then at most the run's number, and above it.
-pub fn is_stored_by_the_next_turn<
-    J: Naming + Send + Sync,
-    D: Disk + Drop,
-    R: Threads + Wait + Sync,
->(
-    rt: &R,
-    alloc: Global,
-    shared: &Shared<J>,
-    flusher: Flusher<J, D>,
-    number: u8,
-    gate: &Hold,
-) -> (Flusher<J, D>, bool) {
-    let (run, (mut flusher, first)) = join(
-        rt,
-        move || run_beside(rt, shared, gate, number),
-        move || flush_held(rt, alloc, shared, flusher, gate),
-    );
-    let second = flush(rt, alloc, shared, &mut flusher).ok();
-    (flusher, is_between(first, run, second) && gate.was_let_go())
-}
-
-// Whether the mark of a turn of the flusher is at most a run's number.
-fn is_below(mark: Option<u64>, run: Option<u64>) -> bool {
-    match (mark, run) {
-        (Some(mark), Some(run)) => mark <= run,
-        _ => false,
-    }
-}
-
-/// Whether the node `number` makes a run, records, and then makes another while the flusher is held, at a gate that holds it behind the
-/// first page of the node's image; that turn of the flusher is done, and stores only what was journalled before the run.
-pub fn is_run_beside_a_copy<J: Naming + Send + Sync, D: Disk + Drop, R: Threads + Wait + Sync>(
-    rt: &R,
-    alloc: Global,
-    shared: &Shared<J>,
-    flusher: Flusher<J, D>,
-    number: u8,
-    gate: &Hold,
-) -> (Flusher<J, D>, bool) {
-    let is_begun = is_run(rt, shared, &NoGate, number)
-        && flusher.snapshot(rt, alloc, shared).answer().is_ok();
-    let is_recorded = is_run(rt, shared, &NoGate, number);
-    let (run, (flusher, mark)) = join(
-        rt,
-        move || run_beside(rt, shared, gate, number),
-        move || flush_held(rt, alloc, shared, flusher, gate),
-    );
-    (
-        flusher,
-        is_begun && is_recorded && is_below(mark, run) && gate.was_let_go(),
-    )
+    matches!(flush(rt, alloc, shared, flusher), Ok((mark, _)) if mark >= next)
 }

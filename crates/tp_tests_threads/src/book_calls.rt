@@ -6,35 +6,14 @@ ghost use Rattle.tp_book.specs.Parts.{network_made};
 ghost use Rattle.tp_tests_threads.specs.Usable.{IsLone, IsUsable};
 
 use crate::books::{hand_in, lone_net, make_ready, reserve, start};
-use crate::devices::{grown, image};
+use crate::devices::grown;
 use std::alloc::{AllocError, Global};
 use std::test::Fail;
 use tp_book::{Book, NetParts, NetState, Refusal};
 use tp_disk::MemDisk;
 use tp_model::Token;
 use tp_recover::open;
-
-/// The network of an image, though memory may be refused once.
-fn net_of(alloc: Global, image: &[u8]) -> Result<NetParts, Fail>
-    ensures { IfOk result (λ net. IsLone (network_made net)) }
-{
-    match lone_net(alloc, image) {
-        Some(net) => Ok(net),
-        None => match lone_net(alloc, image) {
-            Some(net) => Ok(net),
-            None => Err(Fail::new("no network")),
-        },
-    }
-}
-
-/// The network.
-fn net(alloc: Global) -> Result<NetParts, Fail>
-    ensures { IfOk result (λ net. IsLone (network_made net)) }
-{
-    let image = image(alloc)?;
-    let net = net_of(alloc, &image);
-    net
-}
+use tp_tests_fixtures::idle;
 
 /// The book of the network, though memory may be refused once.
 fn started(alloc: Global, net: &NetParts) -> Result<Book, AllocError>
@@ -47,12 +26,18 @@ fn started(alloc: Global, net: &NetParts) -> Result<Book, AllocError>
     }
 }
 
-/// The book.
-fn book(alloc: Global) -> Result<Book, Fail>
-    ensures { IfOk result (λ book. IsUsable book) }
+/// The book of a network of one node; none where memory is refused.
+fn book(alloc: Global) -> Option<Book>
+    ensures { IfSome result (λ book. IsUsable book) }
 {
-    let net = net(alloc)?;
-    Ok(started(alloc, &net)?)
+    let image = idle(alloc).ok()?;
+    let Some(net) = lone_net(alloc, &image) else {
+        return None;
+    };
+    let Ok(book) = started(alloc, &net) else {
+        return None;
+    };
+    Some(book)
 }
 
 /// Whether a book of one node has `count` entries, each a byte that its port accepted.
@@ -101,38 +86,41 @@ fn makes_ready(book: &mut Book) -> bool
     token == Ok(Token::Data(b'a')) && has(book, 8)
 }
 
-#[test]
-fn a_book_is_begun_again(rt: HostRuntime) -> Result<(), Fail> {
-    let book = book(rt.alloc())?;
-    assert!(rt; has(&book, 0));
-    Ok(())
+/// Calls of a book.
+#[derive(Clone, Copy)]
+enum Call {
+    Start,
+    HostIn,
+    ReserveRun,
+    ReadyTake,
+}
+
+/// Whether a call is made as it should, on a book of its own.
+fn is_made(alloc: Global, call: Call) -> Option<bool> {
+    let mut book = book(alloc)?;
+    Some(match call {
+        Call::Start => has(&book, 0),
+        Call::HostIn => {
+            accepts(&mut book, b"x", 0, 1) && accepts(&mut book, b"0123456789", 1, 11)
+        }
+        Call::ReserveRun => reserves(&mut book),
+        Call::ReadyTake => makes_ready(&mut book),
+    })
 }
 
 #[test]
-fn bytes_are_handed_in_again(rt: HostRuntime) -> Result<(), Fail> {
-    let mut book = book(rt.alloc())?;
-    let told = accepts(&mut book, b"x", 0, 1) && accepts(&mut book, b"0123456789", 1, 11);
-    assert!(rt; told);
+fn a_call_of_a_book_is_made_again(rt: HostRuntime) -> Result<(), Fail> {
+    for call in [Call::Start, Call::HostIn, Call::ReserveRun, Call::ReadyTake] {
+        let told = match is_made(rt.alloc(), call) {
+            Some(told) => told,
+            None => is_made(rt.alloc(), call).unwrap_or(false),
+        };
+        assert!(rt; told);
+    }
     Ok(())
 }
 
-#[test]
-fn a_run_is_reserved_again(rt: HostRuntime) -> Result<(), Fail> {
-    let mut book = book(rt.alloc())?;
-    let told = reserves(&mut book);
-    assert!(rt; told);
-    Ok(())
-}
-
-#[test]
-fn a_token_is_made_ready_again(rt: HostRuntime) -> Result<(), Fail> {
-    let mut book = book(rt.alloc())?;
-    let told = makes_ready(&mut book);
-    assert!(rt; told);
-    Ok(())
-}
-
-/// What a device leaves, where memory isn't refused.
+/// What a device leaves; none where memory is refused.
 fn state(alloc: Global, disk: &mut MemDisk) -> Option<NetState>
     ensures { IfSome result IsWellOpen }
 {
@@ -145,16 +133,6 @@ fn state(alloc: Global, disk: &mut MemDisk) -> Option<NetState>
     Some(state)
 }
 
-/// What a device leaves, though memory may be refused once.
-fn state_again(alloc: Global, disk: &mut MemDisk) -> Option<NetState>
-    ensures { IfSome result IsWellOpen }
-{
-    match state(alloc, disk) {
-        Some(state) => Some(state),
-        None => state(alloc, disk),
-    }
-}
-
 /// The book of what it leaves, though memory may be refused once.
 fn book_of(alloc: Global, state: &NetState) -> Result<Book, AllocError>
     requires { IsWellOpen state.now }
@@ -165,18 +143,24 @@ fn book_of(alloc: Global, state: &NetState) -> Result<Book, AllocError>
     }
 }
 
-/// The book of a device with two entries.
-fn opened_book(alloc: Global) -> Result<Book, Fail> {
-    let mut disk = MemDisk::of_bytes(grown(alloc)?);
-    let Some(state) = state_again(alloc, &mut disk) else {
-        return Err(Fail::new("not opened"));
+/// Whether the book of a device with two entries has these.
+fn is_opened(alloc: Global) -> Option<bool> {
+    let mut disk = MemDisk::of_bytes(grown(alloc).ok()?);
+    let Some(state) = state(alloc, &mut disk) else {
+        return None;
     };
-    Ok(book_of(alloc, &state)?)
+    match book_of(alloc, &state) {
+        Ok(book) => Some(has(&book, 2)),
+        Err(_) => None,
+    }
 }
 
 #[test]
 fn a_book_of_a_device_is_opened_again(rt: HostRuntime) -> Result<(), Fail> {
-    let book = opened_book(rt.alloc())?;
-    assert!(rt; has(&book, 2));
+    let told = match is_opened(rt.alloc()) {
+        Some(told) => told,
+        None => is_opened(rt.alloc()).unwrap_or(false),
+    };
+    assert!(rt; told);
     Ok(())
 }

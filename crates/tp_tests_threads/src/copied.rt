@@ -1,14 +1,13 @@
 //! Devices of one node, and of its first turns, which are copied.
 
 use crate::left;
+use crate::small::{ONE, formatted};
 use std::alloc::Global;
 use std::test::Fail;
-use tp_area::format;
 use tp_disk::MemDisk;
 use tp_model::limits::WIDE_HEAD_BYTES;
-use tp_net::Topology;
 use tp_recover::{Opened, open};
-use tp_tests_fixtures::{AREA, GROUPS, ONE_NODE, SECOND, SIZE, letter, place};
+use tp_tests_fixtures::{GROUPS, SECOND, place};
 
 /// Where the first area begins, and where the second area's groups do.
 pub(crate) const FIRST: usize = 512;
@@ -34,28 +33,9 @@ pub(crate) const FURTHER: &[u8] = &[
 /// Where the further group's gate stands.
 pub(crate) const BEHIND: usize = GROUPS + 80;
 
-/// The device of the node that sends a letter, of a topology and images; none where memory is refused.
-fn formatted_with(alloc: Global, topology: &Topology, images: &[Vec<u8>]) -> Option<MemDisk> {
-    let mut disk = MemDisk::zeroed(alloc, SIZE).ok()?;
-    // A topology keeps its rules: its page counts say so, which `format` asks.
-    let _rules = topology.pages();
-    format(alloc, &mut disk, topology, images, AREA).ok()?;
-    Some(disk)
-}
-
-/// The device of the node that sends a letter, freshly formatted; none where memory is refused.
-pub(crate) fn formatted(alloc: Global) -> Option<MemDisk> {
-    let images = Vec::from_array(alloc, [letter(alloc).ok()?]).ok()?;
-    let topology = Topology::read(alloc, ONE_NODE).ok()?;
-    formatted_with(alloc, &topology, &images)
-}
-
-/// The bytes of that device.
+/// The bytes of the device of the node that sends a letter, freshly formatted.
 pub(crate) fn fresh(alloc: Global) -> Result<Vec<u8>, Fail> {
-    match formatted(alloc) {
-        Some(disk) => Ok(disk.crash()),
-        None => Err(Fail::new("not formatted")),
-    }
+    Ok(formatted(alloc, &ONE)?)
 }
 
 /// A device that has the first turns in its first area. What stood in the other one and behind the groups is left from before.

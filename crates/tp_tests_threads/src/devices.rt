@@ -1,6 +1,5 @@
-//! A device in memory, and formatting it. What makes it ready is done again where memory was refused.
+//! A device in memory, and formatting it.
 
-use crate::topologies::read;
 use std::alloc::{AllocError, Global};
 use std::test::Fail;
 use tp_area::{FormatFault, format};
@@ -30,25 +29,9 @@ const BYTES: [(usize, &[u8]); 9] = [
     ),
 ];
 
-/// The image of a node of four pages in which no process runs.
-pub(crate) fn image(alloc: Global) -> Result<Vec<u8>, AllocError> {
-    match idle(alloc) {
-        Ok(image) => Ok(image),
-        Err(_) => idle(alloc),
-    }
-}
-
-/// A device of zeros.
-fn zeroed(alloc: Global) -> Result<Vec<u8>, AllocError> {
-    match Vec::from_elem(alloc, 0u8, SIZE) {
-        Ok(bytes) => Ok(bytes),
-        Err(_) => Vec::from_elem(alloc, 0u8, SIZE),
-    }
-}
-
-/// The bytes of the device with the group, though memory may be refused once.
+/// The bytes of the device with the group.
 pub(crate) fn grown(alloc: Global) -> Result<Vec<u8>, AllocError> {
-    let mut bytes = zeroed(alloc)?;
+    let mut bytes = Vec::from_elem(alloc, 0u8, SIZE)?;
     for (at, piece) in BYTES {
         place(&mut bytes, at, piece);
     }
@@ -63,28 +46,13 @@ struct Given {
     disk: MemDisk,
 }
 
-/// The node's image as the only one, where memory isn't refused.
-fn images_once(alloc: Global) -> Result<Vec<Vec<u8>>, AllocError> {
-    let mut images = Vec::new(alloc);
-    images.push(image(alloc)?)?;
-    Ok(images)
-}
-
-/// The images of the network.
-fn images(alloc: Global) -> Result<Vec<Vec<u8>>, AllocError> {
-    match images_once(alloc) {
-        Ok(images) => Ok(images),
-        Err(_) => images_once(alloc),
-    }
-}
-
 impl Given {
-    /// A device of zeros, though memory may be refused once.
-    fn new(alloc: Global) -> Result<Given, Fail> {
-        let images = images(alloc)?;
-        let disk = MemDisk::of_bytes(zeroed(alloc)?);
-        let topology = read(alloc, ONE_NODE)?;
-        Ok(Given {
+    /// A device of zeros; none where memory is refused.
+    fn new(alloc: Global) -> Option<Given> {
+        let images = Vec::from_array(alloc, [idle(alloc).ok()?]).ok()?;
+        let disk = MemDisk::zeroed(alloc, SIZE).ok()?;
+        let topology = Topology::read(alloc, ONE_NODE).ok()?;
+        Some(Given {
             topology,
             images,
             disk,
@@ -97,9 +65,23 @@ impl Given {
         format(alloc, &mut self.disk, &self.topology, &self.images, AREA)
     }
 
-    /// Whether the device has `bytes`, and no call of it failed.
-    fn has(&self, bytes: &[u8]) -> bool {
-        self.disk.failures() == 0 && self.disk.bytes() == bytes
+    /// Whether nothing was written, and no call of the device failed.
+    fn is_blank(&self) -> bool {
+        for byte in self.disk.bytes() {
+            if *byte != 0 {
+                return false;
+            }
+        }
+        self.disk.failures() == 0
+    }
+
+    /// Formats. Where memory is refused, nothing is written, and it is done again.
+    fn format_again(&mut self, alloc: Global) -> Result<(), FormatFault> {
+        let first = self.format(alloc);
+        if first == Err(FormatFault::Memory) && self.is_blank() {
+            return self.format(alloc);
+        }
+        first
     }
 }
 
@@ -116,34 +98,30 @@ fn formatted(alloc: Global) -> Result<Vec<u8>, AllocError> {
     Ok(bytes)
 }
 
-/// Whether a format is done, or writes nothing where memory is refused, and is done then.
-fn formats(alloc: Global, given: &mut Given, zeros: &[u8], wanted: &[u8]) -> bool {
-    let mut answer = given.format(alloc);
-    if answer == Err(FormatFault::Memory) && given.has(zeros) {
-        answer = given.format(alloc);
-    }
-    answer.is_ok() && given.has(wanted)
+/// Whether a format is done, and writes what it should.
+fn formats(alloc: Global) -> Option<bool> {
+    let wanted = formatted(alloc).ok()?;
+    let mut given = Given::new(alloc)?;
+    let is_done = given.format_again(alloc).is_ok();
+    Some(is_done && given.disk.failures() == 0 && given.disk.bytes() == wanted.as_slice())
 }
 
-/// Whether a format is refused, and nothing is written, also where memory was refused first.
-fn is_bad(alloc: Global, given: &mut Given, zeros: &[u8]) -> bool {
+/// Whether a format of a bad image is refused as such, and nothing is written.
+fn is_bad(alloc: Global) -> Option<bool> {
+    let mut given = Given::new(alloc)?;
     for image in given.images.iter_mut() {
         place(image, 109, &[1]);
     }
-    let mut answer = given.format(alloc);
-    if answer == Err(FormatFault::Memory) {
-        answer = given.format(alloc);
-    }
-    answer == Err(FormatFault::BadImage) && given.has(zeros)
+    Some(given.format_again(alloc) == Err(FormatFault::BadImage) && given.is_blank())
 }
 
-/// Nothing is written where memory is refused, and the next format is as the first would have been.
+/// Nothing is written where memory is refused, and the next format is as the first would have been. What makes it ready is made again, too.
 #[test]
 fn a_device_is_formatted_again(rt: HostRuntime) -> Result<(), Fail> {
-    let alloc = rt.alloc();
-    let (zeros, wanted) = (zeroed(alloc)?, formatted(alloc)?);
-    let mut given = Given::new(alloc)?;
-    let told = formats(alloc, &mut given, &zeros, &wanted);
+    let told = match formats(rt.alloc()) {
+        Some(told) => told,
+        None => formats(rt.alloc()).unwrap_or(false),
+    };
     assert!(rt; told);
     Ok(())
 }
@@ -151,10 +129,10 @@ fn a_device_is_formatted_again(rt: HostRuntime) -> Result<(), Fail> {
 /// Bad images are refused as such, also where memory was refused first.
 #[test]
 fn a_bad_image_stays_bad(rt: HostRuntime) -> Result<(), Fail> {
-    let alloc = rt.alloc();
-    let zeros = zeroed(alloc)?;
-    let mut given = Given::new(alloc)?;
-    let told = is_bad(alloc, &mut given, &zeros);
+    let told = match is_bad(rt.alloc()) {
+        Some(told) => told,
+        None => is_bad(rt.alloc()).unwrap_or(false),
+    };
     assert!(rt; told);
     Ok(())
 }

@@ -44,9 +44,16 @@ impl Hold {
         comes(&self.is_there)
     }
 
-    /// Lets the process go.
-    pub fn open(&self) {
-        self.is_open.store(true, Ordering::SeqCst);
+    /// Waits until the process is there, where it is another one than `process`. Answers whether it came.
+    pub fn wait_as(&self, process: u8) -> bool {
+        process == self.process || self.wait()
+    }
+
+    /// Lets the process go, where it is another one than `process`.
+    pub fn open_as(&self, process: u8) {
+        if process != self.process {
+            self.is_open.store(true, Ordering::SeqCst);
+        }
     }
 
     /// Whether the process was held until it was let go.

@@ -6,15 +6,11 @@
 #[cfg(test)]
 mod acts;
 #[cfg(test)]
-mod again;
-#[cfg(test)]
 mod beside;
 #[cfg(test)]
 mod book_calls;
 #[cfg(test)]
 mod books;
-#[cfg(test)]
-mod changing;
 #[cfg(test)]
 mod checkpoints;
 #[cfg(test)]
@@ -23,8 +19,6 @@ mod copied;
 mod copying;
 #[cfg(test)]
 mod desk;
-#[cfg(test)]
-mod device;
 #[cfg(test)]
 mod devices;
 #[cfg(test)]
@@ -43,8 +37,6 @@ mod limits;
 mod machines;
 #[cfg(test)]
 mod many;
-#[cfg(test)]
-mod marked;
 #[cfg(test)]
 mod meanwhile;
 #[cfg(test)]
@@ -65,8 +57,6 @@ mod playing;
 mod remains;
 #[cfg(test)]
 mod scenes;
-#[cfg(test)]
-mod script;
 #[cfg(test)]
 mod small;
 #[cfg(test)]

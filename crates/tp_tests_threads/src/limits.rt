@@ -5,8 +5,8 @@ ghost use Rattle.tp_model.specs.declared.limits.TheConstants.{MAX_STEPS};
 ghost use Rattle.tp_shared.specs.Named.{Names};
 ghost use Rattle.tp_work.specs.declared.start.TheConstants.{MAX_SEATS};
 
-use crate::device::{NODES, formatted};
 use crate::opening::opening_of;
+use crate::small::{NODES, SIXTEEN, formatted};
 use std::alloc::Global;
 use std::marker::Brand;
 use std::sync::Wait;
@@ -126,7 +126,10 @@ fn begins<R: Wait>(rt: &R, alloc: Global, quantum: u16, seats: u8) -> Result<boo
     requires quantum { (0 < quantum) × (quantum ≤ MAX_STEPS) }
     requires seats { (0 < seats) × (seats ≤ MAX_SEATS) }
 {
-    let (parts, _raiser) = opening_of(alloc, formatted(alloc)?)?.into_parts();
+    let (parts, _raiser) = opening_of(
+        alloc,
+        MemDisk::of_bytes(formatted(alloc, &SIXTEEN)?),
+    )?.into_parts();
     Ok(starts_in(rt, alloc, parts, quantum, seats))
 }
 

@@ -1,13 +1,12 @@
 //! Instructions that are spelt, frames, memories and nodes.
 
-use crate::devices::image;
-use std::alloc::Global;
+use std::alloc::{AllocError, Global};
 use std::test::Fail;
 use tp_cpu::{Fun, encode};
 use tp_frames::FramePool;
 use tp_mem::{CowMemory, FlatMemory, Freeze, Mem};
 use tp_node::{ImageFault, Node};
-use tp_tests_fixtures::place;
+use tp_tests_fixtures::{idle, place};
 
 /// Where memory begins, and its second page.
 const FIRST: u32 = 0x8000_0000;
@@ -106,13 +105,23 @@ fn node(alloc: Global, image: &[u8]) -> Result<Node, ImageFault> {
     }
 }
 
+/// Whether the image of a node is read, and refused once a byte of it is bad.
+fn is_read(alloc: Global) -> Result<bool, AllocError> {
+    let mut image = idle(alloc)?;
+    let is_made = match node(alloc, &image) {
+        Ok(node) => node.pages() == 4 && node.halt().is_none() && !node.is_frozen(),
+        Err(_) => false,
+    };
+    place(&mut image, 0, &[9]);
+    Ok(is_made && matches!(node(alloc, &image), Err(ImageFault::BadImage)))
+}
+
 #[test]
 fn an_image_is_read_again(rt: HostRuntime) -> Result<(), Fail> {
-    let alloc = rt.alloc();
-    let mut image = image(alloc)?;
-    let node = node(alloc, &image)?;
-    assert!(rt; node.pages() == 4 && node.halt().is_none() && !node.is_frozen());
-    place(&mut image, 0, &[9]);
-    assert!(rt; matches!(self::node(alloc, &image), Err(ImageFault::BadImage)));
+    let told = match is_read(rt.alloc()) {
+        Ok(told) => told,
+        Err(_) => is_read(rt.alloc())?,
+    };
+    assert!(rt; told);
     Ok(())
 }

@@ -1,43 +1,45 @@
 //! Many entries at once: in one turn of the flusher, around the most that 16 bits count, and behind a cut.
 
 use crate::acts::Act::{Begin, Book, Flush, Turns};
-use crate::left::opened;
-use crate::small::{Network, Program};
-use crate::worked::left_by;
-use crate::worked_stories::{COUNTS, Story};
+use crate::acts::Story;
+use crate::copied::opened;
+use crate::desk::Done;
+use crate::small::{Network, ONE, Program};
+use crate::stories::NOTHING_WRITTEN;
+use crate::worked::played;
+use crate::worked_stories::COUNTS;
 use std::alloc::Global;
 use std::sync::Wait;
 use std::test::Fail;
-use tp_disk::MemDisk;
-use tp_tests_fixtures::ONE_NODE;
 
 /// A node that never stops, so that each of its turns is an entry, and every other turn is its own. The journal has room for them all.
-const BELOW: Story = Story {
+const BELOW: Story<'static> = Story {
     network: Network {
-        text: ONE_NODE,
         programs: &[Program {
             code: COUNTS,
             workspace: 0x200,
         }],
         area: 4_194_304,
+        ..ONE
     },
     spare: 4,
     quantum: 4,
     acts: &[Turns(131_070), Book(65_535, false), Flush(false)],
+    ..NOTHING_WRITTEN
 };
 
-const AT: Story = Story {
+const AT: Story<'static> = Story {
     acts: &[Turns(131_072), Book(65_536, false), Flush(false)],
     ..BELOW
 };
 
-const ABOVE: Story = Story {
+const ABOVE: Story<'static> = Story {
     acts: &[Turns(131_074), Book(65_537, false), Flush(false)],
     ..BELOW
 };
 
 /// The node records in the first turn behind `Begin`, so all entries of the 200,000 turns are outside the cut.
-const TAIL: Story = Story {
+const TAIL: Story<'static> = Story {
     acts: &[
         Turns(2),
         Flush(false),
@@ -53,16 +55,15 @@ const TAIL: Story = Story {
 fn keeps<R: Wait>(
     rt: &R,
     alloc: Global,
-    story: &Story,
+    story: &Story<'_>,
     base: u64,
     next: u64,
 ) -> Result<bool, Fail> {
-    let Some(bytes) = left_by(rt, alloc, story, None, false)? else {
-        return Ok(false);
-    };
-    let opened = opened(alloc, MemDisk::of_bytes(bytes))?;
+    let left = played(rt, alloc, story, None)?;
+    let opened = opened(alloc, &left.bytes)?;
     let kept = opened.kept().len() as u64;
-    Ok(opened.base() == base && opened.next() == next && kept == next - base)
+    let is_done = left.done == Done::All;
+    Ok(is_done && opened.base() == base && opened.next() == next && kept == next - base)
 }
 
 #[test]

@@ -18,11 +18,10 @@ pub fn flush_meanwhile<J: Naming, D: Disk, G: Gate, R: Wait>(
     rt: &R,
     alloc: Global,
     shared: &Shared<J>,
-    flusher: Flusher<J, D>,
+    flusher: &mut Flusher<J, D>,
     gate: &G,
     ended: &AtomicBool,
-) -> (Flusher<J, D>, bool) {
-    let mut flusher = flusher;
+) -> bool {
     let mut is_done = true;
     for _ in 0..LOOKS {
         if ended.load(Ordering::SeqCst) {
@@ -33,7 +32,7 @@ pub fn flush_meanwhile<J: Naming, D: Disk, G: Gate, R: Wait>(
         }
         yield_now();
     }
-    (flusher, is_done)
+    is_done
 }
 
 /// Whether a receipt's entries come to be stored.
@@ -125,19 +124,19 @@ pub fn stays_stored<J: Naming + Send + Sync, D: Disk + Drop, R: Threads + Wait +
     rt: &R,
     alloc: Global,
     shared: &Shared<J>,
-    flusher: Flusher<J, D>,
+    flusher: &mut Flusher<J, D>,
     count: u64,
     mut pass: Pass,
-) -> (Flusher<J, D>, bool)
+) -> bool
     requires { pass.mark ≡ J.mark }
 {
     let Some(session) = Session::new(shared, 0) else {
-        return (flusher, false);
+        return false;
     };
     let is_early = is_early(rt, &session, &mut pass);
     let ended = AtomicBool::new(false);
     let (lent, told) = (&session, &ended);
-    let (stored, (flusher, is_done)) = join(
+    let (stored, is_done) = join(
         rt,
         move || -> Result<bool, AllocError>
             requires { pass.mark ≡ J.mark }
@@ -148,5 +147,5 @@ pub fn stays_stored<J: Naming + Send + Sync, D: Disk + Drop, R: Threads + Wait +
         },
         move || flush_meanwhile(rt, alloc, shared, flusher, &NoGate, told),
     );
-    (flusher, is_early && is_done && matches!(stored, Ok(true)))
+    is_early && is_done && matches!(stored, Ok(true))
 }

@@ -1,7 +1,7 @@
 //! Opening a device.
 
 use crate::devices::grown;
-use std::alloc::Global;
+use std::alloc::{AllocError, Global};
 use std::test::Fail;
 use tp_book::Numbered;
 use tp_disk::{Disk, MemDisk};
@@ -43,58 +43,35 @@ fn is_grown(opened: &Opened) -> bool {
         && is_pending
 }
 
-/// Whether the device opens so.
-fn opens(alloc: Global, disk: &mut MemDisk) -> Result<bool, Unopened> {
-    Ok(is_grown(&open(alloc, disk)?))
-}
-
-/// Whether the device opens so with a store, over a device that is lent.
-fn opens_store(alloc: Global, disk: &mut MemDisk) -> Result<bool, Unopened> {
+/// Whether the device opens so, with a store where that is asked for.
+fn opens(alloc: Global, disk: &mut MemDisk, with_store: bool) -> Result<bool, Unopened> {
+    if !with_store {
+        return Ok(is_grown(&open(alloc, disk)?));
+    }
     let (opened, store) = open_store(alloc, disk)?;
     Ok(is_grown(&opened) && store.place == opened.place())
 }
 
-/// Whether the device opens so, with a store where that is asked for.
-fn opens_by(alloc: Global, disk: &mut MemDisk, with_store: bool) -> Result<bool, Unopened> {
-    if with_store {
-        opens_store(alloc, disk)
-    } else {
-        opens(alloc, disk)
+/// Whether the device with the group opens as what it holds, and nothing is written; where memory was refused, it opens so then.
+fn opens_again(alloc: Global, with_store: bool) -> Result<bool, AllocError> {
+    let bytes = grown(alloc)?;
+    let mut disk = MemDisk::of_bytes(grown(alloc)?);
+    let mut told = opens(alloc, &mut disk, with_store);
+    if told == Err(Unopened::Memory) && disk.bytes() == bytes.as_slice() {
+        told = opens(alloc, &mut disk, with_store);
     }
-}
-
-/// Whether a device has `bytes`, and no call of it failed.
-fn has(disk: &MemDisk, bytes: &[u8]) -> bool {
-    disk.failures() == 0 && disk.bytes() == bytes
-}
-
-/// Whether a device of `bytes` opens as what it holds, with a store where that is asked for, and nothing is written; where memory was
-/// refused, it opens so then.
-fn opens_again(alloc: Global, disk: &mut MemDisk, bytes: &[u8], with_store: bool) -> bool {
-    let mut told = opens_by(alloc, disk, with_store);
-    if told == Err(Unopened::Memory) && has(disk, bytes) {
-        told = opens_by(alloc, disk, with_store);
-    }
-    told == Ok(true) && has(disk, bytes)
+    Ok(told == Ok(true) && disk.failures() == 0 && disk.bytes() == bytes.as_slice())
 }
 
 /// Opening writes nothing, and what it answers doesn't depend on what was refused before.
 #[test]
 fn a_device_is_opened_again(rt: HostRuntime) -> Result<(), Fail> {
-    let alloc = rt.alloc();
-    let bytes = grown(alloc)?;
-    let mut disk = MemDisk::of_bytes(grown(alloc)?);
-    let told = opens_again(alloc, &mut disk, &bytes, false);
-    assert!(rt; told);
-    Ok(())
-}
-
-#[test]
-fn a_store_is_opened_again(rt: HostRuntime) -> Result<(), Fail> {
-    let alloc = rt.alloc();
-    let bytes = grown(alloc)?;
-    let mut disk = MemDisk::of_bytes(grown(alloc)?);
-    let told = opens_again(alloc, &mut disk, &bytes, true);
-    assert!(rt; told);
+    for with_store in [false, true] {
+        let told = match opens_again(rt.alloc(), with_store) {
+            Ok(told) => told,
+            Err(_) => opens_again(rt.alloc(), with_store)?,
+        };
+        assert!(rt; told);
+    }
     Ok(())
 }

@@ -1,26 +1,25 @@
 //! Turns of two nodes really overlap: one is held after its run, and others go on.
 
-ghost use Rattle.std.specs.Prelude.{◌≡◌, ◌<◌, ◌≤◌, length};
-ghost use Rattle.tp_shared.specs.Named.{Names};
-
-use crate::device::formatted;
 use crate::hold::Hold;
-use crate::opening::opening_of;
+use crate::scenes::{Scene, plays};
+use crate::small::SIXTEEN;
 use crate::turns::{QUANTUM, turn_node};
 use std::alloc::{AllocError, Global};
-use std::marker::Brand;
 use std::sync::Wait;
 use std::test::Fail;
 use std::thread::{Threads, join, map_vec};
 use tp_book::Numbered;
 use tp_model::Entry;
 use tp_shared::gate::RUN_DONE;
-use tp_shared::{Naming, NoGate, Parts, Shared};
+use tp_shared::{Naming, NoGate, Shared};
 
 /// The node that is held. None of `OTHERS` is under its lock.
 const HELD: u8 = 1;
 
 const OTHERS: [u8; 11] = [2, 3, 4, 6, 7, 8, 10, 11, 12, 14, 15];
+
+/// A process that no gate holds here.
+const FREE: u8 = 0;
 
 /// How many threads make turns of other nodes.
 const TEAMS: &[usize] = &[1, 3, 15];
@@ -40,7 +39,7 @@ fn turn_others<J: Naming + Send + Sync, R: Threads + Wait + Sync>(
 ) -> bool {
     let came = hold.wait();
     let made = map_vec(rt, numbers, &|number| is_turned(rt, shared, number));
-    hold.open();
+    hold.open_as(FREE);
     came && matches!(made, Ok(all) if !all.as_slice().contains(&false))
 }
 
@@ -75,42 +74,31 @@ fn is_last<J: Naming, R: Wait>(rt: &R, shared: &Shared<J>, count: usize) -> bool
     runs_of(entries) == count && matches!(entries.last(), Some(found) if found.entry == last)
 }
 
-/// Turns of `numbers` while one is held. Answers whether all were made, and the run of the one that was held is the last in the journal.
-fn overlap<J: Naming + Send + Sync, R: Threads + Wait + Sync>(
+/// Turns of `count` others while one is held. Answers whether all were made, and the run of the one that was held is the last in the
+/// journal.
+pub(crate) fn overlap<J: Naming + Send + Sync, R: Threads + Wait + Sync>(
     rt: &R,
-    parts: Parts,
-    numbers: Vec<u8>,
-) -> bool
-    requires names { Names J.roll J.first J.start J.node J.mark J.flusher J.sights J.room parts }
-{
-    let count = numbers.len();
-    let (shared, _key) = Shared::<J>::start(parts);
+    alloc: Global,
+    shared: &Shared<J>,
+    count: usize,
+) -> bool {
+    let Ok(numbers) = numbers_of(alloc, count) else {
+        return false;
+    };
     let hold = Hold::new(HELD, RUN_DONE);
-    let (lent, gate) = (&shared, &hold);
+    let gate = &hold;
     let (held, others) = join(
         rt,
-        move || turn_node(rt, lent, gate, HELD).is_some(),
-        move || turn_others(rt, numbers, lent, gate),
+        move || turn_node(rt, shared, gate, HELD).is_some(),
+        move || turn_others(rt, numbers, shared, gate),
     );
-    held && others && hold.was_let_go() && is_last(rt, &shared, count + 1)
-}
-
-/// Makes those turns under new names.
-fn overlap_in<R: Threads + Wait + Sync>(rt: &R, parts: Parts, numbers: Vec<u8>) -> bool {
-    overlap::<Brand, R>(rt, parts, numbers)
-}
-
-/// Makes turns of `count` other nodes on a device that is freshly formatted.
-fn overlaps<R: Threads + Wait + Sync>(rt: &R, alloc: Global, count: usize) -> Result<bool, Fail> {
-    let numbers = numbers_of(alloc, count)?;
-    let (parts, _raiser) = opening_of(alloc, formatted(alloc)?)?.into_parts();
-    Ok(overlap_in(rt, parts, numbers))
+    held && others && hold.was_let_go() && is_last(rt, shared, count.saturating_add(1))
 }
 
 #[test]
 fn others_make_turns_while_one_node_is_held(rt: HostRuntime) -> Result<(), Fail> {
     for count in TEAMS {
-        assert!(rt; overlaps(&rt, rt.alloc(), *count)?);
+        assert!(rt; plays(&rt, rt.alloc(), &SIXTEEN, 1, Scene::Overlap(*count))?);
     }
     Ok(())
 }

@@ -5,17 +5,19 @@ ghost use Rattle.tp_shared.specs.Named.{Names};
 ghost use Rattle.tp_tests_threads.specs.Spelt.{IsSpelt};
 ghost use Rattle.tp_work.specs.declared.start.TheConstants.{MAX_SEATS};
 
-use crate::beside::{is_flushed_beside_a_run, is_run_beside_a_copy, is_stored_by_the_next_turn};
-use crate::device::formatted;
+use crate::beside::{Held, go_on, stores_all};
 use crate::flushing::flush;
 use crate::hold::Hold;
 use crate::left::{both, is_left, opened};
 use crate::meanwhile::stays_stored;
 use crate::opening::{Opening, begin, opening_of};
+use crate::overlap::overlap;
 use crate::pace::{EVERY, Pace, Paced};
 use crate::plain::{is_network, look_at_book, replayed};
+use crate::small::{Network, SIXTEEN, formatted};
 use crate::team::work_as_team;
 use crate::teams::{are_all_beside, parted};
+use crate::trimmed::ends_with;
 use crate::turns::turn_all;
 use std::alloc::Global;
 use std::marker::Brand;
@@ -23,97 +25,51 @@ use std::sync::Wait;
 use std::test::Fail;
 use std::thread::{Threads, join};
 use tp_disk::{Disk, MemDisk};
-use tp_flush::{FLUSHER, Flusher};
+use tp_flush::Flusher;
 use tp_model::Entry;
 use tp_ready::Pass;
 use tp_replay::FlatNetwork;
-use tp_shared::gate::{BACKLOG_COPIED, PAGE_COPIED, RUN_DONE};
 use tp_shared::{Naming, Shared};
 use tp_work::{Net, Seat};
-
-/// The node that is held, or that runs while the flusher is held.
-const NODE: u8 = 1;
 
 /// How many turns a team makes beside those: fewer than end at the gate that keeps pace.
 const TURNS: u32 = EVERY - 1;
 
-/// Who is held, until others went on.
-#[derive(Clone, Copy)]
-enum Held {
-    /// A node behind its run, beside a turn of the flusher.
-    Node,
-    /// The flusher behind its copy, beside a run.
-    Copy,
-    /// The flusher behind the first page of a node that has recorded, beside a run of that node, which writes its second page.
-    Page,
-}
-
-impl Held {
-    /// The gate that holds it.
-    fn gate(self) -> Hold {
-        match self {
-            Held::Node => Hold::new(NODE, RUN_DONE),
-            Held::Copy => Hold::new(FLUSHER, BACKLOG_COPIED),
-            Held::Page => Hold::new(FLUSHER, PAGE_COPIED),
-        }
-    }
-}
-
 /// What goes on.
 #[derive(Clone, Copy)]
-enum Scene {
+pub(crate) enum Scene<'a> {
     /// Someone is held, beside a team.
     Held(Held),
-    /// A host asks a pass, beside the flusher, whether that many pairs of bytes are stored.
+    /// A host asks a pass, beside the flusher and a team, whether that many pairs of bytes are stored.
     Stored(u64),
     /// A team makes that many turns, beside a host and the flusher.
     Team(u32),
+    /// A node's turn is open while the areas are switched and the book is trimmed, and the journal ends with these entries.
+    Trim(&'a [Entry]),
+    /// A node is held behind its run, and that many threads make turns of others.
+    Overlap(usize),
 }
 
-/// Whether it goes on as it should beside the one that is held.
-fn go_on<J: Naming + Send + Sync, D: Disk + Drop, R: Threads + Wait + Sync>(
-    rt: &R,
-    alloc: Global,
-    held: Held,
-    shared: &Shared<J>,
-    flusher: Flusher<J, D>,
-    gate: &Hold,
-) -> (Flusher<J, D>, bool) {
-    match held {
-        Held::Node => is_flushed_beside_a_run(rt, alloc, shared, flusher, NODE, gate),
-        Held::Copy => is_stored_by_the_next_turn(rt, alloc, shared, flusher, NODE, gate),
-        Held::Page => is_run_beside_a_copy(rt, alloc, shared, flusher, NODE, gate),
-    }
-}
-
-/// A team makes its turns. Answers whether none was refused.
+/// A team makes its turns, once someone is held where a gate is told. Answers whether someone was, and no turn was refused.
 fn work_all<J: Naming + Send + Sync, R: Threads + Wait + Sync>(
     rt: &R,
     net: &Net<J, Paced<'_>>,
     seats: Vec<Seat<J>>,
+    gate: Option<&Hold>,
 ) -> bool
     requires { All (λ seat. (seat.hand.of ≡ Some net.now.queue) × (seat.slips ≡ [])) seats.items }
 {
+    let came = match gate {
+        Some(gate) => gate.wait(),
+        None => true,
+    };
     let Some((one, others)) = parted(net, seats) else {
         return false;
     };
     match work_as_team(rt, net, TURNS, one, others) {
-        Ok(work) => !work.is_refused(),
+        Ok(work) => came && !work.is_refused(),
         Err(_) => false,
     }
-}
-
-/// Waits until someone is held, and has a team make its turns then. Answers whether someone was, and no turn was refused.
-fn work_once_held<J: Naming + Send + Sync, R: Threads + Wait + Sync>(
-    rt: &R,
-    net: &Net<J, Paced<'_>>,
-    seats: Vec<Seat<J>>,
-    gate: &Hold,
-) -> bool
-    requires { All (λ seat. (seat.hand.of ≡ Some net.now.queue) × (seat.slips ≡ [])) seats.items }
-{
-    let came = gate.wait();
-    work_all(rt, net, seats) && came
 }
 
 /// Whether it goes on as it should beside the one that is held, while a team makes turns, too.
@@ -123,20 +79,20 @@ fn go_on_beside<J: Naming + Send + Sync, D: Disk + Drop, R: Threads + Wait + Syn
     held: Held,
     net: &Net<J, Paced<'_>>,
     seats: Vec<Seat<J>>,
-    flusher: Flusher<J, D>,
-) -> (Flusher<J, D>, bool)
+    flusher: &mut Flusher<J, D>,
+) -> bool
     requires { All (λ seat. (seat.hand.of ≡ Some net.now.queue) × (seat.slips ≡ [])) seats.items }
 {
-    let hold = held.gate();
+    let (hold, number) = held.gate();
     let gate = &hold;
-    let (worked, (flusher, is_so)) = join(
+    let (worked, is_so) = join(
         rt,
         move || -> bool
             requires { All (λ seat. (seat.hand.of ≡ Some net.now.queue) × (seat.slips ≡ [])) seats.items }
-        { work_once_held(rt, net, seats, gate) },
-        move || go_on(rt, alloc, held, net.shared(), flusher, gate),
+        { work_all(rt, net, seats, Some(gate)) },
+        move || go_on(rt, alloc, held, net.shared(), flusher, number, gate),
     );
-    (flusher, worked && is_so)
+    worked && is_so
 }
 
 /// Whether a pass says of pairs of bytes what it should, while a team makes turns too.
@@ -145,51 +101,67 @@ fn are_stored_beside<J: Naming + Send + Sync, D: Disk + Drop, R: Threads + Wait 
     alloc: Global,
     net: &Net<J, Paced<'_>>,
     seats: Vec<Seat<J>>,
-    flusher: Flusher<J, D>,
+    flusher: &mut Flusher<J, D>,
     count: u64,
     pass: Pass,
-) -> (Flusher<J, D>, bool)
+) -> bool
     requires seats { All (λ seat. (seat.hand.of ≡ Some net.now.queue) × (seat.slips ≡ [])) seats.items }
     requires pass { pass.mark ≡ J.mark }
 {
-    let (worked, (flusher, is_so)) = join(
+    let (worked, is_so) = join(
         rt,
         move || -> bool
             requires { All (λ seat. (seat.hand.of ≡ Some net.now.queue) × (seat.slips ≡ [])) seats.items }
-        { work_all(rt, net, seats) },
-        move || -> (Flusher<J, D>, bool)
+        { work_all(rt, net, seats, None) },
+        move || -> bool
             requires { pass.mark ≡ J.mark }
         { stays_stored(rt, alloc, net.shared(), flusher, count, pass) },
     );
-    (flusher, worked && is_so)
+    worked && is_so
+}
+
+/// Whether a node's turn that is open at a trim is made, and the journal ends with these entries then.
+fn is_trimmed<J: Naming + Send + Sync, D: Disk + Drop, R: Threads + Wait + Sync>(
+    rt: &R,
+    alloc: Global,
+    shared: &Shared<J>,
+    flusher: &mut Flusher<J, D>,
+    wanted: &[Entry],
+) -> bool {
+    let (gate, number) = Held::Switch.gate();
+    go_on(rt, alloc, Held::Switch, shared, flusher, number, &gate) && ends_with(rt, shared, wanted)
 }
 
 /// Whether a scene goes as it should. The first entry has the number `first`.
 fn act<J: Naming + Send + Sync, D: Disk + Drop, R: Threads + Wait + Sync>(
     rt: &R,
     alloc: Global,
-    scene: Scene,
+    scene: Scene<'_>,
     net: &Net<J, Paced<'_>>,
     seats: Vec<Seat<J>>,
     first: u64,
-    flusher: Flusher<J, D>,
+    flusher: &mut Flusher<J, D>,
     pass: Pass,
     pace: &Pace,
-) -> (Flusher<J, D>, bool)
+) -> bool
     requires seats { All (λ seat. (seat.hand.of ≡ Some net.now.queue) × (seat.slips ≡ [])) seats.items }
     requires first { first ≡ J.first }
     requires pass { pass.mark ≡ J.mark }
 {
     match scene {
-        Scene::Held(held) => go_on_beside(rt, alloc, held, net, seats, flusher),
+        Scene::Held(held) => {
+            let is_so = go_on_beside(rt, alloc, held, net, seats, flusher);
+            let is_last = !matches!(held, Held::Copy);
+            is_so && (is_last || stores_all(rt, alloc, net.shared(), flusher))
+        }
         Scene::Stored(count) => are_stored_beside(rt, alloc, net, seats, flusher, count, pass),
         Scene::Team(turns) => {
             let gate = Paced { pace };
-            let (flusher, are_all) = are_all_beside(
-                rt, alloc, net, seats, turns, first, flusher, &gate,
-            );
-            (flusher, are_all && pace.met() == turns / EVERY)
+            are_all_beside(rt, alloc, net, seats, turns, first, flusher, &gate)
+                && pace.met() == turns / EVERY
         }
+        Scene::Trim(wanted) => is_trimmed(rt, alloc, net.shared(), flusher, wanted),
+        Scene::Overlap(count) => overlap(rt, alloc, net.shared(), count),
     }
 }
 
@@ -204,8 +176,8 @@ fn network_left(alloc: Global, disk: MemDisk, next: u64) -> Result<Option<FlatNe
 
 /// Whether a network is what a plain replay of a journal gives.
 fn is_replay_of(alloc: Global, network: &mut FlatNetwork, journal: &[Entry]) -> Result<bool, Fail> {
-    let device = formatted(alloc)?;
-    let wanted = replayed(alloc, device.bytes(), journal)?;
+    let device = formatted(alloc, &SIXTEEN)?;
+    let wanted = replayed(alloc, &device, journal)?;
     let parts = network.parts(alloc)?;
     Ok(is_network(&parts, &wanted))
 }
@@ -255,7 +227,7 @@ fn leaves<J: Naming, R: Wait>(
     alloc: Global,
     shared: &Shared<J>,
     flusher: Flusher<J, MemDisk>,
-    scene: Scene,
+    scene: Scene<'_>,
 ) -> Result<bool, Fail> {
     if matches!(scene, Scene::Held(Held::Page)) {
         is_switched(rt, alloc, shared, flusher)
@@ -270,7 +242,7 @@ fn play<J: Naming + Send + Sync, R: Threads + Wait + Sync>(
     alloc: Global,
     opening: Opening<MemDisk>,
     workers: u8,
-    scene: Scene,
+    scene: Scene<'_>,
 ) -> Result<bool, Fail>
     requires spelt { IsSpelt opening.opened.value }
     requires names { Names J.roll J.first J.start J.node J.mark J.flusher J.sights J.room opening.parts }
@@ -279,10 +251,20 @@ fn play<J: Naming + Send + Sync, R: Threads + Wait + Sync>(
     let first = opening.first;
     let pace = Pace::new();
     let gate = Paced { pace: &pace };
-    let (net, seats, flusher, pass) = begin::<J, MemDisk, Paced<'_>, R>(
+    let (net, seats, mut flusher, pass) = begin::<J, MemDisk, Paced<'_>, R>(
         rt, alloc, opening, workers, gate,
     )?;
-    let (flusher, is_so) = act(rt, alloc, scene, &net, seats, first, flusher, pass, &pace);
+    let is_so = act(
+        rt,
+        alloc,
+        scene,
+        &net,
+        seats,
+        first,
+        &mut flusher,
+        pass,
+        &pace,
+    );
     let is_left = leaves(rt, alloc, net.shared(), flusher, scene);
     let told = both(is_so, is_left);
     told
@@ -294,7 +276,7 @@ fn play_in<R: Threads + Wait + Sync>(
     alloc: Global,
     opening: Opening<MemDisk>,
     workers: u8,
-    scene: Scene,
+    scene: Scene<'_>,
 ) -> Result<bool, Fail>
     requires spelt { IsSpelt opening.opened.value }
     requires workers { (0 < workers) × (workers ≤ MAX_SEATS) }
@@ -302,16 +284,17 @@ fn play_in<R: Threads + Wait + Sync>(
     play::<Brand, R>(rt, alloc, opening, workers, scene)
 }
 
-/// Plays it on a device that is freshly formatted.
-fn plays<R: Threads + Wait + Sync>(
+/// Plays it on the device of a network that is freshly formatted.
+pub(crate) fn plays<R: Threads + Wait + Sync>(
     rt: &R,
     alloc: Global,
+    network: &Network,
     workers: u8,
-    scene: Scene,
+    scene: Scene<'_>,
 ) -> Result<bool, Fail>
     requires workers { (0 < workers) × (workers ≤ MAX_SEATS) }
 {
-    let opening = opening_of(alloc, formatted(alloc)?)?;
+    let opening = opening_of(alloc, MemDisk::of_bytes(formatted(alloc, network)?))?;
     play_in(rt, alloc, opening, workers, scene)
 }
 
@@ -319,9 +302,13 @@ fn plays<R: Threads + Wait + Sync>(
 const WORKERS: &[u8] = &[1, 2, 16];
 
 /// Plays it with each number of workers.
-fn are_played<R: Threads + Wait + Sync>(rt: &R, alloc: Global, scene: Scene) -> Result<bool, Fail> {
+fn are_played<R: Threads + Wait + Sync>(
+    rt: &R,
+    alloc: Global,
+    scene: Scene<'_>,
+) -> Result<bool, Fail> {
     for workers in WORKERS {
-        if !plays(rt, alloc, *workers, scene)? {
+        if !plays(rt, alloc, &SIXTEEN, *workers, scene)? {
             return Ok(false);
         }
     }
@@ -359,7 +346,7 @@ const TEAMS: &[(u8, u32)] = &[(2, 60), (4, 120), (16, 400)];
 #[test]
 fn what_teams_journal_beside_the_flusher_is_all_there_is(rt: HostRuntime) -> Result<(), Fail> {
     for (workers, turns) in TEAMS {
-        assert!(rt; plays(&rt, rt.alloc(), *workers, Scene::Team(*turns))?);
+        assert!(rt; plays(&rt, rt.alloc(), &SIXTEEN, *workers, Scene::Team(*turns))?);
     }
     Ok(())
 }

@@ -1,9 +1,11 @@
 //! A script whose device fails, or stops it, at each of its calls: what the device then opens to, and how it goes on.
 
+use crate::acts::{Story, run};
 use crate::copied::{fresh, opened};
-use crate::remains::{Left, calls_of, ended, kept, known, recovered, run, untold};
-use crate::script::{Done, Step};
-use crate::tears::{EACH, SOME, Tear, fault_at};
+use crate::desk::{Done, Left};
+use crate::remains::{calls_of, ended, kept, known, recovered, untold};
+use crate::stories::{CHECKPOINT, GOES_ON, SCRIPT};
+use crate::tears::{EACH, SOME, Tear, fault_at, fault_of};
 use crate::unkind::{Ending, Fault, RawUnkind, Torn};
 use std::alloc::Global;
 use std::fs;
@@ -14,24 +16,22 @@ use std::test::Fail;
 use tp_model::Form;
 use tp_recover::{Unopened, open};
 
-/// The script, over a device without entries.
-pub(crate) const SCRIPT: &[Step<'static>] = &[
-    Step::Offer(0, b"ab"),
-    Step::Turns(4),
-    Step::Flush,
-    Step::Switch,
-    Step::Offer(2, b"c"),
-    Step::Flush,
-    Step::Switch,
-];
-
-/// How many of its steps are in front of it, in front of and behind the first checkpoint, and in front of and behind the second.
+/// How many of the script's acts are in front of it, in front of and behind the first checkpoint, and in front of and behind the second.
 const ENDS: [usize; 5] = [0, 3, 4, 6, 7];
 
-/// A checkpoint, and what is done with a device once it was opened again.
-const CHECKPOINT: &[Step<'static>] = &[Step::Switch];
+/// The script up to an act.
+fn script_up_to(count: usize) -> Story<'static> {
+    Story {
+        acts: SCRIPT.acts.get(..count).unwrap_or(&[]),
+        ..SCRIPT
+    }
+}
 
-const GOES_ON: &[Step<'static>] = &[Step::More(b'z'), Step::Turns(2), Step::Flush];
+/// Nothing is done behind the opening.
+const NOTHING: Story<'static> = Story {
+    acts: &[],
+    ..SCRIPT
+};
 
 /// Whether what is opened again goes on as if nothing had been.
 fn goes_on<R: Wait>(
@@ -42,31 +42,22 @@ fn goes_on<R: Wait>(
     next: u64,
 ) -> Result<bool, Fail> {
     let told = known(alloc, &left.told, next)?;
-    let later = run(rt, alloc, &left.bytes, None, GOES_ON, told)?;
-    let reached = if later.done == Done::All {
-        recovered(alloc, first, &later)
-    } else {
-        Ok(None)
-    };
+    let later = run(rt, alloc, &GOES_ON, &left.bytes, None, told)?;
     let count = later.told.journal.len() as u64;
-    Ok(reached? == Some(count) && count > next)
+    let is_on = later.done == Done::All && count > next;
+    Ok(is_on && recovered(alloc, first, &later)? == Some(count))
 }
 
-/// How many calls of the device steps make behind what a run left, with those that open it.
+/// How many calls of the device a story makes behind what a run left, with those that open it.
 fn calls_behind<R: Wait>(
     rt: &R,
     alloc: Global,
     left: &Left,
     next: u64,
-    steps: &[Step<'_>],
+    story: &Story<'_>,
 ) -> Result<u64, Fail> {
-    calls_of(
-        rt,
-        alloc,
-        &left.bytes,
-        known(alloc, &left.told, next)?,
-        steps,
-    )
+    let told = known(alloc, &left.told, next)?;
+    calls_of(rt, alloc, story, &left.bytes, told)
 }
 
 /// Whether a checkpoint behind what a run left that stops within a call, where all that isn't synced is then A5, leaves a device that opens
@@ -82,7 +73,7 @@ fn is_stopped_well<R: Wait>(
     let told = known(alloc, &left.told, next)?;
     let tear = (Ending::Within, Torn::Filled(0xA5), Torn::Filled(0xA5));
     let fault = fault_at(call, tear);
-    Ok(ended(rt, alloc, first, &left.bytes, told, CHECKPOINT, fault)?.is_some())
+    Ok(ended(rt, alloc, &CHECKPOINT, first, &left.bytes, told, fault)?.is_some())
 }
 
 /// Opens what a run left, and begins a checkpoint that stops within each of its calls. Answers how many calls there are, where each time the
@@ -94,8 +85,8 @@ fn checkpoints_behind<R: Wait>(
     left: &Left,
     next: u64,
 ) -> Result<Option<u64>, Fail> {
-    let from = calls_behind(rt, alloc, left, next, &[])?;
-    let to = calls_behind(rt, alloc, left, next, CHECKPOINT)?;
+    let from = calls_behind(rt, alloc, left, next, &NOTHING)?;
+    let to = calls_behind(rt, alloc, left, next, &CHECKPOINT)?;
     for call in from..to {
         if !is_stopped_well(rt, alloc, first, left, next, call)? {
             return Ok(None);
@@ -118,8 +109,7 @@ impl Script {
     fn over<R: Wait>(rt: &R, alloc: Global, first: Vec<u8>) -> Result<Script, Fail> {
         let mut ends = [0u64; 5];
         for (end, count) in ends.iter_mut().zip(ENDS) {
-            let steps = SCRIPT.get(..count).unwrap_or(SCRIPT);
-            *end = calls_of(rt, alloc, &first, untold(alloc), steps)?;
+            *end = calls_of(rt, alloc, &script_up_to(count), &first, untold(alloc))?;
         }
         let [from, third, fourth, sixth, to] = ends;
         Ok(Script {
@@ -159,30 +149,12 @@ impl Script {
     /// Ends the script by a fault, and goes on with what it leaves.
     fn end<R: Wait>(&self, rt: &R, alloc: Global, fault: Fault) -> Result<Option<u64>, Fail> {
         let first = self.first.as_slice();
-        let found = ended(rt, alloc, first, first, untold(alloc), SCRIPT, fault)?;
+        let found = ended(rt, alloc, &SCRIPT, first, first, untold(alloc), fault)?;
         let Some((left, next)) = found else {
             return Ok(None);
         };
         let told = self.go_on(rt, alloc, fault.call, &left, next);
         told
-    }
-
-    /// Ends it at a call in each way.
-    fn end_at<R: Wait>(
-        &self,
-        rt: &R,
-        alloc: Global,
-        call: u64,
-        tears: &[Tear],
-    ) -> Result<Option<u64>, Fail> {
-        let mut behind = 0u64;
-        for tear in tears {
-            let Some(count) = self.end(rt, alloc, fault_at(call, *tear))? else {
-                return Ok(None);
-            };
-            behind = behind.saturating_add(count);
-        }
-        Ok(Some(behind))
     }
 }
 
@@ -201,27 +173,20 @@ pub(crate) fn is_last(alloc: Global, bytes: &[u8], next: u64) -> Result<bool, Fa
 }
 
 /// Whether a device isn't opened whose call fails or stops the opening, and is as it was.
-fn is_unopened(alloc: Global, bytes: &[u8], call: u64, tear: Tear) -> Result<bool, Fail> {
-    let mut disk = RawUnkind::new(alloc, bytes, Some(fault_at(call, tear)))?;
+fn is_unopened(alloc: Global, bytes: &[u8], fault: Fault) -> Result<bool, Fail> {
+    let mut disk = RawUnkind::new(alloc, bytes, Some(fault))?;
     let told = open(alloc, &mut disk);
     Ok(matches!(told, Err(Unopened::ReadFailed)) && disk.raw().bytes() == bytes)
 }
 
-/// Whether a device isn't opened where a call of the opening fails or stops it, in whichever way, and is as it was.
-fn is_never_opened(alloc: Global, bytes: &[u8], call: u64) -> Result<bool, Fail> {
-    for tear in EACH {
-        if !is_unopened(alloc, bytes, call, *tear)? {
-            return Ok(false);
-        }
-    }
-    Ok(true)
-}
-
-/// The first of the `calls` that open a device at whose end it is opened, or isn't as it was.
+/// The first of the `calls` that open a device at whose end, in whichever way it fails or stops it, it is opened, or isn't as it was.
 fn first_opened(alloc: Global, bytes: &[u8], calls: u64) -> Result<Option<u64>, Fail> {
-    for call in 0..calls {
-        if !is_never_opened(alloc, bytes, call)? {
-            return Ok(Some(call));
+    for number in 0..calls.saturating_mul(EACH.len() as u64) {
+        let Some(fault) = fault_of(EACH, 0, number) else {
+            break;
+        };
+        if !is_unopened(alloc, bytes, fault)? {
+            return Ok(Some(fault.call));
         }
     }
     Ok(None)
@@ -230,7 +195,7 @@ fn first_opened(alloc: Global, bytes: &[u8], calls: u64) -> Result<Option<u64>, 
 /// How many calls open the script's device, and what the script leaves.
 fn opened_and_left<R: Wait>(rt: &R, alloc: Global) -> Result<(u64, Left), Fail> {
     let script = Script::over(rt, alloc, fresh(alloc)?)?;
-    let left = run(rt, alloc, &script.first, None, SCRIPT, untold(alloc))?;
+    let left = run(rt, alloc, &SCRIPT, &script.first, None, untold(alloc))?;
     Ok((script.from, left))
 }
 
@@ -255,14 +220,18 @@ fn end_each<R: Wait>(
 ) -> Result<Result<(u64, u64), u64>, Fail> {
     let script = Script::over(rt, alloc, first)?;
     let mut behind = 0u64;
-    for call in script.from..script.to {
-        let Some(count) = script.end_at(rt, alloc, call, tears)? else {
-            return Ok(Err(call));
+    let calls = script.to.saturating_sub(script.from);
+    let cases = calls.saturating_mul(tears.len() as u64);
+    for number in 0..cases {
+        let Some(fault) = fault_of(tears, script.from, number) else {
+            break;
+        };
+        let Some(count) = script.end(rt, alloc, fault)? else {
+            return Ok(Err(fault.call));
         };
         behind = behind.saturating_add(count);
     }
-    let calls = script.to.saturating_sub(script.from);
-    Ok(Ok((calls.saturating_mul(tears.len() as u64), behind)))
+    Ok(Ok((cases, behind)))
 }
 
 /// Ends the script over a device at each of its calls, and writes how often.

@@ -1,202 +1,266 @@
-//! What is done on the device of one node, step by step, with what has to come of it. Every number was worked out by hand.
-//! The functions play a story each, and answer whether it goes as it should, where memory is refused once at most.
+//! What is done on the device of one node, act by act, with what has to come of it. Every number was worked out by hand.
 
-use crate::playing::plays;
-use std::alloc::Global;
-use std::process::Abort;
-use std::sync::Wait;
-use tp_model::{Entry, Received, Token};
-
-/// Something that is done. Each number of an entry is one behind the bytes that the story offers first.
-#[derive(Clone, Copy)]
-pub(crate) enum Step {
-    /// A turn of a process, which takes that many tokens, and runs that many steps where it runs.
-    Turn(u8, u64, Option<u16>),
-    /// A turn that is refused, since the journal is full.
-    Full,
-    /// A byte more is offered, and refused, since the journal is full.
-    Refused,
-    /// The port shows just the bytes, and they are confirmed.
-    Shown(&'static [u8]),
-    /// A snapshot begins.
-    Begin,
-    /// The cut is whole: it has that many entries of the node, and of the host beside those that the story offers first; the token is in
-    /// front of the line to the node; and the last number is that of the entries outside it.
-    Whole(u64, u64, Option<Token>, usize),
-    /// A turn of the flusher, which switches the areas or doesn't. The mark is the next number then.
-    Flush(bool),
-}
-
-/// A step, and the number that the next entry gets then.
-pub(crate) type Row = (Step, u64);
-
-/// How many spare frames the node has, the bytes that are offered first, what is done then, and what a crash leaves at the end: how many
-/// entries are in the open area's cut, and those behind it with their numbers.
-#[derive(Clone, Copy)]
-pub(crate) struct Story<'a> {
-    pub(crate) spare: usize,
-    pub(crate) offered: &'a [u8],
-    pub(crate) rows: &'a [Row],
-    pub(crate) base: u64,
-    pub(crate) kept: &'a [(u64, Entry)],
-}
-
-const LETTER: Entry = Entry::Take {
-    line: 0,
-    token: Token::Data(b'A'),
+use crate::acts::Act::{
+    Answers, Begin, Confirms, Fails, Flush, Next, NotShown, OnePort, Refused, Rounds, Runs, Shows,
+    Stores, Switch, Turn, Whole,
 };
-
-const RUN_1: Entry = Entry::Run { node: 0, count: 1 };
-
-const RUN_2: Entry = Entry::Run { node: 0, count: 2 };
-
-const RUN_3: Entry = Entry::Run { node: 0, count: 3 };
-
-const RUN_16: Entry = Entry::Run { node: 0, count: 16 };
-
-/// The node takes the acknowledge, and makes a whole turn's steps.
-const ACK_16: Entry = Entry::Turn {
-    node: 0,
-    takes: [
-        Received::JustAck,
-        Received::Nothing,
-        Received::Nothing,
-        Received::Nothing,
-    ],
-    count: 16,
-};
-
-/// It takes a byte, and makes no step.
-const BYTE_0: Entry = Entry::Turn {
-    node: 0,
-    takes: [
-        Received::JustData(7),
-        Received::Nothing,
-        Received::Nothing,
-        Received::Nothing,
-    ],
-    count: 0,
-};
+use crate::acts::{Act, Story};
+use crate::small::ONE;
+use tp_model::Token;
+use tp_node::Why;
+use tp_work::{OfferFault, ShownFault, TurnFault};
 
 /// Without a spare frame: the node records, takes the acknowledge and makes a whole turn's steps, and in its next turn closes its line and
 /// makes as many, since nothing is written.
-pub(crate) fn nothing_written<R: Wait + Abort>(rt: &R, alloc: Global) -> bool {
-    let story = Story {
-        spare: 0,
-        offered: b"",
-        rows: &[
-            (Step::Turn(0, 0, Some(3)), 1),
-            (Step::Turn(1, 1, None), 2),
-            (Step::Begin, 2),
-            (Step::Turn(0, 1, Some(16)), 3),
-            (Step::Turn(1, 0, None), 3),
-            (Step::Turn(0, 0, Some(16)), 4),
-            (Step::Whole(1, 1, Some(Token::Ack), 2), 4),
-            (Step::Flush(true), 4),
-        ],
-        base: 2,
-        kept: &[(2, ACK_16), (3, RUN_16)],
-    };
-    plays(rt, alloc, &story)
-}
+pub(crate) const NOTHING_WRITTEN: Story<'static> = Story {
+    network: ONE,
+    spare: 0,
+    quantum: 16,
+    offered: b"",
+    is_plain: false,
+    acts: &[
+        Turn(0, 0, Some((3, Why::Idle))),
+        Next(1),
+        Turn(1, 1, None),
+        Next(2),
+        Begin,
+        Next(2),
+        Turn(0, 1, Some((16, Why::Full))),
+        Next(3),
+        Turn(1, 0, None),
+        Next(3),
+        Turn(0, 0, Some((16, Why::Full))),
+        Whole(1, 1, Some(Token::Ack), 2),
+        Next(4),
+        Flush(true),
+        Next(4),
+    ],
+};
 
 /// Without a spare frame a frozen node ends before the step that writes its workspace, and goes on once its pages are copied.
-pub(crate) fn no_frame<R: Wait + Abort>(rt: &R, alloc: Global) -> bool {
-    let story = Story {
-        spare: 0,
-        offered: b"",
-        rows: &[
-            (Step::Begin, 0),
-            (Step::Turn(0, 0, Some(2)), 1),
-            (Step::Turn(1, 0, None), 1),
-            (Step::Turn(0, 0, Some(0)), 1),
-            (Step::Turn(1, 0, None), 1),
-            (Step::Whole(0, 0, None, 1), 1),
-            (Step::Flush(true), 1),
-            (Step::Turn(0, 0, Some(1)), 2),
-            (Step::Turn(1, 1, None), 3),
-            (Step::Turn(0, 1, Some(16)), 4),
-            (Step::Flush(false), 4),
-        ],
-        base: 0,
-        kept: &[(0, RUN_2), (1, RUN_1), (2, LETTER), (3, ACK_16)],
-    };
-    plays(rt, alloc, &story)
-}
+pub(crate) const NO_FRAME: Story<'static> = Story {
+    acts: &[
+        Begin,
+        Next(0),
+        Turn(0, 0, Some((2, Why::NoFrame))),
+        Next(1),
+        Turn(1, 0, None),
+        Turn(0, 0, Some((0, Why::NoFrame))),
+        Turn(1, 0, None),
+        Whole(0, 0, None, 1),
+        Next(1),
+        Flush(true),
+        Next(1),
+        Turn(0, 0, Some((1, Why::Idle))),
+        Next(2),
+        Turn(1, 1, None),
+        Next(3),
+        Turn(0, 1, Some((16, Why::Full))),
+        Next(4),
+        Flush(false),
+        Next(4),
+    ],
+    ..NOTHING_WRITTEN
+};
 
 /// One spare frame is enough for the page that it writes.
-pub(crate) fn one_frame<R: Wait + Abort>(rt: &R, alloc: Global) -> bool {
-    let story = Story {
-        spare: 1,
-        offered: b"",
-        rows: &[
-            (Step::Begin, 0),
-            (Step::Turn(0, 0, Some(3)), 1),
-            (Step::Turn(1, 1, None), 2),
-            (Step::Whole(0, 0, None, 2), 2),
-            (Step::Turn(0, 1, Some(16)), 3),
-            (Step::Flush(true), 3),
-        ],
-        base: 0,
-        kept: &[(0, RUN_3), (1, LETTER), (2, ACK_16)],
-    };
-    plays(rt, alloc, &story)
-}
-
-/// As many bytes as the journal has room for entries.
-const ALL: &[u8] = &[7; 105];
+pub(crate) const ONE_FRAME: Story<'static> = Story {
+    spare: 1,
+    acts: &[
+        Begin,
+        Next(0),
+        Turn(0, 0, Some((3, Why::Idle))),
+        Next(1),
+        Turn(1, 1, None),
+        Whole(0, 0, None, 2),
+        Next(2),
+        Turn(0, 1, Some((16, Why::Full))),
+        Next(3),
+        Flush(true),
+        Next(3),
+    ],
+    ..NOTHING_WRITTEN
+};
 
 /// A journal that is full stays so without a snapshot. One that runs takes what it needs from what is kept for it: the node takes a byte in
-/// a turn without a step, and in its next turn closes its line. Its end makes room.
-pub(crate) fn full<R: Wait + Abort>(rt: &R, alloc: Global) -> bool {
-    let story = Story {
-        spare: 4,
-        offered: ALL,
-        rows: &[
-            (Step::Refused, 0),
-            (Step::Full, 0),
-            (Step::Turn(1, 0, None), 0),
-            (Step::Flush(false), 0),
-            (Step::Begin, 0),
-            (Step::Full, 1),
-            (Step::Turn(1, 0, None), 1),
-            (Step::Full, 1),
-            (Step::Turn(1, 0, None), 1),
-            (Step::Whole(0, 0, Some(Token::Data(7)), 1), 1),
-            (Step::Refused, 1),
-            (Step::Flush(true), 1),
-            (Step::Turn(0, 0, Some(3)), 2),
-            (Step::Flush(false), 2),
-        ],
-        base: 0,
-        kept: &[(0, BYTE_0), (1, RUN_3)],
-    };
-    plays(rt, alloc, &story)
-}
+/// a turn without a step, and in its next turn closes its line. Its end makes room. As many bytes are offered as the journal has room for
+/// entries.
+pub(crate) const FULL: Story<'static> = Story {
+    spare: 4,
+    offered: &[7; 105],
+    acts: &[
+        Answers(105, b"x", Err(OfferFault::JournalFull)),
+        Refused(TurnFault::JournalFull),
+        Turn(1, 0, None),
+        Flush(false),
+        Begin,
+        Next(0),
+        Refused(TurnFault::JournalFull),
+        Next(1),
+        Turn(1, 0, None),
+        Refused(TurnFault::JournalFull),
+        Turn(1, 0, None),
+        Whole(0, 0, Some(Token::Data(7)), 1),
+        Answers(105, b"x", Err(OfferFault::JournalFull)),
+        Next(1),
+        Flush(true),
+        Next(1),
+        Turn(0, 0, Some((3, Why::Idle))),
+        Next(2),
+        Flush(false),
+        Next(2),
+    ],
+    ..NOTHING_WRITTEN
+};
 
-/// A byte comes in, the letter goes out and is confirmed, and a snapshot comes to its end.
-const CALLS: &[Row] = &[
-    (Step::Turn(0, 1, Some(3)), 1),
-    (Step::Turn(1, 1, None), 2),
-    (Step::Flush(false), 2),
-    (Step::Shown(b"A"), 3),
-    (Step::Turn(0, 1, Some(16)), 4),
-    (Step::Begin, 4),
-    (Step::Turn(1, 0, None), 4),
-    (Step::Turn(0, 0, Some(16)), 5),
-    (Step::Turn(1, 0, None), 5),
-    (Step::Whole(2, 2, None, 1), 5),
-    (Step::Flush(true), 5),
+/// A byte comes in, the letter goes out and is confirmed, and a snapshot comes to its end. Behind a number of bytes, so that each of these
+/// calls wants memory for its entry in one of the stories.
+pub(crate) const CALLS: Story<'static> = Story {
+    spare: 4,
+    acts: &[
+        Turn(0, 1, Some((3, Why::Idle))),
+        Next(1),
+        Turn(1, 1, None),
+        Next(2),
+        Flush(false),
+        Next(2),
+        Shows(0, Ok(b"A")),
+        Confirms(1, 3, false),
+        Next(3),
+        Turn(0, 1, Some((16, Why::Full))),
+        Next(4),
+        Begin,
+        Turn(1, 0, None),
+        Next(4),
+        Turn(0, 0, Some((16, Why::Full))),
+        Next(5),
+        Turn(1, 0, None),
+        Whole(2, 2, None, 1),
+        Next(5),
+        Flush(true),
+        Next(5),
+    ],
+    ..NOTHING_WRITTEN
+};
+
+/// What a worker and a host get, call by call: turns in the order of the ready queue; outputs that are shown, and confirmed, once the mark
+/// is above the letter's entry; offers, each with its receipt's number or its fault; what was confirmed is stored once the mark is the
+/// receipt's number, and not before; and once the store is broken, what is refused then, and that each process stays in the ready queue.
+pub(crate) const HOSTS: Story<'static> = Story {
+    spare: 4,
+    acts: &[
+        OnePort,
+        Turn(0, 0, Some((3, Why::Idle))),
+        Turn(1, 1, None),
+        Shows(0, Ok(b"")),
+        Shows(1, Err(ShownFault::TooNew)),
+        NotShown(1),
+        Flush(false),
+        Next(2),
+        Shows(0, Ok(b"A")),
+        Turn(0, 1, Some((16, Why::Full))),
+        Turn(1, 0, None),
+        Answers(1, b"b", Err(OfferFault::Gap(0))),
+        Answers(0, b"", Ok(3)),
+        Answers(0, b"ab", Ok(5)),
+        Answers(0, b"ab", Err(OfferFault::Already(2))),
+        Answers(3, b"c", Err(OfferFault::Gap(2))),
+        Answers(2, b"", Ok(5)),
+        Answers(2, &[7; 4095], Err(OfferFault::PortFull(4094))),
+        Flush(false),
+        Next(5),
+        Confirms(1, 6, false),
+        Stores(1),
+        Confirms(1, 6, true),
+        Next(6),
+        Shows(0, Err(ShownFault::TooOld)),
+        Shows(1, Ok(b"")),
+        Turn(0, 1, Some((16, Why::Full))),
+        Fails,
+        Answers(0, b"ab", Err(OfferFault::Already(2))),
+        Answers(3, b"c", Err(OfferFault::Gap(2))),
+        Answers(2, b"c", Err(OfferFault::StoreBroken)),
+        Answers(2, &[7; 4095], Err(OfferFault::StoreBroken)),
+        Answers(2, b"", Ok(7)),
+        Confirms(1, 7, false),
+        Turn(1, 0, None),
+        Refused(TurnFault::StoreBroken),
+        Turn(1, 0, None),
+        Refused(TurnFault::StoreBroken),
+        Turn(1, 0, None),
+        Refused(TurnFault::StoreBroken),
+    ],
+    ..NOTHING_WRITTEN
+};
+
+/// A host, a worker and the flusher, with two checkpoints.
+pub(crate) const SCRIPT: Story<'static> = Story {
+    spare: 4,
+    quantum: 9,
+    acts: &[
+        Act::Offer(0, b"ab"),
+        Act::Turns(4),
+        Flush(false),
+        Switch,
+        Act::Offer(2, b"c"),
+        Flush(false),
+        Switch,
+    ],
+    ..NOTHING_WRITTEN
+};
+
+/// A checkpoint, and what is done with a device once it was opened again.
+pub(crate) const CHECKPOINT: Story<'static> = Story {
+    acts: &[Switch],
+    ..SCRIPT
+};
+
+pub(crate) const GOES_ON: Story<'static> = Story {
+    acts: &[Act::More(b'z'), Act::Turns(2), Flush(false)],
+    ..SCRIPT
+};
+
+/// A round, and then four parts of four rounds each. Before each of the first parts, as many as the number of the row says, a snapshot
+/// begins, and no other one while it runs: the flusher then switches once in that part, and never in the others.
+pub(crate) const SNAPSHOTS: [&[Act]; 4] = [
+    &[
+        Rounds(1, 0),
+        Rounds(4, 0),
+        Rounds(4, 0),
+        Rounds(4, 0),
+        Rounds(4, 0),
+    ],
+    &[
+        Rounds(1, 0),
+        Begin,
+        Runs,
+        Rounds(4, 1),
+        Rounds(4, 0),
+        Rounds(4, 0),
+        Rounds(4, 0),
+    ],
+    &[
+        Rounds(1, 0),
+        Begin,
+        Runs,
+        Rounds(4, 1),
+        Begin,
+        Runs,
+        Rounds(4, 1),
+        Rounds(4, 0),
+        Rounds(4, 0),
+    ],
+    &[
+        Rounds(1, 0),
+        Begin,
+        Runs,
+        Rounds(4, 1),
+        Begin,
+        Runs,
+        Rounds(4, 1),
+        Begin,
+        Runs,
+        Rounds(4, 1),
+        Rounds(4, 0),
+    ],
 ];
-
-/// Makes these calls behind a number of bytes, so that each of them wants memory for its entry in one of the stories.
-pub(crate) fn calls<R: Wait + Abort>(rt: &R, alloc: Global, offered: &[u8]) -> bool {
-    let story = Story {
-        spare: 4,
-        offered,
-        rows: CALLS,
-        base: 4,
-        kept: &[(4, RUN_16)],
-    };
-    plays(rt, alloc, &story)
-}

@@ -68,25 +68,25 @@ fn work_beside<
     turns: u32,
     one: Seat<J>,
     others: Vec<Seat<J>>,
-    flusher: Flusher<J, D>,
+    flusher: &mut Flusher<J, D>,
     gate: &G,
-) -> (Flusher<J, D>, Option<Work<J>>)
+) -> Option<Work<J>>
     requires one { (one.hand.of ≡ Some net.now.queue) × (one.slips ≡ []) }
     requires others { All (λ seat. (seat.hand.of ≡ Some net.now.queue) × (seat.slips ≡ [])) others.items }
 {
     let Some(session) = Session::new(net.shared(), 0) else {
-        return (flusher, None);
+        return None;
     };
     let ended = AtomicBool::new(false);
     let (host, told) = (&session, &ended);
-    let (worked, (flusher, is_done)) = join(
+    let (worked, is_done) = join(
         rt,
         move || -> Result<Work<J>, AllocError>
             requires { (one.hand.of ≡ Some net.now.queue) × (one.slips ≡ []) × All (λ seat. (seat.hand.of ≡ Some net.now.queue) × (seat.slips ≡ [])) others.items }
         { work_and_end(rt, net, host, turns, one, others, told) },
         move || flush_meanwhile(rt, alloc, net.shared(), flusher, gate, told),
     );
-    (flusher, if is_done { worked.ok() } else { None })
+    if is_done { worked.ok() } else { None }
 }
 
 /// One worker ends after its first turn, and the others make the rest of `turns`, while a host hands in bytes and the flusher makes its
@@ -103,20 +103,20 @@ pub fn are_all_beside<
     seats: Vec<Seat<J>>,
     turns: u32,
     first: u64,
-    flusher: Flusher<J, D>,
+    flusher: &mut Flusher<J, D>,
     gate: &G,
-) -> (Flusher<J, D>, bool)
+) -> bool
     requires seats { All (λ seat. (seat.hand.of ≡ Some net.now.queue) × (seat.slips ≡ [])) seats.items }
     requires first { first ≡ J.first }
 {
     let Some((one, others)) = parted(net, seats) else {
-        return (flusher, false);
+        return false;
     };
-    let (flusher, worked) = work_beside(rt, alloc, net, turns, one, others, flusher, gate);
+    let worked = work_beside(rt, alloc, net, turns, one, others, flusher, gate);
     let Some(all) = worked else {
-        return (flusher, false);
+        return false;
     };
     let mut held = net.shared().book().lock(rt);
     let are_all = all.are_all(&mut held, first);
-    (flusher, are_all)
+    are_all
 }

@@ -51,3 +51,13 @@ pub(crate) fn fault_at(call: u64, tear: Tear) -> Fault {
         others,
     }
 }
+
+/// The case of that number: each call from `first` on ends in each way. None without ways.
+pub(crate) fn fault_of(tears: &[Tear], first: u64, number: u64) -> Option<Fault> {
+    let ways = tears.len() as u64;
+    if ways == 0 {
+        return None;
+    }
+    let tear = tears.get((number % ways) as usize)?;
+    Some(fault_at(first.wrapping_add(number / ways), *tear))
+}

@@ -6,14 +6,6 @@ use tp_node::Standing;
 use tp_tests_fixtures::letter;
 use tp_turn::{Trial, TryFault, try_standing};
 
-/// The image of the node that sends a letter.
-fn image(alloc: Global) -> Result<Vec<u8>, AllocError> {
-    match letter(alloc) {
-        Ok(image) => Ok(image),
-        Err(_) => letter(alloc),
-    }
-}
-
 /// Four turns, and again where memory was refused.
 fn tried(alloc: Global, image: &[u8]) -> Result<Trial, TryFault> {
     match try_standing(alloc, image, 4, 16) {
@@ -22,12 +14,23 @@ fn tried(alloc: Global, image: &[u8]) -> Result<Trial, TryFault> {
     }
 }
 
+/// Whether the node that sends a letter is tried as it should be.
+fn is_tried(alloc: Global) -> Result<bool, AllocError> {
+    let image = letter(alloc)?;
+    Ok(match tried(alloc, &image) {
+        Ok(trial) => {
+            trial.output.as_slice() == b"A".as_slice() && trial.standing == Standing::Free
+        }
+        Err(_) => false,
+    })
+}
+
 #[test]
 fn a_node_is_tried_again(rt: HostRuntime) -> Result<(), Fail> {
-    let alloc = rt.alloc();
-    let image = image(alloc)?;
-    let tried = tried(alloc, &image)?;
-    assert!(rt; tried.output.as_slice() == b"A".as_slice());
-    assert!(rt; tried.standing == Standing::Free);
+    let told = match is_tried(rt.alloc()) {
+        Ok(told) => told,
+        Err(_) => is_tried(rt.alloc())?,
+    };
+    assert!(rt; told);
     Ok(())
 }

@@ -7,6 +7,7 @@ ghost use Rattle.tp_tests_threads.specs.Unkind.{no_unkind, unkind_keeps};
 
 use std::alloc::{AllocError, Global};
 use tp_disk::{Counted, DeviceFailed, RawDisk};
+use tp_tests_fixtures::place;
 
 /// What then stands in a range that isn't synced: what stood there at the last sync that was done, what was written last, one byte
 /// everywhere, or for each byte one of them, drawn.
@@ -39,15 +40,21 @@ impl Torn {
     }
 }
 
-/// How a call ends: the run stops before it, or within it, or it fails and later calls are made.
-#[derive(Clone, Copy, PartialEq, Eq)]
+/// Bytes at their places.
+pub(crate) type Pieces = &'static [(usize, &'static [u8])];
+
+/// How a call ends: the run stops before it, or within it, or it fails and later calls are made; or another process writes pieces before
+/// it, and it is done.
+#[derive(Clone, Copy)]
 pub(crate) enum Ending {
     Before,
     Within,
     Fails,
+    Written(Pieces),
 }
 
-/// The call of a number ends so. Then the range that was written last is torn in one way, and all others that aren't synced in another.
+/// The call of a number ends so. Where it ends badly, the range that was written last is torn in one way, and all others that aren't
+/// synced in another.
 #[derive(Clone, Copy)]
 pub(crate) struct Fault {
     pub(crate) call: u64,
@@ -83,6 +90,9 @@ pub(crate) struct RawUnkind {
 /// An unkind device that counts its failures.
 pub(crate) type Unkind = Counted<RawUnkind>;
 
+/// How many ranges that aren't synced it has room for from the beginning.
+const RANGES: usize = 256;
+
 /// Tears a range.
 fn tear_range(bytes: &mut [u8], synced: &[u8], range: (usize, usize), torn: Torn) {
     let start = range.0.min(bytes.len()).min(synced.len());
@@ -95,8 +105,13 @@ fn tear_range(bytes: &mut [u8], synced: &[u8], range: (usize, usize), torn: Torn
 /// Puts a piece over bytes.
 fn put(bytes: &mut [u8], at: usize, piece: &[u8]) {
     let start = at.min(bytes.len());
-    for (byte, new) in bytes[start..].iter_mut().zip(piece) {
-        *byte = *new;
+    place(&mut bytes[start..], 0, piece);
+}
+
+/// Puts pieces at their places, one after another.
+fn put_all(bytes: &mut [u8], pieces: Pieces) {
+    for (at, piece) in pieces {
+        put(bytes, *at, piece);
     }
 }
 
@@ -118,7 +133,7 @@ impl RawUnkind {
             size: bytes.len() as u64,
             bytes: Vec::from_slice(alloc, bytes)?,
             synced: Vec::from_slice(alloc, bytes)?,
-            ranges: Vec::new(alloc),
+            ranges: Vec::with_capacity(alloc, RANGES)?,
             calls: 0,
             fault,
             stopped: false,
@@ -130,9 +145,10 @@ impl RawUnkind {
         &self.bytes
     }
 
-    /// How many calls were made.
-    pub(crate) fn calls(&self) -> u64 {
-        self.calls
+    /// What a crash leaves, and how many calls were made.
+    pub(crate) fn into_left(self) -> (Vec<u8>, u64) {
+        let RawUnkind { bytes, calls, .. } = self;
+        (bytes, calls)
     }
 
     /// Counts a call, and says what it comes to.
@@ -145,12 +161,24 @@ impl RawUnkind {
             return Came::Refused;
         }
         match self.fault {
-            Some(fault) if fault.call == call => {
-                self.stopped = fault.ending != Ending::Fails;
-                Came::Ends(fault)
-            }
+            Some(fault) if fault.call == call => self.come_to(fault),
             _ => Came::Done,
         }
+    }
+
+    /// What the call of a fault comes to. What another process writes before it is written.
+    fn come_to(&mut self, fault: Fault) -> Came
+        ensures { self.new.size ≡ self.old.size }
+    {
+        match fault.ending {
+            Ending::Written(pieces) => {
+                put_all(&mut self.bytes, pieces);
+                return Came::Done;
+            }
+            Ending::Fails => {}
+            Ending::Before | Ending::Within => self.stopped = true,
+        }
+        Came::Ends(fault)
     }
 
     /// Tears all that isn't synced.
@@ -230,7 +258,7 @@ impl RawDisk for RawUnkind {
         match self.begin() {
             Came::Done => {
                 let start = (at as usize).min(self.bytes.len());
-                put(out, 0, &self.bytes[start..]);
+                place(out, 0, &self.bytes[start..]);
                 Ok(())
             }
             Came::Refused => Err(DeviceFailed),
@@ -249,7 +277,7 @@ impl RawDisk for RawUnkind {
             Came::Done => self.write(at, bytes),
             Came::Refused => Err(DeviceFailed),
             Came::Ends(fault) => {
-                if fault.ending != Ending::Before {
+                if !matches!(fault.ending, Ending::Before) {
                     let _written = self.write(at, bytes);
                 }
                 self.end(fault)

@@ -1,20 +1,10 @@
 //! Checkpoints act by act, and what a crash leaves of each: worked out by hand.
 
-use crate::acts::Act::{Begin, Book, Fails, Flush, Groups, Offer, Turn};
-use crate::acts::{Act, turn};
-use crate::small::{Network, Program};
-use tp_model::Entry;
+use crate::acts::Act::{Begin, Book, Fails, Flush, Offer, Rounds, Turn};
+use crate::acts::Story;
+use crate::small::{Made, Network, ONE, Program};
 use tp_node::Why;
-use tp_tests_fixtures::{ONE_NODE, SENDS_A};
-
-/// What is done on a network, whose nodes have `spare` spare frames and make `quantum` steps a turn.
-#[derive(Clone, Copy)]
-pub(crate) struct Story {
-    pub(crate) network: Network,
-    pub(crate) spare: usize,
-    pub(crate) quantum: u16,
-    pub(crate) acts: &'static [Act],
-}
+use tp_tests_fixtures::SECOND;
 
 /// What a crash leaves of a device: the open area, what opening says of it, pieces of the device's bytes, and words of the nodes' images
 /// behind opening, each with its node and its place.
@@ -26,13 +16,6 @@ pub(crate) struct Device {
     pub(crate) next: u64,
     pub(crate) bytes: &'static [(usize, &'static [u8])],
     pub(crate) words: &'static [(usize, usize, [u8; 4])],
-}
-
-/// What a crash leaves, with the entries that opening keeps and their numbers.
-#[derive(Clone, Copy)]
-pub(crate) struct Left<'a> {
-    pub(crate) device: &'a Device,
-    pub(crate) kept: &'a [(Entry, u64)],
 }
 
 /// mint; ldnlp 0; ldc 58; outbyte; stopp
@@ -55,14 +38,17 @@ const WRITES: &[u8] = &[0x44, 0xD0, 0x45, 0x28, 0xD0, 0x22, 0xF2];
 const PAIR: &[u8] = b"node a 4\nnode b 4\nport h\nwire a.0 b.0\nwire a.3 h\n";
 
 /// A byte is under way as both nodes record: the receiver before it took it, the sender after it was sent.
-pub(crate) const UNDER_WAY: Story = Story {
+pub(crate) const UNDER_WAY: Story<'static> = Story {
     network: Network {
         text: PAIR,
         programs: &[SENDS_ONCE, IDLE],
         area: 20_480,
+        made: Made::Formatted,
     },
     spare: 4,
     quantum: 16,
+    offered: b"",
+    is_plain: false,
     acts: &[
         Turn(0, 0, Some((4, Why::Idle))),
         Book(1, false),
@@ -115,7 +101,7 @@ pub(crate) const UNDER_WAY_LEFT: Device = Device {
 
 /// The second node records when the next number is 9, the cut is whole at 12, and the entries behind it reach 12. Both nodes count
 /// on meanwhile.
-pub(crate) const LATE: Story = Story {
+pub(crate) const LATE: Story<'static> = Story {
     network: Network {
         text: PAIR,
         programs: &[
@@ -129,9 +115,12 @@ pub(crate) const LATE: Story = Story {
             },
         ],
         area: 20_480,
+        made: Made::Formatted,
     },
     spare: 4,
     quantum: 4,
+    offered: b"",
+    is_plain: false,
     acts: &[
         Offer(0, b"w"),
         Turn(0, 1, Some((4, Why::Full))),
@@ -190,25 +179,26 @@ pub(crate) const LATE_LEFT: Device = Device {
 
 /// Three checkpoints. Behind the first one the second area gets forty groups more, the last of them in the turn of the second one. The
 /// third one, with one entry outside its cut, leaves them standing behind the closed gate of its group.
-pub(crate) const THIRD: Story = Story {
+pub(crate) const THIRD: Story<'static> = Story {
     network: Network {
-        text: ONE_NODE,
         programs: &[Program {
             code: COUNTS,
             workspace: 0x200,
         }],
-        area: 16_384,
+        ..ONE
     },
     spare: 4,
     quantum: 4,
+    offered: b"",
+    is_plain: false,
     acts: &[
-        Groups(1),
+        Rounds(1, 0),
         Begin,
         Turn(0, 0, Some((4, Why::Full))),
         Turn(1, 0, None),
         Book(2, true),
         Flush(true),
-        Groups(39),
+        Rounds(39, 0),
         Book(41, false),
         Begin,
         Turn(0, 0, Some((4, Why::Full))),
@@ -266,17 +256,12 @@ pub(crate) const THIRD_LEFT: Device = Device {
 };
 
 /// A letter is sent, taken and acknowledged; then a checkpoint, whose last call that writes the device is that of the gate.
-pub(crate) const SWITCHED: Story = Story {
-    network: Network {
-        text: ONE_NODE,
-        programs: &[Program {
-            code: SENDS_A,
-            workspace: 0x200,
-        }],
-        area: 16_384,
-    },
+pub(crate) const SWITCHED: Story<'static> = Story {
+    network: ONE,
     spare: 4,
     quantum: 16,
+    offered: b"",
+    is_plain: false,
     acts: &[
         Turn(0, 0, Some((3, Why::Idle))),
         Turn(1, 1, None),
@@ -294,6 +279,17 @@ pub(crate) const SWITCHED: Story = Story {
 
 /// More calls of the device than the story makes.
 pub(crate) const CALLS: u64 = 100;
+
+/// What stands where the gate is half written.
+pub(crate) const TORN: &[(usize, &[u8])] = &[
+    (SECOND, &[0x5A]),
+    (
+        16_897,
+        &[
+            2, 0, 0, 0, 0, 0, 0, 0, 0xDC, 0x30, 0, 0, 3, 0, 0, 0, 0, 0, 2, 0,
+        ],
+    ),
+];
 
 /// What it leaves once the gate is open.
 pub(crate) const SWITCHED_LEFT: Device = Device {
@@ -326,17 +322,18 @@ pub(crate) const NOT_SWITCHED_LEFT: Device = Device {
 };
 
 /// With one spare frame a frozen node writes its first page, and the step that writes the second one isn't made until the pages are let go.
-pub(crate) const ONE_SPARE: Story = Story {
+pub(crate) const ONE_SPARE: Story<'static> = Story {
     network: Network {
-        text: ONE_NODE,
         programs: &[Program {
             code: WRITES,
             workspace: 0x200,
         }],
-        area: 16_384,
+        ..ONE
     },
     spare: 1,
     quantum: 9,
+    offered: b"",
+    is_plain: false,
     acts: &[
         Begin,
         Turn(0, 0, Some((3, Why::NoFrame))),
@@ -363,7 +360,7 @@ pub(crate) const ONE_SPARE_LEFT: Device = Device {
 };
 
 /// With none already the first word wants a frame.
-pub(crate) const NONE_SPARE: Story = Story {
+pub(crate) const NONE_SPARE: Story<'static> = Story {
     spare: 0,
     acts: &[
         Begin,

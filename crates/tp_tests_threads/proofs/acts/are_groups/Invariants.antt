@@ -1,5 +1,0 @@
-use Rattle.std.proofs.Common.{◌≡◌, Some}
-use Rattle.tp_tests_threads.proofs.acts.are_groups.Given as goal
-
-abbrev pub invariant-loop : goal.invariant-loop
-invariant-loop g l = l.seat.hand.of ≡ Some l.net.queue
