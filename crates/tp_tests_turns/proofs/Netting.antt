@@ -1,158 +1,332 @@
--- The nodes of a network in memory stay those of its book.
-use Rattle.std.proofs.Common.{◌≡◌, ℕ, zero, suc, Bool, true, false, cond, inl, inr, ◌+◌, List, [], ◌∷◌, ◌++◌, get_or, take, length, map, replicate, set, refl, sym, ap, subst, ◌∙◌, arith, Option, Some, None, slice_get}
+-- Nodes at home or away stay so, whatever others do.
+use Rattle.std.proofs.Common.{◌≡◌, ◌≢◌, ℕ, zero, suc, inl, inr, Bool, true, false, cond, ◌+◌, ◌≤◌, List, [], ◌∷◌, ◌++◌, get_or, take, length, map, replicate, set, refl, sym, ap, subst, ◌∙◌, arith, Option, Some, None, slice_get}
 use Rattle.std.specs.Prelude.{◌<◌, is_none, is_some, nat_le, Result, Ok, Err, IfOk, OnErr}
 use Rattle.std.specs.List.{list_all}
 use Rattle.std.proofs.lemmas.Bool.{and_parts, cases_eq}
-use Rattle.std.proofs.lemmas.List.{get_or-replicate, length-replicate, length-set, map-append, take_more}
-use Rattle.std.proofs.lemmas.Option.{slice_get-get_or}
+use Rattle.std.proofs.lemmas.List.{get_or-replicate, length-replicate, map-append, take_more}
+use Rattle.std.proofs.lemmas.Option.{slice_get-get_or, slice_get_past, slice_get_within}
+use Rattle.tp_model.specs.declared.entry.Entry.{Entry}
+use Rattle.tp_model.specs.declared.entry.Entry.TheVariants.{Take}
+use Rattle.tp_model.specs.declared.form.Form.TheVariants.{Turns}
+use Rattle.tp_model.specs.declared.limits.TheConstants.{MAX_STEPS}
+use Rattle.tp_model.specs.declared.link.Received.{Received}
+use Rattle.tp_model.specs.declared.link.Token.{Token}
+use Rattle.tp_model.specs.declared.link.Token.TheVariants.{Marker}
+use Rattle.tp_model.specs.declared.wire.WireEnd.TheVariants.{Port as AtPort}
 use Rattle.tp_model.specs.NodeState.{NodeState}
 use Rattle.tp_model.specs.Image.{node_of}
 use Rattle.tp_model.specs.Node.{t414}
+use Rattle.tp_model.specs.Network.{steps, receiver, on_line, is_first}
 use Rattle.tp_model.specs.Snapshot.{MarkedNetwork, Snapshot}
 use Rattle.tp_model.specs.WholeCut.{WholeCut, whole, all_some, trimmed}
 use Rattle.tp_model.specs.Runs.{HasCut}
-use Rattle.tp_model.specs.Acts.{Act, Trim, happens, trim}
+use Rattle.tp_model.specs.Acts.{Act, Begin, Journal, Close, Trim, acted, happens, trim}
 use Rattle.tp_model.specs.Journal.{is_full_for_snapshot}
 use Rattle.tp_law_machine.specs.NodeOfBytes.{IsNodeOfBytes}
 use Rattle.tp_law_machine.proofs.Partial.{slice_get-set_same, slice_get-set_other}
+use Rattle.tp_law_network.specs.Reserved.{IsReceived}
 use Rattle.tp_node.specs.NodeContents.{NodeContents}
 use Rattle.tp_node.specs.FromImage.{ReadsImage}
 use Rattle.tp_node.proofs.Answered.{image_read, image_thawed}
+use Rattle.tp_book.specs.Acts.{input_acts, confirm_acts}
 use Rattle.tp_book.specs.Needs.{has_recorded_in}
 use Rattle.tp_book.specs.declared.refusal.Refusal.{Refusal}
 use Rattle.tp_book.specs.declared.refusal.Refusal.TheVariants.{JournalFull, StoreBroken, SnapshotRunning}
 use Rattle.tp_book.specs.declared.state.NetState.{NetState}
 use Rattle.tp_book.specs.Book.{BookValue, agreed, nodes_in, world_of}
+use Rattle.tp_book.specs.Calls.{front_of, with_run, without_run, HostTook}
 use Rattle.tp_book.specs.Host.{after_inputs, after_confirm, with_confirmed, port_in}
-use Rattle.tp_book.specs.Marked.{after_begin, begin_refusal}
+use Rattle.tp_book.specs.Kept.{BookKeeps}
+use Rattle.tp_book.specs.Marked.{after_begin, after_close, begin_refusal}
 use Rattle.tp_book.specs.Opened.{IsWellOpen, now_of, opened_book}
 use Rattle.tp_book.specs.Refusals.{else_if, IsAnswer}
 use Rattle.tp_book.specs.Trimmed.{after_trim}
-use Rattle.tp_turn.specs.Moments.{IsNodeOf, Added}
+use Rattle.tp_book.proofs.Commit.{length-agreed}
+use Rattle.tp_book.proofs.Stood.{one_act}
 use Rattle.tp_turn.specs.Hosted.{HostAdded}
+use Rattle.tp_turn.specs.Moments.{Added, IsNodeOf, moment_of}
+use Rattle.tp_turn.specs.Stages.{HasRunOn}
+use Rattle.tp_turn.specs.Whole.{HasTurnedOn, IsOpenWhole}
+use Rattle.tp_turn.specs.declared.receiving.Taken.{Taken}
 use Rattle.tp_turn.proofs.Adding.{others_stay}
-use Rattle.tp_turn.proofs.Fronted.{collected_recorded, node_stays}
-use Rattle.tp_turn.proofs.Hosting.{nodes_stay}
-use Rattle.tp_tests_turns.specs.Nets.{HasNodes, spelt_one, spelt, seen_one, seen}
+use Rattle.tp_turn.proofs.Ahead.{received_stays, stays_with}
+use Rattle.tp_turn.proofs.Hosting.{nodes_stay, port_taken, port_closed}
+use Rattle.tp_shared.specs.BookActs.{HostActed}
+use Rattle.tp_shared.proofs.Hosting.{hosted_input, hosted_confirm}
+use Rattle.tp_tests_turns.specs.declared.seat.Away.{Away}
+use Rattle.tp_tests_turns.specs.declared.seat.Seat.{Seat}
+use Rattle.tp_tests_turns.specs.Nets.{HasSeats, IsHome, IsSeated, Leaves, spelt_one, spelt, seen_one, seen}
 
--- ## What is so of each
+-- ## One node acts
 
-pub all_free : (nodes : List NodeContents) (b : BookValue) (number : ℕ) → HasNodes b nodes → number < length nodes → slice_get b.runs number ≡ Some false
-all_free nodes b number H there =
-    let long : length (replicate (length nodes) false) ≡ length nodes = length-replicate (length nodes) false in
-    ap (λ runs. slice_get runs number) H.free
-    ∙ slice_get-get_or (replicate (length nodes) false) number true (omega (arith, long, there))
-    ∙ ap Some (get_or-replicate (length nodes) number false true there)
+module _ (number : ℕ) (node : NodeState) (acts : List Act) (a b : BookValue) (K : BookKeeps a.state) (A : Added number node acts a b) where
+  turned_stays : (other : ℕ) (takes : List Received) (count : ℕ) (tokens : List (ℕ × Token)) (n : NodeContents) → other ≢ number → HasTurnedOn a other takes count tokens n → HasTurnedOn b other takes count tokens n
+  turned_stays other takes count tokens n apart H = record {
+    before = H.before;
+    is = others_stay number other node H.before acts a b A apart H.is;
+    received = stays_with a b K other number takes acts A.did (λ same. apart (sym same)) A.own H.received;
+    few = H.few;
+    made = H.made;
+    kept = H.kept;
+    image = H.image;
+  }
 
-pub all_thawed : (nodes : List NodeContents) → list_all (λ node. is_none node.frozen) nodes ≡ true → (i : ℕ) (node : NodeContents) → slice_get nodes i ≡ Some node → node.frozen ≡ None
-all_thawed [] passed i node at = cc
-all_thawed (n ∷ ns) passed zero node at =
-    let one : n ≡ node = cc in
-    let none = (and_parts (is_none n.frozen) (list_all (λ m. is_none m.frozen) ns) passed).0 in
-    ap (λ m. m.frozen) (sym one) ∙ go n.frozen none
+  seated_stays : (other : ℕ) (away : Option Away) (n : NodeContents) → other ≢ number → IsSeated a other away n → IsSeated b other away n
+  seated_stays other None n apart S = record { free = ap (λ runs. slice_get runs other) A.grew.runs ∙ S.free; is = others_stay number other node n acts a b A apart S.is }
+  seated_stays other (Some away) n apart S = record {
+    reserved = ap (λ runs. slice_get runs other) A.grew.runs ∙ S.reserved;
+    turned = turned_stays other away.taken.takes away.stretch.ran.count (away.taken.sent.items ++ away.stretch.sent.items) n apart S.turned;
+  }
+
+  pub leaves_added : Leaves number a b
+  leaves_added = record { idle = A.grew.ready; form = A.grew.form; others = λ other away n apart S. seated_stays other away n apart S }
+
+-- a node at home acts
+pub home_added : (number : ℕ) (n m : NodeContents) (acts : List Act) (a b : BookValue) → Added number m.live acts a b → IsNodeOf b number m → IsHome a number n → IsHome b number m
+home_added number n m acts a b A is H = record { free = ap (λ runs. slice_get runs number) A.grew.runs ∙ H.free; is = is }
+
+-- a run of it is reserved, or no more
+leaves_runs : (number : ℕ) (reserved : Bool) (b : BookValue) → Leaves number b (record b { runs = set b.runs number reserved })
+leaves_runs number reserved b = record {
+  idle = refl;
+  form = refl;
+  others = λ other away n apart S. go other away n apart S;
+}
   where
-    go : (o : Option NodeState) → is_none o ≡ true → o ≡ None
-    go None is = refl
-    go (Some state) is = cc
-all_thawed (n ∷ ns) passed (suc i) node at = all_thawed ns (and_parts (is_none n.frozen) (list_all (λ m. is_none m.frozen) ns) passed).1 i node at
+    go : (other : ℕ) (away : Option Away) (n : NodeContents) → other ≢ number → IsSeated b other away n → IsSeated (record b { runs = set b.runs number reserved }) other away n
+    go other None n apart S = record { free = slice_get-set_other b.runs number other reserved apart ∙ S.free; is = record { there = S.is.there; image = S.is.image; recorded = S.is.recorded; kept = S.is.kept } }
+    go other (Some away) n apart S = record {
+      reserved = slice_get-set_other b.runs number other reserved apart ∙ S.reserved;
+      turned = record {
+        before = S.turned.before;
+        is = record { there = S.turned.is.there; image = S.turned.is.image; recorded = S.turned.is.recorded; kept = S.turned.is.kept };
+        received = S.turned.received;
+        few = S.turned.few;
+        made = S.turned.made;
+        kept = S.turned.kept;
+        image = S.turned.image;
+      };
+    }
 
--- ## A turn
+leaves_then : (number : ℕ) (a b c : BookValue) → Leaves number a b → Leaves number b c → Leaves number a c
+leaves_then number a b c L M = record {
+  idle = M.idle ∙ L.idle;
+  form = M.form ∙ L.form;
+  others = λ other away n apart S. M.others other away n apart (L.others other away n apart S);
+}
 
-pub turned : (nodes : List NodeContents) (number : ℕ) (n m : NodeContents) (acts : List Act) (a b : BookValue) → slice_get nodes number ≡ Some n → Added number m.live acts a b → IsNodeOf b number m
-    → HasNodes a nodes → HasNodes b (set nodes number m)
-turned nodes number n m acts a b there A is H = record {
-  idle = A.grew.ready ∙ H.idle;
-  free = A.grew.runs ∙ H.free ∙ ap (λ many. replicate many false) (sym (length-set nodes number m));
-  each = λ i node at.
+-- ## A turn is opened
+
+pub leaves_opened : (number : ℕ) (taken : Taken) (a b : BookValue) (n m : NodeContents) → BookKeeps a.state → IsOpenWhole number taken (moment_of a n) (moment_of b m) → Leaves number a b
+leaves_opened number taken a b n m K O =
+    subst (Leaves number a) (sym O.book)
+    (leaves_then number a O.between.book (with_run O.between.book number) (leaves_added number O.between.node.live O.closed.acts a O.between.book K O.closed.added) (leaves_runs number true O.between.book))
+
+pub opened_reserved : (number : ℕ) (taken : Taken) (a b : BookValue) (n m : NodeContents) → IsOpenWhole number taken (moment_of a n) (moment_of b m) → slice_get a.runs number ≡ Some false → slice_get b.runs number ≡ Some true
+opened_reserved number taken a b n m O free =
+    let still : slice_get O.between.book.runs number ≡ Some false = ap (λ runs. slice_get runs number) O.closed.added.grew.runs ∙ free in
+    ap (λ (x : BookValue). slice_get x.runs number) O.book ∙ slice_get-set_same O.between.book.runs number true false still
+
+-- ## It is committed
+
+pub leaves_committed : (number : ℕ) (node : NodeState) (acts : List Act) (a b : BookValue) → BookKeeps a.state → Added number node acts (without_run a number) b → Leaves number a b
+leaves_committed number node acts a b K A =
+    leaves_then number a (without_run a number) b (leaves_runs number false a) (leaves_added number node acts (without_run a number) b K A)
+
+pub committed_free : (number : ℕ) (node : NodeState) (acts : List Act) (a b : BookValue) → Added number node acts (without_run a number) b → slice_get a.runs number ≡ Some true → slice_get b.runs number ≡ Some false
+committed_free number node acts a b A reserved = ap (λ runs. slice_get runs number) A.grew.runs ∙ slice_get-set_same a.runs number false true reserved
+
+-- ## It runs alone
+
+-- a book in which a run is reserved, beside a node at home
+pub ran_on : (a r : BookValue) (number count quantum : ℕ) (tokens : List (ℕ × Token)) (n m : NodeContents) → r ≡ with_run a number → IsHome a number n → count ≤ quantum → quantum ≤ MAX_STEPS
+    → steps t414 count n.live ≡ Some (m.live, tokens) → m.frozen ≡ n.frozen → HasRunOn r number count tokens m
+ran_on a r number count quantum tokens n m is H most bound made kept =
+    subst (λ x. HasRunOn x number count tokens m) (sym is)
+    (record { before = n; is = record { there = H.is.there; image = H.is.image; recorded = H.is.recorded; kept = H.is.kept }; few = omega (arith, most, bound); made = made; kept = kept })
+
+pub leaves_run : (number : ℕ) (node : NodeState) (acts : List Act) (a r b : BookValue) → BookKeeps a.state → r ≡ with_run a number → Added number node acts (without_run r number) b → Leaves number a b
+leaves_run number node acts a r b K is A =
+    leaves_then number a r b (subst (Leaves number a) (sym is) (leaves_runs number true a))
+    (leaves_committed number node acts r b (subst (λ x. BookKeeps x.state) (sym is) K) A)
+
+-- ## Of the network
+
+pub moved : (seats : List Seat) (number : ℕ) (s t : Seat) (a b : BookValue) → slice_get seats number ≡ Some s → Leaves number a b → IsSeated b number t.away t.node → HasSeats a seats → HasSeats b (set seats number t)
+moved seats number s t a b there L is H = record {
+  idle = L.idle ∙ H.idle;
+  form = L.form ∙ H.form;
+  each = λ i seat at.
       elim (cases_eq i number) [
         | inl same ↦
-            let new : slice_get (set nodes number m) i ≡ Some m = ap (slice_get (set nodes number m)) same ∙ slice_get-set_same nodes number m n there in
-            let one : m ≡ node = cc in
-            subst (λ j. IsNodeOf b j node) (sym same) (subst (IsNodeOf b number) one is)
-        | inr apart ↦ others_stay number i m.live node acts a b A apart (H.each i node (sym (slice_get-set_other nodes number i m apart) ∙ at))
+            let new : slice_get (set seats number t) i ≡ Some t = ap (slice_get (set seats number t)) same ∙ slice_get-set_same seats number t s there in
+            let one : t ≡ seat = cc in
+            subst (λ j. IsSeated b j seat.away seat.node) (sym same) (subst (λ x. IsSeated b number x.away x.node) one is)
+        | inr apart ↦ L.others i seat.away seat.node apart (H.each i seat (sym (slice_get-set_other seats number i t apart) ∙ at))
       ];
 }
 
-pub hosted : (nodes : List NodeContents) (acts : List Act) (a b : BookValue) → HostAdded acts a b → HasNodes a nodes → HasNodes b nodes
-hosted nodes acts a b A H = record { idle = A.grew.ready ∙ H.idle; free = A.grew.runs ∙ H.free; each = λ i node at. nodes_stay i node acts a b A (H.each i node at) }
+-- ## The host acts
+
+not_host : (ns : List NodeState) (i many : ℕ) (n : NodeState) → slice_get ns i ≡ Some n → length ns ≡ many → many ≢ i
+not_host ns i many n at long same = let none : slice_get ns i ≡ None = slice_get_past ns i (omega (arith, long, same)) in cc
+
+module _ (acts : List Act) (a b : BookValue) (K : BookKeeps a.state) (A : HostAdded acts a b) where
+  seated_hosted : (i : ℕ) (away : Option Away) (n : NodeContents) → IsSeated a i away n → IsSeated b i away n
+  seated_hosted i None n S = record { free = ap (λ runs. slice_get runs i) A.grew.runs ∙ S.free; is = nodes_stay i n acts a b A S.is }
+  seated_hosted i (Some away) n S = record {
+    reserved = ap (λ runs. slice_get runs i) A.grew.runs ∙ S.reserved;
+    turned =
+        let H = S.turned in
+        record {
+          before = H.before;
+          is = nodes_stay i H.before acts a b A H.is;
+          received =
+              stays_with a b K i (length a.state.start.nodes) away.taken.takes acts A.did
+              (not_host (agreed a.state) i (length a.state.start.nodes) H.before.live H.is.there (length-agreed a.state K)) A.own H.received;
+          few = H.few;
+          made = H.made;
+          kept = H.kept;
+          image = H.image;
+        };
+  }
+
+  pub hosted : (seats : List Seat) → HasSeats a seats → HasSeats b seats
+  hosted seats H = record { idle = A.grew.ready ∙ H.idle; form = A.grew.form ∙ H.form; each = λ i seat at. seated_hosted i seat.away seat.node (H.each i seat at) }
 
 -- ## The host's calls
 
-stays : (nodes : List NodeContents) (a b : BookValue) → b.ready ≡ a.ready → b.runs ≡ a.runs → agreed b.state ≡ agreed a.state → ((p : ℕ) → has_recorded_in b.state.snapshot p ≡ has_recorded_in a.state.snapshot p) → b.frozen ≡ a.frozen
-    → HasNodes a nodes → HasNodes b nodes
-stays nodes a b ready runs agree recorded frozen H = record {
-  idle = ready ∙ H.idle;
-  free = runs ∙ H.free;
-  each = λ i node at.
-      let N = H.each i node at in
-      node_stays a b i node node N (ap (λ ns. slice_get ns i) agree ∙ N.there) N.image refl (recorded i) frozen;
-}
+acted_added : (Are : List Entry → Type 0) (a b : BookValue) → (H : HostActed Are a b) → b.generation ≡ a.generation → HostAdded H.grown.acts a b
+acted_added Are a b H same =
+    let G = H.grown in
+    record {
+      did = G.did;
+      grew = record { start = G.start; entries_are = G.entries_are; numbers = G.numbers; base = G.base; runs = H.runs; ready = G.ready; broken = G.broken; room = G.room; history = G.history; generation = same; floor = G.floor; form = G.form };
+      own = H.own;
+      nodes = H.nodes;
+      recorded = H.recorded;
+      frozen = H.frozen;
+    }
 
-pub handed_in : (nodes : List NodeContents) (a b : BookValue) (port : ℕ) (bytes : List ℕ) → b ≡ after_inputs a port bytes → agreed b.state ≡ agreed a.state → HasNodes a nodes → HasNodes b nodes
-handed_in nodes a b port bytes is agree H =
-    stays nodes a b (ap (λ x. x.ready) is) (ap (λ x. x.runs) is) agree (λ p. ap (λ x. has_recorded_in x.state.snapshot p) is) (ap (λ x. x.frozen) is) H
+pub handed_in : {A : Type 0} (seats : List Seat) (a b : BookValue) (port : ℕ) (bytes : List ℕ) (r : Result A Refusal) → BookKeeps a.state → IfOk r (λ x. b ≡ after_inputs a port bytes) → IfOk r (λ x. acted t414 (world_of a) (input_acts port bytes) ≡ Some (world_of b))
+    → OnErr r (b ≡ a) → agreed b.state ≡ agreed a.state → HasSeats a seats → HasSeats b seats
+handed_in seats a b port bytes (Ok x) K is act err same H =
+    let done = hosted_input a b port bytes is same act in
+    hosted done.grown.acts a b K (acted_added _ a b done (ap (λ x. x.generation) is)) seats H
+handed_in seats a b port bytes (Err e) K is act err same H = subst (λ x. HasSeats x seats) (sym err) H
 
-pub confirmed : (nodes : List NodeContents) (a b : BookValue) (port upto : ℕ) → b ≡ after_confirm a port upto → agreed b.state ≡ agreed a.state → HasNodes a nodes → HasNodes b nodes
-confirmed nodes a b port upto is agree H = go (nat_le upto (port_in a port).out_base) refl
+confirmed_generation : (a : BookValue) (port upto : ℕ) → (after_confirm a port upto).generation ≡ a.generation
+confirmed_generation a port upto = go (nat_le upto (port_in a port).out_base)
   where
-    go : (done : Bool) → nat_le upto (port_in a port).out_base ≡ done → HasNodes b nodes
-    go true none = subst (λ x. HasNodes x nodes) (sym (is ∙ ap (λ test. cond test a (with_confirmed a port upto)) none)) H
-    go false some =
-        let new = is ∙ ap (λ test. cond test a (with_confirmed a port upto)) some in
-        stays nodes a b (ap (λ x. x.ready) new) (ap (λ x. x.runs) new) agree (λ p. ap (λ x. has_recorded_in x.state.snapshot p) new ∙ collected_recorded a.state.snapshot _ p _) (ap (λ x. x.frozen) new) H
+    go : (before : Bool) → (cond before a (with_confirmed a port upto)).generation ≡ a.generation
+    go true = refl
+    go false = refl
 
--- what a call keeps that did something or was refused
-pub either : {A E : Type 0} (P : BookValue → Type 0) (r : Result A E) (a b new : BookValue) → IfOk r (λ x. b ≡ new) → OnErr r (b ≡ a) → (b ≡ new → P b) → P a → P b
-either P (Ok x) a b new ok err then old = then ok
-either P (Err e) a b new ok err then old = subst P (sym err) old
+pub confirmed : {A : Type 0} (seats : List Seat) (a b : BookValue) (port upto : ℕ) (r : Result A Refusal) → BookKeeps a.state → IfOk r (λ x. b ≡ after_confirm a port upto) → IfOk r (λ x. acted t414 (world_of a) (confirm_acts a port upto) ≡ Some (world_of b))
+    → OnErr r (b ≡ a) → agreed b.state ≡ agreed a.state → HasSeats a seats → HasSeats b seats
+confirmed seats a b port upto (Ok x) K is act err same H =
+    let done = hosted_confirm a b port upto is same act in
+    hosted done.grown.acts a b K (acted_added _ a b done (ap (λ x. x.generation) is ∙ confirmed_generation a port upto)) seats H
+confirmed seats a b port upto (Err e) K is act err same H = subst (λ x. HasSeats x seats) (sym err) H
 
--- ## Snapshots
+pub host_took : {A : Type 0} (seats : List Seat) (a b : BookValue) (line port : ℕ) (r : Result A Refusal) → BookKeeps a.state → receiver a.state.start.wires line ≡ Some (AtPort port) → IfOk r (λ x. HostTook a b line)
+    → IfOk r (λ x. happens t414 (world_of a) (Journal (Take line (front_of a line))) ≡ Some (world_of b)) → OnErr r (b ≡ a) → agreed b.state ≡ agreed a.state → HasSeats a seats → HasSeats b seats
+host_took seats a b line port (Ok x) K goes took act err same H =
+    let done = port_taken a b line port goes took same act in
+    hosted done.acts a b K done.added seats H
+host_took seats a b line port (Err e) K goes took act err same H = subst (λ x. HasSeats x seats) (sym err) H
 
--- a book that agrees with another on its nodes has them, where none is frozen
-fresh : (nodes : List NodeContents) (a b : BookValue) → b.ready ≡ a.ready → b.runs ≡ a.runs → agreed b.state ≡ agreed a.state → ((i : ℕ) (node : NodeContents) → slice_get nodes i ≡ Some node → node.frozen ≡ None)
-    → HasNodes a nodes → HasNodes b nodes
-fresh nodes a b ready runs agree thawed H = record {
-  idle = ready ∙ H.idle;
-  free = runs ∙ H.free;
-  each = λ i node at.
-      let N = H.each i node at in
-      let none = thawed i node at in
-      record {
-        there = ap (λ ns. slice_get ns i) agree ∙ N.there;
-        image = N.image;
-        recorded = λ (some : is_some node.frozen ≡ true). let no = ap is_some none in cc;
-        kept = λ here its frozen t. cc;
-      };
-}
+pub closed : (seats : List Seat) (a b : BookValue) (line : ℕ) → BookKeeps a.state → b ≡ after_close a line → is_first (on_line a.state.lines line) Marker ≡ true → happens t414 (world_of a) (Close line) ≡ Some (world_of b) → HasSeats a seats → HasSeats b seats
+closed seats a b line K is first act H =
+    let done = port_closed a b line is first act in
+    hosted done.acts a b K done.added seats H
 
-pub idle_thawed : (nodes : List NodeContents) (a : BookValue) → a.state.snapshot ≡ None → HasNodes a nodes → (i : ℕ) (node : NodeContents) → slice_get nodes i ≡ Some node → node.frozen ≡ None
-idle_thawed nodes a none H i node at = go node.frozen refl
-  where
-    go : (o : Option NodeState) → node.frozen ≡ o → node.frozen ≡ None
-    go None is = is
-    go (Some state) is =
-        let yes : has_recorded_in a.state.snapshot i ≡ true = (H.each i node at).recorded (ap is_some is) in
-        let no : has_recorded_in a.state.snapshot i ≡ false = ap (λ given. has_recorded_in given i) none in
-        cc
+-- ## A snapshot begins, and ends
 
-pub begin_free : (b : BookValue) (u : Unit {0}) → IsAnswer {A = Unit {0}} (begin_refusal b) (Ok u) → b.state.snapshot ≡ None
+-- where no node is frozen
+module _ (a b : BookValue) (act : Act) (did : acted t414 (world_of a) (act ∷ []) ≡ Some (world_of b)) (runs : b.runs ≡ a.runs) (agree : agreed b.state ≡ agreed a.state) where
+  thawed_node : (i : ℕ) (n : NodeContents) → n.frozen ≡ None → IsNodeOf a i n → IsNodeOf b i n
+  thawed_node i n none N = record {
+    there = ap (λ ns. slice_get ns i) agree ∙ N.there;
+    image = N.image;
+    recorded = λ (some : is_some n.frozen ≡ true). let no = ap is_some none in cc;
+    kept = λ here its frozen t. cc;
+  }
+
+  thawed_seat : ((i : ℕ) (takes : List Received) → IsReceived (world_of a).live i takes → IsReceived (world_of b).live i takes) → (i : ℕ) (away : Option Away) (n : NodeContents) → n.frozen ≡ None → IsSeated a i away n → IsSeated b i away n
+  thawed_seat stay i None n none S = record { free = ap (λ rs. slice_get rs i) runs ∙ S.free; is = thawed_node i n none S.is }
+  thawed_seat stay i (Some away) n none S = record {
+    reserved = ap (λ rs. slice_get rs i) runs ∙ S.reserved;
+    turned =
+        let H = S.turned in
+        record {
+          before = H.before;
+          is = thawed_node i H.before (sym H.kept ∙ none) H.is;
+          received = stay i away.taken.takes H.received;
+          few = H.few;
+          made = H.made;
+          kept = H.kept;
+          image = H.image;
+        };
+  }
+
+begin_free : (b : BookValue) (u : Unit {0}) → IsAnswer {A = Unit {0}} (begin_refusal b) (Ok u) → b.state.snapshot ≡ None
 begin_free b u = go b.state.snapshot
   where
     go : (given : Option Snapshot) → IsAnswer {A = Unit {0}} (else_if (else_if (else_if None (is_some given) SnapshotRunning) b.broken StoreBroken) (is_full_for_snapshot b.generation) JournalFull) (Ok u) → given ≡ None
     go None answer = refl
     go (Some snap) answer = absurd answer
 
-pub begin_agreed : (b : BookValue) → agreed (after_begin b).state ≡ agreed b.state
+begin_agreed : (b : BookValue) → agreed (after_begin b).state ≡ agreed b.state
 unfolding agreed
 begin_agreed b = refl
 
-pub begun : (nodes : List NodeContents) (a b : BookValue) (r : Result (Unit {0}) Refusal) → IsAnswer (begin_refusal a) r → IfOk r (λ done. b ≡ after_begin a) → OnErr r (b ≡ a) → HasNodes a nodes → HasNodes b nodes
-begun nodes a b (Ok u) answer is err H =
-    fresh nodes a b (ap (λ x. x.ready) is) (ap (λ x. x.runs) is) (ap (λ x. agreed x.state) is ∙ begin_agreed a) (idle_thawed nodes a (begin_free a u answer) H) H
-begun nodes a b (Err e) answer ok err H = subst (λ x. HasNodes x nodes) (sym err) H
+-- no snapshot runs, so none is
+idle_thawed : (a : BookValue) → a.state.snapshot ≡ None → (i : ℕ) (away : Option Away) (n : NodeContents) → IsSeated a i away n → n.frozen ≡ None
+idle_thawed a none i away n S = go away S
+  where
+    of : (m : NodeContents) → IsNodeOf a i m → m.frozen ≡ None
+    of m N = or m.frozen refl
+      where
+        or : (o : Option NodeState) → m.frozen ≡ o → m.frozen ≡ None
+        or None is = is
+        or (Some state) is =
+            let yes : has_recorded_in a.state.snapshot i ≡ true = N.recorded (ap is_some is) in
+            let no : has_recorded_in a.state.snapshot i ≡ false = ap (λ given. has_recorded_in given i) none in
+            cc
+
+    go : (o : Option Away) → IsSeated a i o n → n.frozen ≡ None
+    go None S = of n S.is
+    go (Some away) S = S.turned.kept ∙ of S.turned.before S.turned.is
+
+pub begun : (seats : List Seat) (a b : BookValue) (r : Result (Unit {0}) Refusal) → IsAnswer (begin_refusal a) r → IfOk r (λ done. b ≡ after_begin a) → IfOk r (λ done. happens t414 (world_of a) Begin ≡ Some (world_of b)) → OnErr r (b ≡ a)
+    → HasSeats a seats → HasSeats b seats
+begun seats a b (Ok u) answer is act err H =
+    let did = one_act (world_of a) (world_of b) Begin act in
+    record {
+      idle = ap (λ x. x.ready) is ∙ H.idle;
+      form = ap (λ x. x.form) is ∙ H.form;
+      each = λ i seat at.
+          let S = H.each i seat at in
+          thawed_seat a b Begin did (ap (λ x. x.runs) is) (ap (λ x. agreed x.state) is ∙ begin_agreed a)
+          (λ j takes R. received_stays a b j takes (Begin ∷ []) did (tt, tt) R) i seat.away seat.node (idle_thawed a (begin_free a u answer) i seat.away seat.node S) S;
+    }
+begun seats a b (Err e) answer ok act err H = subst (λ x. HasSeats x seats) (sym err) H
+
+pub all_thawed : (seats : List Seat) → list_all (λ seat. is_none seat.node.frozen) seats ≡ true → (i : ℕ) (seat : Seat) → slice_get seats i ≡ Some seat → seat.node.frozen ≡ None
+all_thawed [] passed i seat at = cc
+all_thawed (s ∷ seats) passed zero seat at =
+    let one : s ≡ seat = cc in
+    let none = (and_parts (is_none s.node.frozen) (list_all (λ t. is_none t.node.frozen) seats) passed).0 in
+    ap (λ t. t.node.frozen) (sym one) ∙ go s.node.frozen none
+  where
+    go : (o : Option NodeState) → is_none o ≡ true → o ≡ None
+    go None is = refl
+    go (Some state) is = cc
+all_thawed (s ∷ seats) passed (suc i) seat at = all_thawed seats (and_parts (is_none s.node.frozen) (list_all (λ t. is_none t.node.frozen) seats) passed).1 i seat at
 
 -- a trim has a cut and frozen nodes, and the nodes as they are stay
-pub trim_parts : (w v : MarkedNetwork NodeState) → happens t414 w Trim ≡ Some v → (cut : WholeCut) × (ns : List NodeState) × (HasCut w cut ns × (v.live.nodes ≡ w.live.nodes))
+trim_parts : (w v : MarkedNetwork NodeState) → happens t414 w Trim ≡ Some v → (cut : WholeCut) × (ns : List NodeState) × (HasCut w cut ns × (v.live.nodes ≡ w.live.nodes))
 unfolding happens
 trim_parts w v act = go (whole w) (all_some w.frozen) refl refl act
   where
@@ -163,42 +337,58 @@ trim_parts w v act = go (whole w) (all_some w.frozen) refl refl act
         let is : trimmed w cut ns ≡ v = cc in
         (cut, ns, (record { is = c_is; images = o_is }, ap (λ (x : MarkedNetwork NodeState). x.live.nodes) (sym is)))
 
-pub taken_in : (nodes : List NodeContents) (a b : BookValue) → ((i : ℕ) (node : NodeContents) → slice_get nodes i ≡ Some node → node.frozen ≡ None)
-    → ((cut : WholeCut) (ns : List NodeState) → HasCut (world_of a) cut ns → b ≡ after_trim a cut ns) → happens t414 (world_of a) Trim ≡ Some (world_of b) → HasNodes a nodes → HasNodes b nodes
-taken_in nodes a b thawed book act H =
+pub taken_in : (seats : List Seat) (a b : BookValue) → ((i : ℕ) (seat : Seat) → slice_get seats i ≡ Some seat → seat.node.frozen ≡ None)
+    → ((cut : WholeCut) (ns : List NodeState) → HasCut (world_of a) cut ns → b ≡ after_trim a cut ns) → happens t414 (world_of a) Trim ≡ Some (world_of b) → HasSeats a seats → HasSeats b seats
+taken_in seats a b thawed book act H =
     let parts = trim_parts (world_of a) (world_of b) act in
     let is = book parts.0 parts.1 parts.2.0 in
-    fresh nodes a b (ap (λ x. x.ready) is) (ap (λ x. x.runs) is) parts.2.1 thawed H
+    let did = one_act (world_of a) (world_of b) Trim act in
+    record {
+      idle = ap (λ x. x.ready) is ∙ H.idle;
+      form = ap (λ x. x.form) is;
+      each = λ i seat at.
+          thawed_seat a b Trim did (ap (λ x. x.runs) is) parts.2.1 (λ j takes R. received_stays a b j takes (Trim ∷ []) did (tt, tt) R) i seat.away seat.node (thawed i seat at) (H.each i seat at);
+    }
 
--- a node's frozen image goes
-pub thawed_one : (nodes : List NodeContents) (number : ℕ) (n m : NodeContents) (a : BookValue) → slice_get nodes number ≡ Some n → m.live ≡ n.live → m.frozen ≡ None → HasNodes a nodes → HasNodes a (set nodes number m)
-thawed_one nodes number n m a there live none H = record {
-  idle = H.idle;
-  free = H.free ∙ ap (λ many. replicate many false) (sym (length-set nodes number m));
-  each = λ i node at.
-      elim (cases_eq i number) [
-        | inl same ↦
-            let new : slice_get (set nodes number m) i ≡ Some m = ap (slice_get (set nodes number m)) same ∙ slice_get-set_same nodes number m n there in
-            let one : m ≡ node = cc in
-            let N = H.each number n there in
-            let thin : IsNodeOf a number m =
-            record {
-              there = N.there ∙ ap Some (sym live);
-              image = subst IsNodeOfBytes (sym live) N.image;
-              recorded = λ (some : is_some m.frozen ≡ true). let no = ap is_some none in cc;
-              kept = λ here its frozen t. cc;
-            } in
-            subst (λ j. IsNodeOf a j node) (sym same) (subst (IsNodeOf a number) one thin)
-        | inr apart ↦ H.each i node (sym (slice_get-set_other nodes number i m apart) ∙ at)
-      ];
-}
+-- ## Images
+
+-- A node's frozen image goes.
+pub thawed : (seats : List Seat) (number : ℕ) (s t : Seat) (b : BookValue) → slice_get seats number ≡ Some s → t.away ≡ s.away → t.node.live ≡ s.node.live → t.node.frozen ≡ None → HasSeats b seats → HasSeats b (set seats number t)
+thawed seats number s t b there same live none H =
+    moved seats number s t b b there (record { idle = refl; form = refl; others = λ i away n apart S. S }) (subst (λ o. IsSeated b number o t.node) (sym same) (go s.away (H.each number s there))) H
+  where
+    loose : (n m : NodeContents) → m.live ≡ n.live → m.frozen ≡ None → IsNodeOf b number n → IsNodeOf b number m
+    loose n m live none N = record {
+      there = N.there ∙ ap Some (sym live);
+      image = subst IsNodeOfBytes (sym live) N.image;
+      recorded = λ (some : is_some m.frozen ≡ true). let no = ap is_some none in cc;
+      kept = λ here its frozen t. cc;
+    }
+
+    go : (o : Option Away) → IsSeated b number o s.node → IsSeated b number o t.node
+    go None S = record { free = S.free; is = loose s.node t.node live none S.is }
+    go (Some away) S =
+        let H = S.turned in
+        let before : NodeContents = record H.before { frozen = None } in
+        record {
+          reserved = S.reserved;
+          turned = record {
+            before = before;
+            is = loose H.before before refl refl H.is;
+            received = H.received;
+            few = H.few;
+            made = H.made ∙ ap (λ n. Some (n, away.taken.sent.items ++ away.stretch.sent.items)) (sym live);
+            kept = none;
+            image = subst IsNodeOfBytes (sym live) H.image;
+          };
+        }
 
 -- ## The beginning
 
 -- states that images spell, and nodes that were read of them
-aligned : {A : Type 0} (f : A → List ℕ) (images : List A) (states : List NodeState) (nodes : List NodeContents) → map (λ x. node_of (f x)) images ≡ map (λ s. Some s) states → seen nodes ≡ spelt (map f images)
-    → (length states ≡ length nodes) × ((i : ℕ) (node : NodeContents) → slice_get nodes i ≡ Some node → (slice_get states i ≡ Some node.live) × (node.frozen ≡ None))
-aligned f [] [] [] spells same = (refl, λ i node at. cc)
+aligned : {A : Type 0} (f : A → List ℕ) (images : List A) (states : List NodeState) (seats : List Seat) → map (λ x. node_of (f x)) images ≡ map (λ s. Some s) states → seen seats ≡ spelt (map f images)
+    → (length states ≡ length seats) × ((i : ℕ) (seat : Seat) → slice_get seats i ≡ Some seat → (slice_get states i ≡ Some seat.node.live) × (seat.node.frozen ≡ None) × (seat.away ≡ None))
+aligned f [] [] [] spells same = (refl, λ i seat at. cc)
 aligned f [] [] (n ∷ ns) spells same = cc
 aligned f [] (t ∷ ts) ns spells same = cc
 aligned f (x ∷ xs) [] ns spells same = cc
@@ -207,50 +397,60 @@ aligned f (x ∷ xs) (t ∷ ts) (n ∷ ns) spells same =
     let rest = aligned f xs ts ns (cc) (cc) in
     (ap suc rest.0, at rest.1)
   where
-    at : ((i : ℕ) (node : NodeContents) → slice_get ns i ≡ Some node → (slice_get ts i ≡ Some node.live) × (node.frozen ≡ None))
-        → (i : ℕ) (node : NodeContents) → slice_get (n ∷ ns) i ≡ Some node → (slice_get (t ∷ ts) i ≡ Some node.live) × (node.frozen ≡ None)
-    at rest zero node is =
-        let one : n ≡ node = cc in
-        let pair : seen_one n ≡ spelt_one (f x) = cc in
+    at : ((i : ℕ) (seat : Seat) → slice_get ns i ≡ Some seat → (slice_get ts i ≡ Some seat.node.live) × (seat.node.frozen ≡ None) × (seat.away ≡ None))
+        → (i : ℕ) (seat : Seat) → slice_get (n ∷ ns) i ≡ Some seat → (slice_get (t ∷ ts) i ≡ Some seat.node.live) × (seat.node.frozen ≡ None) × (seat.away ≡ None)
+    at rest zero seat is =
+        let one : n ≡ seat = cc in
+        let all : seen_one n ≡ spelt_one (f x) = cc in
         let spells_it : node_of (f x) ≡ Some t = cc in
-        let first : Some n.live ≡ node_of (f x) = ap (λ (p : Option NodeState × Option NodeState). p.0) pair in
-        let live : Some n.live ≡ Some t = first ∙ spells_it in
-        let none : n.frozen ≡ None = ap (λ (p : Option NodeState × Option NodeState). p.1) pair in
-        (sym live ∙ ap (λ m. Some m.live) one, ap (λ m. m.frozen) (sym one) ∙ none)
-    at rest (suc i) node is = rest i node is
+        let first : Some n.node.live ≡ node_of (f x) = ap (λ (p : Option NodeState × Option NodeState × Option Away). p.0) all in
+        let live : Some n.node.live ≡ Some t = first ∙ spells_it in
+        let none : n.node.frozen ≡ None = ap (λ (p : Option NodeState × Option NodeState × Option Away). p.1) all in
+        let home : n.away ≡ None = ap (λ (p : Option NodeState × Option NodeState × Option Away). p.2) all in
+        (sym live ∙ ap (λ s. Some s.node.live) one, ap (λ s. s.node.frozen) (sym one) ∙ none, ap (λ s. s.away) (sym one) ∙ home)
+    at rest (suc i) seat is = rest i seat is
+
+-- a node of which nothing is frozen and no turn is open
+pub fresh_seat : (b : BookValue) (i : ℕ) (seat : Seat) → slice_get b.runs i ≡ Some false → slice_get (agreed b.state) i ≡ Some seat.node.live → IsNodeOfBytes seat.node.live → seat.node.frozen ≡ None → seat.away ≡ None → IsSeated b i seat.away seat.node
+fresh_seat b i seat free there image thawed home =
+    subst (λ o. IsSeated b i o seat.node) (sym home)
+    (record { free = free; is = record { there = there; image = image; recorded = λ (some : is_some seat.node.frozen ≡ true). let no = ap is_some thawed in cc; kept = λ here its frozen t. let no = thawed in cc } })
+
+all_free : (many i : ℕ) → i < many → slice_get (replicate many false) i ≡ Some false
+all_free many i below =
+    let long : length (replicate many false) ≡ many = length-replicate many false in
+    slice_get-get_or (replicate many false) i true (omega (arith, long, below)) ∙ ap Some (get_or-replicate many i false true below)
 
 opened_agreed : (s : NetState) (room : Option ℕ) → IsWellOpen s → agreed (opened_book s room).state ≡ (now_of s).nodes
 unfolding agreed
 opened_agreed s room O = ap nodes_in O.history
 
-pub opens : (s : NetState) (room : Option ℕ) (b : BookValue) (nodes : List NodeContents) → IsWellOpen s → b ≡ opened_book s room
-    → ((i : ℕ) (node : NodeState) → slice_get (now_of s).nodes i ≡ Some node → IsNodeOfBytes node) → seen nodes ≡ spelt (map (λ image. image.items) s.net.images.items) → HasNodes b nodes
-opens s room b nodes O is images same =
-    let now = aligned (λ image. image.items) s.net.images.items (now_of s).nodes nodes O.images same in
-    subst (λ x. HasNodes x nodes) (sym is) (record {
-      idle = refl;
-      free = ap (λ many. replicate many false) now.0;
-      each = λ i node at.
-          let here = now.1 i node at in
-          record {
-            there = ap (λ ns. slice_get ns i) (opened_agreed s room O) ∙ here.0;
-            image = images i node.live here.0;
-            recorded = λ (some : is_some node.frozen ≡ true). let no = ap is_some here.1 in cc;
-            kept = λ here its frozen t. cc;
-          };
-    })
+pub opens : (s : NetState) (room : Option ℕ) (b : BookValue) (seats : List Seat) → IsWellOpen s → b ≡ opened_book s room → b.form ≡ Turns
+    → ((i : ℕ) (node : NodeState) → slice_get (now_of s).nodes i ≡ Some node → IsNodeOfBytes node) → seen seats ≡ spelt (map (λ image. image.items) s.net.images.items) → HasSeats b seats
+opens s room b seats O is form images same =
+    let now = aligned (λ image. image.items) s.net.images.items (now_of s).nodes seats O.images same in
+    record {
+      idle = ap (λ x. x.ready) is;
+      form = form;
+      each = λ i seat at.
+          let here = now.1 i seat at in
+          let below = slice_get_within (now_of s).nodes i seat.node.live here.0 in
+          fresh_seat b i seat (ap (λ x. slice_get x.runs i) is ∙ all_free (length (now_of s).nodes) i below)
+          (ap (λ x. slice_get (agreed x.state) i) is ∙ ap (λ ns. slice_get ns i) (opened_agreed s room O) ∙ here.0) (images i seat.node.live here.0) here.1 here.2;
+    }
 
 -- ## Images that are read
 
-read_seen : (bytes : List ℕ) (node : NodeContents) → ReadsImage (node_of bytes) (Ok node) → seen_one node ≡ spelt_one bytes
+read_seen : (bytes : List ℕ) (node : NodeContents) → ReadsImage (node_of bytes) (Ok node) → seen_one (record { node = node; away = None }) ≡ spelt_one bytes
 read_seen bytes node reads = rw (image_read (node_of bytes) node reads, image_thawed (node_of bytes) node reads) refl
 
-pub read_more : {A : Type 0} (f : A → List ℕ) (images : List A) (i : ℕ) (image : A) (bytes : List ℕ) (nodes new : List NodeContents) (node : NodeContents) → i < length images → image ≡ get_or images i image → bytes ≡ f image
-    → ReadsImage (node_of bytes) (Ok node) → new ≡ nodes ++ node ∷ [] → seen nodes ≡ spelt (map f (take i images)) → seen new ≡ spelt (map f (take (i + 1) images))
-read_more f images i image bytes nodes new node lt is has reads pushed before =
-    let here : seen_one node ≡ spelt_one (f (get_or images i image)) = read_seen bytes node reads ∙ ap spelt_one (has ∙ ap f is) in
-    let left : seen new ≡ seen nodes ++ seen_one node ∷ [] = ap seen pushed ∙ map-append seen_one nodes (node ∷ []) in
+pub read_more : {A : Type 0} (f : A → List ℕ) (images : List A) (i : ℕ) (image : A) (bytes : List ℕ) (seats new : List Seat) (node : NodeContents) → i < length images → image ≡ get_or images i image → bytes ≡ f image
+    → ReadsImage (node_of bytes) (Ok node) → new ≡ seats ++ record { node = node; away = None } ∷ [] → seen seats ≡ spelt (map f (take i images)) → seen new ≡ spelt (map f (take (i + 1) images))
+read_more f images i image bytes seats new node lt is has reads pushed before =
+    let seat : Seat = record { node = node; away = None } in
+    let here : seen_one seat ≡ spelt_one (f (get_or images i image)) = read_seen bytes node reads ∙ ap spelt_one (has ∙ ap f is) in
+    let left : seen new ≡ seen seats ++ seen_one seat ∷ [] = ap seen pushed ∙ map-append seen_one seats (seat ∷ []) in
     let right : spelt (map f (take (i + 1) images)) ≡ spelt (map f (take i images)) ++ spelt_one (f (get_or images i image)) ∷ [] =
     ap (λ xs. spelt (map f xs)) (take_more images i image lt) ∙ ap spelt (map-append f (take i images) (get_or images i image ∷ []))
     ∙ map-append spelt_one (map f (take i images)) (f (get_or images i image) ∷ []) in
-    left ∙ ap (λ xs. xs ++ seen_one node ∷ []) before ∙ ap (λ x. spelt (map f (take i images)) ++ x ∷ []) here ∙ sym right
+    left ∙ ap (λ xs. xs ++ seen_one seat ∷ []) before ∙ ap (λ x. spelt (map f (take i images)) ++ x ∷ []) here ∙ sym right

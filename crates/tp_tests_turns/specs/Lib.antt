@@ -1,5 +1,2 @@
-pub mod Agrees
-pub mod CutsNets
 pub mod Nets
-pub mod OpenNets
 pub mod SharedPair

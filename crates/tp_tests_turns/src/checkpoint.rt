@@ -94,27 +94,7 @@ fn add_pages<J: Naming, R: Wait>(
     Ok(())
 }
 
-// Adds the image of a node of at most four pages, as it recorded. Nothing where no pages are kept.
-fn add_image<J: Naming, R: Wait>(
-    rt: &R,
-    shared: &Shared<J>,
-    key: &mut Key<Told>,
-    number: u8,
-    bytes: &mut Vec<u8>,
-) -> Result<(), AllocError>
-    requires name { key.old.name ≡ J.flusher }
-    requires there { number < length J.start.nodes }
-    ensures { key.new.name ≡ key.old.name }
-{
-    let mut head = [0; IMAGE_HEAD_BYTES];
-    if shared.frozen_head(rt, key, number, &mut head) {
-        bytes.extend_from_slice(&head)?;
-    }
-    add_pages(rt, shared, key, number, 0, bytes)?;
-    add_pages(rt, shared, key, number, 3, bytes)
-}
-
-// The image of a node that recorded.
+// The image of a node of at most four pages, as it recorded. Nothing where no pages are kept.
 fn image_of<J: Naming, R: Wait>(
     rt: &R,
     alloc: Global,
@@ -127,7 +107,12 @@ fn image_of<J: Naming, R: Wait>(
     ensures { key.new.name ≡ key.old.name }
 {
     let mut bytes = Vec::new(alloc);
-    add_image(rt, shared, key, number, &mut bytes)?;
+    let mut head = [0; IMAGE_HEAD_BYTES];
+    if shared.frozen_head(rt, key, number, &mut head) {
+        bytes.extend_from_slice(&head)?;
+    }
+    add_pages(rt, shared, key, number, 0, &mut bytes)?;
+    add_pages(rt, shared, key, number, 3, &mut bytes)?;
     Ok(bytes)
 }
 

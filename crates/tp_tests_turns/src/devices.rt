@@ -9,7 +9,6 @@ use tp_disk::MemDisk;
 use tp_model::WireEnd;
 use tp_model::limits::NARROW_HEAD_BYTES;
 use tp_net::{MAX_LINES, Topology};
-use tp_tests_fixtures::{ONE_NODE, letter};
 
 /// The bytes of an area.
 const AREA: u64 = 64_000;
@@ -28,16 +27,9 @@ pub(crate) fn formatted(
 }
 
 /// The device of a network of images.
-pub(crate) fn device_of(alloc: Global, text: &[u8], images: &[Vec<u8>]) -> Result<MemDisk, Fail> {
+fn device_of(alloc: Global, text: &[u8], images: &[Vec<u8>]) -> Result<MemDisk, Fail> {
     let topology = Topology::read(alloc, text)?;
     let disk = formatted(alloc, &topology, images);
-    disk
-}
-
-/// The device of the node that sends a letter.
-pub(crate) fn letter_device(alloc: Global) -> Result<MemDisk, Fail> {
-    let images = Vec::from_array(alloc, [letter(alloc)?])?;
-    let disk = device_of(alloc, ONE_NODE, &images);
     disk
 }
 

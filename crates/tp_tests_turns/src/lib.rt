@@ -4,17 +4,13 @@
 #![tactic(auto)]
 
 #[cfg(test)]
-mod acts;
-#[cfg(test)]
 mod checkpoint;
 #[cfg(test)]
 mod counts;
 #[cfg(test)]
-mod cuts_network;
-#[cfg(test)]
-mod cuts_replayed;
-#[cfg(test)]
 mod day;
+#[cfg(test)]
+mod deeds;
 #[cfg(test)]
 mod devices;
 #[cfg(test)]
@@ -36,13 +32,11 @@ mod one_entry;
 #[cfg(test)]
 mod open_lines;
 #[cfg(test)]
-mod open_net;
-#[cfg(test)]
 mod open_orders;
 #[cfg(test)]
-mod open_playing;
-#[cfg(test)]
 mod orders;
+#[cfg(test)]
+mod pair;
 #[cfg(test)]
 mod plain;
 #[cfg(test)]

@@ -3,7 +3,7 @@
 ghost use Rattle.std.specs.Prelude.{◌<◌};
 
 use std::alloc::{AllocError, Global};
-use tp_tests_fixtures::{HEAD, idle, place};
+use tp_tests_fixtures::{HEAD, idle, letter, place};
 
 /// Pseudo-random numbers, alike at each run.
 #[derive(Drop)]
@@ -34,6 +34,8 @@ pub(crate) enum Task {
     Relay(u8, u8),
     /// It sends the byte 58 once, and waits for its acknowledge.
     Once(u8),
+    /// It is the node that sends letters, which has no other task.
+    Letters,
 }
 
 /// Where the instructions of each process stand, its workspace, and the one behind it, from the beginning of memory on.
@@ -95,6 +97,8 @@ fn code(task: Task) -> [u8; 13] {
             0,
             0,
         ],
+        // the image has its own
+        Task::Letters => [0; 13],
     }
 }
 
@@ -106,6 +110,9 @@ fn address(offset: u16) -> [u8; 4] {
 
 /// The image of a node of four pages whose low queue has a process for each of `tasks`, four at most.
 pub(crate) fn image(alloc: Global, tasks: &[Task]) -> Result<Vec<u8>, AllocError> {
+    if matches!(tasks, [Task::Letters]) {
+        return letter(alloc);
+    }
     let mut image = idle(alloc)?;
     for (task, (first, workspace, next)) in tasks.iter().zip(PLACES) {
         let at = HEAD + usize::from(workspace);

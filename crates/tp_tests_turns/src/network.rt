@@ -1,47 +1,64 @@
-//! A whole network in memory, in one thread: its nodes, and its book.
+//! A whole network in memory, in one thread: its nodes, each with its turn where one is open, and its book.
 
-ghost use Rattle.std.specs.Prelude.{◌≡◌, IfOk, is_none, map, true};
+ghost use Rattle.std.specs.Prelude.{◌≡◌, Ok, IfOk, IsSome, is_none, map, None, true};
 ghost use Rattle.std.specs.List.{list_all};
 ghost use Rattle.tp_model.specs.declared.form.Form.TheVariants.{Turns};
+ghost use Rattle.tp_turn.specs.Tried.{ReadsFresh};
 ghost use Rattle.tp_tests_turns.specs.Nets.{seen, spelt};
 
-use std::alloc::Global;
+use crate::deeds::Deed;
+use crate::pair::pair_parts;
+use crate::seat::{Away, Seat};
+use std::alloc::{AllocError, Global};
 use std::marker::Model;
 use std::test::Fail;
 use tp_book::{Book, Refusal};
 use tp_disk::MemDisk;
-use tp_model::Form;
-use tp_model::limits::MAX_STEPS;
+use tp_model::limits::{IMAGE_HEAD_BYTES, MAX_STEPS, PAGE_BYTES};
+use tp_model::{Form, WireEnd};
 use tp_node::Node;
 use tp_recover::open;
-use tp_turn::{host_turn, node_turn, settle, whole_turn};
+use tp_turn::{close_all, host_turn, lone_node};
 
-/// A network in memory. Each of its nodes is the one that the book's entries make of it.
+/// A network in memory. Each of its nodes is the one that the book's entries make of it, or is ahead of them by its open turn.
 #[derive(Drop)]
 pub(crate) struct Net {
     book: Book,
-    nodes: Vec<Node>,
+    seats: Vec<Seat>,
 }
 
 impl Model for Net {
-    ghost use Rattle.tp_tests_turns.specs.Nets.{NetValue, HasNodes};
+    ghost use Rattle.tp_tests_turns.specs.Nets.{NetValue, HasSeats};
 
     ghost Value = { NetValue };
 
-    ghost view = { λ n. record { book = n.book; nodes = n.nodes.items } };
+    ghost view = { λ n. record { book = n.book; seats = n.seats.items } };
 
-    ghost invariant = { λ n. HasNodes n.book n.nodes.items };
+    ghost invariant = { λ n. HasSeats n.book n.seats.items };
 }
 
-/// The nodes of images.
-fn nodes_of(alloc: Global, images: &[Vec<u8>], spare: usize) -> Result<Vec<Node>, Fail>
-    ensures { IfOk result (λ nodes. seen nodes.items ≡ spelt (map (λ image. image.items) images.now)) }
+/// How many spare frames a node of an image has: one a page, so that it goes on as if it weren't frozen.
+const FRAMES: usize = 4;
+
+/// The nodes of images, without an open turn.
+fn seats_of(alloc: Global, images: &[Vec<u8>], spare: usize) -> Result<Vec<Seat>, Fail>
+    ensures { IfOk result (λ seats. seen seats.items ≡ spelt (map (λ image. image.items) images.now)) }
 {
-    let mut nodes = Vec::new(alloc);
+    let mut seats = Vec::new(alloc);
     for i in 0..images.len() {
-        nodes.push(Node::from_image(alloc, &images[i], spare)?)?;
+        let node = Node::from_image(alloc, &images[i], spare)?;
+        seats.push(Seat { node, away: None })?;
     }
-    Ok(nodes)
+    Ok(seats)
+}
+
+/// The node of an image whose links are idle, with frames for all its pages while it is frozen.
+fn framed_node(alloc: Global, image: &[u8]) -> Result<Node, Fail>
+    ensures { IfOk result (λ node. ReadsFresh image.now (Ok node)) }
+{
+    let _idle = lone_node(alloc, image)?;
+    let node = Node::from_image(alloc, image, FRAMES)?;
+    Ok(node)
 }
 
 /// Whether a book may hold turns.
@@ -54,24 +71,85 @@ fn holds_turns(book: &Book) -> bool
     }
 }
 
+/// The image of a frozen node.
+fn frozen_image(alloc: Global, node: &Node) -> Result<Vec<u8>, AllocError>
+    requires { IsSome node.now.frozen }
+{
+    let mut head = [0; IMAGE_HEAD_BYTES];
+    let mut page = [0; PAGE_BYTES];
+    node.frozen_head(&mut head);
+    let mut image = Vec::from_slice(alloc, &head)?;
+    for number in 0..node.pages() {
+        node.frozen_page(number, &mut page);
+        image.extend_from_slice(&page)?;
+    }
+    Ok(image)
+}
+
+/// The image of a node, as it recorded or, where `is_now` holds, as it is; empty where it isn't frozen, or is. Then it isn't frozen.
+fn image_of(alloc: Global, node: &mut Node, is_now: bool) -> Result<Vec<u8>, AllocError>
+    ensures live { node.new.live ≡ node.old.live }
+    ensures thawed { node.new.frozen ≡ None }
+{
+    if node.is_frozen() == is_now {
+        node.drop_frozen();
+        return Ok(Vec::new(alloc));
+    }
+    if is_now {
+        node.freeze();
+    }
+    let image = frozen_image(alloc, node);
+    node.drop_frozen();
+    image
+}
+
 impl Net {
+    /// The network of two images, before its first entry.
+    pub(crate) fn start(alloc: Global, first: &[u8], second: &[u8]) -> Result<Net, Fail> {
+        let one = framed_node(alloc, first)?;
+        let other = framed_node(alloc, second)?;
+        let one = Seat {
+            node: one,
+            away: None,
+        };
+        let other = Seat {
+            node: other,
+            away: None,
+        };
+        let seats = Vec::from_array(alloc, [one, other])?;
+        let net = pair_parts(alloc, first, second)?;
+        let book = Book::start(alloc, &net, None)?;
+        Ok(Net { book, seats })
+    }
+
     /// The network of a device.
     pub(crate) fn of_device(alloc: Global, disk: &mut MemDisk, spare: usize) -> Result<Net, Fail> {
         let opened = open(alloc, disk)?;
         opened.known();
         let room = opened.journal_room();
         let state = opened.into_state(alloc)?;
-        let nodes = nodes_of(alloc, &state.net.images, spare)?;
+        let seats = seats_of(alloc, &state.net.images, spare)?;
         let book = Book::open(alloc, &state, Some(room))?;
-        Ok(Net { book, nodes })
+        if !holds_turns(&book) {
+            return Err(Fail::from("it holds no turns"));
+        }
+        Ok(Net { book, seats })
     }
 
     pub(crate) fn book(&self) -> &Book {
         &self.book
     }
 
-    pub(crate) fn nodes(&self) -> &[Node] {
-        self.nodes.as_slice()
+    pub(crate) fn seats(&self) -> &[Seat] {
+        self.seats.as_slice()
+    }
+
+    /// Whether a node has an open turn.
+    pub(crate) fn is_open(&self, number: usize) -> bool {
+        match self.seats.get(number) {
+            Some(seat) => seat.away.is_some(),
+            None => false,
+        }
     }
 
     /// Whether a Marker is in front of a line.
@@ -81,49 +159,55 @@ impl Net {
         there && self.book.marker_ready(line)
     }
 
-    /// A node's turn, with how many tokens it took; none where there is no such node.
-    pub(crate) fn node_turn(&mut self, number: u8, quantum: u16) -> Option<Result<u64, Refusal>> {
+    /// A node does something in one call, and answers how many tokens it took, or how many steps it made; none where there is no such node, or
+    /// it has an open turn.
+    pub(crate) fn does(&mut self, number: u8, deed: Deed) -> Option<Result<u64, Refusal>> {
         let place = usize::from(number);
-        if place >= self.nodes.len() || usize::from(quantum) > MAX_STEPS {
+        if place >= self.seats.len() {
             return None;
         }
-        match node_turn(&mut self.book, &mut self.nodes[place], number, quantum) {
-            Ok(turn) => Some(Ok(turn.takes)),
-            Err(refusal) => Some(Err(refusal)),
-        }
+        self.seats[place].does(&mut self.book, number, deed)
     }
 
-    /// A node's turn that is one entry, with how many tokens it took; none where there is no such node, or the book holds no turns.
-    pub(crate) fn whole_turn(&mut self, number: u8, quantum: u16) -> Option<Result<u64, Refusal>> {
+    /// Opens a turn of a node, where none is open. Answers whether one was opened.
+    pub(crate) fn open(&mut self, number: u8, quantum: u16) -> bool {
         let place = usize::from(number);
-        if place >= self.nodes.len() || usize::from(quantum) > MAX_STEPS {
-            return None;
+        if place >= self.seats.len() || usize::from(quantum) > MAX_STEPS {
+            return false;
         }
-        if !holds_turns(&self.book) {
-            return None;
-        }
-        match whole_turn(&mut self.book, &mut self.nodes[place], number, quantum) {
-            Ok(turn) => Some(Ok(turn.takes)),
-            Err(refusal) => Some(Err(refusal)),
-        }
+        self.seats[place].open(&mut self.book, number, quantum)
     }
 
-    /// The open part of a node's turn.
-    pub(crate) fn settle(&mut self, number: u8) -> Option<Result<u64, Refusal>> {
+    /// Commits a node's open turn. Answers whether one was open.
+    pub(crate) fn commit(&mut self, number: u8) -> bool {
         let place = usize::from(number);
-        if place >= self.nodes.len() {
-            return None;
+        if place >= self.seats.len() {
+            return false;
         }
-        Some(settle(&mut self.book, &mut self.nodes[place], number))
+        self.seats[place].commit(&mut self.book, number)
+    }
+
+    /// A port takes the token in front of a line that leads to one. Answers whether it could.
+    pub(crate) fn port_takes(&mut self, line: u16) -> bool {
+        self.book.known();
+        if usize::from(line) >= 4 * self.book.nodes() + self.book.ports() {
+            return false;
+        }
+        match self.book.receiver(line) {
+            Some(WireEnd::Port(_port)) => self.book.host_take(line).is_ok(),
+            _ => false,
+        }
     }
 
     /// The host's turn.
     pub(crate) fn host_turn(&mut self) -> Result<u64, Refusal> {
+        self.book.known();
         host_turn(&mut self.book)
     }
 
     /// Hands bytes to a port.
     pub(crate) fn hand_in(&mut self, port: u8, bytes: &[u8]) -> Option<Result<u64, Refusal>> {
+        self.book.known();
         if usize::from(port) >= self.book.ports() {
             return None;
         }
@@ -135,6 +219,7 @@ impl Net {
 
     /// Confirms all outputs of a port.
     pub(crate) fn confirm(&mut self, port: u8) -> Option<Result<u64, Refusal>> {
+        self.book.known();
         if usize::from(port) >= self.book.ports() {
             return None;
         }
@@ -150,21 +235,45 @@ impl Net {
         self.book.begin(alloc)
     }
 
-    /// Lets a node's frozen image go.
-    pub(crate) fn thaw(&mut self, number: usize) {
-        if number < self.nodes.len() {
-            self.nodes[number].drop_frozen();
+    /// A line is closed at its Marker, where that is in front and who receives the line has recorded. Answers whether it was.
+    pub(crate) fn close(&mut self, line: u16) -> bool {
+        self.book.known();
+        let there = usize::from(line) < 4 * self.book.nodes() + self.book.ports();
+        if !there || !self.book.is_closable(line) || !self.book.marker_ready(line) {
+            return false;
         }
+        self.book.close_line(line);
+        true
+    }
+
+    /// Each line with a Marker is closed whose receiver has recorded.
+    pub(crate) fn close_all(&mut self) {
+        self.book.known();
+        close_all(&mut self.book);
+    }
+
+    /// The image of a node, as it recorded or, where `is_now` holds, as it is; empty where it isn't frozen, or is, or there is no such node. Then
+    /// it isn't frozen.
+    pub(crate) fn image(
+        &mut self,
+        alloc: Global,
+        number: usize,
+        is_now: bool,
+    ) -> Result<Vec<u8>, AllocError> {
+        if number >= self.seats.len() {
+            return Ok(Vec::new(alloc));
+        }
+        image_of(alloc, &mut self.seats[number].node, is_now)
     }
 
     /// Whether no node is frozen.
     fn is_thawed(&self) -> bool
-        ensures { result ≡ list_all (λ node. is_none node.frozen) self.now.nodes }
+        ensures { result ≡ list_all (λ seat. is_none seat.node.frozen) self.now.seats }
     {
-        self.nodes.iter().all(|node| !node.is_frozen())
+        self.seats.iter().all(|seat| !seat.node.is_frozen())
     }
 
-    /// Trims the book to its whole cut, once no node is frozen.
+    /// Trims the book to its whole cut, once no node is frozen. Answers whether it did.
     pub(crate) fn take_in(&mut self) -> bool {
         if self.book.whole().is_none() || !self.is_thawed() {
             return false;

@@ -1,9 +1,8 @@
 //! Turns that are one entry: they lead where their takes and their runs lead, and take fronts of the lines before them alone.
 
-use crate::cuts_replayed::are_same;
 use crate::devices::tasks_device;
 use crate::machines::Task;
-use crate::replayed::{flat_of, goes};
+use crate::replayed::{are_same, flat_on, goes};
 use std::alloc::Global;
 use std::test::Fail;
 use tp_book::NetParts;
@@ -23,15 +22,19 @@ const SELF: &[u8] = b"node a 4\nport h\nwire a.1 a.2\nwire a.3 h\n";
 const SELF_TASKS: [&[Task]; 1] = [&[Task::Once(2), Task::Relay(1, 0)]];
 
 /// The byte is sent, and its hearer waits for it.
-const SENT: [Entry; 2] = [
-    Entry::Run { node: 0, count: 5 },
-    Entry::Run { node: 1, count: 6 },
+const SENT: [Option<Entry>; 4] = [
+    Some(Entry::Run { node: 0, count: 5 }),
+    Some(Entry::Run { node: 1, count: 6 }),
+    None,
+    None,
 ];
 
 /// Both processes of the node that is wired to itself wait: for an acknowledge, and for a byte.
-const WAITING: [Entry; 1] = [Entry::Run { node: 0, count: 11 }];
+const WAITING: [Option<Entry>; 4] = [Some(Entry::Run { node: 0, count: 11 }), None, None, None];
 
 const BYTE: [Received; 4] = [JustData(0x58), Nothing, Nothing, Nothing];
+
+const OWN_ACKNOWLEDGE: [Received; 4] = [Nothing, Nothing, JustAck, Nothing];
 
 const ACKNOWLEDGE: [Received; 4] = [JustAck, Nothing, Nothing, Nothing];
 
@@ -72,45 +75,23 @@ const TAKE_OWN_ACK: Entry = Entry::Take {
     token: Ack,
 };
 
-/// A network, and entries that lead to where a row begins.
+/// Takes and runs, and turns that lead where these lead, four at most of each; whether all turns are possible. They begin where the byte was
+/// sent, or, where `is_one` holds, on the network of one node.
 #[derive(Clone, Copy)]
-struct Start<'a> {
-    text: &'a [u8],
-    tasks: &'a [&'a [Task]],
-    before: &'a [Entry],
-}
-
-/// Where rows of two nodes begin, behind the entries `before`.
-fn two_nodes(before: &[Entry]) -> Start {
-    Start {
-        text: TWO,
-        tasks: &TWO_TASKS,
-        before,
-    }
-}
-
-/// Where rows of one node that is wired to itself begin, behind the entries `before`.
-fn one_node(before: &[Entry]) -> Start {
-    Start {
-        text: SELF,
-        tasks: &SELF_TASKS,
-        before,
-    }
-}
-
-/// Where a row begins, takes and runs, and turns that lead where these lead; whether all of these are possible.
-type Leads<'a> = (Start<'a>, &'a [Entry], &'a [Entry], bool);
-
-/// The turn of a node that takes this and makes `count` steps.
-fn turn(node: u8, takes: [Received; 4], count: u16) -> Entry {
-    Entry::Turn { node, takes, count }
+struct Row {
+    is_one: bool,
+    plain: [Option<Entry>; 4],
+    turns: [Option<Entry>; 4],
+    is_possible: bool,
 }
 
 /// Whether `entries` are possible one after another. The network is then that behind them.
-fn goes_on(network: &mut FlatNetwork, entries: &[Entry]) -> bool {
+fn goes_on(network: &mut FlatNetwork, entries: &[Option<Entry>; 4]) -> bool {
     for entry in entries {
-        if !goes(network, entry) {
-            return false;
+        if let Some(entry) = entry {
+            if !goes(network, entry) {
+                return false;
+            }
         }
     }
     true
@@ -121,8 +102,8 @@ fn goes_on(network: &mut FlatNetwork, entries: &[Entry]) -> bool {
 fn parts_behind(
     alloc: Global,
     network: &mut FlatNetwork,
-    before: &[Entry],
-    entries: &[Entry],
+    before: &[Option<Entry>; 4],
+    entries: &[Option<Entry>; 4],
     is_possible: bool,
 ) -> Option<NetParts> {
     if !goes_on(network, before) || goes_on(network, entries) != is_possible {
@@ -134,36 +115,36 @@ fn parts_behind(
 /// The network behind `entries`, from where a row begins, where they are possible, or one isn't, as `is_possible` says.
 fn behind(
     alloc: Global,
-    start: Start,
-    entries: &[Entry],
+    is_one: bool,
+    entries: &[Option<Entry>; 4],
     is_possible: bool,
 ) -> Result<Option<NetParts>, Fail> {
-    let mut disk = tasks_device(alloc, start.text, start.tasks)?;
-    let mut network = flat_of(alloc, &mut disk)?;
-    let parts = parts_behind(alloc, &mut network, start.before, entries, is_possible);
+    let made = if is_one {
+        tasks_device(alloc, SELF, &SELF_TASKS)
+    } else {
+        tasks_device(alloc, TWO, &TWO_TASKS)
+    };
+    let mut disk = made?;
+    let mut network = flat_on(alloc, &mut disk)?;
+    let before = if is_one { WAITING } else { SENT };
+    let parts = parts_behind(alloc, &mut network, &before, entries, is_possible);
     Ok(parts)
 }
 
-/// Whether `turns` lead where `entries` lead, which are possible. The turns are, or one isn't, as `is_possible` says.
-fn are_alike(
-    alloc: Global,
-    start: Start,
-    entries: &[Entry],
-    turns: &[Entry],
-    is_possible: bool,
-) -> Result<bool, Fail> {
-    let one = behind(alloc, start, entries, true)?;
-    let other = behind(alloc, start, turns, is_possible)?;
+/// Whether the turns of a row lead where its entries lead, which are possible, and are possible themselves, or one isn't, as it says.
+fn are_alike(alloc: Global, row: &Row) -> Result<bool, Fail> {
+    let one = behind(alloc, row.is_one, &row.plain, true)?;
+    let other = behind(alloc, row.is_one, &row.turns, row.is_possible)?;
     Ok(match (&one, &other) {
         (Some(one), Some(other)) => are_same(one, other),
         _ => false,
     })
 }
 
-/// The first of `rows` whose turns don't lead where its takes and runs lead, or are possible otherwise than it says.
-fn first_apart(alloc: Global, rows: &[Leads]) -> Result<Option<usize>, Fail> {
-    for (i, (start, plain, turns, is_possible)) in rows.iter().enumerate() {
-        if !are_alike(alloc, *start, *plain, *turns, *is_possible)? {
+/// The first of `rows` that isn't so.
+fn first_apart(alloc: Global, rows: &[Row]) -> Result<Option<usize>, Fail> {
+    for i in 0..rows.len() {
+        if !are_alike(alloc, &rows[i])? {
             return Ok(Some(i));
         }
     }
@@ -171,62 +152,139 @@ fn first_apart(alloc: Global, rows: &[Leads]) -> Result<Option<usize>, Fail> {
 }
 
 /// In the last row the hearer can't make the steps of a turn, and the network is where one with fewer leads, in which it took its byte.
+const LEADS: [Row; 4] = [
+    Row {
+        is_one: false,
+        plain: [
+            Some(TAKE_BYTE),
+            Some(TAKE_ACK),
+            Some(RUN_SENDER),
+            Some(RUN_HEARER),
+        ],
+        turns: [
+            Some(Entry::Turn {
+                node: 1,
+                takes: BYTE,
+                count: 0,
+            }),
+            Some(Entry::Turn {
+                node: 0,
+                takes: ACKNOWLEDGE,
+                count: 2,
+            }),
+            Some(RUN_HEARER),
+            None,
+        ],
+        is_possible: true,
+    },
+    Row {
+        is_one: false,
+        plain: [Some(TAKE_BYTE), Some(RUN_HEARER), None, None],
+        turns: [
+            Some(Entry::Turn {
+                node: 1,
+                takes: BYTE,
+                count: 3,
+            }),
+            None,
+            None,
+            None,
+        ],
+        is_possible: true,
+    },
+    Row {
+        is_one: true,
+        plain: [Some(TAKE_OWN_BYTE), Some(TAKE_OWN_ACK), None, None],
+        turns: [
+            Some(Entry::Turn {
+                node: 0,
+                takes: OTHER_LINK,
+                count: 0,
+            }),
+            Some(Entry::Turn {
+                node: 0,
+                takes: OWN_ACKNOWLEDGE,
+                count: 0,
+            }),
+            None,
+            None,
+        ],
+        is_possible: true,
+    },
+    Row {
+        is_one: false,
+        plain: [
+            Some(Entry::Turn {
+                node: 1,
+                takes: BYTE,
+                count: 5,
+            }),
+            None,
+            None,
+            None,
+        ],
+        turns: [
+            Some(Entry::Turn {
+                node: 1,
+                takes: BYTE,
+                count: 4096,
+            }),
+            None,
+            None,
+            None,
+        ],
+        is_possible: false,
+    },
+];
+
 #[test]
 fn a_turn_leads_where_its_takes_and_its_run_lead(rt: HostRuntime) -> Result<(), Fail> {
-    let (sent, waiting) = (SENT, WAITING);
-    let (two_nodes, one_node) = (two_nodes(&sent), one_node(&waiting));
-    let plain = [TAKE_BYTE, TAKE_ACK, RUN_SENDER, RUN_HEARER];
-    let turns = [turn(1, BYTE, 0), turn(0, ACKNOWLEDGE, 2), RUN_HEARER];
-    let heard = [TAKE_BYTE, RUN_HEARER];
-    let hearing = [turn(1, BYTE, 3)];
-    let own = [TAKE_OWN_BYTE, TAKE_OWN_ACK];
-    let own_turns = [
-        turn(0, OTHER_LINK, 0),
-        turn(0, [Nothing, Nothing, JustAck, Nothing], 0),
-    ];
-    let (made, long) = ([turn(1, BYTE, 5)], [turn(1, BYTE, 4096)]);
-    let leads: [Leads; 4] = [
-        (two_nodes, &plain, &turns, true),
-        (two_nodes, &heard, &hearing, true),
-        (one_node, &own, &own_turns, true),
-        (two_nodes, &made, &long, false),
-    ];
-    let apart = first_apart(rt.alloc(), &leads)?;
+    let rows = LEADS;
+    let apart = first_apart(rt.alloc(), &rows)?;
     assert!(rt; apart.is_none());
     Ok(())
 }
 
-/// The first of `rows`, where a row begins and a turn, whose turn is possible there or doesn't leave the network as it was.
-fn first_possible(alloc: Global, rows: &[(Start, Entry)]) -> Result<Option<usize>, Fail> {
-    for (i, (start, turn)) in rows.iter().enumerate() {
-        if !are_alike(alloc, *start, &[], &[*turn], false)? {
+/// The first of `rows` whose turn is possible where rows begin, or doesn't leave the network as it was.
+fn first_possible(alloc: Global, rows: &[Refused]) -> Result<Option<usize>, Fail> {
+    for i in 0..rows.len() {
+        let (is_one, node, takes, count) = rows[i];
+        let row = Row {
+            is_one,
+            plain: [None; 4],
+            turns: [Some(Entry::Turn { node, takes, count }), None, None, None],
+            is_possible: false,
+        };
+        if !are_alike(alloc, &row)? {
             return Ok(Some(i));
         }
     }
     Ok(None)
 }
 
+/// Whether a turn that isn't possible is on the network of one node; the node, what it takes, and how many steps it makes.
+type Refused = (bool, u8, [Received; 4], u16);
+
+const REFUSED: [Refused; 9] = [
+    // another byte, an acknowledge, and an acknowledge in front of the byte
+    (false, 1, OTHER_BYTE, 0),
+    (false, 1, ACKNOWLEDGE, 0),
+    (false, 1, ACKNOWLEDGE_AND_BYTE, 0),
+    // another link, the other node, a node that isn't there
+    (false, 1, OTHER_LINK, 0),
+    (false, 0, BYTE, 0),
+    (false, 2, BYTE, 0),
+    // nothing is taken; a step too many for any run
+    (false, 0, NOTHING, 0),
+    (false, 1, BYTE, 4097),
+    // the acknowledge that the byte's take sends wasn't on its line before the turn
+    (true, 0, BYTE_AND_ITS_ACKNOWLEDGE, 0),
+];
+
 #[test]
 fn a_turn_takes_what_stood_on_its_lines_before_it(rt: HostRuntime) -> Result<(), Fail> {
-    let (sent, waiting) = (SENT, WAITING);
-    let (two_nodes, one_node) = (two_nodes(&sent), one_node(&waiting));
-    // where a row begins, and a turn that isn't possible there
-    let refused: [(Start, Entry); 9] = [
-        // another byte, an acknowledge, and an acknowledge in front of the byte
-        (two_nodes, turn(1, OTHER_BYTE, 0)),
-        (two_nodes, turn(1, ACKNOWLEDGE, 0)),
-        (two_nodes, turn(1, ACKNOWLEDGE_AND_BYTE, 0)),
-        // another link, the other node, a node that isn't there
-        (two_nodes, turn(1, OTHER_LINK, 0)),
-        (two_nodes, turn(0, BYTE, 0)),
-        (two_nodes, turn(2, BYTE, 0)),
-        // nothing is taken; a step too many for any run
-        (two_nodes, turn(0, NOTHING, 0)),
-        (two_nodes, turn(1, BYTE, 4097)),
-        // the acknowledge that the byte's take sends wasn't on its line before the turn
-        (one_node, turn(0, BYTE_AND_ITS_ACKNOWLEDGE, 0)),
-    ];
-    let possible = first_possible(rt.alloc(), &refused)?;
+    let rows = REFUSED;
+    let possible = first_possible(rt.alloc(), &rows)?;
     assert!(rt; possible.is_none());
     Ok(())
 }

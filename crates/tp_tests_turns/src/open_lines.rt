@@ -1,6 +1,6 @@
 //! The tokens on each line, as plain lists with the Markers among them.
 
-use crate::cuts_network::{LINES, WIRES};
+use crate::pair::{LINES, WIRES};
 use crate::plain::HOST;
 use std::alloc::{AllocError, Global};
 use tp_model::{Token, WireEnd};

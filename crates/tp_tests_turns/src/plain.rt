@@ -1,6 +1,6 @@
 //! What a snapshot is to gather, as plain lists.
 
-use crate::cuts_network::{LINES, PROCESSES, WIRES};
+use crate::pair::{LINES, PROCESSES, WIRES};
 use std::alloc::{AllocError, Global};
 use tp_book::{Book, Cut, Numbered};
 use tp_model::{Entry, Token, WireEnd};

@@ -1,41 +1,68 @@
 //! Snapshots of two nodes, worked out by hand, act by act; each is ended by `take_in` alone.
 
-use crate::cuts_network::LINES;
-use crate::cuts_replayed::comes_first;
+use crate::each_order::{is_cut, is_led};
 use crate::machines::{Images, Task, images_of};
-use crate::playing::Act::{Begin, Close, HandIn, Record, Run, Take};
-use crate::playing::{Act, Play, do_all, does, start};
-use crate::replayed::is_line;
-use std::alloc::{AllocError, Global};
+use crate::pair::LINES;
+use crate::playing::Act::{self, Begin, Close, HandIn, Record, Run, Take, TakeIn};
+use crate::playing::{Play, do_all, does, start};
+use std::alloc::Global;
 use std::test::Fail;
-use tp_book::{Book, Cut, Numbered, PortParts};
+use tp_book::{Book, Numbered, PortParts};
 use tp_model::{Entry, Token};
+use tp_net::Lines;
 
-/// What the nodes do, and the acts up to the whole cut; then what is in the cut: the entries of each process and in all, the
-/// tokens on each line, and the port's pending bytes, nothing else having come to it; then the entries outside, the next
-/// number, and the port's outputs.
+/// Entries, each with its number, four at most; no other comes behind the first `None`.
+pub(crate) type Entries = [Option<(u64, Entry)>; 4];
+
+/// What is in a whole cut: the entries of each process and in all, the one token on each line that has one, and the port's pending bytes, nothing
+/// else having come to it; then the entries outside, the next number, and the port's outputs.
+#[derive(Clone, Copy)]
+pub(crate) struct Whole<'a> {
+    pub(crate) counts: [u64; 3],
+    pub(crate) size: u64,
+    pub(crate) lines: [Option<Token>; LINES],
+    pub(crate) pending: &'a [u8],
+    pub(crate) tail: Entries,
+    pub(crate) next: u64,
+    pub(crate) outputs: &'a [u8],
+}
+
+/// What the nodes do, the acts up to the whole cut, and the cut.
 #[derive(Clone, Copy)]
 struct Story<'a> {
     first: &'a [Task],
     second: &'a [Task],
     acts: &'a [Act],
-    counts: [u64; 3],
-    size: u64,
-    lines: [&'a [Token]; LINES],
-    pending: &'a [u8],
-    tail: &'a [Numbered],
-    next: u64,
-    outputs: &'a [u8],
+    cut: Whole<'a>,
 }
 
-/// Whether just these tokens stand on the lines of a cut.
-fn are_lines(cut: &Cut, tokens: &[&[Token]; LINES]) -> bool {
-    for line in 0..LINES {
-        if !is_line(cut.lines(), line, tokens[line]) {
+/// Whether these are the entries.
+pub(crate) fn are_numbered(entries: &[Numbered], wanted: &Entries) -> bool {
+    for at in 0..wanted.len() {
+        let Some((number, entry)) = wanted[at] else {
+            return entries.len() == at;
+        };
+        if at >= entries.len() {
+            return false;
+        }
+        let one = entries[at];
+        if one.number != number || one.entry != entry {
             return false;
         }
     }
-    cut.lines().count() == LINES
+    entries.len() == wanted.len()
+}
+
+/// Whether just these tokens stand on lines, one at most on each.
+fn are_lines(lines: &Lines, tokens: &[Option<Token>; LINES]) -> bool {
+    for line in 0..LINES {
+        let count = usize::from(tokens[line].is_some());
+        let there = line < lines.count() && lines.len(line) == count;
+        if !there || lines.get(line, 0) != tokens[line] {
+            return false;
+        }
+    }
+    lines.count() == LINES
 }
 
 /// Whether a port has the bytes `pending`, and nothing else came to it.
@@ -46,30 +73,32 @@ fn is_port(port: &PortParts, pending: &[u8]) -> bool {
         && port.out_base == 0
 }
 
-/// Whether the cut and the tail are those of the story.
-fn is_cut(alloc: Global, book: &Book, story: &Story) -> Result<bool, AllocError> {
+/// Whether a book's whole cut and the tail are these.
+pub(crate) fn is_whole(alloc: Global, book: &Book, wanted: &Whole) -> bool {
     let Some(cut) = book.whole() else {
-        return Ok(false);
+        return false;
     };
-    let tail = book.tail(alloc)?;
-    let outside = tail.entries() == story.tail && tail.upto() == story.next;
-    let counts = cut.counts() == story.counts.as_slice() && cut.size() == story.size;
+    let Ok(tail) = book.tail(alloc) else {
+        return false;
+    };
+    let outside = are_numbered(tail.entries(), &wanted.tail) && tail.upto() == wanted.next;
+    let counts = cut.counts() == wanted.counts.as_slice() && cut.size() == wanted.size;
     let ports = match cut.ports() {
-        [port] => is_port(port, story.pending),
+        [port] => is_port(port, wanted.pending),
         _ => false,
     };
-    Ok(outside && counts && ports && are_lines(cut, &story.lines))
+    outside && counts && ports && are_lines(cut.lines(), &wanted.lines)
 }
 
-/// Whether the book went on from the cut.
-fn is_trimmed(book: &Book, story: &Story) -> bool {
-    book.base() == story.size
-        && book.next() == story.next
+/// Whether a book went on from the cut.
+pub(crate) fn is_trimmed(book: &Book, cut: &Whole) -> bool {
+    book.base() == cut.size
+        && book.next() == cut.next
         && book.generation() == 2
-        && book.entries() == story.tail
+        && are_numbered(book.entries(), &cut.tail)
         && book.whole().is_none()
         && book.ports() == 1
-        && book.outputs(0) == story.outputs
+        && book.outputs(0) == cut.outputs
 }
 
 /// Whether the next entry gets the next number.
@@ -82,137 +111,145 @@ fn goes_on(alloc: Global, play: &mut Play, next: u64) -> Result<bool, Fail> {
 /// Plays a story on a network. Whether all is as it was told: its acts, the cut and the tail, the plain lists, the replays, the trim, and the
 /// entry behind it.
 fn tell(alloc: Global, play: &mut Play, story: &Story, images: &Images) -> Result<bool, Fail> {
-    let acts = do_all(alloc, play, story.acts)?;
-    let book = play.net.book();
-    let cut = is_cut(alloc, book, story)? && play.plain.is_gathered(alloc, book)?;
-    let replayed = comes_first(alloc, play, images)?;
-    let trimmed = play.net.take_in() && is_trimmed(play.net.book(), story);
-    Ok(acts && cut && replayed && trimmed && goes_on(alloc, play, story.next)?)
-}
-
-/// Plays a story from two images on.
-fn play_images(alloc: Global, story: &Story, images: &Images) -> Result<bool, Fail> {
-    let mut play = start(alloc, images)?;
-    let told = tell(alloc, &mut play, story, images);
-    told
+    let acts = do_all(alloc, play, story.acts)? && is_whole(alloc, play.net.book(), &story.cut);
+    let cut = is_cut(alloc, play, images)? && does(alloc, play, TakeIn)?;
+    let trimmed = is_trimmed(play.net.book(), &story.cut) && is_led(alloc, play, images)?;
+    Ok(acts && cut && trimmed && goes_on(alloc, play, story.cut.next)?)
 }
 
 /// Plays a story from the images of its nodes on.
 fn play(alloc: Global, story: &Story) -> Result<bool, Fail> {
     let images = images_of(alloc, story.first, story.second)?;
-    let told = play_images(alloc, story, &images);
+    let mut play = start(alloc, &images)?;
+    let told = tell(alloc, &mut play, story, &images);
     told
 }
 
-/// A byte is under way as the nodes record: the receiver recorded before it came, and the sender after it was sent.
-fn play_under_way(alloc: Global) -> Result<bool, Fail> {
-    let under_way = Story {
-        first: &[Task::Once(0)],
-        second: &[],
-        acts: &[
-            Run(0),
-            Begin,
-            Record(1),
-            Take(0),
-            Record(0),
-            Close(8),
-            Close(4),
-            Close(0),
-            Close(3),
-        ],
-        counts: [1, 0, 0],
-        size: 1,
-        lines: [&[Token::Data(0x58)], &[], &[], &[], &[], &[], &[], &[], &[]],
-        pending: b"",
-        tail: &[Numbered {
-            number: 1,
-            entry: Entry::Take {
+/// The cut of a byte under way: the first node is in it behind its run, the second one before all, and takes the byte outside.
+pub(crate) const BYTE_UNDER_WAY: Whole<'static> = Whole {
+    counts: [1, 0, 0],
+    size: 1,
+    lines: [
+        Some(Token::Data(0x58)),
+        None,
+        None,
+        None,
+        None,
+        None,
+        None,
+        None,
+        None,
+    ],
+    pending: b"",
+    tail: [
+        Some((
+            1,
+            Entry::Take {
                 line: 0,
                 token: Token::Data(0x58),
             },
-        }],
-        next: 2,
-        outputs: b"",
-    };
-    let told = play(alloc, &under_way);
-    told
-}
+        )),
+        None,
+        None,
+        None,
+    ],
+    next: 2,
+    outputs: b"",
+};
+
+/// A byte is under way as the nodes record: the receiver recorded before it came, and the sender after it was sent.
+const UNDER_WAY: Story<'static> = Story {
+    first: &[Task::Once(0)],
+    second: &[],
+    acts: &[
+        Run(0),
+        Begin,
+        Record(1),
+        Take(0),
+        Record(0),
+        Close(8),
+        Close(4),
+        Close(0),
+        Close(3),
+    ],
+    cut: BYTE_UNDER_WAY,
+};
 
 /// The second node records when the next number is 9, and the cut is whole at 12. Three entries are outside, with gaps
 /// between their numbers.
-fn play_late(alloc: Global) -> Result<bool, Fail> {
-    let late = Story {
-        first: &[Task::Once(0), Task::Relay(0, 3)],
-        second: &[Task::Relay(0, 0)],
-        acts: &[
-            Run(1),
-            Run(0),
-            Take(0),
-            Run(1),
-            Take(4),
-            Take(4),
-            HandIn(0x78),
-            Begin,
-            Run(0),
-            Take(3),
-            Record(1),
-            Take(0),
-            Take(8),
-            Record(0),
-            Close(8),
-            Close(4),
-            Close(0),
-            HandIn(0x79),
-            Close(3),
-        ],
+const LATE: Story<'static> = Story {
+    first: &[Task::Once(0), Task::Relay(0, 3)],
+    second: &[Task::Relay(0, 0)],
+    acts: &[
+        Run(1),
+        Run(0),
+        Take(0),
+        Run(1),
+        Take(4),
+        Take(4),
+        HandIn(0x78),
+        Begin,
+        Run(0),
+        Take(3),
+        Record(1),
+        Take(0),
+        Take(8),
+        Record(0),
+        Close(8),
+        Close(4),
+        Close(0),
+        HandIn(0x79),
+        Close(3),
+    ],
+    cut: Whole {
         counts: [5, 3, 1],
         size: 9,
         lines: [
-            &[Token::Ack],
-            &[],
-            &[],
-            &[Token::Data(0x58)],
-            &[],
-            &[],
-            &[],
-            &[],
-            &[],
+            Some(Token::Ack),
+            None,
+            None,
+            Some(Token::Data(0x58)),
+            None,
+            None,
+            None,
+            None,
+            None,
         ],
         pending: b"x",
-        tail: &[
-            Numbered {
-                number: 8,
-                entry: Entry::Take {
+        tail: [
+            Some((
+                8,
+                Entry::Take {
                     line: 3,
                     token: Token::Data(0x58),
                 },
-            },
-            Numbered {
-                number: 9,
-                entry: Entry::Take {
+            )),
+            Some((
+                9,
+                Entry::Take {
                     line: 0,
                     token: Token::Ack,
                 },
-            },
-            Numbered {
-                number: 11,
-                entry: Entry::HostIn {
+            )),
+            Some((
+                11,
+                Entry::HostIn {
                     port: 0,
                     byte: 0x79,
                 },
-            },
+            )),
+            None,
         ],
         next: 12,
         outputs: b"X",
-    };
-    let told = play(alloc, &late);
-    told
-}
+    },
+};
 
 #[test]
 fn cuts_are_those_that_were_worked_out(rt: HostRuntime) -> Result<(), Fail> {
-    let under_way = play_under_way(rt.alloc())?;
-    let late = play_late(rt.alloc())?;
-    assert!(rt; under_way && late);
+    for story in [UNDER_WAY, LATE] {
+        let told = play(rt.alloc(), &story)?;
+        assert!(rt; told);
+    }
     Ok(())
 }

@@ -1,5 +1,6 @@
 //! Schedules of turns on networks that are drawn.
 
+use crate::deeds::Deed;
 use crate::devices::{drawn_topology, formatted};
 use crate::machines::{Chance, drawn_image};
 use crate::network::Net;
@@ -8,7 +9,6 @@ use std::alloc::{AllocError, Global};
 use std::test::Fail;
 use tp_book::Refusal;
 use tp_disk::MemDisk;
-use tp_net::Topology;
 use tp_replay::FlatNetwork;
 
 /// How many schedules are played, and where the numbers begin.
@@ -17,30 +17,23 @@ const SCHEDULES: u16 = 3_000;
 const SEED: u64 = 1;
 
 /// Draws the images of a network's nodes.
-fn draw_images(
+fn drawn_images(
     alloc: Global,
     chance: &mut Chance,
     count: usize,
-    images: &mut Vec<Vec<u8>>,
-) -> Result<(), AllocError> {
+) -> Result<Vec<Vec<u8>>, AllocError> {
+    let mut images = Vec::new(alloc);
     for _node in 0..count {
         images.push(drawn_image(alloc, chance)?)?;
     }
-    Ok(())
-}
-
-/// A device with a network whose images are drawn.
-fn drawn_of(alloc: Global, chance: &mut Chance, topology: &Topology) -> Result<MemDisk, Fail> {
-    let mut images = Vec::new(alloc);
-    draw_images(alloc, chance, topology.pages().len(), &mut images)?;
-    let disk = formatted(alloc, topology, &images);
-    disk
+    Ok(images)
 }
 
 /// A device with a network that is drawn.
 fn drawn(alloc: Global, chance: &mut Chance, nodes: u8, ports: u8) -> Result<MemDisk, Fail> {
     let topology = drawn_topology(chance, nodes, ports).ok_or("no network")?;
-    let disk = drawn_of(alloc, chance, &topology);
+    let images = drawn_images(alloc, chance, topology.pages().len())?;
+    let disk = formatted(alloc, &topology, &images);
     disk
 }
 
@@ -54,15 +47,15 @@ fn is_answer(answer: Option<Result<u64, Refusal>>) -> bool {
 
 /// Something happens: a turn of some process, a call of the host, or a snapshot begins.
 fn happens(alloc: Global, net: &mut Net, chance: &mut Chance) -> bool {
-    let nodes = net.nodes().len().min(8) as u8;
+    let nodes = net.seats().len().min(8) as u8;
     let process = chance.below(nodes + 1);
     match chance.below(16) {
         0 => net.begin(alloc) != Err(Refusal::Memory),
         1 => is_answer(net.hand_in(chance.below(3), b"xyz")),
         2 => is_answer(net.confirm(chance.below(3))),
-        3 => is_answer(net.settle(process)),
+        3 => is_answer(net.does(process, Deed::Settle)),
         _ if process == nodes => is_answer(Some(net.host_turn())),
-        _ => is_answer(net.node_turn(process, u16::from(chance.below(64)))),
+        _ => is_answer(net.does(process, Deed::Turn(chance.below(64)))),
     }
 }
 
@@ -80,16 +73,16 @@ fn takes_in(
     flat: &mut FlatNetwork,
     chance: &mut Chance,
     told: &mut Told,
-) -> Result<bool, Fail> {
+) -> bool {
     if net.book().whole().is_none() || chance.below(2) != 0 {
-        return Ok(true);
+        return true;
     }
-    let Some(tokens) = take_in(alloc, net, flat)? else {
-        return Ok(false);
+    let Some(tokens) = take_in(alloc, net, flat) else {
+        return false;
     };
     told.cuts = told.cuts.saturating_add(1);
     told.tokens = told.tokens.saturating_add(tokens);
-    Ok(true)
+    true
 }
 
 /// Plays a schedule on a network. Answers whether its whole cuts were right, and no turn was refused that may not be.
@@ -99,13 +92,13 @@ fn play_on(
     flat: &mut FlatNetwork,
     chance: &mut Chance,
     told: &mut Told,
-) -> Result<bool, Fail> {
+) -> bool {
     for _step in 0..400u16 {
-        if !happens(alloc, net, chance) || !takes_in(alloc, net, flat, chance, told)? {
-            return Ok(false);
+        if !happens(alloc, net, chance) || !takes_in(alloc, net, flat, chance, told) {
+            return false;
         }
     }
-    Ok(true)
+    true
 }
 
 /// Plays a schedule of a network that is drawn.
@@ -118,7 +111,7 @@ fn play_drawn(
 ) -> Result<bool, Fail> {
     let (mut net, mut flat) = both_of(alloc, drawn(alloc, chance, nodes, ports), 4)?;
     let right = play_on(alloc, &mut net, &mut flat, chance, told);
-    right
+    Ok(right)
 }
 
 /// Plays schedules, each of a network of its own. Answers whether all were right.
@@ -143,9 +136,9 @@ fn whole_cuts_are_what_their_entries_lead_to(rt: HostRuntime) -> Result<(), Fail
 }
 
 /// Turns of the nodes in order, and then the host's. Whether each was one that may be.
-fn round(net: &mut Net, quantum: u16) -> bool {
-    for number in 0..net.nodes().len().min(8) {
-        if !is_answer(net.node_turn(number as u8, quantum)) {
+fn round(net: &mut Net, quantum: u8) -> bool {
+    for number in 0..net.seats().len().min(8) {
+        if !is_answer(net.does(number as u8, Deed::Turn(quantum))) {
             return false;
         }
     }
@@ -154,29 +147,24 @@ fn round(net: &mut Net, quantum: u16) -> bool {
 
 /// A snapshot, begun behind a round and whole after two more. Answers how many tokens stood on the lines of its cut; none where it isn't
 /// whole or isn't right.
-fn snapshot(alloc: Global, net: &mut Net, flat: &mut FlatNetwork) -> Result<Option<usize>, Fail> {
+fn snapshot(alloc: Global, net: &mut Net, flat: &mut FlatNetwork) -> Option<usize> {
     let begun = round(net, 20) && net.begin(alloc).is_ok();
     if !begun || !round(net, 20) || !round(net, 20) {
-        return Ok(None);
+        return None;
     }
     take_in(alloc, net, flat)
 }
 
 /// Snapshots one after another. Answers how many tokens stood on the lines of their cuts; none where one isn't right.
-fn snapshots_on(
-    alloc: Global,
-    net: &mut Net,
-    flat: &mut FlatNetwork,
-    count: u8,
-) -> Result<Option<usize>, Fail> {
+fn snapshots_on(alloc: Global, net: &mut Net, flat: &mut FlatNetwork, count: u8) -> Option<usize> {
     let mut tokens = 0usize;
     for _snapshot in 0..count {
-        let Some(more) = snapshot(alloc, net, flat)? else {
-            return Ok(None);
+        let Some(more) = snapshot(alloc, net, flat) else {
+            return None;
         };
         tokens = tokens.saturating_add(more);
     }
-    Ok(Some(tokens))
+    Some(tokens)
 }
 
 /// Snapshots of a network that is drawn.
@@ -184,7 +172,7 @@ fn snapshots(alloc: Global, nodes: u8, count: u8) -> Result<Option<usize>, Fail>
     let mut chance = Chance { state: 2 };
     let (mut net, mut flat) = both_of(alloc, drawn(alloc, &mut chance, nodes, 2), 4)?;
     let tokens = snapshots_on(alloc, &mut net, &mut flat, count);
-    tokens
+    Ok(tokens)
 }
 
 #[test]

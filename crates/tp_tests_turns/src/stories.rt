@@ -1,57 +1,61 @@
 //! Stories of the network of a device, step by step: what each step takes, where Markers then stand, and the entries that come of them all.
 
+use crate::deeds::Deed;
+use crate::devices::tasks_device;
+use crate::machines::Task;
 use crate::network::Net;
 use crate::replayed::{both_of, take_in};
+use crate::rows::{Entries, are_numbered};
 use std::alloc::Global;
 use std::test::Fail;
-use tp_book::{Numbered, Refusal};
-use tp_disk::MemDisk;
-use tp_model::Entry;
 use tp_replay::FlatNetwork;
 
 /// What is done: a node's turn of at most that many steps, act by act or as one entry; the host's turn; or a snapshot begins.
 #[derive(Clone, Copy)]
 pub(crate) enum Step {
-    Node(u8, u16),
-    Whole(u8, u16),
+    Node(u8, u8),
+    Whole(u8, u8),
     Host,
     Begin,
 }
 
-/// A step; how many tokens it takes, and behind it the next number and the lines with a Marker in front.
-pub(crate) type Told<'a> = (Step, u64, u64, &'a [u16]);
+/// A step; how many tokens it takes, and behind it the next number and the lines with a Marker in front, two at most.
+type Told = (Step, u64, u64, Option<u16>, Option<u16>);
 
-/// Steps, how many spare frames each node has, and all entries that are made by the steps. Where the cut is whole then: how many tokens stand on
-/// its lines, and how many entries it has; to it the network is trimmed.
+/// Steps, six at most; none comes behind the first `None`.
+pub(crate) type Steps = [Option<Told>; 6];
+
+/// A network, and what its nodes do; steps, how many spare frames each node has, and all entries that are made by the steps. Where the cut is whole
+/// then: how many tokens stand on its lines, and how many entries it has; to it the network is trimmed.
 #[derive(Clone, Copy)]
 pub(crate) struct Story<'a> {
-    pub(crate) steps: &'a [Told<'a>],
+    pub(crate) text: &'a [u8],
+    pub(crate) tasks: &'a [&'a [Task]],
+    pub(crate) steps: Steps,
     pub(crate) spare: usize,
-    pub(crate) entries: &'a [Entry],
+    pub(crate) entries: Entries,
     pub(crate) cut: Option<(usize, u64)>,
 }
 
-/// A snapshot begins, which takes nothing.
-fn begins(alloc: Global, net: &mut Net) -> Result<u64, Refusal> {
-    net.begin(alloc)?;
-    Ok(0)
-}
-
-/// Makes a step. Answers how many tokens it took.
-fn does(alloc: Global, net: &mut Net, step: Step) -> Result<u64, Refusal> {
+/// Makes a step. Answers how many tokens it took; a snapshot that begins takes nothing.
+fn does(alloc: Global, net: &mut Net, step: Step) -> Option<u64> {
     let done = match step {
-        Step::Node(number, quantum) => net.node_turn(number, quantum),
-        Step::Whole(number, quantum) => net.whole_turn(number, quantum),
-        Step::Host => return net.host_turn(),
-        Step::Begin => return begins(alloc, net),
+        Step::Node(number, quantum) => net.does(number, Deed::Turn(quantum))?,
+        Step::Whole(number, quantum) => net.does(number, Deed::Whole(quantum))?,
+        Step::Host => net.host_turn(),
+        Step::Begin => return if net.begin(alloc).is_ok() {
+            Some(0)
+        } else {
+            None
+        },
     };
-    done.unwrap_or(Err(Refusal::NothingToTake))
+    done.ok()
 }
 
-/// Whether Markers are in front of `lines`, and of no other.
-fn are_marked(net: &Net, lines: &[u16]) -> bool {
+/// Whether Markers are in front of these lines, and of no other.
+fn are_marked(net: &Net, one: Option<u16>, other: Option<u16>) -> bool {
     for line in 0..9u16 {
-        if net.is_marked(line) != lines.contains(&line) {
+        if net.is_marked(line) != (one == Some(line) || other == Some(line)) {
             return false;
         }
     }
@@ -59,63 +63,43 @@ fn are_marked(net: &Net, lines: &[u16]) -> bool {
 }
 
 /// The first step that isn't as it was told.
-pub(crate) fn first_other(alloc: Global, net: &mut Net, steps: &[Told]) -> Option<usize> {
+pub(crate) fn first_other(alloc: Global, net: &mut Net, steps: &Steps) -> Option<usize> {
     for i in 0..steps.len() {
-        let (step, takes, next, lines) = steps[i];
-        let done = does(alloc, net, step) == Ok(takes);
-        if !done || net.book().next() != next || !are_marked(net, lines) {
+        let Some((step, takes, next, one, other)) = steps[i] else {
+            return None;
+        };
+        let done = does(alloc, net, step) == Some(takes);
+        if !done || net.book().next() != next || !are_marked(net, one, other) {
             return Some(i);
         }
     }
     None
 }
 
-/// Whether these are the entries, numbered from 0 on.
-fn are(entries: &[Numbered], wanted: &[Entry]) -> bool {
-    if entries.len() != wanted.len() {
-        return false;
-    }
-    for at in 0..wanted.len() {
-        let one = entries[at];
-        if one.number != at as u64 || one.entry != wanted[at] {
-            return false;
-        }
-    }
-    true
-}
-
 /// Whether the network goes on from a whole cut, which has that many tokens on its lines and that many entries.
-fn is_trimmed(
-    alloc: Global,
-    net: &mut Net,
-    flat: &mut FlatNetwork,
-    cut: (usize, u64),
-) -> Result<bool, Fail> {
+fn is_trimmed(alloc: Global, net: &mut Net, flat: &mut FlatNetwork, cut: (usize, u64)) -> bool {
     let next = net.book().next();
-    let tokens = take_in(alloc, net, flat)?;
-    Ok(tokens == Some(cut.0) && net.book().base() == cut.1 && net.book().next() == next)
+    let tokens = take_in(alloc, net, flat);
+    tokens == Some(cut.0) && net.book().base() == cut.1 && net.book().next() == next
 }
 
 /// Whether a network goes as it was told.
-fn goes(alloc: Global, net: &mut Net, flat: &mut FlatNetwork, story: &Story) -> Result<bool, Fail> {
+fn goes(alloc: Global, net: &mut Net, flat: &mut FlatNetwork, story: &Story) -> bool {
     let begun = net.book().entries().is_empty();
-    let done = begun && first_other(alloc, net, story.steps).is_none();
-    if !done || !are(net.book().entries(), story.entries) {
-        return Ok(false);
+    let done = begun && first_other(alloc, net, &story.steps).is_none();
+    if !done || !are_numbered(net.book().entries(), &story.entries) {
+        return false;
     }
     match story.cut {
         Some(cut) => is_trimmed(alloc, net, flat, cut),
-        None => Ok(true),
+        None => true,
     }
 }
 
-/// Whether the network of a device that was just made goes as it was told.
-pub(crate) fn plays(
-    alloc: Global,
-    made: Result<MemDisk, Fail>,
-    story: &Story,
-) -> Result<bool, Fail> {
+/// Whether the network of a story goes as it was told.
+pub(crate) fn plays(alloc: Global, story: &Story) -> Result<bool, Fail> {
+    let made = tasks_device(alloc, story.text, story.tasks);
     let (mut net, mut flat) = both_of(alloc, made, story.spare)?;
     let told = goes(alloc, &mut net, &mut flat, story);
-    told
+    Ok(told)
 }

@@ -1,21 +1,26 @@
 //! Stories of turns: of one node, entry by entry; and of turns that are one entry, with Markers behind what they take, and a full journal.
 
-use crate::devices::{device_of, letter_device, tasks_device};
-use crate::machines::{Task, image};
+use crate::deeds::Deed;
+use crate::devices::tasks_device;
+use crate::machines::Task;
 use crate::network::Net;
 use crate::replayed::both_of;
-use crate::stories::{Step, Story, Told, first_other, plays};
+use crate::stories::{Step, Steps, Story, first_other, plays};
 use std::alloc::Global;
 use std::test::Fail;
 use tp_book::Refusal;
-use tp_disk::MemDisk;
 use tp_model::Entry;
-use tp_model::Received::{JustAck, JustData, Nothing};
+use tp_model::Received::{AckThenData, JustAck, JustData, Nothing};
 use tp_model::Token::{Ack, Data};
-use tp_tests_fixtures::letter;
+use tp_tests_fixtures::ONE_NODE;
 
 /// A node that sends the byte 58 on link 0, and one that it is wired to.
 const TWO: &[u8] = b"node a 4\nnode b 4\nport h\nwire a.0 b.0\nwire a.3 h\n";
+
+/// Two nodes with two wires between them, by links of one number and of two.
+const STRAIGHT: &[u8] = b"node a 4\nnode b 4\nport h\nwire a.0 b.0\nwire a.1 b.1\nwire b.3 h\n";
+
+const CROSSED: &[u8] = b"node a 4\nnode b 4\nport h\nwire a.0 b.1\nwire a.1 b.0\nwire a.3 h\n";
 
 /// A node whose links 1 and 2 are wired together.
 const SELF: &[u8] = b"node a 4\nport h\nwire a.1 a.2\nwire a.3 h\n";
@@ -36,147 +41,283 @@ const LETTER_ACKNOWLEDGED: Entry = Entry::Turn {
 
 /// What four turns make, of the node and the host in turns: the node runs up to the acknowledge that it waits for, the port takes the
 /// letter, and the node takes the acknowledge and goes round.
-#[test]
-fn the_entries_of_four_turns(rt: HostRuntime) -> Result<(), Fail> {
-    let story = Story {
-        steps: &[
-            (Step::Node(0, 16), 0, 1, &[]),
-            (Step::Host, 1, 2, &[]),
-            (Step::Node(0, 16), 1, 4, &[]),
-            (Step::Host, 0, 4, &[]),
-        ],
-        spare: 4,
-        entries: &[
-            LETTER_SENT,
-            LETTER_TAKEN,
+const FOUR_TURNS: Story<'static> = Story {
+    text: ONE_NODE,
+    tasks: &[&[Task::Letters]],
+    steps: [
+        Some((Step::Node(0, 16), 0, 1, None, None)),
+        Some((Step::Host, 1, 2, None, None)),
+        Some((Step::Node(0, 16), 1, 4, None, None)),
+        Some((Step::Host, 0, 4, None, None)),
+        None,
+        None,
+    ],
+    spare: 4,
+    entries: [
+        Some((0, LETTER_SENT)),
+        Some((1, LETTER_TAKEN)),
+        Some((
+            2,
             Entry::Take {
                 line: 4,
                 token: Ack,
             },
-            Entry::Run { node: 0, count: 16 },
-        ],
-        cut: None,
-    };
-    let told = plays(rt.alloc(), letter_device(rt.alloc()), &story)?;
-    assert!(rt; told);
-    Ok(())
-}
+        )),
+        Some((3, Entry::Run { node: 0, count: 16 })),
+    ],
+    cut: None,
+};
 
-#[test]
-fn a_nodes_turn_is_one_entry(rt: HostRuntime) -> Result<(), Fail> {
-    let story = Story {
-        steps: &[
-            (Step::Whole(0, 16), 0, 1, &[]),
-            (Step::Host, 1, 2, &[]),
-            (Step::Whole(0, 16), 1, 3, &[]),
-            (Step::Host, 0, 3, &[]),
-        ],
-        spare: 4,
-        entries: &[LETTER_SENT, LETTER_TAKEN, LETTER_ACKNOWLEDGED],
-        cut: None,
-    };
-    let told = plays(rt.alloc(), letter_device(rt.alloc()), &story)?;
-    assert!(rt; told);
-    Ok(())
-}
+/// What they make where a node's turn is one entry.
+const ONE_ENTRY: Story<'static> = Story {
+    text: ONE_NODE,
+    tasks: &[&[Task::Letters]],
+    steps: [
+        Some((Step::Whole(0, 16), 0, 1, None, None)),
+        Some((Step::Host, 1, 2, None, None)),
+        Some((Step::Whole(0, 16), 1, 3, None, None)),
+        Some((Step::Host, 0, 3, None, None)),
+        None,
+        None,
+    ],
+    spare: 4,
+    entries: [
+        Some((0, LETTER_SENT)),
+        Some((1, LETTER_TAKEN)),
+        Some((2, LETTER_ACKNOWLEDGED)),
+        None,
+    ],
+    cut: None,
+};
 
 /// The Marker stands behind the acknowledge. The turn takes that, and the next one closes the line.
-#[test]
-fn a_marker_behind_what_is_taken_waits_for_the_next_turn(rt: HostRuntime) -> Result<(), Fail> {
-    let story = Story {
-        steps: &[
-            (Step::Whole(0, 16), 0, 1, &[]),
-            (Step::Host, 1, 2, &[]),
-            (Step::Begin, 0, 2, &[]),
-            (Step::Whole(0, 16), 1, 3, &[0, 4]),
-            (Step::Whole(0, 16), 0, 4, &[0]),
-            (Step::Host, 0, 4, &[]),
-        ],
-        spare: 0,
-        entries: &[
-            LETTER_SENT,
-            LETTER_TAKEN,
-            LETTER_ACKNOWLEDGED,
-            Entry::Run { node: 0, count: 16 },
-        ],
-        cut: Some((1, 2)),
-    };
-    let told = plays(rt.alloc(), letter_device(rt.alloc()), &story)?;
-    assert!(rt; told);
-    Ok(())
-}
+const MARKER_BEHIND: Story<'static> = Story {
+    text: ONE_NODE,
+    tasks: &[&[Task::Letters]],
+    steps: [
+        Some((Step::Whole(0, 16), 0, 1, None, None)),
+        Some((Step::Host, 1, 2, None, None)),
+        Some((Step::Begin, 0, 2, None, None)),
+        Some((Step::Whole(0, 16), 1, 3, Some(0), Some(4))),
+        Some((Step::Whole(0, 16), 0, 4, Some(0), None)),
+        Some((Step::Host, 0, 4, None, None)),
+    ],
+    spare: 0,
+    entries: [
+        Some((0, LETTER_SENT)),
+        Some((1, LETTER_TAKEN)),
+        Some((2, LETTER_ACKNOWLEDGED)),
+        Some((3, Entry::Run { node: 0, count: 16 })),
+    ],
+    cut: Some((1, 2)),
+};
 
 /// The sender records before it sends, so its byte stands behind its Marker: the hearer closes the line, and takes the byte.
-#[test]
-fn a_marker_in_front_is_closed(rt: HostRuntime) -> Result<(), Fail> {
-    let story = Story {
-        steps: &[
-            (Step::Begin, 0, 0, &[8]),
-            (Step::Whole(0, 16), 0, 1, &[0, 3]),
-            (Step::Whole(1, 16), 1, 2, &[3, 4]),
-            (Step::Whole(0, 16), 0, 2, &[3]),
-            (Step::Host, 0, 2, &[]),
-        ],
-        spare: 4,
-        entries: &[
-            Entry::Run { node: 0, count: 5 },
+const MARKER_IN_FRONT: Story<'static> = Story {
+    text: TWO,
+    tasks: &[&[Task::Once(0)], &[]],
+    steps: [
+        Some((Step::Begin, 0, 0, Some(8), None)),
+        Some((Step::Whole(0, 16), 0, 1, Some(0), Some(3))),
+        Some((Step::Whole(1, 16), 1, 2, Some(3), Some(4))),
+        Some((Step::Whole(0, 16), 0, 2, Some(3), None)),
+        Some((Step::Host, 0, 2, None, None)),
+        None,
+    ],
+    spare: 4,
+    entries: [
+        Some((0, Entry::Run { node: 0, count: 5 })),
+        Some((
+            1,
             Entry::Turn {
                 node: 1,
                 takes: [JustData(0x58), Nothing, Nothing, Nothing],
                 count: 0,
             },
-        ],
-        cut: Some((0, 0)),
-    };
-    let tasks: [&[Task]; 2] = [&[Task::Once(0)], &[]];
-    let told = plays(rt.alloc(), tasks_device(rt.alloc(), TWO, &tasks), &story)?;
-    assert!(rt; told);
-    Ok(())
-}
+        )),
+        None,
+        None,
+    ],
+    cut: Some((0, 0)),
+};
 
 /// What a turn sends on a link that is wired to another of that node isn't taken in it.
-#[test]
-fn a_node_that_is_wired_to_itself_takes_what_stood_there(rt: HostRuntime) -> Result<(), Fail> {
-    let story = Story {
-        steps: &[
-            (Step::Whole(0, 16), 0, 1, &[]),
-            (Step::Whole(0, 0), 1, 2, &[]),
-            (Step::Whole(0, 0), 1, 3, &[]),
-            (Step::Whole(0, 0), 0, 3, &[]),
-        ],
-        spare: 4,
-        entries: &[
-            Entry::Run { node: 0, count: 11 },
+const WIRED_TO_ITSELF: Story<'static> = Story {
+    text: SELF,
+    tasks: &[&[Task::Once(2), Task::Relay(1, 0)]],
+    steps: [
+        Some((Step::Whole(0, 16), 0, 1, None, None)),
+        Some((Step::Whole(0, 0), 1, 2, None, None)),
+        Some((Step::Whole(0, 0), 1, 3, None, None)),
+        Some((Step::Whole(0, 0), 0, 3, None, None)),
+        None,
+        None,
+    ],
+    spare: 4,
+    entries: [
+        Some((0, Entry::Run { node: 0, count: 11 })),
+        Some((
+            1,
             Entry::Turn {
                 node: 0,
                 takes: [Nothing, JustData(0x58), Nothing, Nothing],
                 count: 0,
             },
+        )),
+        Some((
+            2,
             Entry::Turn {
                 node: 0,
                 takes: [Nothing, Nothing, JustAck, Nothing],
                 count: 0,
             },
-        ],
-        cut: None,
-    };
-    let tasks: [&[Task]; 1] = [&[Task::Once(2), Task::Relay(1, 0)]];
-    let told = plays(rt.alloc(), tasks_device(rt.alloc(), SELF, &tasks), &story)?;
-    assert!(rt; told);
+        )),
+        None,
+    ],
+    cut: None,
+};
+
+/// The other node's byte comes behind its acknowledge, and one turn takes both, in the order in which they stand.
+const TWO_OF_A_LINK: Story<'static> = Story {
+    text: TWO,
+    tasks: &[&[Task::Once(0)], &[Task::Relay(0, 1), Task::Once(0)]],
+    steps: [
+        Some((Step::Whole(0, 16), 0, 1, None, None)),
+        Some((Step::Whole(1, 16), 1, 2, None, None)),
+        Some((Step::Whole(0, 16), 2, 3, None, None)),
+        None,
+        None,
+        None,
+    ],
+    spare: 4,
+    entries: [
+        Some((0, Entry::Run { node: 0, count: 5 })),
+        Some((
+            1,
+            Entry::Turn {
+                node: 1,
+                takes: [JustData(0x58), Nothing, Nothing, Nothing],
+                count: 15,
+            },
+        )),
+        Some((
+            2,
+            Entry::Turn {
+                node: 0,
+                takes: [AckThenData(0x58), Nothing, Nothing, Nothing],
+                count: 2,
+            },
+        )),
+        None,
+    ],
+    cut: None,
+};
+
+/// Bytes come for two processes. The one at link 1 has waited longer; the one at link 0 is woken first, and runs first: of five steps, its byte
+/// gets to the port.
+const LOWER_LINK_FIRST: Story<'static> = Story {
+    text: STRAIGHT,
+    tasks: &[
+        &[Task::Once(0), Task::Once(1)],
+        &[Task::Relay(1, 2), Task::Relay(0, 3)],
+    ],
+    steps: [
+        Some((Step::Whole(1, 16), 0, 1, None, None)),
+        Some((Step::Whole(0, 16), 0, 2, None, None)),
+        Some((Step::Whole(1, 5), 2, 3, None, None)),
+        Some((Step::Host, 1, 4, None, None)),
+        None,
+        None,
+    ],
+    spare: 4,
+    entries: [
+        Some((0, Entry::Run { node: 1, count: 12 })),
+        Some((1, Entry::Run { node: 0, count: 10 })),
+        Some((
+            2,
+            Entry::Turn {
+                node: 1,
+                takes: [JustData(0x58), JustData(0x58), Nothing, Nothing],
+                count: 5,
+            },
+        )),
+        Some((
+            3,
+            Entry::Take {
+                line: 7,
+                token: Data(0x58),
+            },
+        )),
+    ],
+    cut: None,
+};
+
+/// Entry by entry: link 0 first, whose line is that of the other node's link 1.
+const LINK_BY_LINK: Story<'static> = Story {
+    text: CROSSED,
+    tasks: &[&[Task::Once(0), Task::Once(1)], &[]],
+    steps: [
+        Some((Step::Node(0, 16), 0, 1, None, None)),
+        Some((Step::Node(1, 16), 2, 3, None, None)),
+        None,
+        None,
+        None,
+        None,
+    ],
+    spare: 4,
+    entries: [
+        Some((0, Entry::Run { node: 0, count: 10 })),
+        Some((
+            1,
+            Entry::Take {
+                line: 1,
+                token: Data(0x58),
+            },
+        )),
+        Some((
+            2,
+            Entry::Take {
+                line: 0,
+                token: Data(0x58),
+            },
+        )),
+        None,
+    ],
+    cut: None,
+};
+
+#[test]
+fn turns_go_as_they_were_told(rt: HostRuntime) -> Result<(), Fail> {
+    for story in [
+        FOUR_TURNS,
+        ONE_ENTRY,
+        MARKER_BEHIND,
+        MARKER_IN_FRONT,
+        WIRED_TO_ITSELF,
+        TWO_OF_A_LINK,
+        LOWER_LINK_FIRST,
+        LINK_BY_LINK,
+    ] {
+        let told = plays(rt.alloc(), &story)?;
+        assert!(rt; told);
+    }
     Ok(())
 }
 
 /// A letter is sent, taken and acknowledged.
-const HANDED: [Told<'static>; 3] = [
-    (Step::Whole(1, 16), 0, 1, &[]),
-    (Step::Whole(0, 16), 1, 2, &[]),
-    (Step::Whole(1, 16), 1, 3, &[]),
+const HANDED: Steps = [
+    Some((Step::Whole(1, 16), 0, 1, None, None)),
+    Some((Step::Whole(0, 16), 1, 2, None, None)),
+    Some((Step::Whole(1, 16), 1, 3, None, None)),
+    None,
+    None,
+    None,
 ];
 
 /// Turns of a node until the journal is full for one. Answers whether it was within `most`.
 fn fill(net: &mut Net, number: u8, most: u16) -> bool {
     for _turn in 0..most {
-        match net.whole_turn(number, 16) {
+        match net.does(number, Deed::Whole(16)) {
             Some(Ok(_)) => {}
             Some(Err(refusal)) => return refusal == Refusal::JournalFull,
             None => return false,
@@ -187,7 +328,7 @@ fn fill(net: &mut Net, number: u8, most: u16) -> bool {
 
 /// Whether a turn of the first node is refused since the journal is full.
 fn is_refused(net: &mut Net) -> bool {
-    net.whole_turn(0, 16) == Some(Err(Refusal::JournalFull))
+    net.does(0, Deed::Whole(16)) == Some(Err(Refusal::JournalFull))
 }
 
 /// Whether the last entry is that of the byte that stood in front of the node.
@@ -217,16 +358,12 @@ fn is_full(alloc: Global, net: &mut Net) -> bool {
     before > 1000 && takes && has_taken(net)
 }
 
-/// The device of a node that hears on link 0, and of one that sends letters there.
-fn relay_device(alloc: Global) -> Result<MemDisk, Fail> {
-    let images = Vec::from_array(alloc, [image(alloc, &[Task::Relay(0, 1)])?, letter(alloc)?])?;
-    let disk = device_of(alloc, TWO, &images);
-    disk
-}
-
+/// In it one node hears on link 0, and one sends letters there.
 #[test]
 fn a_full_journal_has_room_for_what_a_snapshot_needs(rt: HostRuntime) -> Result<(), Fail> {
-    let (mut net, _flat) = both_of(rt.alloc(), relay_device(rt.alloc()), 4)?;
+    let tasks: [&[Task]; 2] = [&[Task::Relay(0, 1)], &[Task::Letters]];
+    let made = tasks_device(rt.alloc(), TWO, &tasks);
+    let (mut net, _flat) = both_of(rt.alloc(), made, 4)?;
     let told = is_full(rt.alloc(), &mut net);
     assert!(rt; told);
     Ok(())

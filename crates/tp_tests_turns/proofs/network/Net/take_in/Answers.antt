@@ -6,6 +6,6 @@ use Rattle.tp_tests_turns.proofs.network.Net.take_in.Goals as goal
 
 pub invariant_of-self : goal.invariant_of-self
 invariant_of-self c =
-    let nodes = c.self.inside.nodes.items in
-    let passed : list_all (λ node. is_none node.frozen) nodes ≡ true = search rules in
-    taken_in nodes c.self.inside.book c.take_in.new.self (all_thawed nodes passed) c.take_in.ensures.book c.take_in.ensures.act c.self.invariant
+    let seats = c.self.inside.seats.items in
+    let passed : list_all (λ seat. is_none seat.node.frozen) seats ≡ true = search rules in
+    taken_in seats c.self.inside.book c.take_in.new.self (all_thawed seats passed) c.take_in.ensures.book c.take_in.ensures.act c.self.invariant
