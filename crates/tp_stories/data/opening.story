@@ -190,6 +190,25 @@ tpnet recover device
 copy grown device
 set device 13105 04
 tpnet recover device
+# Numbers that don't rise make no group. A first number that isn't 0; and in a second group one that isn't above those of the first, and the next one.
+copy grown device
+set device 13105 02
+tpnet recover device
+copy grown device
+set device 13041 01
+set device 13057 01
+set device 13073 02
+set device 13089 03
+set device 13105 04
+tpnet recover device
+copy grown device
+set device 13113 A5 00 01 00 00 00 00 00 03 00 00 00 00 00 00 00
+set device 13129 01 00 10 00 00 00 00 00 03 00 00 00 00 00 00 00
+set device 13145 00
+tpnet recover device
+set device 13121 04
+set device 13137 04
+tpnet recover device
 copy grown device
 set device 13113 A5
 tpnet recover device

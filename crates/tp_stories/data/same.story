@@ -153,6 +153,30 @@ starts err tpnet: --out 1 goes into the file of
 stay
 remove fresh
 
+story over_device
+# Standard output is the device's file, under any of its names: commands end with status 2, print nothing, and change nothing.
+text net.txt node a 4\nport h\nwire a.0 h\n
+image a.img
+tpnet format device net.txt . 16384
+symlink device to_device
+link device also_device
+keep device
+stand stdout=device
+tpnet show device 2>err
+empty err
+tpnet recover to_device 2>err
+empty err
+tpnet journal also_device 2>err
+empty err
+tpnet run device --turns 4 2>err
+empty err
+tpnet compact device 2>err
+empty err
+tpnet format device net.txt . 16384 2>err
+empty err
+stand
+stay
+
 story apart
 # Files of their own are taken, also where standard streams are files, or both are no file, as a terminal. What no port uses is not
 # looked at, and two inputs may be one file.
