@@ -22,8 +22,8 @@ use tp_model::limits::{IMAGE_HEAD_BYTES, MAX_PAGES, PAGE_BYTES};
 use tp_shared::gate::PAGE_COPIED;
 use tp_shared::{Gate, Look, Naming, Shared};
 
-/// How many pages are read in one hold of a node's lock, at most. A turn of a node in that cell waits for all of them: for up to a
-/// microsecond, where a turn of 1,024 steps takes four.
+/// How many pages are read in one hold of a node's lock, at most. A turn of a node in that cell waits for all of them: for less than
+/// a microsecond, where a turn of 1,024 steps takes four.
 const PAGES_A_HOLD: usize = 4;
 
 impl<J: Naming, D: Disk> Flusher<J, D> {

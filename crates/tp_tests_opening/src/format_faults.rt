@@ -92,7 +92,7 @@ impl Made {
         formatted(alloc, self.text, self.nodes, self.head, self.area)
     }
 
-    /// Whether formatting a device ends well; none where there is no memory for its network.
+    /// Whether formatting a device ends well; none where its network can't be made.
     fn formats(&self, alloc: Global, disk: &mut MemDisk) -> Option<bool> {
         match Letter::of(alloc, self.text, self.nodes) {
             Some(network) => Some(network.format(alloc, disk, self.area).is_ok()),

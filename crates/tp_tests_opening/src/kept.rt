@@ -26,8 +26,8 @@ const KEPT_ROWS: [Row; 6] = [
 /// The node takes the acknowledge and makes steps. Behind the checkpoint it takes what the port was handed.
 const TURN_ROWS: [Row; 2] = [(b"rako", b"rakox"), (b"rakocblo", b"rakocblox")];
 
-/// The kept device with a number, the last where there is none. Others ask here: a function that names a table pays for all of it.
-pub(crate) fn kept_of(number: usize) -> Kept {
+/// The kept device with a number, the last where there is none. Others ask `kept_bytes`: a function that names a table pays for all of it.
+fn kept_of(number: usize) -> Kept {
     KEPT[number.min(5)]
 }
 

@@ -93,6 +93,14 @@ const ROWS: &[Row] = &[
     },
     Row {
         code: DEAF,
+        input: 5000,
+        until_quiet: true,
+        why: Ending::Quiet,
+        stopped: Some(Stopped::Waits),
+        ..ROW
+    },
+    Row {
+        code: DEAF,
         input: 0,
         ..ROW
     },

@@ -3,7 +3,6 @@
 use crate::files::Lent;
 use std::io;
 use std::io::{ErrorKind, Read};
-use std::test::Fail;
 use tp_stream_files::{AnySource, Feed, Pipe, Plain, Source, Threaded};
 
 /// How many bytes come.
@@ -134,37 +133,34 @@ const FAILED: Drained = Drained {
 
 /// A feed's bytes don't depend on the pieces in which they come, and a read that fails is no end.
 #[test]
-fn pieces_are_put_together(rt: HostRuntime) -> Result<(), Fail> {
+fn pieces_are_put_together(rt: HostRuntime) {
     for (piece, fails, wanted) in CASES {
         let mut feed = Plain::new(Numbered::new(*piece, *fails));
         assert!(rt; drain(&mut piped(&mut feed)) == *wanted);
     }
-    Ok(())
 }
 
 /// The bytes that a thread of its own reads don't depend on the pieces in which they come, either.
 #[test]
-fn pieces_of_a_thread_are_put_together(rt: HostRuntime) -> Result<(), Fail> {
+fn pieces_of_a_thread_are_put_together(rt: HostRuntime) {
     for (piece, fails, wanted) in CASES {
         let mut feed = Threaded::new(rt, Some(Numbered::new(*piece, *fails)));
         assert!(rt; drain(&mut piped(&mut feed)) == *wanted);
     }
-    Ok(())
 }
 
 /// With no reader a read fails.
 #[test]
-fn no_reader_is_no_end(rt: HostRuntime) -> Result<(), Fail> {
+fn no_reader_is_no_end(rt: HostRuntime) {
     let none: Option<Numbered> = None;
     let mut feed = Threaded::new(rt, none);
     let drained = drain(&mut piped(&mut feed));
     assert!(rt; drained.count == 0 && !drained.has_ended);
-    Ok(())
 }
 
 /// Bytes that were passed over are gone: a read from their position fails, and gives no others.
 #[test]
-fn bytes_that_are_gone_are_not_given(rt: HostRuntime) -> Result<(), Fail> {
+fn bytes_that_are_gone_are_not_given(rt: HostRuntime) {
     let mut feed = Plain::new(Numbered::new(7, false));
     let mut source = piped(&mut feed);
     let mut out = [0u8; 3];
@@ -173,5 +169,4 @@ fn bytes_that_are_gone_are_not_given(rt: HostRuntime) -> Result<(), Fail> {
     assert!(rt; source.read(7_000, &mut out).is_err());
     assert!(rt; matches!(source.read(7_995, &mut out), Ok(3)) && are_from(7_995, &out));
     assert!(rt; matches!(source.read(TOTAL as u64, &mut out), Ok(0)));
-    Ok(())
 }

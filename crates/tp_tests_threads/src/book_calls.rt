@@ -8,7 +8,6 @@ ghost use Rattle.tp_tests_threads.specs.Usable.{IsLone, IsUsable};
 use crate::books::{hand_in, lone_net, make_ready, reserve, start};
 use crate::devices::grown;
 use std::alloc::{AllocError, Global};
-use std::test::Fail;
 use tp_book::{Book, NetParts, NetState, Refusal};
 use tp_disk::MemDisk;
 use tp_model::Token;
@@ -109,7 +108,7 @@ fn is_made(alloc: Global, call: Call) -> Option<bool> {
 }
 
 #[test]
-fn a_call_of_a_book_is_made_again(rt: HostRuntime) -> Result<(), Fail> {
+fn a_call_of_a_book_is_made_again(rt: HostRuntime) {
     for call in [Call::Start, Call::HostIn, Call::ReserveRun, Call::ReadyTake] {
         let told = match is_made(rt.alloc(), call) {
             Some(told) => told,
@@ -117,7 +116,6 @@ fn a_call_of_a_book_is_made_again(rt: HostRuntime) -> Result<(), Fail> {
         };
         assert!(rt; told);
     }
-    Ok(())
 }
 
 /// What a device leaves; none where memory is refused.
@@ -156,11 +154,10 @@ fn is_opened(alloc: Global) -> Option<bool> {
 }
 
 #[test]
-fn a_book_of_a_device_is_opened_again(rt: HostRuntime) -> Result<(), Fail> {
+fn a_book_of_a_device_is_opened_again(rt: HostRuntime) {
     let told = match is_opened(rt.alloc()) {
         Some(told) => told,
         None => is_opened(rt.alloc()).unwrap_or(false),
     };
     assert!(rt; told);
-    Ok(())
 }

@@ -1,7 +1,6 @@
 //! A device in memory, and formatting it.
 
 use std::alloc::{AllocError, Global};
-use std::test::Fail;
 use tp_area::{FormatFault, format};
 use tp_disk::{Disk, MemDisk};
 use tp_net::Topology;
@@ -117,22 +116,20 @@ fn is_bad(alloc: Global) -> Option<bool> {
 
 /// Nothing is written where memory is refused, and the next format is as the first would have been. What makes it ready is made again, too.
 #[test]
-fn a_device_is_formatted_again(rt: HostRuntime) -> Result<(), Fail> {
+fn a_device_is_formatted_again(rt: HostRuntime) {
     let told = match formats(rt.alloc()) {
         Some(told) => told,
         None => formats(rt.alloc()).unwrap_or(false),
     };
     assert!(rt; told);
-    Ok(())
 }
 
 /// Bad images are refused as such, also where memory was refused first.
 #[test]
-fn a_bad_image_stays_bad(rt: HostRuntime) -> Result<(), Fail> {
+fn a_bad_image_stays_bad(rt: HostRuntime) {
     let told = match is_bad(rt.alloc()) {
         Some(told) => told,
         None => is_bad(rt.alloc()).unwrap_or(false),
     };
     assert!(rt; told);
-    Ok(())
 }

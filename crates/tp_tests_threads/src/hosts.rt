@@ -1,6 +1,7 @@
 //! What a worker and a host get, call by call.
 
 use crate::acts::turn;
+use crate::desk::Done;
 use crate::stories::HOSTS;
 use crate::worked::{first_stop, played};
 use std::test::Fail;
@@ -31,6 +32,6 @@ fn a_worker_and_a_host(rt: HostRuntime) -> Result<(), Fail> {
         turn(0, Received::JustData(b'a'), 16),
     ];
     let left = played(&rt, alloc, &HOSTS, Some((call, 0)))?;
-    assert!(rt; left.told.journal.as_slice() == journal.as_slice());
+    assert!(rt; left.done == Done::All && left.told.journal.as_slice() == journal.as_slice());
     Ok(())
 }

@@ -37,14 +37,13 @@ fn is_spelt(fun: Fun, operand: i32, bytes: &mut Vec<u8>) -> bool {
 }
 
 #[test]
-fn an_instruction_is_spelt_again(rt: HostRuntime) -> Result<(), Fail> {
+fn an_instruction_is_spelt_again(rt: HostRuntime) {
     let mut bytes = Vec::new(rt.alloc());
     for (fun, operand) in INSTRUCTIONS {
         let told = is_spelt(fun, operand, &mut bytes);
         assert!(rt; told);
     }
     assert!(rt; bytes.as_slice() == SPELT);
-    Ok(())
 }
 
 /// Whether a pool has just two frames to give.

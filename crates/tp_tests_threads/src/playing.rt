@@ -6,7 +6,6 @@ use crate::worked::{Wanted, goes};
 use crate::worked_stories::Device;
 use std::alloc::Global;
 use std::sync::Wait;
-use std::test::Fail;
 use tp_model::{Entry, Received, Token};
 
 /// Whether a story goes as it should, and a crash leaves the second area, with `base` entries in its cut beside those that are offered
@@ -39,7 +38,7 @@ fn run(count: u16) -> Entry {
 }
 
 #[test]
-fn small_pools_and_a_full_journal(rt: HostRuntime) -> Result<(), Fail> {
+fn small_pools_and_a_full_journal(rt: HostRuntime) {
     let ack = turn(0, Received::JustAck, 16);
     let rows: [(&Story<'static>, u64, &[Entry]); 4] = [
         (&NOTHING_WRITTEN, 2, &[ack, run(16)]),
@@ -50,7 +49,6 @@ fn small_pools_and_a_full_journal(rt: HostRuntime) -> Result<(), Fail> {
     for (i, (story, base, kept)) in rows.iter().enumerate() {
         assert!(rt; plays(&rt, rt.alloc(), story, *base, kept), "story {i}");
     }
-    Ok(())
 }
 
 /// With one byte the node's second turn wants memory for its entry; with two the confirm; with three the host's take; with four the node's
@@ -58,7 +56,7 @@ fn small_pools_and_a_full_journal(rt: HostRuntime) -> Result<(), Fail> {
 const OFFERED: &[&[u8]] = &[b"1", b"12", b"123", b"1234"];
 
 #[test]
-fn each_call_is_made_again(rt: HostRuntime) -> Result<(), Fail> {
+fn each_call_is_made_again(rt: HostRuntime) {
     for (i, offered) in OFFERED.iter().enumerate() {
         let story = Story {
             offered: *offered,
@@ -66,5 +64,4 @@ fn each_call_is_made_again(rt: HostRuntime) -> Result<(), Fail> {
         };
         assert!(rt; plays(&rt, rt.alloc(), &story, 4, &[run(16)]), "story {i}");
     }
-    Ok(())
 }

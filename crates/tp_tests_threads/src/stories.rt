@@ -19,6 +19,7 @@ pub(crate) const NOTHING_WRITTEN: Story<'static> = Story {
     offered: b"",
     is_plain: false,
     acts: &[
+        Answers(0, b"", Ok(0)),
         Turn(0, 0, Some((3, Why::Idle))),
         Next(1),
         Turn(1, 1, None),

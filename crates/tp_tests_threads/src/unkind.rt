@@ -1,4 +1,4 @@
-//! A device in memory that is as unkind as the disk model allows.
+//! A device in memory that is as unkind as the disk model allows, or that another process writes.
 
 ghost use Rattle.std.specs.Prelude.{◌≡◌, ◌+◌, ◌≤◌, length, take, drop, OnOk, OnErr};
 ghost use Rattle.tp_model.specs.Disk.{Write, Sync, Read, done};

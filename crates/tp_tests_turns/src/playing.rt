@@ -39,7 +39,7 @@ pub(crate) enum Act {
     TakeIn,
 }
 
-/// The most steps of a run. No node here makes more before it waits.
+/// The most steps of a run, or of a turn. No node here makes more before it waits.
 const QUANTUM: u8 = 64;
 
 /// The line that comes to the port, and the one from it.

@@ -40,15 +40,14 @@ fn write_and_count<R: Threads + Wait + Sync>(rt: &R, alloc: Global) -> Option<bo
 }
 
 #[test]
-fn two_threads_write_and_count(rt: HostRuntime) -> Result<(), Fail> {
+fn two_threads_write_and_count(rt: HostRuntime) {
     let told = write_and_count(&rt, rt.alloc());
     assert!(rt; told == Some(true));
-    Ok(())
 }
 
 // Tokens have no bytes.
 #[test]
-fn tokens_cost_nothing(rt: HostRuntime) -> Result<(), Fail> {
+fn tokens_cost_nothing(rt: HostRuntime) {
     let sizes = [
         size_of::<tp_token::Seal<Entry>>(),
         size_of::<tp_token::Key<Entry>>(),
@@ -56,5 +55,4 @@ fn tokens_cost_nothing(rt: HostRuntime) -> Result<(), Fail> {
         size_of::<tp_token::Slips<Entry>>(),
     ];
     assert!(rt; sizes == [0; 4]);
-    Ok(())
 }

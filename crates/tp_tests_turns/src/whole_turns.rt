@@ -286,6 +286,28 @@ const LINK_BY_LINK: Story<'static> = Story {
     cut: None,
 };
 
+/// A byte for a node that has recorded stays on its line, since no frame is free for it.
+const NO_FRAME: Story<'static> = Story {
+    text: TWO,
+    tasks: &[&[Task::Once(0)], &[Task::Relay(0, 1)]],
+    steps: [
+        Some((Step::Whole(1, 16), 0, 1, None, None)),
+        Some((Step::Whole(0, 16), 0, 2, None, None)),
+        Some((Step::Begin, 0, 2, Some(8), None)),
+        Some((Step::Whole(1, 16), 0, 2, Some(4), Some(8))),
+        Some((Step::Whole(0, 16), 0, 2, Some(3), None)),
+        Some((Step::Whole(1, 16), 0, 2, Some(3), None)),
+    ],
+    spare: 0,
+    entries: [
+        Some((0, Entry::Run { node: 1, count: 6 })),
+        Some((1, Entry::Run { node: 0, count: 5 })),
+        None,
+        None,
+    ],
+    cut: None,
+};
+
 #[test]
 fn turns_go_as_they_were_told(rt: HostRuntime) -> Result<(), Fail> {
     for story in [
@@ -297,9 +319,9 @@ fn turns_go_as_they_were_told(rt: HostRuntime) -> Result<(), Fail> {
         TWO_OF_A_LINK,
         LOWER_LINK_FIRST,
         LINK_BY_LINK,
+        NO_FRAME,
     ] {
-        let told = plays(rt.alloc(), &story)?;
-        assert!(rt; told);
+        assert!(rt; plays(rt.alloc(), &story)?);
     }
     Ok(())
 }
