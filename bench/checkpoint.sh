@@ -151,9 +151,11 @@ def loops_of(file, kind, usual):
     return rounds_of([tuple(map(int, line.split())) for line in lines], 0)
 
 def late_of(found):
-    """The 99th percentile beside, that of those alone, and the slowest beside, each in medians alone of its round."""
+    """The 99th percentile beside, the most that it is in the quietest quarter of the rounds, that of those alone, and the slowest beside, each in
+    medians alone of its round."""
     medians = [statistics.median(alone) for alone, _ in found]
-    return (statistics.median(late(beside, middle) for (_, beside), middle in zip(found, medians)),
+    beside_all = [late(beside, middle) for (_, beside), middle in zip(found, medians)]
+    return (statistics.median(beside_all), statistics.quantiles(beside_all, n=4)[0],
         statistics.median(late(alone, middle) for (alone, _), middle in zip(found, medians)),
         statistics.median(max(beside) / middle for (_, beside), middle in zip(found, medians)))
 
@@ -170,11 +172,11 @@ def of_turns(file, quantum):
             subprocess.run(["cp", "--sparse=always", os.path.join(work, "device"), file], check=True)
             rounds_found += loops_of(file, kind, usual)
         of_rounds += found
-    print("    turns    of %d steps, %d rounds, of %d turns alone and %d beside a snapshot: %.1f us alone; the 99th percentile %.2f times that, %.2f alone; the slowest %.1f" % (
+    print("    turns    of %d steps, %d rounds, of %d turns alone and %d beside a snapshot: %.1f us alone; the 99th percentile %.2f times that (quietest quarter %.2f), %.2f alone; the slowest %.1f" % (
         quantum, len(of_rounds), statistics.median(len(alone) for alone, _ in of_rounds), statistics.median(len(beside) for _, beside in of_rounds),
         statistics.median(statistics.median(alone) for alone, _ in of_rounds) / 1e3, *late_of(of_rounds)))
     for kind, name in (("turn", "a plain interpreter"), ("bare", "multiplications")):
-        print("             loops of %s beside a raw copy: %.2f, %.2f alone; the slowest %.1f" % (name, *late_of(of_kinds[kind])), flush=True)
+        print("             loops of %s beside a raw copy: %.2f (%.2f), %.2f alone; the slowest %.1f" % (name, *late_of(of_kinds[kind])), flush=True)
 
 for folder in sys.argv[5:]:
     kind = subprocess.run(["stat", "-f", "-c", "%T", folder], capture_output=True, text=True, check=True).stdout.strip()
