@@ -20,6 +20,7 @@ pub mod ReplayedCuts
 pub mod Room
 mod RowsAhead
 mod RowsRead
+mod RunRows
 mod SplitCuts
 mod Starts
 mod TakenRows

@@ -11,6 +11,7 @@ pub mod Reading
 pub mod RowsAnswers
 pub mod RowsInside
 pub mod RowsRead
+pub mod RunRows
 pub mod Starts
 pub mod Taken
 pub mod Windows

@@ -22,6 +22,7 @@ mod played;
 mod port;
 mod roomy;
 mod rows;
+mod runs;
 mod start;
 mod state;
 mod store;
