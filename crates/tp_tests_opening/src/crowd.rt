@@ -3,8 +3,8 @@
 use std::sync::atomic::{AtomicU32, Ordering};
 use std::thread::yield_now;
 
-/// How often a thread looks for the others, at most: so often that what ends a test that hangs comes first.
-const LOOKS: u32 = 1_000_000_000;
+/// How often a thread looks for the others, at most. Where one comes no more that is a second or two, and the test fails by what was counted.
+const LOOKS: u32 = 1_000_000;
 
 /// How many have come of a crowd, and how many of these saw that all had.
 #[derive(Drop)]
