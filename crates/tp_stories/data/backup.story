@@ -75,6 +75,8 @@ tpnet backup device other
 tpnet backup device place
 tpnet backup device place/
 tpnet backup device dangling
+text dangling.part theirs
+tpnet backup device dangling
 stay
 there nowhere
 there copy.part
