@@ -19,7 +19,7 @@ use Rattle.tp_law_network.proofs.Runs.{formatted_holds, run_keeps}
 use Rattle.tp_law_network.proofs.Walks.{no_step, recovers_at}
 use Rattle.tp_token.specs.Sound.{Sound, item_of}
 use Rattle.tp_shared.specs.declared.told.Told.{Told}
-use Rattle.tp_shared.specs.Receipted.{AreBelow}
+use Rattle.tp_shared.specs.Below.{AreBelow}
 use Rattle.tp_shared.specs.Seals.{Stage, IsTied}
 use Rattle.tp_shared.specs.Told.{IsFirst, ToldSince, told_of}
 use Rattle.tp_shared.proofs.Telling.{told_journal}

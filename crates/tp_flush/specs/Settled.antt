@@ -1,4 +1,4 @@
--- What receipts are worth: their entries beside the flusher's journal, and what a crash leaves of them.
+-- What slips are worth: their entries beside the flusher's journal, and what a crash leaves of them.
 use Rattle.std.specs.Prelude.{◌≡◌, ◌<◌, ℕ, List, length, take, Some, slice_get}
 use Rattle.std.specs.List.{AllByRecursion}
 use Rattle.tp_model.specs.declared.entry.Entry.{Entry}

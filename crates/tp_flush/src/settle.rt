@@ -1,4 +1,4 @@
-//! What passes and receipts are worth: what a pass saw beside the flusher's mark, and slips beside its journal.
+//! What passes and slips are worth: what a pass saw beside the flusher's mark, and slips beside its journal.
 
 ghost use Rattle.std.specs.Prelude.{◌≡◌, ◌≤◌, ℕ, List, drop};
 ghost use Rattle.std.specs.List.{AllByRecursion};
@@ -9,7 +9,7 @@ ghost use Rattle.tp_model.specs.Disk.{MayBe};
 ghost use Rattle.tp_model.specs.DeviceAreas.{device_areas};
 ghost use Rattle.tp_model.specs.Walks.{RecoversTo};
 ghost use Rattle.tp_model.specs.declared.entry.Entry.{Entry};
-ghost use Rattle.tp_shared.specs.Receipted.{AreBelow};
+ghost use Rattle.tp_shared.specs.Below.{AreBelow};
 ghost use Rattle.tp_ready.specs.Seen.{number_of};
 ghost use Rattle.tp_flush.specs.Known.{Began};
 ghost use Rattle.tp_flush.specs.Risen.{WasStored};
@@ -19,7 +19,7 @@ use crate::flusher::Flusher;
 use std::sync::Wait;
 use tp_disk::Disk;
 use tp_ready::Pass;
-use tp_shared::{Locked, Naming, Receipt, Seat, Shared};
+use tp_shared::{Locked, Naming, Seat, Shared};
 
 impl<J: Naming, D: Disk> Flusher<J, D> {
     /// Changes nothing. What `pass` saw is at most the flusher's mark, and whatever it loaded, at whatever moment, also while a turn went on:
@@ -49,49 +49,35 @@ impl<J: Naming, D: Disk> Flusher<J, D> {
         held.compare(&mut parts.key);
     }
 
-    /// Changes nothing. A receipt's slips have numbers below its own, and each one's entry stands in the flusher's journal at its number.
-    pub fn settle_receipt(&mut self, held: &mut Locked<J>, receipt: &mut Receipt<J>)
-        ensures same { (self.new ≡ self.old) × (held.new ≡ held.old) × (receipt.new ≡ receipt.old) }
-        ensures below { AreBelow receipt.old.number receipt.old.seat }
-        ensures stand { D.keeps → Began J.formatted J.before self.old.opened → SlipsStand self.old.world.journal receipt.old.seat }
-    {
-        self.known();
-        held.audit_receipt(receipt);
-        let Flusher { parts, .. } = self;
-        held.compare(&mut parts.key);
-    }
-
-    // Takes the book's lock, and settles a receipt under it.
-    fn settle_under<R: Wait>(&mut self, rt: &R, shared: &Shared<J>, receipt: &mut Receipt<J>)
-        ensures same { (self.new ≡ self.old) × (receipt.new ≡ receipt.old) }
-        ensures below { AreBelow receipt.old.number receipt.old.seat }
-        ensures stand { D.keeps → Began J.formatted J.before self.old.opened → SlipsStand self.old.world.journal receipt.old.seat }
+    // Takes the book's lock, and settles a seat under it.
+    fn settle_under<R: Wait>(&mut self, rt: &R, shared: &Shared<J>, seat: &mut Seat<J>)
+        ensures same { (self.new ≡ self.old) × (seat.new ≡ seat.old) }
+        ensures stand { D.keeps → Began J.formatted J.before self.old.opened → SlipsStand self.old.world.journal seat.old }
     {
         let mut held = shared.book().lock(rt);
-        self.settle_receipt(&mut held, receipt);
+        self.settle_seat(&mut held, seat);
     }
 
-    /// Changes nothing. Where `pass` saw the receipt's number, so that it was told that all of it is stored, whatever a crash leaves
-    /// from now on of the device as it is opens to what leads where a prefix of the journal leads, and in the prefix each of the
-    /// receipt's entries stands at its number.
+    /// Changes nothing. Where `pass` saw a number above those of all slips, as that of the last receipt that came with them is, so that it
+    /// was told that all of it is stored, whatever a crash leaves from now on of the device as it is opens to what leads where a prefix of
+    /// the journal leads, and in the prefix each of the slips' entries stands at its number.
     pub fn settle<R: Wait>(
         &mut self,
         rt: &R,
         shared: &Shared<J>,
         pass: &mut Pass,
-        receipt: &mut Receipt<J>,
+        seat: &mut Seat<J>,
     )
         requires { pass.old.mark ≡ J.mark }
-        ensures same { (self.new ≡ self.old) × (pass.new ≡ pass.old) × (receipt.new ≡ receipt.old) }
+        ensures same { (self.new ≡ self.old) × (pass.new ≡ pass.old) × (seat.new ≡ seat.old) }
         ensures mark { pass.old.at ≤ self.old.world.mark }
-        ensures below { AreBelow receipt.old.number receipt.old.seat }
-        ensures stand { D.keeps → Began J.formatted J.before self.old.opened → SlipsStand self.old.world.journal receipt.old.seat }
-        ensures recovers { D.keeps → Began J.formatted J.before self.old.opened → receipt.old.number ≤ pass.old.at
-            → (left : List ℕ) → MayBe self.old.state.now left → RecoversWith J.formatted self.old.world.journal self.old.world.mark receipt.old.seat left }
+        ensures stand { D.keeps → Began J.formatted J.before self.old.opened → SlipsStand self.old.world.journal seat.old }
+        ensures recovers { D.keeps → Began J.formatted J.before self.old.opened → AreBelow pass.old.at seat.old
+            → (left : List ℕ) → MayBe self.old.state.now left → RecoversWith J.formatted self.old.world.journal self.old.world.mark seat.old left }
     {
         self.known();
         self.settle_pass(shared, pass);
-        self.settle_under(rt, shared, receipt);
+        self.settle_under(rt, shared, seat);
     }
 }
 

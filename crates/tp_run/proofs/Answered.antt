@@ -4,14 +4,12 @@ use Rattle.std.specs.Prelude.{IfErr}
 use Rattle.tp_model.specs.declared.opening.OpenFault.{OpenFault}
 use Rattle.tp_model.specs.Journal.{is_full_for_snapshot}
 use Rattle.tp_model.specs.Opening.{Opened}
-use Rattle.tp_run.specs.Answered.{AnswerFor, FaultFor, OpenedFor, OpenedWith}
+use Rattle.tp_run.specs.Answered.{AnswerFor, FaultFor, OpenedFor}
 use Rattle.tp_run.specs.Compacted.{CompactAnswer, SaysLast}
-use Rattle.tp_run.specs.Failures.{is_failure}
 use Rattle.tp_run.specs.Faults.{ComesBegun}
 use Rattle.tp_run.specs.Input.{rest_at}
 use Rattle.tp_run.specs.Made.{fault_by, job_fault}
 use Rattle.tp_run.specs.Outset.{outset_in}
-use Rattle.tp_run.specs.Prints.{ComesSilent}
 use Rattle.tp_run.specs.declared.compacting.Compaction.{Compaction}
 use Rattle.tp_run.specs.declared.compacting.CompactFault.{CompactFault}
 use Rattle.tp_run.specs.declared.compacting.CompactFault.TheVariants as compact

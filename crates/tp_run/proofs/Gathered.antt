@@ -1,5 +1,5 @@
--- What workers and receipts have, together.
-use Rattle.std.proofs.Common.{◌≡◌, ℕ, List, [], ◌∷◌, ◌++◌, map, length, refl, sym, ap, subst, ◌∙◌, arith, zero, suc, ◌<◌, append_assoc, Result, Ok, Err}
+-- What the host's seat and those of workers have, together.
+use Rattle.std.proofs.Common.{◌≡◌, ℕ, List, [], ◌∷◌, ◌++◌, map, length, refl, sym, ap, subst, ◌∙◌, arith, zero, suc, Result, Ok, Err}
 use Rattle.std.specs.Prelude.{All, flat_map, IfOk}
 use Rattle.std.specs.List.{AllByRecursion}
 use Rattle.std.proofs.lemmas.List.{length-map}
@@ -9,7 +9,7 @@ use Rattle.tp_model.specs.Network.{Network}
 use Rattle.tp_flush.specs.All.{AreAll}
 use Rattle.tp_run.specs.declared.job.Job.{Job}
 use Rattle.tp_run.specs.Accounted.{Accounted}
-use Rattle.tp_run.specs.Worked.{Worked, idle}
+use Rattle.tp_run.specs.Worked.{Worked}
 
 -- ## Lists of slips
 
@@ -24,14 +24,14 @@ each_mapped P f (seat ∷ seats) all =
 
 -- ## All of them
 
-pub accounted_for : {S : Type 0} (network : Network NodeState) (job : Job) (journal : List Entry) (first next : ℕ) (slips : S → List (ℕ × Entry)) (seats : List S) (offered confirmed : List (ℕ × Entry))
-    → length seats ≡ job.workers → All (λ seat. Worked network job.quantum (slips seat)) seats → AreAll first next journal (flat_map slips seats ++ offered ++ confirmed)
-    → Accounted network job journal first next (offered ++ confirmed)
-accounted_for network job journal first next slips seats offered confirmed many worked all = record {
+pub accounted_for : {S : Type 0} (network : Network NodeState) (job : Job) (journal : List Entry) (first next : ℕ) (slips : S → List (ℕ × Entry)) (seats : List S) (host : List (ℕ × Entry))
+    → length seats ≡ job.workers → All (λ seat. Worked network job.quantum (slips seat)) seats → AreAll first next journal (host ++ flat_map slips seats)
+    → Accounted network job journal first next host
+accounted_for network job journal first next slips seats host many worked all = record {
   workers = map slips seats;
   count = length-map seats slips ∙ many;
   worked = each_mapped (Worked network job.quantum) slips seats worked;
-  all = subst (AreAll first next journal) (append_assoc (flat_map slips seats) offered confirmed ∙ ap (λ xs. xs ++ (offered ++ confirmed)) (sym (gathered slips seats))) all;
+  all = subst (λ xs. AreAll first next journal (host ++ xs)) (sym (gathered slips seats)) all;
 }
 
 -- an answer that is known, and what comes of it

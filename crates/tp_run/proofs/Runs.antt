@@ -14,7 +14,7 @@ use Rattle.tp_model.specs.Runs.{World, reopened}
 use Rattle.tp_model.specs.Walks.{RecoversTo}
 use Rattle.tp_disk.proofs.Calls.{started}
 use Rattle.tp_recover.specs.Reading.{LeavesNothingNew}
-use Rattle.tp_shared.specs.Receipted.{AreBelow}
+use Rattle.tp_shared.specs.Below.{AreBelow}
 use Rattle.tp_flush.specs.Known.{Began}
 use Rattle.tp_flush.specs.Flushing.{Flushing, Walked}
 use Rattle.tp_flush.specs.Follows.{Follows}

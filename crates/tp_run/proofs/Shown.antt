@@ -4,6 +4,7 @@ use Rattle.std.specs.Prelude.{map, nat_le, IfOk}
 use Rattle.std.specs.List.{enumerate_from}
 use Rattle.std.proofs.lemmas.List.{take_all, take-take}
 use Rattle.std.specs.Io.KnownBytes.{Appends}
+use Rattle.tp_model.specs.declared.entry.Entry.{Entry}
 use Rattle.tp_model.specs.declared.entry.Entry.TheVariants.{Confirm}
 use Rattle.tp_model.specs.NodeState.{NodeState}
 use Rattle.tp_model.specs.Node.{t414}
@@ -20,7 +21,7 @@ use Rattle.tp_book.specs.Book.{BookValue, next_in_book, world_of}
 use Rattle.tp_book.specs.Calls.{marks_of}
 use Rattle.tp_book.specs.Host.{after_confirm, port_in, shown_from, shown_of, shown_upto_of, with_confirmed}
 use Rattle.tp_book.specs.Acts.{confirm_entries}
-use Rattle.tp_shared.specs.Receipted.{Receipted}
+use Rattle.tp_book.specs.Covered.{ReceiptValue}
 use Rattle.tp_work.specs.Receipts.{IsFor}
 use Rattle.tp_flush.specs.Ahead.{IsAheadOf}
 use Rattle.tp_flush.specs.Known.{Reached}
@@ -45,11 +46,11 @@ next_confirmed b port upto = by_test (nat_le upto (port_in b port).out_base)
     by_test false = let long = length-append b.state.entries (Confirm port upto ∷ []) in omega (arith, long)
 
 -- the receipt of what was printed and confirmed under the lock
-pub printed_is : (b new : BookValue) (port mark : ℕ) (was now : Option (List ℕ)) (bytes : List ℕ) (r : Result Receipted RunFault) → length (marks_of b port) ≡ length (port_in b port).outputs
+pub printed_is : (b new : BookValue) (port mark : ℕ) (was now : Option (List ℕ)) (held host : List (ℕ × Entry)) (bytes : List ℕ) (r : Result ReceiptValue RunFault) → length (marks_of b port) ≡ length (port_in b port).outputs
     → bytes ≡ shown_from b port mark (port_in b port).out_base → Appends was now bytes → IfOk r (λ receipt. new ≡ after_confirm b port (shown_upto_of b port mark))
-    → IfOk r (λ receipt. receipt.number ≡ next_in_book new) → IfOk r (IsFor (confirm_entries b port (shown_upto_of b port mark)))
-    → IfOk r (IsForOutput port (port_in b port).out_base (AreShownBytes b port mark) was now)
-printed_is b new port mark was now bytes (Ok receipt) each shown appended after number F =
+    → IfOk r (λ receipt. receipt.number ≡ next_in_book new) → IfOk r (IsFor (confirm_entries b port (shown_upto_of b port mark)) held host)
+    → IfOk r (IsForOutput port (port_in b port).out_base (AreShownBytes b port mark) was now held host)
+printed_is b new port mark was now held host bytes (Ok receipt) each shown appended after number F =
     let upto = shown_upto_of b port mark in
     let same : confirm_entries b port upto ≡ confirms port (port_in b port).out_base bytes = confirms_shown b port mark each ∙ ap (confirms port (port_in b port).out_base) (sym shown) in
     let next = ap next_in_book after in
@@ -60,12 +61,13 @@ printed_is b new port mark was now bytes (Ok receipt) each shown appended after 
       appended = appended;
       confirmed = record {
         first = F.first;
-        slips = F.slips ∙ ap (enumerate_from F.first) same;
+        slips = F.slips ∙ ap (λ es. held ++ enumerate_from F.first es) same;
+        below = F.below;
         number = F.number ∙ ap (λ es. F.first + length es) same;
       };
       are = (omega (arith, next, more, behind, number), shown);
     }
-printed_is b new port mark was now bytes (Err e) each shown appended after number F = tt
+printed_is b new port mark was now held host bytes (Err e) each shown appended after number F = tt
 
 pub if_made : {A E : Type 0} (r : Result A E) (P : Type 0) → P → IfOk r (λ x. P)
 if_made (Ok x) P p = p
@@ -78,11 +80,11 @@ all_shown b port mark all =
     let none : from - from ≡ 0 = omega arith in
     ap (λ n. drop n (take (shown_of b port mark) (port_in b port).outputs)) none ∙ take_all (shown_of b port mark) (port_in b port).outputs (omega (arith, all))
 
-pub output_like : (port from : ℕ) (One Other : ℕ → List ℕ → Type 0) (was now : Option (List ℕ)) (r : Result Receipted RunFault) → ((number : ℕ) (bytes : List ℕ) → One number bytes → Other number bytes)
-    → IfOk r (IsForOutput port from One was now) → IfOk r (IsForOutput port from Other was now)
-output_like port from One Other was now (Ok receipt) like O =
+pub output_like : (port from : ℕ) (One Other : ℕ → List ℕ → Type 0) (was now : Option (List ℕ)) (held host : List (ℕ × Entry)) (r : Result ReceiptValue RunFault) → ((number : ℕ) (bytes : List ℕ) → One number bytes → Other number bytes)
+    → IfOk r (IsForOutput port from One was now held host) → IfOk r (IsForOutput port from Other was now held host)
+output_like port from One Other was now held host (Ok receipt) like O =
     record { printed = O.printed; appended = O.appended; confirmed = O.confirmed; are = like O.confirmed.first O.printed O.are }
-output_like port from One Other was now (Err e) like O = tt
+output_like port from One Other was now held host (Err e) like O = tt
 
 pub are_outputs : (b : BookValue) (port mark : ℕ) → shown_of b port mark ≡ length (port_in b port).outputs → (number : ℕ) (bytes : List ℕ) → AreShownBytes b port mark number bytes → AreOutputs b port number bytes
 are_outputs b port mark all number bytes A = (A.0, sym (A.1 ∙ all_shown b port mark all))
@@ -134,16 +136,16 @@ may_show start w b port mark confirmed there was now r A at (inr (S, F)) =
     inr (record { number = next_in_book b; few = shows.0; outputs = (port_in b port).outputs; shows = shows.1; printed = F })
 
 -- the outputs that a receipt is for are shown
-pub output_shown : (keeps began : Type 0) (start : Network NodeState) (w : World NodeState) (b : BookValue) (port mark confirmed : ℕ) (was now : Option (List ℕ)) (r : Result Receipted RunFault)
-    → (keeps → began → IsAheadOf start w b) → mark ≡ w.mark → IfOk r (λ receipt. ShowsAll b port mark confirmed) → IfOk r (IsForOutput port confirmed (AreOutputs b port) was now)
-    → IfOk r (IsForOutput port confirmed (λ number bytes. keeps → began → AreShownIn start w port confirmed number bytes) was now)
-output_shown keeps began start w b port mark confirmed was now (Ok receipt) ahead at all O = record {
+pub output_shown : (keeps began : Type 0) (start : Network NodeState) (w : World NodeState) (b : BookValue) (port mark confirmed : ℕ) (was now : Option (List ℕ)) (held host : List (ℕ × Entry)) (r : Result ReceiptValue RunFault)
+    → (keeps → began → IsAheadOf start w b) → mark ≡ w.mark → IfOk r (λ receipt. ShowsAll b port mark confirmed) → IfOk r (IsForOutput port confirmed (AreOutputs b port) was now held host)
+    → IfOk r (IsForOutput port confirmed (λ number bytes. keeps → began → AreShownIn start w port confirmed number bytes) was now held host)
+output_shown keeps began start w b port mark confirmed was now held host (Ok receipt) ahead at all O = record {
   printed = O.printed;
   appended = O.appended;
   confirmed = O.confirmed;
   are = λ k there. outputs_shown start w b port mark confirmed (ahead k there) all at O.confirmed.first O.printed O.are;
 }
-output_shown keeps began start w b port mark confirmed was now (Err e) ahead at all O = tt
+output_shown keeps began start w b port mark confirmed was now held host (Err e) ahead at all O = tt
 
 -- ## As the journal grows
 

@@ -1,5 +1,5 @@
--- Slips of receipts: their numbers, and where they stand.
-use Rattle.std.proofs.Common.{◌≡◌, ℕ, ◌+◌, ◌-◌, ◌<◌, ◌≤◌, List, [], ◌∷◌, ◌++◌, length, take, drop, Option, Result, Ok, Err, sym, ap, subst, ◌∙◌, arith, cond, length-append}
+-- Slips of the host: their numbers, and where they stand.
+use Rattle.std.proofs.Common.{◌≡◌, ℕ, ◌+◌, ◌-◌, ◌<◌, List, [], ◌∷◌, ◌++◌, length, take, drop, Option, Result, Ok, Err, sym, ap, subst, ◌∙◌, arith, cond, length-append}
 use Rattle.std.specs.Prelude.{nat_le, map, if◌then◌else◌, IfOk}
 use Rattle.std.specs.List.{AllByRecursion, enumerate_from}
 use Rattle.std.proofs.lemmas.Bool.{le-leb, lt-leb}
@@ -13,7 +13,8 @@ use Rattle.tp_book.specs.Book.{BookValue, next_in_book}
 use Rattle.tp_book.specs.Host.{accepted_of, after_inputs, port_in, shown_from, shown_of, shown_upto_of}
 use Rattle.tp_book.specs.Calls.{marks_of}
 use Rattle.tp_book.specs.Acts.{confirm_entries}
-use Rattle.tp_shared.specs.Receipted.{AreBelow, Receipted}
+use Rattle.tp_book.specs.Covered.{ReceiptValue}
+use Rattle.tp_shared.proofs.Writing.{enumerated_below}
 use Rattle.tp_flush.specs.Settled.{SlipsStand}
 use Rattle.tp_flush.proofs.Settling.{below_more}
 use Rattle.tp_work.specs.Receipts.{IsFor}
@@ -62,10 +63,10 @@ next_after b port bytes = let long = length-append b.state.entries (map (HostIn 
 pub rest_is : (b : BookValue) (outset : Outset) (input : List ℕ) → StandsIn outset b → rest_of b outset.port input ≡ rest_at outset input
 rest_is b outset input S = ap (λ n. take n (drop (accepted_of (port_in b outset.port)) input)) S.2 ∙ ap (λ n. take outset.room (drop n input)) S.1
 
-input_offered : (b new : BookValue) (outset : Outset) (input : List ℕ) (receipt : Receipted) → StandsIn outset b
-    → new ≡ after_inputs b outset.port (rest_of b outset.port input) → receipt.number ≡ next_in_book new → IsFor (map (HostIn outset.port) (rest_of b outset.port input)) receipt
-    → IsForInput outset input receipt
-input_offered b new outset input receipt S after number F =
+input_offered : (b new : BookValue) (outset : Outset) (input : List ℕ) (was now : List (ℕ × Entry)) (receipt : ReceiptValue) → StandsIn outset b
+    → new ≡ after_inputs b outset.port (rest_of b outset.port input) → receipt.number ≡ next_in_book new → IsFor (map (HostIn outset.port) (rest_of b outset.port input)) was now receipt
+    → IsForInput outset input was now receipt
+input_offered b new outset input was now receipt S after number F =
     let bytes = rest_of b outset.port input in
     let rest = rest_is b outset input S in
     let next = ap next_in_book after in
@@ -73,35 +74,37 @@ input_offered b new outset input receipt S after number F =
     let behind = F.number in
     let there = S.0 in
     let first : F.first ≡ outset.next = omega (arith, next, many, number, behind, there) in record {
-      slips = F.slips ∙ ap (λ n. enumerate_from n (map (HostIn outset.port) bytes)) first ∙ ap (λ part. enumerate_from outset.next (map (HostIn outset.port) part)) rest;
+      slips =
+          F.slips ∙ ap (λ n. was ++ enumerate_from n (map (HostIn outset.port) bytes)) first
+          ∙ ap (λ part. was ++ enumerate_from outset.next (map (HostIn outset.port) part)) rest;
       number =
           behind ∙ ap (λ n. n + length (map (HostIn outset.port) bytes)) first
           ∙ ap (λ n. outset.next + n) (length-map bytes (HostIn outset.port) ∙ ap length rest);
     }
 
 -- the receipt of the rest of the input, where the port stands as it did
-pub offered_at : {E : Type 0} (b new : BookValue) (outset : Outset) (input : List ℕ) (r : Result Receipted E) → StandsIn outset b
+pub offered_at : {E : Type 0} (b new : BookValue) (outset : Outset) (input : List ℕ) (was now : List (ℕ × Entry)) (r : Result ReceiptValue E) → StandsIn outset b
     → IfOk r (λ receipt. new ≡ after_inputs b outset.port (rest_of b outset.port input)) → IfOk r (λ receipt. receipt.number ≡ next_in_book new)
-    → IfOk r (IsFor (map (HostIn outset.port) (rest_of b outset.port input))) → IfOk r (IsForInput outset input)
-offered_at b new outset input (Ok receipt) S after number F = input_offered b new outset input receipt S after number F
-offered_at b new outset input (Err e) S after number F = tt
+    → IfOk r (IsFor (map (HostIn outset.port) (rest_of b outset.port input)) was now) → IfOk r (IsForInput outset input was now)
+offered_at b new outset input was now (Ok receipt) S after number F = input_offered b new outset input was now receipt S after number F
+offered_at b new outset input was now (Err e) S after number F = tt
 
 -- ## What is settled
 
--- two receipts, and one is for what was printed; with what workers made they are all
-pub both_settled : (start network : Network NodeState) (job : Job) (outset : Outset) (Are : ℕ → List ℕ → Type 0) (was now : Option (List ℕ)) (journal : List Entry) (next : ℕ) (offered confirmed : Receipted)
-    → (O : IsForOutput outset.port outset.confirmed Are was now confirmed) → LeadsToOutputs start journal O.confirmed.first outset.port outset.confirmed O.printed → offered.number ≤ next → confirmed.number ≤ next → AreBelow offered.number offered.seat
-    → AreBelow confirmed.number confirmed.seat → SlipsStand journal offered.seat → SlipsStand journal confirmed.seat → Accounted network job journal outset.next next (offered.seat ++ confirmed.seat)
-    → Settled start network job outset offered.seat was now journal next
-both_settled start network job outset Are was now journal next offered confirmed O shows first second handed told one other accounted =
-    let F = O.confirmed in record {
+-- the host's seat has what was handed in and, behind it, what confirms what was printed; with what workers made that is all
+pub host_settled : (start network : Network NodeState) (job : Job) (outset : Outset) (Are : ℕ → List ℕ → Type 0) (was now : Option (List ℕ)) (journal : List Entry) (next : ℕ) (handed host : List (ℕ × Entry)) (receipt : ReceiptValue)
+    → (O : IsForOutput outset.port outset.confirmed Are was now handed host receipt) → LeadsToOutputs start journal O.confirmed.first outset.port outset.confirmed O.printed → next ≡ receipt.number
+    → SlipsStand journal host → Accounted network job journal outset.next next host → Settled start network job outset handed was now journal next
+host_settled start network job outset Are was now journal next handed host receipt O shows is stand accounted =
+    let F = O.confirmed in
+    let number = F.number in record {
       printed = O.printed;
       appended = O.appended;
       number = F.first;
       below =
-          both (λ slip. slip.0 < next) offered.seat (output_slips outset F.first O.printed) (below_more offered.number next offered.seat first handed)
-          (subst (AreBelow next) F.slips (below_more confirmed.number next confirmed.seat second told));
-      stand = both _ offered.seat (output_slips outset F.first O.printed) one (subst (SlipsStand journal) F.slips other);
+          both (λ slip. slip.0 < next) handed (output_slips outset F.first O.printed) (below_more F.first next handed (omega (arith, is, number)) F.below)
+          (enumerated_below F.first (confirms outset.port outset.confirmed O.printed) next (omega (arith, is, number)));
+      stand = subst (SlipsStand journal) F.slips stand;
       shows = shows;
-      accounted = subst (λ slips. Accounted network job journal outset.next next (offered.seat ++ slips)) F.slips accounted;
+      accounted = subst (Accounted network job journal outset.next next) F.slips accounted;
     }

@@ -8,10 +8,10 @@ use Rattle.tp_flush.specs.All.{AreAll}
 use Rattle.tp_run.specs.declared.job.Job.{Job}
 use Rattle.tp_run.specs.Worked.{Worked}
 
--- There were as many workers as the job says, and the turns of each made some slips. They and those of the receipts are all: of each
+-- There were as many workers as the job says, and the turns of each made some slips. Those of the host's seat and these are all: of each
 -- entry of the journal from the number `first` on there is one slip, and `next` is the number behind the last one.
-pub record Accounted (network : Network NodeState) (job : Job) (journal : List Entry) (first next : ℕ) (receipts : List (ℕ × Entry)) : Type 0 where
+pub record Accounted (network : Network NodeState) (job : Job) (journal : List Entry) (first next : ℕ) (host : List (ℕ × Entry)) : Type 0 where
   pub workers : List (List (ℕ × Entry))
   pub count : length workers ≡ job.workers
   pub worked : AllByRecursion (Worked network job.quantum) workers
-  pub all : AreAll first next journal (flat_map (λ slips. slips) workers ++ receipts)
+  pub all : AreAll first next journal (host ++ flat_map (λ slips. slips) workers)

@@ -1,11 +1,11 @@
 -- The input that a run hands in.
-use Rattle.std.specs.Prelude.{◌≡◌, ℕ, ◌+◌, List, length, map, take, drop}
+use Rattle.std.specs.Prelude.{◌≡◌, ℕ, ◌+◌, List, ◌++◌, length, map, take, drop}
 use Rattle.std.specs.List.{enumerate_from}
 use Rattle.tp_model.specs.declared.entry.Entry.{Entry}
 use Rattle.tp_model.specs.declared.entry.Entry.TheVariants.{HostIn}
 use Rattle.tp_book.specs.Book.{BookValue}
+use Rattle.tp_book.specs.Covered.{ReceiptValue}
 use Rattle.tp_book.specs.Host.{accepted_of, port_in, room_of}
-use Rattle.tp_shared.specs.Receipted.{Receipted}
 use Rattle.tp_run.specs.declared.outset.Outset.{Outset}
 
 -- of a port's whole input, the bytes that it hasn't accepted, as many as it has room for
@@ -20,7 +20,7 @@ rest_at outset input = take outset.room (drop outset.accepted input)
 abbrev pub input_slips : Outset → List ℕ → List (ℕ × Entry)
 input_slips outset input = enumerate_from outset.next (map (HostIn outset.port) (rest_at outset input))
 
--- The receipt is for just the input's slips, and its number is the next one behind them.
-pub record IsForInput (outset : Outset) (input : List ℕ) (receipt : Receipted) : Type 0 where
-  pub slips : receipt.seat ≡ input_slips outset input
+-- A seat got just the input's slips, and the receipt's number is the next one behind them.
+pub record IsForInput (outset : Outset) (input : List ℕ) (old new : List (ℕ × Entry)) (receipt : ReceiptValue) : Type 0 where
+  pub slips : new ≡ old ++ input_slips outset input
   pub number : receipt.number ≡ outset.next + length (rest_at outset input)

@@ -5,9 +5,9 @@ use Rattle.tp_model.specs.declared.entry.Entry.{Entry}
 use Rattle.tp_model.specs.declared.entry.Entry.TheVariants.{Confirm}
 use Rattle.tp_model.specs.DiskHistory.{State}
 use Rattle.tp_book.specs.Book.{BookValue, next_in_book}
+use Rattle.tp_book.specs.Covered.{ReceiptValue}
 use Rattle.tp_book.specs.Host.{port_in, shown_from, shown_of}
 use Rattle.tp_work.specs.Receipts.{IsFor}
-use Rattle.tp_shared.specs.Receipted.{Receipted}
 use Rattle.tp_run.specs.declared.fault.RunFault.{RunFault}
 use Rattle.tp_run.specs.Outlet.{OutletValue}
 use Rattle.tp_run.specs.Prints.{MayBeSilent, PrintsAt}
@@ -17,12 +17,12 @@ abbrev pub confirms : ℕ → ℕ → List ℕ → List Entry
 confirms port from [] = []
 confirms port from (x ∷ xs) = Confirm port (from + length (x ∷ xs)) ∷ []
 
--- Bytes were appended, and the receipt is for the entry that confirms just the appended ones as a port's outputs from `from` on. `Are`
--- holds of the number of that entry, which is the next one where there is none, and of the bytes.
-pub record IsForOutput (port from : ℕ) (Are : ℕ → List ℕ → Type 0) (was now : Option (List ℕ)) (receipt : Receipted) : Type 0 where
+-- Bytes were appended, and a seat got the slip, and the host the receipt, of the entry that confirms just the appended ones as a port's
+-- outputs from `from` on. `Are` holds of the number of that entry, which is the next one where there is none, and of the bytes.
+pub record IsForOutput (port from : ℕ) (Are : ℕ → List ℕ → Type 0) (was now : Option (List ℕ)) (old new : List (ℕ × Entry)) (receipt : ReceiptValue) : Type 0 where
   pub printed : List ℕ
   pub appended : Appends was now printed
-  pub confirmed : IsFor (confirms port from printed) receipt
+  pub confirmed : IsFor (confirms port from printed) old new receipt
   pub are : Are confirmed.first printed
 
 -- The bytes are those outputs of a port in a book that a mark shows, and the number is that of its next entry.

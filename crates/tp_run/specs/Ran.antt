@@ -11,7 +11,7 @@ use Rattle.tp_model.specs.DiskHistory.{State, LeavesOnly, moment}
 use Rattle.tp_model.specs.DeviceAreas.{device_areas}
 use Rattle.tp_model.specs.Opening.{Opened, next_of, verdict}
 use Rattle.tp_model.specs.Walks.{RecoversTo}
-use Rattle.tp_shared.specs.Receipted.{AreBelow}
+use Rattle.tp_shared.specs.Below.{AreBelow}
 use Rattle.tp_flush.specs.Follows.{Follows}
 pub use Rattle.tp_flush.specs.History.{History}
 use Rattle.tp_flush.specs.Settled.{RecoversWith, SlipsStand}

@@ -9,42 +9,39 @@ ghost use Rattle.tp_run.specs.Prints.{TellsAllPrinted};
 use crate::fault::RunFault;
 use tp_disk::Disk;
 use tp_flush::Flusher;
-use tp_shared::{Locked, Naming, Receipt};
+use tp_shared::{Locked, Naming};
 use tp_work::Seat;
 
-/// The slips of all `seats`, in their order.
-fn slips_of<J: Naming>(seats: Vec<Seat<J>>) -> tp_shared::Seat<J>
-    ensures { result ≡ flat_map (λ seat. seat.slips) seats.items }
+/// The slips of the seat `host` and of all `seats`, in their order.
+fn slips_of<J: Naming>(host: tp_shared::Seat<J>, seats: Vec<Seat<J>>) -> tp_shared::Seat<J>
+    ensures { result ≡ host ++ flat_map (λ seat. seat.slips) seats.items }
 {
-    let mut all = tp_shared::Seat::new();
+    let mut all = host;
     for seat in seats {
         all.absorb(seat.into_slips());
     }
     all
 }
 
-/// Tests, under the book's lock, that the slips of `seats` and of two receipts are those of all that was journalled from the number `first`
-/// on, and that the next number is `next`, which it answers. It changes nothing.
+/// Tests, under the book's lock, that the slips of the seat `host` and of `seats` are those of all that was journalled from the number
+/// `first` on, and that the next number is `next`, which it answers. It changes nothing.
 pub(crate) fn account<J: Naming, D: Disk>(
     held: &mut Locked<J>,
     flusher: &mut Flusher<J, D>,
     first: u64,
     next: u64,
     seats: Vec<Seat<J>>,
-    offered: Receipt<J>,
-    confirmed: Receipt<J>,
+    host: tp_shared::Seat<J>,
 ) -> Result<u64, RunFault>
     requires first { first ≡ J.first }
     ensures same { (flusher.new ≡ flusher.old) × (held.new ≡ held.old) }
     ensures next { IfOk result (λ answer. answer ≡ next) }
     ensures all { D.keeps → Began J.formatted J.before flusher.old.opened
-        → IfOk result (λ answer. AreAll J.first answer flusher.old.world.journal (flat_map (λ seat. seat.slips) seats.items ++ offered.seat ++ confirmed.seat)) }
+        → IfOk result (λ answer. AreAll J.first answer flusher.old.world.journal (host ++ flat_map (λ seat. seat.slips) seats.items)) }
     ensures late { IfErr result IsLate }
     ensures told { TellsAllPrinted result }
 {
-    let mut all = slips_of(seats);
-    all.absorb(offered.into_seat());
-    all.absorb(confirmed.into_seat());
+    let mut all = slips_of(host, seats);
     if flusher.settle_all(held, &mut all, first) && held.book().next() == next {
         return Ok(next);
     }

@@ -23,8 +23,8 @@ pub enum RunFault {
     ConfirmRefused,
     /// All that is shown is printed, and a call of the device failed before that it was confirmed is stored.
     LastFlushFailed,
-    /// What lies under the book's lock isn't what this run put there: an entry that no worker made and no receipt is for, or one less. It
-    /// can't come, since no other thread is there.
+    /// What lies under the book's lock isn't what this run put there: an entry whose slip neither a worker's seat nor the host's has, or one
+    /// less. It can't come, since no other thread is there.
     Unaccounted,
     /// Memory was refused, at whatever step.
     Memory,

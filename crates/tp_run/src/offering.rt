@@ -10,7 +10,8 @@ ghost use Rattle.tp_run.specs.Faults.{IsOfferFault};
 
 use crate::fault::RunFault;
 use crate::outset::Outset;
-use tp_shared::{Locked, Naming, Receipt};
+use tp_book::Receipt;
+use tp_shared::{Locked, Naming, Seat};
 use tp_work::{OfferFault, offer};
 
 // At most `room` bytes from the position `from` on.
@@ -26,25 +27,26 @@ fn front_from(input: &[u8], from: u64, room: usize) -> &[u8]
 }
 
 /// Hands a port the bytes of its whole input that it hasn't accepted, as many as it has room for. Where it has accepted more, it
-/// gets none. The receipt is for all that it has accepted.
+/// gets none. The receipt is for all that it has accepted, and `seat` gets the slips of the entries.
 pub(crate) fn offer_rest<J: Naming>(
     held: &mut Locked<J>,
+    seat: &mut Seat<J>,
     port: u8,
     input: &[u8],
-) -> Result<Receipt<J>, RunFault>
+) -> Result<Receipt, RunFault>
     requires there { port < length held.old.book.state.ports }
     ensures book { IfOk result (λ receipt. held.new.book ≡ after_inputs held.old.book port (rest_of held.old.book port input.now)) }
     ensures number { IfOk result (λ receipt. receipt.number ≡ next_in_book held.new.book) }
-    ensures receipt { IfOk result (IsFor (map (HostIn port) (rest_of held.old.book port input.now))) }
+    ensures receipt { IfOk result (IsFor (map (HostIn port) (rest_of held.old.book port input.now)) seat.old seat.new) }
     ensures refused { IfErr result IsOfferFault }
     ensures some { IfErr result (λ fault. fault ≡ RunFault.OfferRefused → 0 < length (rest_of held.old.book port input.now)) }
-    ensures err { OnErr result (held.new ≡ held.old) }
+    ensures err { OnErr result ((held.new ≡ held.old) × (seat.new ≡ seat.old)) }
 {
     held.known();
     let accepted = held.book().accepted(port);
     let room = held.book().room(port);
     let bytes = front_from(input, accepted, room);
-    match offer(held, port, accepted, bytes) {
+    match offer(held, seat, port, accepted, bytes) {
         Ok(receipt) => Ok(receipt),
         Err(OfferFault::JournalFull) => Err(RunFault::OfferRefused),
         Err(OfferFault::Memory) => Err(RunFault::Memory),
@@ -56,18 +58,19 @@ pub(crate) fn offer_rest<J: Naming>(
 }
 
 /// Hands in the rest of the input where the port stands in the book as `outset` says, and none where it doesn't. It does while no
-/// other thread has been there since the device was opened.
+/// other thread has been there since the device was opened. `seat` gets the slips.
 pub(crate) fn offer_at<J: Naming>(
     held: &mut Locked<J>,
+    seat: &mut Seat<J>,
     outset: Outset,
     input: &[u8],
-) -> Result<Receipt<J>, RunFault>
+) -> Result<Receipt, RunFault>
     requires there { outset.port < length held.old.book.state.ports }
-    ensures receipt { IfOk result (IsForInput outset input.now) }
+    ensures receipt { IfOk result (IsForInput outset input.now seat.old seat.new) }
     ensures refused { IfErr result IsOfferFault }
     ensures some { IfErr result (λ fault. fault ≡ RunFault.OfferRefused → 0 < length (rest_at outset input.now)) }
-    ensures err { OnErr result (held.new ≡ held.old) }
+    ensures err { OnErr result ((held.new ≡ held.old) × (seat.new ≡ seat.old)) }
 {
     outset.stands_in(held.book())?;
-    offer_rest(held, outset.port, input)
+    offer_rest(held, seat, outset.port, input)
 }

@@ -14,10 +14,10 @@ ghost use Rattle.tp_run.specs.Prints.{PrintsAt, TellsAllPrinted};
 use crate::fault::RunFault;
 use crate::outlet::{Outlet, OutletFault};
 use crate::outset::Outset;
-use tp_book::Book;
+use tp_book::{Book, Receipt};
 use tp_disk::Disk;
 use tp_flush::Flusher;
-use tp_shared::{Locked, Naming, Receipt};
+use tp_shared::{Locked, Naming, Seat};
 use tp_work::{ConfirmFault, confirm};
 
 /// Calls an outlet for bytes, until it has taken all of them or failed. Answers how many of them it took.
@@ -61,22 +61,23 @@ fn put<J: Naming, D: Disk, O: Outlet>(
     Ok(())
 }
 
-/// Journals, under the book's lock, that the host has all outputs of a port that `mark` shows.
+/// Journals, under the book's lock, that the host has all outputs of a port that `mark` shows. `seat` gets the entry's slip.
 fn confirm_shown<J: Naming>(
     held: &mut Locked<J>,
+    seat: &mut Seat<J>,
     port: u8,
     mark: u64,
-) -> Result<Receipt<J>, RunFault>
+) -> Result<Receipt, RunFault>
     requires there { port < length held.old.book.state.ports }
     ensures book { IfOk result (λ receipt. held.new.book ≡ after_confirm held.old.book port (shown_upto_of held.old.book port mark)) }
     ensures number { IfOk result (λ receipt. receipt.number ≡ next_in_book held.new.book) }
-    ensures receipt { IfOk result (IsFor (confirm_entries held.old.book port (shown_upto_of held.old.book port mark))) }
+    ensures receipt { IfOk result (IsFor (confirm_entries held.old.book port (shown_upto_of held.old.book port mark)) seat.old seat.new) }
     ensures late { IfErr result IsLate }
     ensures told { TellsAllPrinted result }
-    ensures err { OnErr result (held.new ≡ held.old) }
+    ensures err { OnErr result ((held.new ≡ held.old) × (seat.new ≡ seat.old)) }
 {
     let upto = held.book().shown_upto(port, mark);
-    match confirm(held, port, mark, upto) {
+    match confirm(held, seat, port, mark, upto) {
         Ok(receipt) => Ok(receipt),
         Err(ConfirmFault::JournalFull) => Err(RunFault::ConfirmRefused),
         Err(ConfirmFault::Memory) => Err(RunFault::Memory),
@@ -86,25 +87,26 @@ fn confirm_shown<J: Naming>(
 }
 
 /// Prints, under the book's lock, the outputs of a port that `mark` shows and that aren't confirmed, and confirms them. The receipt
-/// has the number of the next entry. Where the output can't be written, nothing is confirmed.
+/// has the number of the next entry, and `seat` gets the slip. Where the output can't be written, nothing is confirmed.
 fn print_shown<J: Naming, D: Disk, O: Outlet>(
     held: &mut Locked<J>,
+    seat: &mut Seat<J>,
     flusher: &Flusher<J, D>,
     port: u8,
     mark: u64,
     out: &mut O,
-) -> Result<Receipt<J>, RunFault>
+) -> Result<Receipt, RunFault>
     requires there { port < length held.old.book.state.ports }
     ensures printed { PrintsAt flusher.now.state result (O.value out.old) (O.value out.new) (shown_from held.old.book port mark (port_in held.old.book port).out_base) }
     ensures book { IfOk result (λ receipt. held.new.book ≡ after_confirm held.old.book port (shown_upto_of held.old.book port mark)) }
     ensures number { IfOk result (λ receipt. receipt.number ≡ next_in_book held.new.book) }
-    ensures receipt { IfOk result (IsForOutput port (port_in held.old.book port).out_base (AreShownBytes held.old.book port mark) (O.value out.old).taken (O.value out.new).taken) }
+    ensures receipt { IfOk result (IsForOutput port (port_in held.old.book port).out_base (AreShownBytes held.old.book port mark) (O.value out.old).taken (O.value out.new).taken seat.old seat.new) }
     ensures late { IfErr result IsLate }
-    ensures err { OnErr result (held.new ≡ held.old) }
+    ensures err { OnErr result ((held.new ≡ held.old) × (seat.new ≡ seat.old)) }
 {
     let from = held.book().out_base(port);
     put(flusher, out, held.book().shown(port, mark, from))?;
-    confirm_shown(held, port, mark)
+    confirm_shown(held, seat, port, mark)
 }
 
 /// Tests that `mark` shows all outputs of a port, and is above all entries of the book.
@@ -122,22 +124,23 @@ fn is_all_shown(book: &Book, port: u8, mark: u64) -> Result<(), RunFault>
 }
 
 /// Prints and confirms, where the book has confirmed what it had as the device was opened, and `mark` shows all outputs and is above
-/// all entries; else it prints nothing. Behind a flush, with no other thread there, both are so.
+/// all entries; else it prints nothing. Behind a flush, with no other thread there, both are so. `seat` gets the slip.
 pub(crate) fn print_from<J: Naming, D: Disk, O: Outlet>(
     held: &mut Locked<J>,
+    seat: &mut Seat<J>,
     flusher: &Flusher<J, D>,
     outset: Outset,
     mark: u64,
     out: &mut O,
-) -> Result<Receipt<J>, RunFault>
+) -> Result<Receipt, RunFault>
     requires there { outset.port < length held.old.book.state.ports }
-    ensures receipt { IfOk result (IsForOutput outset.port outset.confirmed (AreOutputs held.old.book outset.port) (O.value out.old).taken (O.value out.new).taken) }
+    ensures receipt { IfOk result (IsForOutput outset.port outset.confirmed (AreOutputs held.old.book outset.port) (O.value out.old).taken (O.value out.new).taken seat.old seat.new) }
     ensures all { IfOk result (λ receipt. ShowsAll held.old.book outset.port mark outset.confirmed) }
     ensures printed { PrintedOf held.old.book outset.port mark outset.confirmed flusher.now.state (O.value out.old) (O.value out.new) result }
     ensures late { IfErr result IsLate }
-    ensures err { OnErr result (held.new ≡ held.old) }
+    ensures err { OnErr result ((held.new ≡ held.old) × (seat.new ≡ seat.old)) }
 {
     outset.is_confirmed_in(held.book())?;
     is_all_shown(held.book(), outset.port, mark)?;
-    print_shown(held, flusher, outset.port, mark, out)
+    print_shown(held, seat, flusher, outset.port, mark, out)
 }

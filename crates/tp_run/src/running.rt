@@ -82,7 +82,7 @@ fn run_parts<J: Naming + Send + Sync, D: Disk + Send + Drop, O: Outlet, R: Threa
     ensures some { IfErr result.1 (λ fault. fault ≡ RunFault.OfferRefused → 0 < length (rest_at outset input.now)) }
     ensures begun { IfErr result.1 ComesBegun }
 {
-    let Ok((net, seats, key)) = Net::<J, NoGate>::start(
+    let Ok((mut net, seats, key)) = Net::<J, NoGate>::start(
         rt,
         alloc,
         parts,
@@ -92,12 +92,13 @@ fn run_parts<J: Naming + Send + Sync, D: Disk + Send + Drop, O: Outlet, R: Threa
     ) else {
         return (store.into_disk(), Err(RunFault::Memory));
     };
+    let host = net.seat();
     let every = every_of(job.every, &topology, store.place.areas.length);
     let flusher = Flusher::over(opened, topology, store, key, raiser);
     flusher.known();
     stored_slips_are_recovered();
     let (flusher, done) = serve(
-        rt, alloc, job, every, outset, &net, seats, flusher, input, out,
+        rt, alloc, job, every, outset, &net, seats, host, flusher, input, out,
     );
     (flusher.into_disk(), done)
 }

@@ -1,7 +1,6 @@
 //! What a run does with a network in threads, and its flusher.
 
 ghost use Rattle.std.specs.Prelude.{◌≡◌, ◌<◌, ◌≤◌, ◌++◌, [], All, flat_map, length, vec_len, IfErr, IfOk, OnErr, Some};
-ghost use Rattle.tp_shared.specs.Receipted.{AreBelow};
 ghost use Rattle.tp_flush.specs.Known.{Began};
 ghost use Rattle.tp_flush.specs.Flushing.{IsSameProcess, Walked, position};
 ghost use Rattle.tp_flush.specs.Settled.{SlipsStand};
@@ -29,74 +28,80 @@ use crate::working::work_all;
 use std::alloc::Global;
 use std::sync::Wait;
 use std::thread::{Threads, join};
+use tp_book::Receipt;
 use tp_disk::Disk;
 use tp_flush::Flusher;
-use tp_shared::{Locked, Naming, NoGate, Receipt, Shared};
+use tp_shared::{Locked, Naming, NoGate, Shared};
 use tp_work::{Net, Seat};
 
-/// Hands in the input, under the book's lock.
+/// Hands in the input, under the book's lock. `seat` gets the slips.
 fn offer<J: Naming, R: Wait>(
     rt: &R,
     shared: &Shared<J>,
+    seat: &mut tp_shared::Seat<J>,
     outset: Outset,
     input: &[u8],
-) -> Result<Receipt<J>, RunFault>
+) -> Result<Receipt, RunFault>
     requires { outset.port < length J.start.ports }
-    ensures receipt { IfOk result (IsForInput outset input.now) }
+    ensures receipt { IfOk result (IsForInput outset input.now seat.old seat.new) }
     ensures refused { IfErr result IsOfferFault }
     ensures some { IfErr result (λ fault. fault ≡ RunFault.OfferRefused → 0 < length (rest_at outset input.now)) }
+    ensures err { OnErr result (seat.new ≡ seat.old) }
 {
     let mut held = shared.book().lock(rt);
     held.known();
-    offer_at(&mut held, outset, input)
+    offer_at(&mut held, seat, outset, input)
 }
 
 /// Prints and confirms, under the book's lock, what `mark` shows, which the flusher raised. What is printed are outputs of the port where
-/// the flusher's journal leads.
+/// the flusher's journal leads. `seat` gets the slip.
 fn print_settled<J: Naming, D: Disk, O: Outlet>(
     held: &mut Locked<J>,
+    seat: &mut tp_shared::Seat<J>,
     flusher: &mut Flusher<J, D>,
     outset: Outset,
     mark: u64,
     out: &mut O,
-) -> Result<Receipt<J>, RunFault>
+) -> Result<Receipt, RunFault>
     requires there { outset.port < length held.old.book.state.ports }
     requires mark { mark ≡ flusher.old.world.mark }
     ensures same { flusher.new ≡ flusher.old }
     ensures receipt { IfOk result (IsForOutput outset.port outset.confirmed
         (λ number bytes. D.keeps → Began J.formatted J.before flusher.old.opened → AreShownIn J.formatted flusher.old.world outset.port outset.confirmed number bytes)
-        (O.value out.old).taken (O.value out.new).taken) }
+        (O.value out.old).taken (O.value out.new).taken seat.old seat.new) }
     ensures shown { D.keeps → Began J.formatted J.before flusher.old.opened
         → MayShow J.formatted flusher.old.world.journal flusher.old.world.mark outset.port outset.confirmed flusher.old.state (O.value out.old) (O.value out.new) result }
     ensures late { IfErr result IsLate }
-    ensures err { OnErr result (held.new ≡ held.old) }
+    ensures err { OnErr result ((held.new ≡ held.old) × (seat.new ≡ seat.old)) }
 {
     flusher.settle_book(held);
-    print_from(held, flusher, outset, mark, out)
+    print_from(held, seat, flusher, outset, mark, out)
 }
 
-/// Takes the book's lock, and prints and confirms under it.
+/// Takes the book's lock, and prints and confirms under it. `seat` gets the slip.
 fn print<J: Naming, D: Disk, O: Outlet, R: Wait>(
     rt: &R,
     shared: &Shared<J>,
+    seat: &mut tp_shared::Seat<J>,
     flusher: &mut Flusher<J, D>,
     outset: Outset,
     mark: u64,
     out: &mut O,
-) -> Result<Receipt<J>, RunFault>
+) -> Result<Receipt, RunFault>
     requires there { outset.port < length J.start.ports }
     requires mark { mark ≡ flusher.old.world.mark }
     ensures same { flusher.new ≡ flusher.old }
     ensures receipt { IfOk result (IsForOutput outset.port outset.confirmed
         (λ number bytes. D.keeps → Began J.formatted J.before flusher.old.opened → AreShownIn J.formatted flusher.old.world outset.port outset.confirmed number bytes)
-        (O.value out.old).taken (O.value out.new).taken) }
+        (O.value out.old).taken (O.value out.new).taken seat.old seat.new) }
     ensures shown { D.keeps → Began J.formatted J.before flusher.old.opened
         → MayShow J.formatted flusher.old.world.journal flusher.old.world.mark outset.port outset.confirmed flusher.old.state (O.value out.old) (O.value out.new) result }
     ensures late { IfErr result IsLate }
+    ensures err { OnErr result (seat.new ≡ seat.old) }
 {
     let mut held = shared.book().lock(rt);
     held.known();
-    print_settled(&mut held, flusher, outset, mark, out)
+    print_settled(&mut held, seat, flusher, outset, mark, out)
 }
 
 /// Lets workers make turns, and the flusher its own in a thread of its own meanwhile, where one can be made, and else behind them. Answers
@@ -134,15 +139,7 @@ fn work<J: Naming + Send + Sync, D: Disk + Send + Drop, R: Threads + Wait + Sync
     )
 }
 
-/// The later one of two numbers.
-fn later(one: u64, other: u64) -> u64
-    ensures first { one ≤ result }
-    ensures second { other ≤ result }
-{
-    one.max(other)
-}
-
-/// Settles two receipts and the workers' seats with the flusher, under the book's lock, once its last flush is done: they have all that
+/// Settles the host's seat and the workers' with the flusher, under the book's lock, once its last flush is done: they have all that
 /// was journalled from the number `first` on, below `next`, which it answers. It changes nothing.
 fn settle<J: Naming, D: Disk, R: Wait>(
     rt: &R,
@@ -151,37 +148,34 @@ fn settle<J: Naming, D: Disk, R: Wait>(
     first: u64,
     next: u64,
     seats: Vec<Seat<J>>,
-    offered: Receipt<J>,
-    confirmed: Receipt<J>,
+    host: tp_shared::Seat<J>,
 ) -> Result<u64, RunFault>
     requires first { first ≡ J.first }
     ensures same { flusher.new ≡ flusher.old }
-    ensures below { AreBelow offered.number offered.seat × AreBelow confirmed.number confirmed.seat }
-    ensures stand { D.keeps → Began J.formatted J.before flusher.old.opened → SlipsStand flusher.old.world.journal offered.seat × SlipsStand flusher.old.world.journal confirmed.seat }
+    ensures stand { D.keeps → Began J.formatted J.before flusher.old.opened → SlipsStand flusher.old.world.journal host }
     ensures next { IfOk result (λ answer. answer ≡ next) }
     ensures all { D.keeps → Began J.formatted J.before flusher.old.opened
-        → IfOk result (λ answer. AreAll J.first answer flusher.old.world.journal (flat_map (λ seat. seat.slips) seats.items ++ offered.seat ++ confirmed.seat)) }
+        → IfOk result (λ answer. AreAll J.first answer flusher.old.world.journal (host ++ flat_map (λ seat. seat.slips) seats.items)) }
     ensures late { IfErr result IsLate }
     ensures told { TellsAllPrinted result }
 {
-    let mut offered = offered;
-    let mut confirmed = confirmed;
+    let mut host = host;
     let mut held = shared.book().lock(rt);
-    flusher.settle_receipt(&mut held, &mut offered);
-    flusher.settle_receipt(&mut held, &mut confirmed);
-    account(&mut held, flusher, first, next, seats, offered, confirmed)
+    flusher.settle_seat(&mut held, &mut host);
+    account(&mut held, flusher, first, next, seats, host)
 }
 
-/// Flushes, prints what is shown, confirms it, and flushes again. Answers the number that the next entry gets. What is in the receipt
-/// of the input, and in that of the output, is then in the journal, and with what the workers made it is all of it since the opening; and
-/// what was printed are outputs of the port where it leads, however it ends.
+/// Flushes, prints what is shown, confirms it, and flushes again. Answers the number that the next entry gets. What the host's seat has,
+/// which has the slips of the input, and what confirms the output is then in the journal, and with what the workers made it is all of it
+/// since the opening; and what was printed are outputs of the port where it leads, however it ends.
 fn finish<J: Naming, D: Disk, O: Outlet, R: Wait>(
     rt: &R,
     alloc: Global,
     shared: &Shared<J>,
     job: Job,
     outset: Outset,
-    offered: Receipt<J>,
+    offered: Receipt,
+    host: tp_shared::Seat<J>,
     seats: Vec<Seat<J>>,
     flusher: &mut Flusher<J, D>,
     out: &mut O,
@@ -194,7 +188,7 @@ fn finish<J: Naming, D: Disk, O: Outlet, R: Wait>(
     ensures process { IsSameProcess flusher.old flusher.new }
     ensures stored { IfOk result (λ next. next ≤ flusher.new.world.mark) }
     ensures settled { D.keeps → Began J.formatted J.before flusher.old.opened
-        → IfOk result (Settled J.formatted J.start job outset offered.seat (O.value out.old).taken (O.value out.new).taken flusher.new.world.journal) }
+        → IfOk result (Settled J.formatted J.start job outset host (O.value out.old).taken (O.value out.new).taken flusher.new.world.journal) }
     ensures shown { D.keeps → Began J.formatted J.before flusher.old.opened
         → MayPrint J.formatted flusher.old flusher.new outset.port outset.confirmed (O.value out.old) (O.value out.new) result }
     ensures silent { IsSilent result → O.value out.new ≡ O.value out.old }
@@ -203,25 +197,17 @@ fn finish<J: Naming, D: Disk, O: Outlet, R: Wait>(
     ensures behind { IfErr result ComesBehind }
 {
     flusher.known();
+    let mut host = host;
     let number = offered.number();
     let mark = flush_upto(rt, alloc, shared, flusher, number, RunFault::FlushFailed)?;
-    let confirmed = print(rt, shared, flusher, outset, mark, out)?;
-    let next = later(number, confirmed.number());
+    let confirmed = print(rt, shared, &mut host, flusher, outset, mark, out)?;
+    let next = confirmed.number();
     let _mark = flush_upto(rt, alloc, shared, flusher, next, RunFault::LastFlushFailed)?;
-    settle(
-        rt,
-        shared,
-        flusher,
-        outset.next,
-        next,
-        seats,
-        offered,
-        confirmed,
-    )
+    settle(rt, shared, flusher, outset.next, next, seats, host)
 }
 
 /// Hands in the input, lets the workers make their turns, and prints and confirms what is shown then. Answers the number that the
-/// next entry gets.
+/// next entry gets. The seat `host` gets the slips of what is handed in and confirmed.
 pub(crate) fn serve<
     J: Naming + Send + Sync,
     D: Disk + Send + Drop,
@@ -235,6 +221,7 @@ pub(crate) fn serve<
     outset: Outset,
     net: &Net<J, NoGate>,
     seats: Vec<Seat<J>>,
+    host: tp_shared::Seat<J>,
     flusher: Flusher<J, D>,
     input: &[u8],
     out: &mut O,
@@ -244,6 +231,7 @@ pub(crate) fn serve<
     requires quantum { net.now.quantum ≡ job.quantum }
     requires seats { All (λ seat. (seat.hand.of ≡ Some net.now.queue) × (seat.slips ≡ [])) seats.items }
     requires count { vec_len seats ≡ job.workers }
+    requires host { host ≡ [] }
     requires rests { flusher.world.at ≡ Resting }
     ensures walks { D.keeps → Began J.formatted J.before flusher.opened → Walked flusher result.0 }
     ensures process { IsSameProcess flusher result.0 }
@@ -259,7 +247,8 @@ pub(crate) fn serve<
 {
     flusher.known();
     let shared = net.shared();
-    let offered = match offer(rt, shared, outset, input) {
+    let mut host = host;
+    let offered = match offer(rt, shared, &mut host, outset, input) {
         Ok(offered) => offered,
         Err(fault) => return (flusher, Err(fault)),
     };
@@ -272,6 +261,7 @@ pub(crate) fn serve<
         job,
         outset,
         offered,
+        host,
         seats,
         &mut flusher,
         out,

@@ -29,11 +29,9 @@ use Rattle.tp_shared.specs.Agreement.{Agreement, answered_with, at_rest, takes_o
 use Rattle.tp_shared.specs.BookActs.{Grown, NodeActed, HostActed}
 use Rattle.tp_shared.specs.Gains.{HoldNoted}
 use Rattle.tp_shared.specs.Seals.{Stage, IsSealOf, Sealed, IsTied, KeyShows, ShowsOpen}
-use Rattle.tp_shared.specs.Receipted.{AreBelow}
 use Rattle.tp_shared.specs.declared.place.Place.{Place}
 use Rattle.tp_shared.specs.declared.seal.NodeSeal.{NodeSeal}
 use Rattle.tp_shared.proofs.Waiting.{agreed_many, others_wait, waits_on}
-use Rattle.tp_shared.proofs.Writing.{enumerated_below}
 
 -- ## Seals
 
@@ -242,13 +240,6 @@ below_of (suc first) vs (suc n) v e = let r = below_of first vs n v e in omega (
 all_below : {V : Type 0} (first : ℕ) (vs : List V) (xs : List (ℕ × V)) → Sound (item_of first vs) xs → AllByRecursion (λ x. x.0 < first + length vs) xs
 all_below first vs [] s = tt
 all_below first vs (x ∷ xs) s = (below_of first vs x.0 x.1 s.0, all_below first vs xs s.2)
-
--- the slips of what was just journalled are below the next number
-pub slips_below : (first roll_first number : ℕ) (all now es : List Entry) (slips : List (ℕ × Entry)) (new : BookValue) → IsTied first now new → roll_first ≡ first → now ≡ all ++ es
-    → slips ≡ enumerate_from (roll_first + length all) es → number ≡ next_in_book new → AreBelow number slips
-slips_below first roll_first number all now es slips new T f is seat top =
-    subst (AreBelow number) (sym seat)
-    (enumerated_below (roll_first + length all) es number (let n = T.next in let l = ap length is ∙ length-append all es in omega (arith, n, l, f, top)))
 
 pub noted_by : (Are : List Entry → Type 0) (b new : BookValue) (old_stage new_stage : Stage) (first roll_first before : ℕ) (seat_old seat_new : List (ℕ × Entry)) → (G : Grown Are b new) → before ≡ length b.state.entries
     → roll_first ≡ first

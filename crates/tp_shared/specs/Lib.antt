@@ -8,7 +8,7 @@ pub mod Seals
 pub mod Told
 pub mod SlipCount
 pub mod Gains
-pub mod Receipted
+pub mod Below
 pub mod Cells
 pub mod Holds
 pub mod NodeTurned

@@ -1,9 +1,10 @@
 //! What the host does while the book's lock is held.
 
-ghost use Rattle.std.specs.Prelude.{◌≡◌, ◌<◌, ◌≤◌, ◌+◌, [], Some, length, map, IfOk, IfErr, IsOk, OnErr};
+ghost use Rattle.std.specs.Prelude.{◌≡◌, ◌<◌, ◌≤◌, ◌+◌, length, map, IfOk, IfErr, IsOk, OnErr};
 ghost use Rattle.tp_book.specs.Acts.{confirm_entries};
 ghost use Rattle.tp_book.specs.Book.{next_in_book};
-ghost use Rattle.tp_book.specs.Host.{after_inputs, input_refusal, port_in, accepted_of, after_confirm, confirm_refusal};
+ghost use Rattle.tp_book.specs.Host.{after_inputs, input_refusal, port_in, after_confirm, confirm_refusal};
+ghost use Rattle.tp_book.specs.Receipts.{confirm_receipt, input_receipt};
 ghost use Rattle.tp_book.specs.Refusals.{IsAnswer};
 ghost use Rattle.tp_model.specs.declared.entry.Entry.TheVariants.{HostIn};
 ghost use Rattle.tp_shared.specs.Entries.{IsTurnRefusal, TakesOf};
@@ -13,51 +14,56 @@ ghost use Rattle.tp_turn.specs.Hosted.{HostDone, HostTurns};
 
 use crate::locked::Locked;
 use crate::naming::Naming;
-use crate::receipt::Receipt;
 use crate::seat::Seat;
 use crate::write::write_new;
-use tp_book::Refusal;
+use tp_book::{Receipt, Refusal};
 use tp_turn::host_turn;
 
 impl<J: Naming> Locked<J> {
-    /// Journals bytes that the host hands to a port: all of them or, where it is refused, none. The receipt has the slips of
-    /// their entries, and the next number as its own.
-    pub fn host_in(&mut self, port: u8, bytes: &[u8]) -> Result<Receipt<J>, Refusal>
+    /// Journals bytes that the host hands to a port: all of them or, where it is refused, none. `seat` gets the slips of their entries. The
+    /// receipt is the book's.
+    pub fn host_in(
+        &mut self,
+        seat: &mut Seat<J>,
+        port: u8,
+        bytes: &[u8],
+    ) -> Result<Receipt, Refusal>
         requires there { port < length self.old.book.state.ports }
         ensures answer { IsAnswer (input_refusal self.old.book port (length bytes.now)) result }
         ensures book { IfOk result (λ receipt. self.new.book ≡ after_inputs self.old.book port bytes.now) }
         ensures number { IfOk result (λ receipt. receipt.number ≡ next_in_book self.new.book) }
-        ensures position { IfOk result (λ receipt. receipt.position ≡ Some (accepted_of (port_in self.old.book port))) }
-        ensures noted { IfOk result (λ receipt. HoldNoted (λ entries. entries ≡ map (HostIn port) bytes.now) J.first self.old self.new [] receipt.seat) }
+        ensures receipt { IfOk result (λ receipt. receipt ≡ input_receipt self.old.book port bytes.now) }
+        ensures noted { IfOk result (λ receipt. HoldNoted (λ entries. entries ≡ map (HostIn port) bytes.now) J.first self.old self.new seat.old seat.new) }
         ensures nothing { length bytes.now ≡ 0 → IsOk result }
-        ensures err { OnErr result (self.new ≡ self.old) }
+        ensures err { OnErr result ((self.new ≡ self.old) × (seat.new ≡ seat.old)) }
     {
         let Locked { book, roll, .. } = self;
         let before = book.entries().len();
         let given = book.host_in(port, bytes)?;
-        let mut seat = Seat::new();
-        write_new(book, before, roll, &mut seat.slips, &mut seat.count);
-        Ok(Receipt { given, seat })
+        let Seat { slips, count, .. } = seat;
+        write_new(book, before, roll, slips, count);
+        Ok(given)
     }
 
     /// Journals that the host has a port's outputs up to a position, which go. Up to a position that was confirmed before nothing is
-    /// done. The receipt has the entry's slip, where there is one, and the next number as its own.
-    pub fn confirm(&mut self, port: u8, upto: u64) -> Result<Receipt<J>, Refusal>
+    /// done. `seat` gets the entry's slip, where there is one. The receipt is the book's.
+    pub fn confirm(&mut self, seat: &mut Seat<J>, port: u8, upto: u64) -> Result<Receipt, Refusal>
         requires there { port < length self.old.book.state.ports }
         requires held { upto ≤ (port_in self.old.book port).out_base + length (port_in self.old.book port).outputs }
         ensures answer { IsAnswer (confirm_refusal self.old.book port upto) result }
         ensures book { IfOk result (λ receipt. self.new.book ≡ after_confirm self.old.book port upto) }
         ensures number { IfOk result (λ receipt. receipt.number ≡ next_in_book self.new.book) }
-        ensures noted { IfOk result (λ receipt. HoldNoted (λ entries. entries ≡ confirm_entries self.old.book port upto) J.first self.old self.new [] receipt.seat) }
+        ensures receipt { IfOk result (λ receipt. receipt ≡ confirm_receipt self.old.book port upto) }
+        ensures noted { IfOk result (λ receipt. HoldNoted (λ entries. entries ≡ confirm_entries self.old.book port upto) J.first self.old self.new seat.old seat.new) }
         ensures nothing { upto ≤ (port_in self.old.book port).out_base → IsOk result }
-        ensures err { OnErr result (self.new ≡ self.old) }
+        ensures err { OnErr result ((self.new ≡ self.old) × (seat.new ≡ seat.old)) }
     {
         let Locked { book, roll, .. } = self;
         let before = book.entries().len();
         let given = book.confirm(port, upto)?;
-        let mut seat = Seat::new();
-        write_new(book, before, roll, &mut seat.slips, &mut seat.count);
-        Ok(Receipt { given, seat })
+        let Seat { slips, count, .. } = seat;
+        write_new(book, before, roll, slips, count);
+        Ok(given)
     }
 
     /// The host's turn: each of its ports in order takes at most three tokens of the line that comes to it, a Marker among them.

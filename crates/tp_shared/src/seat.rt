@@ -9,7 +9,8 @@ use tp_model::Entry;
 use tp_token::{Slips, empty, transfer};
 
 /// The slips of entries, in the order in which they came, and how many there are. Contracts see each as its number and its entry. Nobody
-/// can copy one.
+/// can copy one, and nobody who shares a network with others can make one: each call that makes entries is lent a seat, and its contract says
+/// which slips that got.
 #[derive(Drop)]
 pub struct Seat<J: Naming> {
     pub(crate) slips: Slips<Entry>,
@@ -30,8 +31,8 @@ impl<J: Naming> Model for Seat<J> {
 }
 
 impl<J: Naming> Seat<J> {
-    /// A seat without a slip.
-    pub fn new() -> Seat<J>
+    /// A seat without a slip. `Shared::seat` alone hands one out.
+    pub(crate) fn new() -> Seat<J>
         ensures { result ≡ [] }
     {
         Seat {

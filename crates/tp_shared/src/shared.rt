@@ -96,6 +96,14 @@ impl<J: Naming> Shared<J> {
         (shared, key)
     }
 
+    /// A seat without a slip. Threads that share the network can't ask for one.
+    pub fn seat(&mut self) -> Seat<J>
+        ensures same { self.new ≡ self.old }
+        ensures empty { result ≡ [] }
+    {
+        Seat::new()
+    }
+
     /// The book's lock.
     pub fn book(&self) -> &Mutex<Locked<J>> {
         &self.book

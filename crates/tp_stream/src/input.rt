@@ -1,20 +1,23 @@
 //! Steps of a port's input: handed in piece by piece.
 
-ghost use Rattle.std.specs.Prelude.{◌≡◌, ◌⊎◌, ◌<◌, ◌==◌, length, true, false, Ok, Some, IfErr, OnErr};
+ghost use Rattle.std.specs.Prelude.{◌≡◌, ◌⊎◌, ◌<◌, ◌==◌, length, map, true, false, Ok, Some, IfErr, OnErr};
 ghost use Rattle.tp_book.specs.Host.{accepted_of, after_inputs, port_in, room_of};
+ghost use Rattle.tp_model.specs.declared.entry.Entry.TheVariants.{HostIn};
+ghost use Rattle.tp_shared.specs.Gains.{HoldNoted};
 ghost use Rattle.tp_stream.specs.FailedEnds.{NamesInput};
 ghost use Rattle.tp_stream.specs.Offered.{Offered};
 ghost use Rattle.tp_stream.specs.Streamed.{CameBetween, CameOfTurns};
 
 use crate::fault::StreamFault;
-use tp_shared::{Locked, Naming};
+use tp_shared::{Locked, Naming, Seat};
 use tp_stream_files::{Input, Source};
 use tp_work::{OfferFault, offer};
 
 /// Hands a port bytes, under the book's lock, where it accepts those at this position. Whether it took them: it takes none that it, or
-/// the journal, has no room for.
+/// the journal, has no room for. `seat` gets the slips of their entries.
 fn offer_bytes<J: Naming>(
     held: &mut Locked<J>,
+    seat: &mut Seat<J>,
     port: u8,
     at: u64,
     bytes: &[u8],
@@ -22,11 +25,12 @@ fn offer_bytes<J: Naming>(
     requires there { port < length held.old.book.state.ports }
     requires at { at ≡ accepted_of (port_in held.old.book port) }
     ensures taken { result ≡ Ok true → held.new.book ≡ after_inputs held.old.book port bytes.now }
-    ensures refused { result ≡ Ok false → held.new ≡ held.old }
-    ensures err { OnErr result (held.new ≡ held.old) }
+    ensures noted { result ≡ Ok true → HoldNoted (λ entries. entries ≡ map (HostIn port) bytes.now) J.first held.old held.new seat.old seat.new }
+    ensures refused { result ≡ Ok false → (held.new ≡ held.old) × (seat.new ≡ seat.old) }
+    ensures err { OnErr result ((held.new ≡ held.old) × (seat.new ≡ seat.old)) }
     ensures begun { IfErr result CameOfTurns }
 {
-    match offer(held, port, at, bytes) {
+    match offer(held, seat, port, at, bytes) {
         Ok(_) => Ok(true),
         Err(OfferFault::Memory) => Err(StreamFault::Memory),
         Err(OfferFault::StoreBroken) => Err(StreamFault::NotStored),
@@ -40,20 +44,21 @@ fn offer_bytes<J: Naming>(
 }
 
 /// Hands a port the next bytes of its input, under the book's lock: at most `most`, as many as `piece` has, and as the port has room for.
-/// Whether it took some. Where `most` is 0 it is only looked whether the input has come to its end.
+/// Whether it took some; `seat` gets the slips of their entries. Where `most` is 0 it is only looked whether the input has come to its end.
 pub(crate) fn step<J: Naming, I: Source>(
     input: &mut Input<I>,
     held: &mut Locked<J>,
+    seat: &mut Seat<J>,
     piece: &mut [u8],
     most: u64,
 ) -> Result<bool, StreamFault>
     requires there { input.old.port < length held.old.book.state.ports }
-    ensures taken { result ≡ Ok true → Offered (I.input input.old.source) input.old.port most held.old.book held.new.book }
-    ensures refused { result ≡ Ok false → held.new ≡ held.old }
+    ensures taken { result ≡ Ok true → Offered (I.input input.old.source) input.old.port most J.first held.old held.new seat.old seat.new }
+    ensures refused { result ≡ Ok false → (held.new ≡ held.old) × (seat.new ≡ seat.old) }
     ensures blocked { input.new.is_blocked ≡ (room_of (port_in held.old.book input.old.port) == 0) }
     ensures ended { (input.new.ended ≡ input.old.ended) ⊎ (input.new.ended ≡ Some (accepted_of (port_in held.old.book input.old.port))) }
     ensures same { (input.new.port ≡ input.old.port) × (I.input input.new.source ≡ I.input input.old.source) }
-    ensures err { OnErr result (held.new ≡ held.old) }
+    ensures err { OnErr result ((held.new ≡ held.old) × (seat.new ≡ seat.old)) }
     ensures begun { IfErr result CameBetween }
     ensures names { IfErr result (NamesInput input.new.port) }
 {
@@ -64,7 +69,7 @@ pub(crate) fn step<J: Naming, I: Source>(
     let room = (place.min(piece.len()) as u64).min(most.max(1)) as usize;
     match input.read(at, &mut piece[..room]) {
         Ok(0) => Ok(false),
-        Ok(count) if most > 0 => offer_bytes(held, port, at, &piece[..count]),
+        Ok(count) if most > 0 => offer_bytes(held, seat, port, at, &piece[..count]),
         Ok(_) => Ok(false),
         Err(_) => Err(StreamFault::InputFailed(port)),
     }

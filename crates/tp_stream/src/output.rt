@@ -4,6 +4,7 @@ ghost use Rattle.std.specs.Prelude.{◌≡◌, ◌<◌, ◌≤◌, ◌+◌, ℕ,
 ghost use Rattle.tp_book.specs.Host.{after_confirm, port_in, shown_from, shown_upto_of};
 ghost use Rattle.tp_book.specs.Acts.{confirm_entries};
 ghost use Rattle.tp_book.specs.Refusals.{is_journal_full};
+ghost use Rattle.tp_shared.specs.Gains.{HoldNoted};
 ghost use Rattle.tp_work.specs.Receipts.{IsFor};
 ghost use Rattle.tp_stream_files.specs.Held.{HasPut, KeepsFront};
 ghost use Rattle.tp_stream_files.specs.Outputs.{WasPutSafely, given_of};
@@ -15,10 +16,10 @@ ghost use Rattle.tp_stream.specs.Steps.{AreLeft, IsSetOut, PutsShown};
 
 use crate::fault::StreamFault;
 use crate::standing::Standing;
-use tp_book::Book;
+use tp_book::{Book, Receipt};
 use tp_disk::Disk;
 use tp_flush::Flusher;
-use tp_shared::{Locked, Naming, Receipt};
+use tp_shared::{Locked, Naming, Seat};
 use tp_stream_files::{Output, Sink, SinkFault};
 use tp_work::{ConfirmFault, confirm};
 
@@ -145,23 +146,26 @@ fn put_shown<J: Naming, D: Disk, S: Sink>(
     }
 }
 
-/// Journals, under the book's lock, that the host has all outputs that were put. Where it is refused nothing is confirmed.
+/// Journals, under the book's lock, that the host has all outputs that were put. Where it is refused nothing is confirmed. `seat` gets the
+/// entry's slip, where there is one.
 fn confirm_put<J: Naming, D: Disk, S: Sink>(
     output: &mut Output<S>,
     held: &mut Locked<J>,
+    seat: &mut Seat<J>,
     flusher: &Flusher<J, D>,
-) -> Result<Receipt<J>, StreamFault>
+) -> Result<Receipt, StreamFault>
     requires there { output.old.port < length held.old.book.state.ports }
     ensures book { IfOk result (λ receipt. held.new.book ≡ after_confirm held.old.book output.old.port output.old.next) }
-    ensures receipt { IfOk result (IsFor (confirm_entries held.old.book output.old.port output.old.next)) }
+    ensures receipt { IfOk result (IsFor (confirm_entries held.old.book output.old.port output.old.next) seat.old seat.new) }
+    ensures noted { IfOk result (λ receipt. HoldNoted (λ entries. entries ≡ confirm_entries held.old.book output.old.port output.old.next) J.first held.old held.new seat.old seat.new) }
     ensures confirmed { OnOk result (output.new ≡ record output.old { confirmed = output.old.next }) }
-    ensures err { OnErr result ((held.new ≡ held.old) × (output.new ≡ output.old)) }
+    ensures err { OnErr result ((held.new ≡ held.old) × (seat.new ≡ seat.old) × (output.new ≡ output.old)) }
     ensures begun { IfErr result CameBetween }
     ensures names { (port : ℕ) → IfErr result (NamesOutput port) }
     ensures room { output.old.next ≤ shown_upto_of held.old.book output.old.port flusher.now.world.mark
         → is_journal_full held.old.book 1 ≡ false → IfErr result OtherThanFull }
 {
-    match confirm(held, output.port(), flusher.mark(), output.put()) {
+    match confirm(held, seat, output.port(), flusher.mark(), output.put()) {
         Ok(receipt) => {
             output.confirm();
             Ok(receipt)
@@ -171,21 +175,24 @@ fn confirm_put<J: Naming, D: Disk, S: Sink>(
 }
 
 /// A step, under the book's lock: puts what the flusher's mark shows and wasn't put, at its positions, makes it safe, and confirms up to
-/// there. So what is put and confirmed was put out by entries that the flusher has stored. Where putting it or making it safe fails, or
-/// whoever takes it has gone, nothing is confirmed. However it ends, what was put then is all of what the mark shows there, or nothing.
+/// there; `seat` gets the confirm's slip. So what is put and confirmed was put out by entries that the flusher has stored. Where putting it or
+/// making it safe fails, or whoever takes it has gone, nothing is confirmed. However it ends, what was put then is all of what the mark shows
+/// there, or nothing.
 pub(crate) fn step<J: Naming, D: Disk, S: Sink>(
     output: &mut Output<S>,
     held: &mut Locked<J>,
+    seat: &mut Seat<J>,
     flusher: &Flusher<J, D>,
-) -> Result<Receipt<J>, StepFault>
+) -> Result<Receipt, StepFault>
     requires there { output.old.port < length held.old.book.state.ports }
     ensures put { OnOk result (output.new.next ≡ output.old.next + length (shown_from held.old.book output.old.port flusher.now.world.mark output.old.next)) }
     ensures bytes { OnOk result (HasPut output.old.next (shown_from held.old.book output.old.port flusher.now.world.mark output.old.next) output.old.held output.new.held) }
     ensures shown { OnOk result (output.new.next ≡ shown_upto_of held.old.book output.old.port flusher.now.world.mark) }
     ensures book { IfOk result (λ receipt. held.new.book ≡ after_confirm held.old.book output.old.port output.new.next) }
-    ensures receipt { IfOk result (IsFor (confirm_entries held.old.book output.old.port output.new.next)) }
+    ensures receipt { IfOk result (IsFor (confirm_entries held.old.book output.old.port output.new.next) seat.old seat.new) }
+    ensures noted { IfOk result (λ receipt. HoldNoted (λ entries. entries ≡ confirm_entries held.old.book output.old.port output.new.next) J.first held.old held.new seat.old seat.new) }
     ensures confirmed { OnOk result (output.new.confirmed ≡ output.new.next) }
-    ensures failed { OnErr result (held.new ≡ held.old) }
+    ensures failed { OnErr result ((held.new ≡ held.old) × (seat.new ≡ seat.old)) }
     ensures front { KeepsFront output.old.next output.old.held output.new.held }
     ensures puts { PutsShown held.old.book flusher.now.world.mark output.old output.new }
     ensures left { AreLeft held.old.book held.new.book }
@@ -194,7 +201,7 @@ pub(crate) fn step<J: Naming, D: Disk, S: Sink>(
     ensures room { is_journal_full held.old.book 1 ≡ false → IfErr result StepsOtherwise }
 {
     match put_shown(output, held.book(), flusher) {
-        Ok(()) => match confirm_put(output, held, flusher) {
+        Ok(()) => match confirm_put(output, held, seat, flusher) {
             Ok(receipt) => Ok(receipt),
             Err(fault) => Err(StepFault::Fault(fault)),
         },

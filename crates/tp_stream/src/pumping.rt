@@ -19,7 +19,7 @@ use std::sync::Wait;
 use tp_disk::Disk;
 use tp_flush::Flusher;
 use tp_model::limits::MAX_HELD;
-use tp_shared::{Locked, Naming, Shared};
+use tp_shared::{Locked, Naming, Seat, Shared};
 use tp_stream_files::{Input, Output, Sink, Source, Streams};
 
 /// How many milliseconds input is waited for until it is looked again whether the stream is asked to stop, or it is told how
@@ -75,6 +75,7 @@ pub(crate) fn can_confirm<J: Naming, R: Wait>(rt: &R, shared: &Shared<J>, pace: 
 /// A step of a port's output, under the book's lock. What is put is shown by the flusher's mark.
 fn step_output<J: Naming, D: Disk, S: Sink>(
     held: &mut Locked<J>,
+    seat: &mut Seat<J>,
     flusher: &Flusher<J, D>,
     output: &mut Output<S>,
 ) -> Result<Pumped, StreamFault>
@@ -89,7 +90,7 @@ fn step_output<J: Naming, D: Disk, S: Sink>(
     if usize::from(output.port()) >= held.book().ports() {
         return Err(StreamFault::OutputFailed(output.port()));
     }
-    match crate::output::step(output, held, flusher) {
+    match crate::output::step(output, held, seat, flusher) {
         Ok(_) => Ok(Pumped::of(output.put() > before)),
         Err(StepFault::Gone) => Ok(Pumped::Gone),
         Err(StepFault::Fault(fault)) => Err(fault),
@@ -100,6 +101,7 @@ fn step_output<J: Naming, D: Disk, S: Sink>(
 /// mark of what confirms have left of the book. Where the journal has room for a confirm an output, none is refused for want of it.
 fn step_all<J: Naming, D: Disk, S: Sink>(
     held: &mut Locked<J>,
+    seat: &mut Seat<J>,
     flusher: &Flusher<J, D>,
     outputs: &mut [Output<S>],
 ) -> Result<Pumped, StreamFault>
@@ -110,7 +112,7 @@ fn step_all<J: Naming, D: Disk, S: Sink>(
 {
     let mut pumped = Pumped::Nothing;
     for output in outputs.iter_mut() {
-        pumped = pumped.then(step_output(held, flusher, output)?);
+        pumped = pumped.then(step_output(held, seat, flusher, output)?);
     }
     Ok(pumped)
 }
@@ -120,6 +122,7 @@ fn step_all<J: Naming, D: Disk, S: Sink>(
 #[tactic(auto, using(crate::proofs::Stepping::all_still))]
 fn step_settled<J: Naming, D: Disk, S: Sink>(
     held: &mut Locked<J>,
+    seat: &mut Seat<J>,
     flusher: &mut Flusher<J, D>,
     outputs: &mut [Output<S>],
 ) -> Result<Pumped, StreamFault>
@@ -136,13 +139,14 @@ fn step_settled<J: Naming, D: Disk, S: Sink>(
     if mark < next {
         return Ok(Pumped::Moved);
     }
-    step_all(held, flusher, outputs)
+    step_all(held, seat, flusher, outputs)
 }
 
 /// Takes the book's lock, and steps each output under it.
 fn step_outputs<J: Naming, D: Disk, S: Sink, R: Wait>(
     rt: &R,
     shared: &Shared<J>,
+    seat: &mut Seat<J>,
     flusher: &mut Flusher<J, D>,
     outputs: &mut [Output<S>],
 ) -> Result<Pumped, StreamFault>
@@ -153,22 +157,23 @@ fn step_outputs<J: Naming, D: Disk, S: Sink, R: Wait>(
     ensures ends { (inputs : List ℕ) → IfErr result (NamesEnd outputs.new inputs) }
 {
     let mut held = shared.book().lock(rt);
-    step_settled(&mut held, flusher, outputs)
+    step_settled(&mut held, seat, flusher, outputs)
 }
 
 /// A step of a port's input, under the book's lock. Whether the port took more: no more than leaves the journal the room that a turn and
 /// the confirms behind it need. Where it may not wait for bytes that haven't come yet, the port then takes none.
 fn step_held<J: Naming, I: Source>(
     held: &mut Locked<J>,
+    seat: &mut Seat<J>,
     pace: Pace,
     piece: &mut [u8],
     may_wait: bool,
     input: &mut Input<I>,
 ) -> Result<bool, StreamFault>
     requires there { input.old.port < length held.old.book.state.ports }
-    ensures taken { result ≡ Ok true → Offered (I.input input.old.source) input.old.port (free_of pace.rooms.journal held.old.book - pace.need) held.old.book held.new.book }
-    ensures refused { result ≡ Ok false → held.new ≡ held.old }
-    ensures err { OnErr result (held.new ≡ held.old) }
+    ensures taken { result ≡ Ok true → Offered (I.input input.old.source) input.old.port (free_of pace.rooms.journal held.old.book - pace.need) J.first held.old held.new seat.old seat.new }
+    ensures refused { result ≡ Ok false → (held.new ≡ held.old) × (seat.new ≡ seat.old) }
+    ensures err { OnErr result ((held.new ≡ held.old) × (seat.new ≡ seat.old)) }
     ensures begun { IfErr result CameBetween }
     ensures names { IfErr result (NamesInput input.new.port) }
 {
@@ -178,7 +183,7 @@ fn step_held<J: Naming, I: Source>(
     }
     let free = pace.rooms.free(held.book());
     let most = free.saturating_sub(u64::from(pace.need));
-    crate::input::step(input, held, piece, most)
+    crate::input::step(input, held, seat, piece, most)
 }
 
 /// Takes the book's lock, and makes a step of a port's input under it. Whether the port took more.
@@ -186,6 +191,7 @@ fn step_input<J: Naming, I: Source, R: Wait>(
     rt: &R,
     shared: &Shared<J>,
     pace: Pace,
+    seat: &mut Seat<J>,
     piece: &mut [u8],
     may_wait: bool,
     input: &mut Input<I>,
@@ -198,7 +204,7 @@ fn step_input<J: Naming, I: Source, R: Wait>(
     if input.port() >= shared.ports() {
         return Err(StreamFault::InputFailed(input.port()));
     }
-    step_held(&mut held, pace, piece, may_wait, input)
+    step_held(&mut held, seat, pace, piece, may_wait, input)
 }
 
 /// The first input whose bytes haven't come yet for which the journal has room: its port, and how many that has accepted.
@@ -250,6 +256,7 @@ fn step_inputs<J: Naming, I: Source, R: Wait>(
     rt: &R,
     shared: &Shared<J>,
     pace: Pace,
+    seat: &mut Seat<J>,
     may_wait: bool,
     inputs: &mut [Input<I>],
 ) -> Result<Pumped, StreamFault>
@@ -259,7 +266,7 @@ fn step_inputs<J: Naming, I: Source, R: Wait>(
     let mut piece = [0u8; MAX_HELD];
     let mut has_moved = false;
     for input in inputs.iter_mut() {
-        if step_input(rt, shared, pace, &mut piece, may_wait, input)? {
+        if step_input(rt, shared, pace, seat, &mut piece, may_wait, input)? {
             has_moved = true;
         }
     }
@@ -272,25 +279,28 @@ fn pump_inputs<J: Naming, I: Source, R: Wait>(
     rt: &R,
     shared: &Shared<J>,
     pace: Pace,
+    seat: &mut Seat<J>,
     put: Pumped,
     may_wait: bool,
     inputs: &mut [Input<I>],
 ) -> Result<Pumped, StreamFault>
     ensures begun { IfErr result CameBetween }
 {
-    let pumped = put.then(step_inputs(rt, shared, pace, false, inputs)?);
+    let pumped = put.then(step_inputs(rt, shared, pace, seat, false, inputs)?);
     if pumped != Pumped::Nothing || !may_wait {
         return Ok(pumped);
     }
-    step_inputs(rt, shared, pace, true, inputs)
+    step_inputs(rt, shared, pace, seat, true, inputs)
 }
 
 /// A step of each stream. Outputs are put and confirmed up to the flusher's mark: what is put are outputs where its journal leads. Where
 /// none has moved, and it may wait, it waits for input that hasn't come yet. Where whoever takes an output has gone, no port takes more.
+/// `seat` gets the slips of what was confirmed and handed in.
 pub(crate) fn pump<J: Naming, D: Disk, S: Sink, I: Source, R: Wait>(
     rt: &R,
     shared: &Shared<J>,
     pace: Pace,
+    seat: &mut Seat<J>,
     flusher: &mut Flusher<J, D>,
     may_wait: bool,
     streams: &mut Streams<S, I>,
@@ -300,9 +310,9 @@ pub(crate) fn pump<J: Naming, D: Disk, S: Sink, I: Source, R: Wait>(
         → AllStepped J.formatted flusher.old flusher.old streams.old.outputs.items streams.new.outputs.items }
     ensures begun { IfErr result CameBetween }
 {
-    let put = step_outputs(rt, shared, flusher, &mut streams.outputs)?;
+    let put = step_outputs(rt, shared, seat, flusher, &mut streams.outputs)?;
     if put == Pumped::Gone {
         return Ok(Pumped::Gone);
     }
-    pump_inputs(rt, shared, pace, put, may_wait, &mut streams.inputs)
+    pump_inputs(rt, shared, pace, seat, put, may_wait, &mut streams.inputs)
 }

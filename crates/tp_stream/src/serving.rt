@@ -34,11 +34,12 @@ use tp_shared::{Naming, NoGate, Seat, Shared};
 use tp_stream_files::{Ended, Ending, Input, Listener, Sink, Source, Stop, Streams};
 use tp_work::Net;
 
-/// How a stream goes on: its turns, and the slips of what they journalled.
+/// How a stream goes on: its turns, the slips of what they journalled, and those of what steps of its streams did.
 #[derive(Drop)]
 struct Going<J: Naming> {
     turns: Turns,
     seat: Seat<J>,
+    steps: Seat<J>,
 }
 
 /// Turns; or, where the journal has no room for one, or nothing is left to do but an input for which it has no room, a snapshot is brought
@@ -58,7 +59,7 @@ fn make_turns<J: Naming, I: Source, R: Wait>(
     ensures rested { OnOk result (HaveRested J.start going.new.turns.whose going.new.turns.idle) }
     ensures begun { IfErr result CameOfTurns }
 {
-    let Going { turns, seat } = going;
+    let Going { turns, seat, .. } = going;
     let lacks_input = pumped == Pumped::Nothing && turns.is_quiet(shared.nodes()) && !over;
     if pumped == Pumped::Moved {
         turns.moved();
@@ -94,7 +95,7 @@ fn go_on<J: Naming, D: Disk, S: Sink, I: Source, P: Stop, R: Wait>(
     ensures why { IfOk result (λ ended. IfSome ended (IsWhyEnded J.start pace.task)) }
     ensures inputs { IfOk result (λ ended. IfSome ended (LeavesNoInput (list_all (λ i. is_over i.ended i.is_blocked) streams.new.inputs.items))) }
     ensures looks { IfOk result (LooksOnce pace.task going.old.turns.made going.new.turns.made (P.answers stop.old) (P.answers stop.new)) }
-    ensures over { IfOk result (λ ended. IfSome ended (λ why. going.new ≡ going.old)) }
+    ensures over { IfOk result (λ ended. IfSome ended (λ why. going.new ≡ record going.old { steps = going.new.steps })) }
     ensures rested { OnOk result (HaveRested J.start going.new.turns.whose going.new.turns.idle) }
     ensures begun { IfErr result CameBetween }
 {
@@ -104,7 +105,15 @@ fn go_on<J: Naming, D: Disk, S: Sink, I: Source, P: Stop, R: Wait>(
     }
     let asked = is_asked(pace.task, stop);
     let may_wait = may_wait(pace.task, &going.turns, shared.nodes());
-    let pumped = pump(rt, shared, pace, flusher, may_wait, streams)?;
+    let pumped = pump(
+        rt,
+        shared,
+        pace,
+        &mut going.steps,
+        flusher,
+        may_wait,
+        streams,
+    )?;
     let over = are_over(&streams.inputs);
     if let Some(why) = ending(pace.task, &going.turns, shared.nodes(), asked, pumped, over) {
         return Ok(Some(why));
@@ -144,7 +153,7 @@ fn cycle<J: Naming, D: Disk, S: Sink, I: Source, L: Listener, P: Stop, R: Wait>(
     ensures inputs { IfOk result (λ ended. IfSome ended (LeavesNoInput (list_all (λ i. is_over i.ended i.is_blocked) streams.new.inputs.items))) }
     ensures looks { IfOk result (LooksOnce pace.task going.old.turns.made going.new.turns.made (P.answers stop.old) (P.answers stop.new)) }
     ensures told { ToldLater (length J.start.nodes) (L.told listener.old) (L.told listener.new) }
-    ensures over { IfOk result (λ ended. IfSome ended (λ why. going.new ≡ going.old)) }
+    ensures over { IfOk result (λ ended. IfSome ended (λ why. going.new ≡ record going.old { steps = going.new.steps })) }
     ensures rested { OnOk result (HaveRested J.start going.new.turns.whose going.new.turns.idle) }
     ensures failures { flusher.old.world.at ≡ Resting → FailedWhere (answer_failed result) flusher.old flusher.new }
     ensures begun { IfErr result CameBegun }
@@ -230,6 +239,8 @@ fn cycles<
     alloc: Global,
     net: &Net<J, NoGate>,
     seats: Vec<tp_work::Seat<J>>,
+    seat: Seat<J>,
+    steps: Seat<J>,
     pace: Pace,
     first: Flusher<J, D>,
     streams: &mut Streams<S, I>,
@@ -255,7 +266,8 @@ fn cycles<
     let has_halted = pace.task.stop_on_halt && find_halted(rt, shared);
     let mut going = Going {
         turns: Turns::new(has_halted),
-        seat: Seat::new(),
+        seat,
+        steps,
     };
     let mut last = Ok(None);
     for _ in rt.forever() {
@@ -288,6 +300,8 @@ pub(crate) fn serve<
     alloc: Global,
     net: &Net<J, NoGate>,
     seats: Vec<tp_work::Seat<J>>,
+    seat: Seat<J>,
+    steps: Seat<J>,
     pace: Pace,
     flusher: Flusher<J, D>,
     streams: &mut Streams<S, I>,
@@ -310,7 +324,7 @@ pub(crate) fn serve<
 {
     let shared = net.shared();
     let (mut there, last, rests) = cycles(
-        rt, alloc, net, seats, pace, flusher, streams, listener, stop,
+        rt, alloc, net, seats, seat, steps, pace, flusher, streams, listener, stop,
     );
     let why = match last {
         Ok(Some(why)) => why,

@@ -133,7 +133,7 @@ fn stream_parts<
     ensures begun { IfErr result.1 CameBegun }
 {
     let pace = pace_of(task, &topology, store.place.areas.length);
-    let Ok((net, seats, key)) = Net::<J, NoGate>::start(
+    let Ok((mut net, seats, key)) = Net::<J, NoGate>::start(
         rt,
         alloc,
         parts,
@@ -143,10 +143,11 @@ fn stream_parts<
     ) else {
         return (store.into_disk(), Err(StreamFault::Memory));
     };
+    let (seat, steps) = (net.seat(), net.seat());
     let flusher = Flusher::over(opened, topology, store, key, raiser);
     flusher.known();
     let (flusher, done) = serve(
-        rt, alloc, &net, seats, pace, flusher, streams, listener, stop,
+        rt, alloc, &net, seats, seat, steps, pace, flusher, streams, listener, stop,
     );
     (flusher.into_disk(), done)
 }

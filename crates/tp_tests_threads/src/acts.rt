@@ -228,7 +228,7 @@ fn is_cut(
 }
 
 /// Where the port's next byte has to be offered: an offer far behind it is refused with that position.
-fn accepted<J: Naming, R: Wait>(rt: &R, desk: &Desk<J>) -> u64 {
+fn accepted<J: Naming, R: Wait>(rt: &R, desk: &mut Desk<J>) -> u64 {
     match desk.offer(rt, u64::MAX, b"") {
         Some(Err(OfferFault::Gap(accepted))) => accepted,
         _ => 0,

@@ -10,7 +10,7 @@ use std::thread::{Threads, join};
 use tp_disk::Disk;
 use tp_flush::{FLUSHER, Flusher};
 use tp_shared::gate::{BACKLOG_COPIED, PAGE_COPIED, RUN_DONE};
-use tp_shared::{Naming, NoGate, Shared};
+use tp_shared::{Naming, NoGate, Seat, Shared};
 
 /// Who is held, until the other one made its turn.
 #[derive(Clone, Copy)]
@@ -45,11 +45,12 @@ fn is_recorded<J: Naming, D: Disk, R: Wait>(
     alloc: Global,
     shared: &Shared<J>,
     flusher: &Flusher<J, D>,
+    seat: &mut Seat<J>,
     number: u8,
 ) -> bool {
-    let is_run = turn_node(rt, shared, &NoGate, number).unwrap_or(0) > 0;
+    let is_run = turn_node(rt, shared, &NoGate, seat, number).unwrap_or(0) > 0;
     let is_begun = flusher.snapshot(rt, alloc, shared).answer().is_ok();
-    is_run && is_begun && turn_node(rt, shared, &NoGate, number).unwrap_or(0) > 0
+    is_run && is_begun && turn_node(rt, shared, &NoGate, seat, number).unwrap_or(0) > 0
 }
 
 /// The node `number` sends its letter, and a snapshot begins, in which all nodes record. The flusher copies their images, and doesn't
@@ -59,13 +60,14 @@ fn comes_whole<J: Naming, D: Disk, R: Wait>(
     alloc: Global,
     shared: &Shared<J>,
     flusher: &mut Flusher<J, D>,
+    seat: &mut Seat<J>,
     number: u8,
 ) -> bool {
-    let is_sent = turn_node(rt, shared, &NoGate, number).is_some();
+    let is_sent = turn_node(rt, shared, &NoGate, seat, number).is_some();
     let is_begun = flusher.snapshot(rt, alloc, shared).answer().is_ok();
-    let are_recorded = turn_nodes(rt, shared);
+    let are_recorded = turn_nodes(rt, shared, seat);
     let is_copied = matches!(flush(rt, alloc, shared, flusher), Ok((_, false)));
-    let is_taken = turn_host(rt, shared);
+    let is_taken = turn_host(rt, shared, seat);
     is_sent && is_begun && are_recorded && is_copied && is_taken
 }
 
@@ -76,12 +78,13 @@ fn is_ready<J: Naming, D: Disk, R: Wait>(
     held: Held,
     shared: &Shared<J>,
     flusher: &mut Flusher<J, D>,
+    seat: &mut Seat<J>,
     number: u8,
 ) -> bool {
     match held {
         Held::Node | Held::Copy => true,
-        Held::Page => is_recorded(rt, alloc, shared, flusher, number),
-        Held::Switch => comes_whole(rt, alloc, shared, flusher, number),
+        Held::Page => is_recorded(rt, alloc, shared, flusher, seat, number),
+        Held::Switch => comes_whole(rt, alloc, shared, flusher, seat, number),
     }
 }
 
@@ -90,10 +93,11 @@ fn turn_beside<J: Naming, R: Wait>(
     rt: &R,
     shared: &Shared<J>,
     gate: &Hold,
+    seat: &mut Seat<J>,
     number: u8,
 ) -> Option<(u16, u64)> {
     let came = gate.wait_as(number);
-    let steps = turn_node(rt, shared, gate, number);
+    let steps = turn_node(rt, shared, gate, seat, number);
     let next = next_of(rt, shared);
     gate.open_as(number);
     match steps {
@@ -131,20 +135,22 @@ fn are_so(held: Held, turned: Option<(u16, u64)>, flushed: Option<(u64, bool)>) 
     }
 }
 
-/// Whether a turn of the node `number` and one of the flusher go as they should beside each other, while a gate holds one of them.
+/// Whether a turn of the node `number` and one of the flusher go as they should beside each other, while a gate holds one of them. `seat`
+/// gets the slips of that turn, and of those that come first.
 pub(crate) fn go_on<J: Naming + Send + Sync, D: Disk + Drop, R: Threads + Wait + Sync>(
     rt: &R,
     alloc: Global,
     held: Held,
     shared: &Shared<J>,
     flusher: &mut Flusher<J, D>,
+    seat: &mut Seat<J>,
     number: u8,
     gate: &Hold,
 ) -> bool {
-    let is_ready = is_ready(rt, alloc, held, shared, flusher, number);
+    let is_ready = is_ready(rt, alloc, held, shared, flusher, seat, number);
     let (turned, flushed) = join(
         rt,
-        move || turn_beside(rt, shared, gate, number),
+        move || turn_beside(rt, shared, gate, seat, number),
         move || flush_beside(rt, alloc, shared, flusher, gate),
     );
     is_ready && are_so(held, turned, flushed) && gate.was_let_go()

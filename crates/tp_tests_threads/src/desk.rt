@@ -11,12 +11,12 @@ use crate::plain::add_new;
 use crate::unkind::Unkind;
 use std::alloc::{AllocError, Global};
 use std::sync::Wait;
-use tp_book::Refusal;
+use tp_book::{Receipt, Refusal};
 use tp_flush::{FlushFault, Flusher};
 use tp_model::{Entry, Form};
 use tp_node::Why;
 use tp_ready::Pass;
-use tp_shared::{Naming, NoGate, Receipt, Shared, Sights};
+use tp_shared::{Naming, NoGate, Seat as Slips, Shared, Sights};
 use tp_work::{ConfirmFault, Net, OfferFault, Seat, Session, ShownFault, TurnFault};
 
 /// What a turn did: whose it was, how many tokens it took, and how many steps it ran and why no more, where it runs.
@@ -55,11 +55,12 @@ pub(crate) struct Left {
     pub(crate) told: Told,
 }
 
-/// A network in threads, a worker's seat, its flusher, a pass of its mark, and what was told.
+/// A network in threads, a worker's seat, the host's, its flusher, a pass of its mark, and what was told.
 #[derive(Drop)]
 pub(crate) struct Desk<J: Naming> {
     net: Net<J, NoGate>,
     seat: Seat<J>,
+    host: Slips<J>,
     flusher: Flusher<J, Unkind>,
     pass: Pass,
     pub(crate) told: Told,
@@ -89,15 +90,18 @@ pub(crate) fn begin<J: Naming, R: Wait>(
     requires spelt { IsSpelt opening.opened.value }
     requires quantum { (0 < quantum) × (quantum ≤ MAX_STEPS) }
 {
-    let Ok((net, seats, flusher, pass)) = begin_with(rt, alloc, opening, quantum, 1, NoGate) else {
+    let Ok((mut net, seats, flusher, pass)) = begin_with(rt, alloc, opening, quantum, 1, NoGate)
+    else {
         return None;
     };
     let Some(seat) = seat_of(&net, seats) else {
         return None;
     };
+    let host = net.seat();
     Some(Desk {
         net,
         seat,
+        host,
         flusher,
         pass,
         told,
@@ -234,13 +238,13 @@ impl<J: Naming> Desk<J> {
     }
 
     fn offer_once<R: Wait>(
-        &self,
+        &mut self,
         rt: &R,
         at: u64,
         bytes: &[u8],
     ) -> Option<Result<u64, OfferFault>> {
-        let session = self.session(0)?;
-        match session.offer(rt, at, bytes, &mut Sights::new()) {
+        let session = Session::new(self.net.shared(), 0)?;
+        match session.offer(rt, at, bytes, &mut self.host, &mut Sights::new()) {
             Ok(receipt) => Some(Ok(receipt.number())),
             Err(fault) => Some(Err(fault)),
         }
@@ -248,7 +252,7 @@ impl<J: Naming> Desk<J> {
 
     /// Offers bytes to the port: the receipt's number. Where memory was refused, there is no entry of them.
     pub(crate) fn offer<R: Wait>(
-        &self,
+        &mut self,
         rt: &R,
         at: u64,
         bytes: &[u8],
@@ -303,17 +307,13 @@ impl<J: Naming> Desk<J> {
     }
 
     /// Confirms the outputs of the port up to a position.
-    fn receipt_of<R: Wait>(
-        &mut self,
-        rt: &R,
-        upto: u64,
-    ) -> Option<Result<Receipt<J>, ConfirmFault>> {
+    fn receipt_of<R: Wait>(&mut self, rt: &R, upto: u64) -> Option<Result<Receipt, ConfirmFault>> {
         let session = Session::new(self.net.shared(), 0)?;
-        Some(session.confirm(rt, upto, &mut self.pass, &mut Sights::new()))
+        Some(session.confirm(rt, upto, &mut self.pass, &mut self.host, &mut Sights::new()))
     }
 
     /// Whether the pass says that a receipt is stored.
-    fn is_stored(&mut self, receipt: &Receipt<J>) -> bool {
+    fn is_stored(&mut self, receipt: &Receipt) -> bool {
         match Session::new(self.net.shared(), 0) {
             Some(session) => session.is_stored(receipt, &mut self.pass),
             None => false,

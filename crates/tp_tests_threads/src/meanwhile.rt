@@ -7,10 +7,11 @@ use std::alloc::{AllocError, Global};
 use std::sync::Wait;
 use std::sync::atomic::{AtomicBool, Ordering};
 use std::thread::{Threads, join, yield_now};
+use tp_book::Receipt;
 use tp_disk::Disk;
 use tp_flush::Flusher;
 use tp_ready::Pass;
-use tp_shared::{Gate, Naming, NoGate, Receipt, Shared, Sights};
+use tp_shared::{Gate, Naming, NoGate, Seat, Shared, Sights};
 use tp_work::Session;
 
 /// Makes turns of the flusher until the others have ended. Answers whether all of them were done.
@@ -36,7 +37,7 @@ pub fn flush_meanwhile<J: Naming, D: Disk, G: Gate, R: Wait>(
 }
 
 /// Whether a receipt's entries come to be stored.
-fn comes_stored<J: Naming>(session: &Session<'_, J>, receipt: &Receipt<J>, pass: &mut Pass) -> bool
+fn comes_stored<J: Naming>(session: &Session<'_, J>, receipt: &Receipt, pass: &mut Pass) -> bool
     requires { pass.old.mark ≡ J.mark }
     ensures { pass.new.mark ≡ J.mark }
 {
@@ -50,7 +51,7 @@ fn comes_stored<J: Naming>(session: &Session<'_, J>, receipt: &Receipt<J>, pass:
 }
 
 /// Whether the pass says of each receipt that its entries are stored.
-fn are_stored<J: Naming>(session: &Session<'_, J>, receipts: &[Receipt<J>], pass: &mut Pass) -> bool
+fn are_stored<J: Naming>(session: &Session<'_, J>, receipts: &[Receipt], pass: &mut Pass) -> bool
     requires { pass.old.mark ≡ J.mark }
     ensures { pass.new.mark ≡ J.mark }
 {
@@ -67,12 +68,13 @@ fn store_pair<J: Naming, R: Wait>(
     rt: &R,
     session: &Session<'_, J>,
     at: u64,
+    seat: &mut Seat<J>,
     pass: &mut Pass,
-) -> Option<Receipt<J>>
+) -> Option<Receipt>
     requires { pass.old.mark ≡ J.mark }
     ensures { pass.new.mark ≡ J.mark }
 {
-    let receipt = session.offer(rt, at, b"ab", &mut Sights::new()).ok()?;
+    let receipt = session.offer(rt, at, b"ab", seat, &mut Sights::new()).ok()?;
     if comes_stored(session, &receipt, pass) {
         Some(receipt)
     } else {
@@ -88,6 +90,7 @@ fn store_pairs<J: Naming, R: Wait>(
     session: &Session<'_, J>,
     from: u64,
     count: u64,
+    seat: &mut Seat<J>,
     pass: &mut Pass,
 ) -> Result<bool, AllocError>
     requires { pass.old.mark ≡ J.mark }
@@ -96,7 +99,7 @@ fn store_pairs<J: Naming, R: Wait>(
     let mut receipts = Vec::new(alloc);
     for place in 0..count {
         let at = place.wrapping_mul(2).wrapping_add(from);
-        let Some(receipt) = store_pair(rt, session, at, pass) else {
+        let Some(receipt) = store_pair(rt, session, at, seat, pass) else {
             return Ok(false);
         };
         receipts.push(receipt)?;
@@ -108,11 +111,16 @@ fn store_pairs<J: Naming, R: Wait>(
 }
 
 /// Whether a pair of bytes is taken, and isn't stored yet.
-fn is_early<J: Naming, R: Wait>(rt: &R, session: &Session<'_, J>, pass: &mut Pass) -> bool
+fn is_early<J: Naming, R: Wait>(
+    rt: &R,
+    session: &Session<'_, J>,
+    seat: &mut Seat<J>,
+    pass: &mut Pass,
+) -> bool
     requires { pass.old.mark ≡ J.mark }
     ensures { pass.new.mark ≡ J.mark }
 {
-    match session.offer(rt, 0, b"ab", &mut Sights::new()) {
+    match session.offer(rt, 0, b"ab", seat, &mut Sights::new()) {
         Ok(receipt) => !session.is_stored(&receipt, pass),
         Err(_) => false,
     }
@@ -126,6 +134,7 @@ pub fn stays_stored<J: Naming + Send + Sync, D: Disk + Drop, R: Threads + Wait +
     shared: &Shared<J>,
     flusher: &mut Flusher<J, D>,
     count: u64,
+    seat: &mut Seat<J>,
     mut pass: Pass,
 ) -> bool
     requires { pass.mark ≡ J.mark }
@@ -133,7 +142,7 @@ pub fn stays_stored<J: Naming + Send + Sync, D: Disk + Drop, R: Threads + Wait +
     let Some(session) = Session::new(shared, 0) else {
         return false;
     };
-    let is_early = is_early(rt, &session, &mut pass);
+    let is_early = is_early(rt, &session, seat, &mut pass);
     let ended = AtomicBool::new(false);
     let (lent, told) = (&session, &ended);
     let (stored, is_done) = join(
@@ -141,7 +150,7 @@ pub fn stays_stored<J: Naming + Send + Sync, D: Disk + Drop, R: Threads + Wait +
         move || -> Result<bool, AllocError>
             requires { pass.mark ≡ J.mark }
         {
-            let stored = store_pairs(rt, alloc, lent, 2, count, &mut pass);
+            let stored = store_pairs(rt, alloc, lent, 2, count, seat, &mut pass);
             told.store(true, Ordering::SeqCst);
             stored
         },

@@ -11,7 +11,8 @@ use std::thread::{Threads, join, map_vec};
 use tp_book::Numbered;
 use tp_model::Entry;
 use tp_shared::gate::RUN_DONE;
-use tp_shared::{Naming, NoGate, Shared};
+use tp_shared::{Naming, NoGate, Seat as Slips, Shared};
+use tp_work::Seat;
 
 /// The node that is held. None of `OTHERS` is under its lock.
 const HELD: u8 = 1;
@@ -21,35 +22,42 @@ const OTHERS: [u8; 11] = [2, 3, 4, 6, 7, 8, 10, 11, 12, 14, 15];
 /// A process that no gate holds here.
 const FREE: u8 = 0;
 
-/// How many threads make turns of other nodes.
-const TEAMS: &[usize] = &[1, 3, 15];
+/// How many workers make turns of other nodes.
+const TEAMS: &[u8] = &[1, 3, 15];
 
-/// Whether a node makes a turn.
-fn is_turned<J: Naming, R: Wait>(rt: &R, shared: &Shared<J>, number: u8) -> bool {
-    turn_node(rt, shared, &NoGate, number).is_some()
+/// Whether a node makes a turn at a worker's seat.
+fn is_turned<J: Naming, R: Wait>(rt: &R, shared: &Shared<J>, number: u8, seat: Seat<J>) -> bool {
+    turn_node(rt, shared, &NoGate, &mut seat.into_slips(), number).is_some()
 }
 
 /// Turns of other nodes, each in a thread of its own, while one is held, which is let go then. Answers whether it was there, and all
 /// of them were made.
 fn turn_others<J: Naming + Send + Sync, R: Threads + Wait + Sync>(
     rt: &R,
-    numbers: Vec<u8>,
+    others: Vec<(u8, Seat<J>)>,
     shared: &Shared<J>,
     hold: &Hold,
 ) -> bool {
     let came = hold.wait();
-    let made = map_vec(rt, numbers, &|number| is_turned(rt, shared, number));
+    let made = map_vec(
+        rt,
+        others,
+        &|(number, seat)| is_turned(rt, shared, number, seat),
+    );
     hold.open_as(FREE);
     came && matches!(made, Ok(all) if !all.as_slice().contains(&false))
 }
 
-/// The nodes whose turns `count` threads make.
-fn numbers_of(alloc: Global, count: usize) -> Result<Vec<u8>, AllocError> {
-    let mut numbers = Vec::new(alloc);
-    for place in 0..count {
-        numbers.push(OTHERS[place % OTHERS.len()])?;
+/// Each worker's seat, with the node that makes a turn there.
+fn others_of<J: Naming>(
+    alloc: Global,
+    seats: Vec<Seat<J>>,
+) -> Result<Vec<(u8, Seat<J>)>, AllocError> {
+    let mut others = Vec::new(alloc);
+    for seat in seats {
+        others.push((OTHERS[others.len() % OTHERS.len()], seat))?;
     }
-    Ok(numbers)
+    Ok(others)
 }
 
 /// How many of `entries` are runs.
@@ -74,31 +82,33 @@ fn is_last<J: Naming, R: Wait>(rt: &R, shared: &Shared<J>, count: usize) -> bool
     runs_of(entries) == count && matches!(entries.last(), Some(found) if found.entry == last)
 }
 
-/// Turns of `count` others while one is held. Answers whether all were made, and the run of the one that was held is the last in the
-/// journal.
+/// A turn of another node at each of `seats` while one is held, whose slips `slips` gets. Answers whether all were made, and the run of the
+/// one that was held is the last in the journal.
 pub(crate) fn overlap<J: Naming + Send + Sync, R: Threads + Wait + Sync>(
     rt: &R,
     alloc: Global,
     shared: &Shared<J>,
-    count: usize,
+    slips: &mut Slips<J>,
+    seats: Vec<Seat<J>>,
 ) -> bool {
-    let Ok(numbers) = numbers_of(alloc, count) else {
+    let Ok(others) = others_of(alloc, seats) else {
         return false;
     };
+    let runs = others.len().saturating_add(1);
     let hold = Hold::new(HELD, RUN_DONE);
     let gate = &hold;
-    let (held, others) = join(
+    let (is_made, are_made) = join(
         rt,
-        move || turn_node(rt, shared, gate, HELD).is_some(),
-        move || turn_others(rt, numbers, shared, gate),
+        move || turn_node(rt, shared, gate, slips, HELD).is_some(),
+        move || turn_others(rt, others, shared, gate),
     );
-    held && others && hold.was_let_go() && is_last(rt, shared, count.saturating_add(1))
+    is_made && are_made && hold.was_let_go() && is_last(rt, shared, runs)
 }
 
 #[test]
 fn others_make_turns_while_one_node_is_held(rt: HostRuntime) -> Result<(), Fail> {
     for count in TEAMS {
-        assert!(rt; plays(&rt, rt.alloc(), &SIXTEEN, 1, Scene::Overlap(*count))?);
+        assert!(rt; plays(&rt, rt.alloc(), &SIXTEEN, *count, Scene::Overlap)?);
     }
     Ok(())
 }

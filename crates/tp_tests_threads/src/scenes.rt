@@ -29,7 +29,7 @@ use tp_flush::Flusher;
 use tp_model::Entry;
 use tp_ready::Pass;
 use tp_replay::FlatNetwork;
-use tp_shared::{Naming, Shared};
+use tp_shared::{Naming, Seat as Slips, Shared};
 use tp_work::{Net, Seat};
 
 /// How many turns a team makes beside those: fewer than end at the gate that keeps pace.
@@ -46,8 +46,8 @@ pub(crate) enum Scene<'a> {
     Team(u32),
     /// A node's turn is open while the areas are switched and the book is trimmed, and the journal ends with these entries.
     Trim(&'a [Entry]),
-    /// A node is held behind its run, and that many threads make turns of others.
-    Overlap(usize),
+    /// A node is held behind its run, and each worker makes a turn of another.
+    Overlap,
 }
 
 /// A team makes its turns, once someone is held where a gate is told. Answers whether someone was, and no turn was refused.
@@ -79,6 +79,7 @@ fn go_on_beside<J: Naming + Send + Sync, D: Disk + Drop, R: Threads + Wait + Syn
     held: Held,
     net: &Net<J, Paced<'_>>,
     seats: Vec<Seat<J>>,
+    slips: &mut Slips<J>,
     flusher: &mut Flusher<J, D>,
 ) -> bool
     requires { All (λ seat. (seat.hand.of ≡ Some net.now.queue) × (seat.slips ≡ [])) seats.items }
@@ -90,7 +91,7 @@ fn go_on_beside<J: Naming + Send + Sync, D: Disk + Drop, R: Threads + Wait + Syn
         move || -> bool
             requires { All (λ seat. (seat.hand.of ≡ Some net.now.queue) × (seat.slips ≡ [])) seats.items }
         { work_all(rt, net, seats, Some(gate)) },
-        move || go_on(rt, alloc, held, net.shared(), flusher, number, gate),
+        move || { go_on(rt, alloc, held, net.shared(), flusher, slips, number, gate) },
     );
     worked && is_so
 }
@@ -101,6 +102,7 @@ fn are_stored_beside<J: Naming + Send + Sync, D: Disk + Drop, R: Threads + Wait 
     alloc: Global,
     net: &Net<J, Paced<'_>>,
     seats: Vec<Seat<J>>,
+    slips: &mut Slips<J>,
     flusher: &mut Flusher<J, D>,
     count: u64,
     pass: Pass,
@@ -115,7 +117,7 @@ fn are_stored_beside<J: Naming + Send + Sync, D: Disk + Drop, R: Threads + Wait 
         { work_all(rt, net, seats, None) },
         move || -> bool
             requires { pass.mark ≡ J.mark }
-        { stays_stored(rt, alloc, net.shared(), flusher, count, pass) },
+        { stays_stored(rt, alloc, net.shared(), flusher, count, slips, pass) },
     );
     worked && is_so
 }
@@ -125,14 +127,25 @@ fn is_trimmed<J: Naming + Send + Sync, D: Disk + Drop, R: Threads + Wait + Sync>
     rt: &R,
     alloc: Global,
     shared: &Shared<J>,
+    slips: &mut Slips<J>,
     flusher: &mut Flusher<J, D>,
     wanted: &[Entry],
 ) -> bool {
     let (gate, number) = Held::Switch.gate();
-    go_on(rt, alloc, Held::Switch, shared, flusher, number, &gate) && ends_with(rt, shared, wanted)
+    go_on(
+        rt,
+        alloc,
+        Held::Switch,
+        shared,
+        flusher,
+        slips,
+        number,
+        &gate,
+    ) && ends_with(rt, shared, wanted)
 }
 
-/// Whether a scene goes as it should. The first entry has the number `first`.
+/// Whether a scene goes as it should. The first entry has the number `first`. `slips`, which had none, gets those of whoever has no worker's
+/// seat.
 fn act<J: Naming + Send + Sync, D: Disk + Drop, R: Threads + Wait + Sync>(
     rt: &R,
     alloc: Global,
@@ -140,6 +153,7 @@ fn act<J: Naming + Send + Sync, D: Disk + Drop, R: Threads + Wait + Sync>(
     net: &Net<J, Paced<'_>>,
     seats: Vec<Seat<J>>,
     first: u64,
+    slips: &mut Slips<J>,
     flusher: &mut Flusher<J, D>,
     pass: Pass,
     pace: &Pace,
@@ -150,18 +164,20 @@ fn act<J: Naming + Send + Sync, D: Disk + Drop, R: Threads + Wait + Sync>(
 {
     match scene {
         Scene::Held(held) => {
-            let is_so = go_on_beside(rt, alloc, held, net, seats, flusher);
+            let is_so = go_on_beside(rt, alloc, held, net, seats, slips, flusher);
             let is_last = !matches!(held, Held::Copy);
             is_so && (is_last || stores_all(rt, alloc, net.shared(), flusher))
         }
-        Scene::Stored(count) => are_stored_beside(rt, alloc, net, seats, flusher, count, pass),
+        Scene::Stored(count) => {
+            are_stored_beside(rt, alloc, net, seats, slips, flusher, count, pass)
+        }
         Scene::Team(turns) => {
             let gate = Paced { pace };
-            are_all_beside(rt, alloc, net, seats, turns, first, flusher, &gate)
+            are_all_beside(rt, alloc, net, seats, turns, first, slips, flusher, &gate)
                 && pace.met() == turns / EVERY
         }
-        Scene::Trim(wanted) => is_trimmed(rt, alloc, net.shared(), flusher, wanted),
-        Scene::Overlap(count) => overlap(rt, alloc, net.shared(), count),
+        Scene::Trim(wanted) => is_trimmed(rt, alloc, net.shared(), slips, flusher, wanted),
+        Scene::Overlap => overlap(rt, alloc, net.shared(), slips, seats),
     }
 }
 
@@ -196,10 +212,11 @@ fn ends<J: Naming, R: Wait>(
     rt: &R,
     alloc: Global,
     shared: &Shared<J>,
+    slips: &mut Slips<J>,
     flusher: &mut Flusher<J, MemDisk>,
     journal: &mut Vec<Entry>,
 ) -> bool {
-    let is_turned = turn_all(rt, shared);
+    let is_turned = turn_all(rt, shared, slips);
     let is_looked = look_at_book(rt, shared, journal).is_ok();
     let is_switched = matches!(flush(rt, alloc, shared, flusher), Ok((_, true)));
     is_turned && is_looked && is_switched
@@ -210,11 +227,12 @@ fn is_switched<J: Naming, R: Wait>(
     rt: &R,
     alloc: Global,
     shared: &Shared<J>,
+    slips: &mut Slips<J>,
     flusher: Flusher<J, MemDisk>,
 ) -> Result<bool, Fail> {
     let mut journal = Vec::new(alloc);
     let mut flusher = flusher;
-    let has_ended = ends(rt, alloc, shared, &mut flusher, &mut journal);
+    let has_ended = ends(rt, alloc, shared, slips, &mut flusher, &mut journal);
     let is_replay = is_replay(alloc, flusher.into_disk(), &journal);
     let told = both(has_ended, is_replay);
     told
@@ -226,11 +244,12 @@ fn leaves<J: Naming, R: Wait>(
     rt: &R,
     alloc: Global,
     shared: &Shared<J>,
+    slips: &mut Slips<J>,
     flusher: Flusher<J, MemDisk>,
     scene: Scene<'_>,
 ) -> Result<bool, Fail> {
     if matches!(scene, Scene::Held(Held::Page)) {
-        is_switched(rt, alloc, shared, flusher)
+        is_switched(rt, alloc, shared, slips, flusher)
     } else {
         is_left(rt, alloc, shared, flusher)
     }
@@ -251,9 +270,10 @@ fn play<J: Naming + Send + Sync, R: Threads + Wait + Sync>(
     let first = opening.first;
     let pace = Pace::new();
     let gate = Paced { pace: &pace };
-    let (net, seats, mut flusher, pass) = begin::<J, MemDisk, Paced<'_>, R>(
+    let (mut net, seats, mut flusher, pass) = begin::<J, MemDisk, Paced<'_>, R>(
         rt, alloc, opening, workers, gate,
     )?;
+    let mut slips = net.seat();
     let is_so = act(
         rt,
         alloc,
@@ -261,11 +281,12 @@ fn play<J: Naming + Send + Sync, R: Threads + Wait + Sync>(
         &net,
         seats,
         first,
+        &mut slips,
         &mut flusher,
         pass,
         &pace,
     );
-    let is_left = leaves(rt, alloc, net.shared(), flusher, scene);
+    let is_left = leaves(rt, alloc, net.shared(), &mut slips, flusher, scene);
     let told = both(is_so, is_left);
     told
 }

@@ -7,7 +7,7 @@ use std::alloc::AllocError;
 use std::sync::Wait;
 use std::sync::atomic::{AtomicU32, Ordering};
 use std::thread::{Threads, join, map_vec, yield_now};
-use tp_shared::{Gate, Locked, Naming, Receipt, Seat as Slips, Sights};
+use tp_shared::{Gate, Locked, Naming, Seat as Slips, Sights};
 use tp_work::{Net, Seat, Session};
 
 /// What a worker's turns journalled: their slips, and whether a turn was refused.
@@ -18,26 +18,6 @@ pub struct Work<J: Naming> {
 }
 
 impl<J: Naming> Work<J> {
-    /// Nothing yet.
-    pub fn new() -> Work<J>
-        ensures { result.slips ≡ [] }
-    {
-        Work {
-            slips: Slips::new(),
-            is_refused: false,
-        }
-    }
-
-    /// That of a receipt.
-    pub fn of_receipt(receipt: Receipt<J>) -> Work<J>
-        ensures { result.slips ≡ receipt.seat }
-    {
-        Work {
-            slips: receipt.into_seat(),
-            is_refused: false,
-        }
-    }
-
     /// Both together.
     pub fn and(self, other: Work<J>) -> Work<J>
         ensures { result.slips ≡ self.slips ++ other.slips }
@@ -62,20 +42,19 @@ impl<J: Naming> Work<J> {
         self.is_refused
     }
 
-    /// Whether there are as many slips as entries since the opening, the first with the number `first`. Then each number has the slip
-    /// of the journal's entry, once.
-    pub fn are_all(self, held: &mut Locked<J>, first: u64) -> bool
+    /// Puts the slips behind those of `seat`. Whether there are as many then as entries since the opening, the first with the number
+    /// `first`. Then each number has the slip of the journal's entry, once.
+    pub fn are_all(self, held: &mut Locked<J>, seat: &mut Slips<J>, first: u64) -> bool
         requires { first ≡ J.first }
         ensures same { held.new ≡ held.old }
-        ensures all { IsTrue result → (n : ℕ) → shown n self.slips ≡ item_of J.first held.old.all n }
+        ensures seat { seat.new ≡ seat.old ++ self.slips }
+        ensures all { IsTrue result → (n : ℕ) → shown n seat.new ≡ item_of J.first held.old.all n }
     {
-        let Work {
-            mut slips,
-            is_refused,
-        } = self;
+        let Work { slips, is_refused } = self;
         held.known();
-        held.audit(&mut slips);
-        !is_refused && slips.count() == held.book().next() - first
+        seat.absorb(slips);
+        held.audit(seat);
+        !is_refused && seat.count() == held.book().next() - first
     }
 }
 
@@ -105,10 +84,10 @@ pub fn make_turns<J: Naming, G: Gate, R: Wait>(
     }
 }
 
-/// What all of `works` did.
-fn together<J: Naming>(works: Vec<Work<J>>) -> Work<J> {
-    let mut all = Work::new();
-    for work in works {
+/// What the first and all the others did.
+fn together<J: Naming>(first: Work<J>, others: Vec<Work<J>>) -> Work<J> {
+    let mut all = first;
+    for work in others {
         all = all.and(work);
     }
     all
@@ -142,17 +121,19 @@ pub fn work_as_team<J: Naming + Send + Sync, G: Gate + Send + Sync, R: Threads +
             )
         },
     );
-    Ok(first.and(together(others?)))
+    Ok(together(first, others?))
 }
 
-/// Hands pairs of bytes to a port, as many as `count` says, one after another.
-pub fn offer_pairs<J: Naming, R: Wait>(rt: &R, session: &Session<'_, J>, count: u64) -> Work<J> {
-    let mut all = Work::new();
+/// Hands pairs of bytes to a port, as many as `count` says, one after another. `seat` gets their slips.
+pub fn offer_pairs<J: Naming, R: Wait>(
+    rt: &R,
+    session: &Session<'_, J>,
+    count: u64,
+    seat: &mut Slips<J>,
+) {
     for place in 0..count {
-        if let Ok(receipt) = session.offer(rt, place.wrapping_mul(2), b"ab", &mut Sights::new()) {
-            all = all.and(Work::of_receipt(receipt));
-        }
+        let at = place.wrapping_mul(2);
+        let _receipt = session.offer(rt, at, b"ab", seat, &mut Sights::new());
         yield_now();
     }
-    all
 }

@@ -10,7 +10,7 @@ use std::sync::atomic::{AtomicBool, Ordering};
 use std::thread::{Threads, join};
 use tp_disk::Disk;
 use tp_flush::Flusher;
-use tp_shared::{Gate, Naming};
+use tp_shared::{Gate, Naming, Seat as Slips};
 use tp_work::{Net, Seat, Session};
 
 /// How many pairs of bytes are handed in meanwhile.
@@ -31,7 +31,7 @@ pub(crate) fn parted<J: Naming, G: Gate>(
     Some((first, seats))
 }
 
-/// What a team and a host journal side by side. Tells then that they have ended.
+/// What a team journals, beside a host. Tells then that they have ended. `slips` gets those of the host.
 fn work_and_end<J: Naming + Send + Sync, G: Gate + Send + Sync, R: Threads + Wait + Sync>(
     rt: &R,
     net: &Net<J, G>,
@@ -39,23 +39,25 @@ fn work_and_end<J: Naming + Send + Sync, G: Gate + Send + Sync, R: Threads + Wai
     turns: u32,
     one: Seat<J>,
     others: Vec<Seat<J>>,
+    slips: &mut Slips<J>,
     ended: &AtomicBool,
 ) -> Result<Work<J>, AllocError>
     requires one { (one.hand.of ≡ Some net.now.queue) × (one.slips ≡ []) }
     requires others { All (λ seat. (seat.hand.of ≡ Some net.now.queue) × (seat.slips ≡ [])) others.items }
 {
-    let (offered, worked) = join(
+    let (_, worked) = join(
         rt,
-        move || offer_pairs(rt, session, PAIRS),
+        move || offer_pairs(rt, session, PAIRS, slips),
         move || -> Result<Work<J>, AllocError>
             requires { (one.hand.of ≡ Some net.now.queue) × (one.slips ≡ []) × All (λ seat. (seat.hand.of ≡ Some net.now.queue) × (seat.slips ≡ [])) others.items }
         { work_as_team(rt, net, turns, one, others) },
     );
     ended.store(true, Ordering::SeqCst);
-    Ok(offered.and(worked?))
+    worked
 }
 
-/// What a team and a host journal while the flusher makes its turns. Nothing is answered of the team where one of them wasn't done.
+/// What a team journals, beside a host, while the flusher makes its turns. Nothing is answered of the team where one of those wasn't done.
+/// `slips` gets those of the host.
 fn work_beside<
     J: Naming + Send + Sync,
     D: Disk + Drop,
@@ -68,6 +70,7 @@ fn work_beside<
     turns: u32,
     one: Seat<J>,
     others: Vec<Seat<J>>,
+    slips: &mut Slips<J>,
     flusher: &mut Flusher<J, D>,
     gate: &G,
 ) -> Option<Work<J>>
@@ -83,14 +86,15 @@ fn work_beside<
         rt,
         move || -> Result<Work<J>, AllocError>
             requires { (one.hand.of ≡ Some net.now.queue) × (one.slips ≡ []) × All (λ seat. (seat.hand.of ≡ Some net.now.queue) × (seat.slips ≡ [])) others.items }
-        { work_and_end(rt, net, host, turns, one, others, told) },
+        { work_and_end(rt, net, host, turns, one, others, slips, told) },
         move || flush_meanwhile(rt, alloc, net.shared(), flusher, gate, told),
     );
     if is_done { worked.ok() } else { None }
 }
 
 /// One worker ends after its first turn, and the others make the rest of `turns`, while a host hands in bytes and the flusher makes its
-/// turns. Answers whether what they journalled is all of the journal, each entry once, whose first has the number `first`.
+/// turns. Answers whether what they journalled is all of the journal, each entry once, whose first has the number `first`. `slips`, which had
+/// none, gets all of theirs.
 pub fn are_all_beside<
     J: Naming + Send + Sync,
     D: Disk + Drop,
@@ -103,6 +107,7 @@ pub fn are_all_beside<
     seats: Vec<Seat<J>>,
     turns: u32,
     first: u64,
+    slips: &mut Slips<J>,
     flusher: &mut Flusher<J, D>,
     gate: &G,
 ) -> bool
@@ -112,11 +117,11 @@ pub fn are_all_beside<
     let Some((one, others)) = parted(net, seats) else {
         return false;
     };
-    let worked = work_beside(rt, alloc, net, turns, one, others, flusher, gate);
+    let worked = work_beside(rt, alloc, net, turns, one, others, slips, flusher, gate);
     let Some(all) = worked else {
         return false;
     };
     let mut held = net.shared().book().lock(rt);
-    let are_all = all.are_all(&mut held, first);
+    let are_all = all.are_all(&mut held, slips, first);
     are_all
 }

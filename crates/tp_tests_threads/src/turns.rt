@@ -1,4 +1,4 @@
-//! Turns of nodes and of the host, one at a time.
+//! Turns of nodes and of the host, one at a time, at a seat that is lent.
 
 use std::sync::Wait;
 use tp_shared::{Gate, Naming, NoGate, Seat, Shared, Sights};
@@ -11,37 +11,44 @@ pub(crate) fn turn_node<J: Naming, G: Gate, R: Wait>(
     rt: &R,
     shared: &Shared<J>,
     gate: &G,
+    seat: &mut Seat<J>,
     number: u8,
 ) -> Option<u16> {
     if number >= shared.nodes() {
         return None;
     }
-    let mut seat = Seat::new();
-    match shared.turn(rt, gate, &mut seat, &mut Sights::new(), number, QUANTUM) {
+    match shared.turn(rt, gate, seat, &mut Sights::new(), number, QUANTUM) {
         Ok(turn) => Some(turn.ran.count()),
         Err(_) => None,
     }
 }
 
 /// A turn of each node. Answers whether all were made.
-pub(crate) fn turn_nodes<J: Naming, R: Wait>(rt: &R, shared: &Shared<J>) -> bool {
+pub(crate) fn turn_nodes<J: Naming, R: Wait>(
+    rt: &R,
+    shared: &Shared<J>,
+    seat: &mut Seat<J>,
+) -> bool {
     let mut are_made = true;
     for number in 0..shared.nodes() {
-        are_made = turn_node(rt, shared, &NoGate, number).is_some() && are_made;
+        are_made = turn_node(rt, shared, &NoGate, seat, number).is_some() && are_made;
     }
     are_made
 }
 
 /// A turn of the host. Answers whether it was made.
-pub(crate) fn turn_host<J: Naming, R: Wait>(rt: &R, shared: &Shared<J>) -> bool {
-    let mut seat = Seat::new();
+pub(crate) fn turn_host<J: Naming, R: Wait>(
+    rt: &R,
+    shared: &Shared<J>,
+    seat: &mut Seat<J>,
+) -> bool {
     shared
-        .host_turn(rt, &NoGate, &mut seat, &mut Sights::new())
+        .host_turn(rt, &NoGate, seat, &mut Sights::new())
         .is_ok()
 }
 
 /// A turn of each node, and one of the host. Answers whether all were made.
-pub(crate) fn turn_all<J: Naming, R: Wait>(rt: &R, shared: &Shared<J>) -> bool {
-    let are_made = turn_nodes(rt, shared);
-    turn_host(rt, shared) && are_made
+pub(crate) fn turn_all<J: Naming, R: Wait>(rt: &R, shared: &Shared<J>, seat: &mut Seat<J>) -> bool {
+    let are_made = turn_nodes(rt, shared, seat);
+    turn_host(rt, shared, seat) && are_made
 }

@@ -185,12 +185,12 @@ fn checkpoint<J: Naming, R: Wait>(
     alloc: Global,
     shared: &Shared<J>,
     key: &mut Key<Told>,
+    seat: &mut Seat<J>,
 ) -> Result<Option<Checkpointed>, AllocError>
     requires name { key.old.name ≡ J.flusher }
     requires there { 1 < length J.start.nodes }
 {
-    let mut seat = Seat::new();
-    let (first, second) = record_both(rt, alloc, shared, key, &mut seat)?;
+    let (first, second) = record_both(rt, alloc, shared, key, seat)?;
     let Some(end) = end(rt, alloc, shared, key)? else {
         return Ok(None);
     };
@@ -205,8 +205,9 @@ fn checkpoint_of_parts<J: Naming, R: Wait>(
     requires there { 1 < length J.start.nodes }
     requires names { Names J.roll J.first J.start J.node J.mark J.flusher J.sights J.room parts }
 {
-    let (shared, mut key) = Shared::<J>::start(parts);
-    checkpoint(rt, alloc, &shared, &mut key)
+    let (mut shared, mut key) = Shared::<J>::start(parts);
+    let mut seat = shared.seat();
+    checkpoint(rt, alloc, &shared, &mut key, &mut seat)
 }
 
 /// A snapshot of two nodes under locks, to the trim.

@@ -19,10 +19,25 @@ pub struct Work<J: Naming> {
     pub is_refused: bool,
 }
 
-/// Makes `count` turns of the node `number`. It ends at the first that is refused.
+impl<J: Naming> Work<J> {
+    /// Nothing yet, at a seat.
+    fn at(seat: Seat<J>) -> Work<J>
+        ensures { result.seat ≡ seat }
+    {
+        Work {
+            seat,
+            taken: 0,
+            steps: 0,
+            is_refused: false,
+        }
+    }
+}
+
+/// Goes on with `count` turns of the node `number`, at the seat of `work`.
 pub fn make_turns<J: Naming, R: Wait>(
     rt: &R,
     shared: &Shared<J>,
+    work: Work<J>,
     number: u8,
     count: u32,
     quantum: u16,
@@ -30,12 +45,7 @@ pub fn make_turns<J: Naming, R: Wait>(
     requires quantum { quantum ≤ MAX_STEPS }
     requires there { number < length J.start.nodes }
 {
-    let mut work = Work {
-        seat: Seat::new(),
-        taken: 0,
-        steps: 0,
-        is_refused: false,
-    };
+    let mut work = work;
     for _ in 0..count {
         match shared.turn(
             rt,
@@ -82,15 +92,17 @@ pub fn work_of_both<J: Naming + Send + Sync, R: Threads + Wait + Sync>(
     ensures few { length result.1.seat ≤ length result.0.all }
     ensures each { length result.1.seat ≡ length result.0.all → (n : ℕ) → shown n result.1.seat ≡ item_of J.first result.0.all n }
 {
+    let mut shared = shared;
+    let (one, two) = (Work::at(shared.seat()), Work::at(shared.seat()));
     let lent = &shared;
     let (mut all, other) = join(
         rt,
-        move || make_turns(rt, lent, 0, count, quantum),
-        move || make_turns(rt, lent, 1, count, quantum),
+        move || make_turns(rt, lent, one, 0, count, quantum),
+        move || make_turns(rt, lent, two, 1, count, quantum),
     );
     add_work(&mut all, other);
     for number in [0, 1, 0] {
-        add_work(&mut all, make_turns(rt, lent, number, 4, quantum));
+        all = make_turns(rt, lent, all, number, 4, quantum);
     }
     let mut locked = shared.into_locked();
     locked.audit(&mut all.seat);

@@ -8,8 +8,9 @@ use Rattle.tp_model.specs.NodeState.{NodeState}
 use Rattle.tp_model.specs.Network.{Network}
 use Rattle.tp_book.specs.Book.{BookValue, next_in_book}
 use Rattle.tp_book.specs.Host.{shown_from, ShowsUpto}
+use Rattle.tp_shared.specs.Below.{AreBelow}
 use Rattle.tp_shared.specs.Gains.{HoldNoted}
-use Rattle.tp_shared.specs.Receipted.{Receipted}
+use Rattle.tp_book.specs.Covered.{ReceiptValue}
 use Rattle.tp_shared.specs.Seals.{IsTied, Stage}
 use Rattle.tp_work.specs.Sessions.{DidJust, HasPort, ShowsJust}
 use Rattle.tp_work.specs.declared.host_fault.ShownFault.{ShownFault}
@@ -30,9 +31,14 @@ shows_just b port mark from (Ok bytes) is upto = (is, upto)
 shows_just b port mark from (Err fault) is upto = tt
 
 -- what was noted in the hold has the numbers that the book gave
-pub did_just : {F : Type 0} (r : Result Receipted F) (first : ℕ) (found left : Stage) (made : BookValue) (entries : List Entry) → IfOk r (λ receipt. left.book ≡ made)
-    → IfOk r (λ receipt. receipt.number ≡ next_in_book left.book) → IfOk r (λ receipt. HoldNoted (λ es. es ≡ entries) first found left [] receipt.seat) → OnErr r (left ≡ found)
-    → IsTied first found.all found.book → DidJust found.book left.book made entries r
-did_just (Ok receipt) first found left made entries book number noted err tied =
-    (book, number, noted.seat ∙ ap (λ n. enumerate_from n noted.entries) tied.next ∙ ap (enumerate_from (next_in_book found.book)) noted.are)
-did_just (Err fault) first found left made entries book number noted err tied = ap (λ (s : Stage). s.book) err
+pub did_just : {F : Type 0} (r : Result ReceiptValue F) (first : ℕ) (found left : Stage) (made : BookValue) (given : ReceiptValue) (entries : List Entry) (old new : List (ℕ × Entry)) → IfOk r (λ receipt. left.book ≡ made)
+    → IfOk r (λ receipt. receipt ≡ given) → IfOk r (λ receipt. receipt.number ≡ next_in_book left.book) → IfOk r (λ receipt. HoldNoted (λ es. es ≡ entries) first found left old new)
+    → OnErr r ((left ≡ found) × (new ≡ old)) → IsTied first found.all found.book → DidJust found.book left.book made given entries r old new
+did_just (Ok receipt) first found left made given entries old new book is number noted err tied = (
+  book,
+  is,
+  number,
+  noted.seat ∙ ap (λ n. old ++ enumerate_from n noted.entries) tied.next ∙ ap (λ es. old ++ enumerate_from (next_in_book found.book) es) noted.are,
+  subst (λ n. AreBelow n old) tied.next noted.below,
+)
+did_just (Err fault) first found left made given entries old new book is number noted err tied = (ap (λ (s : Stage). s.book) err.0, err.1)

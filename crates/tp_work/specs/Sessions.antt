@@ -9,7 +9,10 @@ use Rattle.tp_model.specs.Network.{Network}
 use Rattle.tp_book.specs.Acts.{confirm_entries}
 use Rattle.tp_book.specs.Book.{BookValue, next_in_book}
 use Rattle.tp_book.specs.Host.{after_confirm, after_inputs, accepted_of, port_in, shown_from, ShowsUpto}
-use Rattle.tp_shared.specs.Receipted.{Receipted}
+use Rattle.tp_book.specs.Covered.{ReceiptValue}
+use Rattle.tp_book.specs.Receipts.{confirm_receipt, input_receipt}
+use Rattle.tp_shared.specs.Below.{AreBelow}
+use Rattle.tp_shared.specs.Holds.{InHand}
 use Rattle.tp_work.specs.Answers.{RefusesFor}
 use Rattle.tp_work.specs.Offers.{offer_fault}
 use Rattle.tp_work.specs.Outputs.{confirm_fault, shown_fault}
@@ -44,30 +47,32 @@ pub record ShownIn (start : Network NodeState) (port mark from : ℕ) (answer : 
 
 -- ## What is journalled
 
--- Of the book that was found the call made this one, and the receipt has the slips of just these entries, under the numbers that the
--- book gave them, and the next number. Where it is refused the book is left as it was found.
-abbrev pub DidJust : {F : Type 0} → BookValue → BookValue → BookValue → List Entry → Result Receipted F → Type 0
-DidJust found left made entries (Ok receipt) = (left ≡ made) × (receipt.number ≡ next_in_book left) × (receipt.seat ≡ enumerate_from (next_in_book found) entries)
-DidJust found left made entries (Err fault) = left ≡ found
+-- Of the book that was found the call made this one and this receipt, whose number is the next one. The seat got the slips of just these
+-- entries, under the numbers that the book gave them, which are above all that it had. Where it is refused the book is left as it was
+-- found, and the seat as it was.
+abbrev pub DidJust : {F : Type 0} → BookValue → BookValue → BookValue → ReceiptValue → List Entry → Result ReceiptValue F → List (ℕ × Entry) → List (ℕ × Entry) → Type 0
+DidJust found left made given entries (Ok receipt) old new =
+    (left ≡ made) × (receipt ≡ given) × (receipt.number ≡ next_in_book left) × (new ≡ old ++ enumerate_from (next_in_book found) entries) × AreBelow (next_in_book found) old
+DidJust found left made given entries (Err fault) old new = (left ≡ found) × (new ≡ old)
 
 -- The book was seen as it was found and as it was left, behind all that was seen before. The bytes were handed to the port, or refused
 -- for the first reason that holds in the book that was found; memory is wanting only where none holds and there are bytes.
-pub record OfferedIn (start : Network NodeState) (port at : ℕ) (bytes : List ℕ) (answer : Result Receipted OfferFault) (old new : List BookValue) : Type 0 where
+pub record OfferedIn (start : Network NodeState) (port at : ℕ) (bytes : List ℕ) (answer : Result ReceiptValue OfferFault) (old new : InHand) : Type 0 where
   pub found : BookValue
   pub left : BookValue
-  pub seen : new ≡ old ++ found ∷ left ∷ []
+  pub seen : new.seen ≡ old.seen ++ found ∷ left ∷ []
   pub has : HasPort start port found
   pub exact : RefusesFor NoMemoryToOffer (offer_fault found port at (length bytes)) answer
   pub nothing : length bytes ≡ 0 → at ≡ accepted_of (port_in found port) → IsOk answer
-  pub did : DidJust found left (after_inputs found port bytes) (map (HostIn port) bytes) answer
+  pub did : DidJust found left (after_inputs found port bytes) (input_receipt found port bytes) (map (HostIn port) bytes) answer old.slips new.slips
 
 -- The book was found and left so as outputs of the port were confirmed up to `upto`. That is refused where the mark doesn't show it. Where
 -- it was confirmed before, it isn't refused, and nothing is done.
-pub record ConfirmedIn (start : Network NodeState) (port mark upto : ℕ) (answer : Result Receipted ConfirmFault) (old new : List BookValue) : Type 0 where
+pub record ConfirmedIn (start : Network NodeState) (port mark upto : ℕ) (answer : Result ReceiptValue ConfirmFault) (old new : InHand) : Type 0 where
   pub found : BookValue
   pub left : BookValue
-  pub seen : new ≡ old ++ found ∷ left ∷ []
+  pub seen : new.seen ≡ old.seen ++ found ∷ left ∷ []
   pub has : HasPort start port found
   pub exact : RefusesFor NoMemoryToConfirm (confirm_fault found port mark upto) answer
   pub nothing : upto ≤ (port_in found port).out_base → IsOk answer
-  pub did : DidJust found left (after_confirm found port upto) (confirm_entries found port upto) answer
+  pub did : DidJust found left (after_confirm found port upto) (confirm_receipt found port upto) (confirm_entries found port upto) answer old.slips new.slips

@@ -1,39 +1,43 @@
 //! Outputs that a host confirms.
 
-ghost use Rattle.std.specs.Prelude.{◌≡◌, ◌<◌, ◌≤◌, [], length, IsOk, IfOk, OnErr};
+ghost use Rattle.std.specs.Prelude.{◌≡◌, ◌<◌, ◌≤◌, length, IsOk, IfOk, OnErr};
 ghost use Rattle.tp_book.specs.Book.{next_in_book};
 ghost use Rattle.tp_book.specs.Host.{after_confirm, port_in};
 ghost use Rattle.tp_book.specs.Acts.{confirm_entries};
+ghost use Rattle.tp_book.specs.Receipts.{confirm_receipt};
 ghost use Rattle.tp_shared.specs.Gains.{HoldNoted};
 ghost use Rattle.tp_work.specs.Answers.{RefusesFor};
 ghost use Rattle.tp_work.specs.Outputs.{confirm_fault};
 ghost use Rattle.tp_work.specs.Receipts.{IsFor};
 
 use crate::host_fault::ConfirmFault;
-use tp_shared::{Locked, Naming, Receipt};
+use tp_book::Receipt;
+use tp_shared::{Locked, Naming, Seat};
 
 /// Journals, under the book's lock, that the host has a port's outputs up to the position `upto`, which go: a mark has to show them.
-/// Up to a position that was confirmed before nothing is done.
+/// Up to a position that was confirmed before nothing is done. `seat` gets the entry's slip.
 pub fn confirm<J: Naming>(
     held: &mut Locked<J>,
+    seat: &mut Seat<J>,
     port: u8,
     mark: u64,
     upto: u64,
-) -> Result<Receipt<J>, ConfirmFault>
+) -> Result<Receipt, ConfirmFault>
     requires there { port < length held.old.book.state.ports }
     ensures answer { RefusesFor ConfirmFault.Memory (confirm_fault held.old.book port mark upto) result }
     ensures nothing { upto ≤ (port_in held.old.book port).out_base → IsOk result }
     ensures book { IfOk result (λ receipt. held.new.book ≡ after_confirm held.old.book port upto) }
     ensures number { IfOk result (λ receipt. receipt.number ≡ next_in_book held.new.book) }
-    ensures noted { IfOk result (λ receipt. HoldNoted (λ entries. entries ≡ confirm_entries held.old.book port upto) J.first held.old held.new [] receipt.seat) }
-    ensures receipt { IfOk result (IsFor (confirm_entries held.old.book port upto)) }
-    ensures err { OnErr result (held.new ≡ held.old) }
+    ensures given { IfOk result (λ receipt. receipt ≡ confirm_receipt held.old.book port upto) }
+    ensures noted { IfOk result (λ receipt. HoldNoted (λ entries. entries ≡ confirm_entries held.old.book port upto) J.first held.old held.new seat.old seat.new) }
+    ensures receipt { IfOk result (IsFor (confirm_entries held.old.book port upto) seat.old seat.new) }
+    ensures err { OnErr result ((held.new ≡ held.old) × (seat.new ≡ seat.old)) }
 {
     held.known();
     if held.book().shown_upto(port, mark) < upto {
         return Err(ConfirmFault::NotShown);
     }
-    match held.confirm(port, upto) {
+    match held.confirm(seat, port, upto) {
         Ok(receipt) => Ok(receipt),
         Err(refusal) => Err(ConfirmFault::of(refusal)),
     }

@@ -2,6 +2,7 @@
 
 ghost use Rattle.std.specs.Prelude.{◌≡◌, ◌<◌, ◌⊎◌, ◌∷◌, [], length, map, Some, IfOk, IfErr};
 ghost use Rattle.tp_model.specs.declared.entry.Entry.TheVariants.{HostIn, Confirm};
+ghost use Rattle.tp_shared.specs.Holds.{in_hand};
 ghost use Rattle.tp_work.specs.Receipts.{IsFor};
 ghost use Rattle.tp_work.specs.Offers.{IsReason};
 ghost use Rattle.tp_work.specs.Sessions.{ConfirmedIn, OfferedIn, ShownIn};
@@ -11,7 +12,8 @@ use crate::host_fault::{ConfirmFault, OfferFault, ShownFault};
 use crate::offers::offer;
 use crate::outputs::shown;
 use std::alloc::Global;
-use tp_shared::{Locked, Naming, Receipt, Sights};
+use tp_book::Receipt;
+use tp_shared::{Locked, Naming, Seat, Sights};
 
 /// Hands bytes to a port.
 pub(crate) fn offer_seen<J: Naming>(
@@ -19,17 +21,18 @@ pub(crate) fn offer_seen<J: Naming>(
     port: u8,
     at: u64,
     bytes: &[u8],
+    seat: &mut Seat<J>,
     seen: &mut Sights<J>,
-) -> Result<Receipt<J>, OfferFault>
+) -> Result<Receipt, OfferFault>
     requires there { port < length J.start.ports }
-    ensures offered { OfferedIn J.start port at bytes.now result seen.old seen.new }
-    ensures receipt { IfOk result (λ receipt. IsFor (map (HostIn port) bytes.now) receipt) }
+    ensures offered { OfferedIn J.start port at bytes.now result (in_hand seen.old seat.old) (in_hand seen.new seat.new) }
+    ensures receipt { IfOk result (IsFor (map (HostIn port) bytes.now) seat.old seat.new) }
     ensures position { IfOk result (λ receipt. receipt.position ≡ Some at) }
     ensures reason { IfErr result (IsReason at (length bytes.now)) }
 {
     held.show(seen);
     held.known();
-    let done = offer(held, port, at, bytes);
+    let done = offer(held, seat, port, at, bytes);
     held.show(seen);
     done
 }
@@ -57,15 +60,16 @@ pub(crate) fn confirm_seen<J: Naming>(
     port: u8,
     mark: u64,
     upto: u64,
+    seat: &mut Seat<J>,
     seen: &mut Sights<J>,
-) -> Result<Receipt<J>, ConfirmFault>
+) -> Result<Receipt, ConfirmFault>
     requires there { port < length J.start.ports }
-    ensures confirmed { ConfirmedIn J.start port mark upto result seen.old seen.new }
-    ensures receipt { IfOk result (λ receipt. IsFor [] receipt ⊎ IsFor (Confirm port upto ∷ []) receipt) }
+    ensures confirmed { ConfirmedIn J.start port mark upto result (in_hand seen.old seat.old) (in_hand seen.new seat.new) }
+    ensures receipt { IfOk result (λ receipt. IsFor [] seat.old seat.new receipt ⊎ IsFor (Confirm port upto ∷ []) seat.old seat.new receipt) }
 {
     held.show(seen);
     held.known();
-    let done = confirm(held, port, mark, upto);
+    let done = confirm(held, seat, port, mark, upto);
     held.show(seen);
     done
 }

@@ -1,6 +1,6 @@
 //! A network in threads, and its turns.
 
-ghost use Rattle.std.specs.Prelude.{◌≡◌, ◌≤◌, ◌+◌, Some, length, IfOk, MatchResult};
+ghost use Rattle.std.specs.Prelude.{◌≡◌, ◌≤◌, ◌+◌, [], Some, length, IfOk, MatchResult};
 ghost use Rattle.tp_model.specs.declared.limits.TheConstants.{MAX_STEPS};
 ghost use Rattle.tp_shared.specs.Holds.{in_hand};
 ghost use Rattle.tp_work.specs.PutBack.{PutBack, PutBackBehind};
@@ -30,6 +30,14 @@ impl<J: Naming, G: Gate> Net<J, G> {
     /// What threads share.
     pub fn shared(&self) -> &Shared<J> {
         &self.shared
+    }
+
+    /// A seat without a slip, for what the host hands in and confirms. Threads that share the network can't ask for one.
+    pub fn seat(&mut self) -> tp_shared::Seat<J>
+        ensures same { (self.new.shared ≡ self.old.shared) × (self.new.queue ≡ self.old.queue) × (self.new.quantum ≡ self.old.quantum) × (self.new.gate ≡ self.old.gate) }
+        ensures empty { result ≡ [] }
+    {
+        self.shared.seat()
     }
 
     /// A turn of the process that waits longest: the one whose number the ready queue hands out, as `seat` keeps. It goes to the end of

@@ -1,8 +1,9 @@
 //! Bytes that a host offers to a port.
 
-ghost use Rattle.std.specs.Prelude.{◌≡◌, ◌<◌, [], length, map, Some, IsOk, IfOk, IfErr, OnErr};
+ghost use Rattle.std.specs.Prelude.{◌≡◌, ◌<◌, length, map, Some, IsOk, IfOk, IfErr, OnErr};
 ghost use Rattle.tp_book.specs.Book.{next_in_book};
 ghost use Rattle.tp_book.specs.Host.{accepted_of, after_inputs, input_refusal, port_in, room_of};
+ghost use Rattle.tp_book.specs.Receipts.{input_receipt};
 ghost use Rattle.tp_book.specs.Refusals.{IsAnswer};
 ghost use Rattle.tp_model.specs.declared.entry.Entry.TheVariants.{HostIn};
 ghost use Rattle.tp_shared.specs.Gains.{HoldNoted};
@@ -11,26 +12,29 @@ ghost use Rattle.tp_work.specs.Offers.{IsReason, offer_fault};
 ghost use Rattle.tp_work.specs.Receipts.{IsFor};
 
 use crate::host_fault::OfferFault;
-use tp_shared::{Locked, Naming, Receipt};
+use tp_book::Receipt;
+use tp_shared::{Locked, Naming, Seat};
 
 /// Hands bytes to a port, under the book's lock, where the first of them is the next one that the port accepts: all of them or,
-/// where the offer is refused, none. No bytes are always accepted there, and make no entry.
+/// where the offer is refused, none. No bytes are always accepted there, and make no entry. `seat` gets the slips of the entries.
 pub fn offer<J: Naming>(
     held: &mut Locked<J>,
+    seat: &mut Seat<J>,
     port: u8,
     at: u64,
     bytes: &[u8],
-) -> Result<Receipt<J>, OfferFault>
+) -> Result<Receipt, OfferFault>
     requires there { port < length held.old.book.state.ports }
     ensures answer { RefusesFor OfferFault.Memory (offer_fault held.old.book port at (length bytes.now)) result }
     ensures nothing { length bytes.now ≡ 0 → at ≡ accepted_of (port_in held.old.book port) → IsOk result }
     ensures book { IfOk result (λ receipt. held.new.book ≡ after_inputs held.old.book port bytes.now) }
     ensures number { IfOk result (λ receipt. receipt.number ≡ next_in_book held.new.book) }
+    ensures given { IfOk result (λ receipt. receipt ≡ input_receipt held.old.book port bytes.now) }
     ensures position { IfOk result (λ receipt. receipt.position ≡ Some at) }
-    ensures noted { IfOk result (λ receipt. HoldNoted (λ entries. entries ≡ map (HostIn port) bytes.now) J.first held.old held.new [] receipt.seat) }
-    ensures receipt { IfOk result (IsFor (map (HostIn port) bytes.now)) }
+    ensures noted { IfOk result (λ receipt. HoldNoted (λ entries. entries ≡ map (HostIn port) bytes.now) J.first held.old held.new seat.old seat.new) }
+    ensures receipt { IfOk result (IsFor (map (HostIn port) bytes.now) seat.old seat.new) }
     ensures reason { IfErr result (IsReason at (length bytes.now)) }
-    ensures err { OnErr result (held.new ≡ held.old) }
+    ensures err { OnErr result ((held.new ≡ held.old) × (seat.new ≡ seat.old)) }
 {
     held.known();
     let accepted = held.book().accepted(port);
@@ -41,7 +45,7 @@ pub fn offer<J: Naming>(
         return Err(OfferFault::Gap(accepted));
     }
     let room = held.book().room(port) as u64;
-    match held.host_in(port, bytes) {
+    match held.host_in(seat, port, bytes) {
         Ok(receipt) => Ok(receipt),
         Err(refusal) => Err(OfferFault::of(refusal, room)),
     }

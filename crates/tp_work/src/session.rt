@@ -3,6 +3,7 @@
 ghost use Rattle.std.specs.Prelude.{◌≡◌, ◌<◌, ◌≤◌, ◌⊎◌, ◌∷◌, [], ◌↔◌, IsTrue, length, map, Some, None, IsSome, IfSome, IfOk, IfErr, MatchResult};
 ghost use Rattle.tp_model.specs.declared.entry.Entry.TheVariants.{HostIn, Confirm};
 ghost use Rattle.tp_ready.specs.Seen.{RisesOn, number_of};
+ghost use Rattle.tp_shared.specs.Holds.{in_hand};
 ghost use Rattle.tp_work.specs.Receipts.{IsFor};
 ghost use Rattle.tp_work.specs.Offers.{IsReason};
 ghost use Rattle.tp_work.specs.Sessions.{ConfirmedIn, OfferedIn, ShownIn};
@@ -11,8 +12,9 @@ use crate::holds::{confirm_seen, offer_seen, shown_seen};
 use crate::host_fault::{ConfirmFault, OfferFault, ShownFault};
 use std::alloc::Global;
 use std::sync::Wait;
+use tp_book::Receipt;
 use tp_ready::Pass;
-use tp_shared::{Naming, Receipt, Shared, Sights};
+use tp_shared::{Naming, Seat, Shared, Sights};
 
 /// What the host does at one port of a network in threads.
 #[derive(Drop)]
@@ -36,25 +38,26 @@ impl<'a, J: Naming> Session<'a, J> {
     }
 
     /// Hands bytes to the port, where the first of them is the next one that it accepts: all of them or, where the offer is refused,
-    /// none. `seen` gets the book as it was found and as it was left.
+    /// none. `seat` gets the slips of their entries, and `seen` the book as it was found and as it was left.
     pub fn offer<R: Wait>(
         &self,
         rt: &R,
         at: u64,
         bytes: &[u8],
+        seat: &mut Seat<J>,
         seen: &mut Sights<J>,
-    ) -> Result<Receipt<J>, OfferFault>
-        ensures offered { OfferedIn J.start self.now.port at bytes.now result seen.old seen.new }
-        ensures receipt { IfOk result (λ receipt. IsFor (map (HostIn self.now.port) bytes.now) receipt) }
+    ) -> Result<Receipt, OfferFault>
+        ensures offered { OfferedIn J.start self.now.port at bytes.now result (in_hand seen.old seat.old) (in_hand seen.new seat.new) }
+        ensures receipt { IfOk result (IsFor (map (HostIn self.now.port) bytes.now) seat.old seat.new) }
         ensures position { IfOk result (λ receipt. receipt.position ≡ Some at) }
         ensures reason { IfErr result (IsReason at (length bytes.now)) }
     {
         let mut held = self.shared.book().lock(rt);
-        offer_seen(&mut held, self.port, at, bytes, seen)
+        offer_seen(&mut held, self.port, at, bytes, seat, seen)
     }
 
     /// Whether all that a receipt is for is on the device. What is true stays true for `pass`.
-    pub fn is_stored(&self, receipt: &Receipt<J>, pass: &mut Pass) -> bool
+    pub fn is_stored(&self, receipt: &Receipt, pass: &mut Pass) -> bool
         requires { pass.old.mark ≡ J.mark }
         ensures stored { IsTrue result ↔ (receipt.now.number ≤ pass.new.at) }
         ensures pass { pass.new ≡ record pass.old { at = pass.new.at; rises = pass.new.rises } }
@@ -88,17 +91,18 @@ impl<'a, J: Naming> Session<'a, J> {
     }
 
     /// Journals that the host has the port's outputs up to the position `upto`, which go. They have to be shown, by the mark that
-    /// `pass` loads. `seen` gets the book as it was found and as it was left.
+    /// `pass` loads. `seat` gets the entry's slip, and `seen` the book as it was found and as it was left.
     pub fn confirm<R: Wait>(
         &self,
         rt: &R,
         upto: u64,
         pass: &mut Pass,
+        seat: &mut Seat<J>,
         seen: &mut Sights<J>,
-    ) -> Result<Receipt<J>, ConfirmFault>
+    ) -> Result<Receipt, ConfirmFault>
         requires { pass.old.mark ≡ J.mark }
-        ensures confirmed { ConfirmedIn J.start self.now.port pass.new.at upto result seen.old seen.new }
-        ensures receipt { IfOk result (λ receipt. IsFor [] receipt ⊎ IsFor (Confirm self.now.port upto ∷ []) receipt) }
+        ensures confirmed { ConfirmedIn J.start self.now.port pass.new.at upto result (in_hand seen.old seat.old) (in_hand seen.new seat.new) }
+        ensures receipt { IfOk result (λ receipt. IsFor [] seat.old seat.new receipt ⊎ IsFor (Confirm self.now.port upto ∷ []) seat.old seat.new receipt) }
         ensures pass { pass.new ≡ record pass.old { at = pass.new.at; rises = pass.new.rises } }
         ensures rises { pass.old.at ≤ pass.new.at }
         ensures told { pass.old.least ≤ pass.new.at }
@@ -106,6 +110,6 @@ impl<'a, J: Naming> Session<'a, J> {
     {
         let mark = self.shared.mark().load(pass);
         let mut held = self.shared.book().lock(rt);
-        confirm_seen(&mut held, self.port, mark, upto, seen)
+        confirm_seen(&mut held, self.port, mark, upto, seat, seen)
     }
 }

@@ -22,8 +22,12 @@ pub const MAX_SEATS: u8 = 32;
 /// The most workers of a run, each at a seat of its own.
 pub const MAX_WORKERS: u8 = 16;
 
-// A seat without a slip for each hand.
-fn seats_of<J: Naming>(alloc: Global, hands: Vec<Hand>) -> Result<Vec<Seat<J>>, AllocError>
+// A seat without a slip for each hand, of what isn't shared yet.
+fn seats_of<J: Naming>(
+    alloc: Global,
+    shared: &mut Shared<J>,
+    hands: Vec<Hand>,
+) -> Result<Vec<Seat<J>>, AllocError>
     ensures count { IfOk result (λ seats. vec_len seats ≡ vec_len hands) }
     ensures hands { IfOk result (λ seats. map (λ seat. seat.hand) seats.items ≡ hands.items) }
     ensures slips { IfOk result (λ seats. All (λ seat. seat.slips ≡ []) seats.items) }
@@ -33,7 +37,7 @@ fn seats_of<J: Naming>(alloc: Global, hands: Vec<Hand>) -> Result<Vec<Seat<J>>, 
         seats.push(Seat {
             hand,
             answers: Answers::new(),
-            slips: tp_shared::Seat::new(),
+            slips: shared.seat(),
             seen: Sights::new(),
         })?;
     }
@@ -61,9 +65,9 @@ impl<J: Naming, G: Gate + Drop> Net<J, G> {
         ensures new { IfOk result (λ started. All (λ seat. IsNew seat.hand.past) started.1.items) }
         ensures key { IfOk result (λ started. (started.2.name ≡ J.flusher) × (started.2.value ≡ told_of J.before J.first (record { book = parts.book; all = []; numbered_from = J.first; frozen = frozen_in parts.seals }))) }
     {
-        let (shared, key) = Shared::start(parts);
+        let (mut shared, key) = Shared::start(parts);
         let (queue, hands) = ReadyQueue::start(rt, alloc, shared.nodes(), seats)?;
-        let seats = seats_of(alloc, hands)?;
+        let seats = seats_of(alloc, &mut shared, hands)?;
         let net = Net {
             shared,
             queue,

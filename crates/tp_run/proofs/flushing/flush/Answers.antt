@@ -1,4 +1,4 @@
-use Rattle.std.proofs.Common.{◌≡◌, sym, subst}
+use Rattle.std.proofs.Common.{sym, subst}
 use Rattle.tp_run.specs.Failures.{IsFlushFault}
 use Rattle.tp_run.proofs.Failures.{flush_refused, turn_failures}
 use Rattle.tp_run.proofs.flushing.flush.Goals as goal

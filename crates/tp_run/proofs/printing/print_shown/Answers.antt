@@ -1,9 +1,9 @@
 use Rattle.std.proofs.Common.{◌≡◌, Err, length, rules, sym, ap, subst, ◌∙◌}
 use Rattle.tp_book.specs.Calls.{marks_of}
+use Rattle.tp_book.specs.Covered.{ReceiptValue}
 use Rattle.tp_book.specs.Host.{port_in, shown_from}
 use Rattle.tp_run.specs.Prints.{PrintsAt}
 use Rattle.tp_run.proofs.Shown.{fault_of, fault_says, printed_is, prints_at, prints_on}
-use Rattle.tp_shared.specs.Receipted.{Receipted}
 use Rattle.tp_run.proofs.printing.print_shown.Goals as goal
 
 -- the outputs that were to be printed
@@ -19,7 +19,7 @@ returns-in_err-put-clause-printed g c =
     let was = g.O.Outlet.value c.args.out.now in
     let now = g.O.Outlet.value c.put.new.out in
     subst (λ r. PrintsAt c.args.flusher.now.state r was now (shown_from b port c.args.mark (port_in b port).out_base)) (sym is)
-    (prints_at c.args.flusher.now.state was now _ (fault_of (Unit {0}) fault) (fault_of Receipted fault) (fault_says (Unit {0}) Receipted fault)
+    (prints_at c.args.flusher.now.state was now _ (fault_of (Unit {0}) fault) (fault_of ReceiptValue fault) (fault_says (Unit {0}) ReceiptValue fault)
     (subst (PrintsAt c.args.flusher.now.state (fault_of (Unit {0}) fault) was now) shown c.in_err-put.ensures.printed))
 
 pub returns-clause-printed : goal.returns-clause-printed
@@ -45,5 +45,5 @@ returns-clause-receipt g c =
     c.shown.ensures.value ∙ ap (λ d. shown_from d port mark c.out_base-from.result) c.book-2.ensures
     ∙ ap (shown_from b port mark) (c.out_base-from.ensures ∙ ap (λ d. (port_in d port).out_base) c.book.ensures) in
     let E = c.confirm_shown.ensures in
-    printed_is b c.confirm_shown.new.held.book port mark (g.O.Outlet.value c.args.out.now).taken (g.O.Outlet.value c.put.new.out).taken c.shown.result.now c.confirm_shown.result each shown
+    printed_is b c.confirm_shown.new.held.book port mark (g.O.Outlet.value c.args.out.now).taken (g.O.Outlet.value c.put.new.out).taken c.args.seat.now c.confirm_shown.new.seat c.shown.result.now c.confirm_shown.result each shown
     c.in_ok-put.ensures.written E.book E.number E.receipt

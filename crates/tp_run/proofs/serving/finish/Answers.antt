@@ -3,7 +3,7 @@ use Rattle.std.specs.Prelude.{flat_map, IfErr}
 use Rattle.std.proofs.lemmas.Result.{IfOk-weaker}
 use Rattle.tp_flush.specs.Known.{Began}
 use Rattle.tp_flush.specs.Flushing.{Flushing, Walked, position}
-use Rattle.tp_shared.specs.Receipted.{Receipted}
+use Rattle.tp_book.specs.Covered.{ReceiptValue}
 use Rattle.tp_flush.proofs.Turns.{walked_then}
 use Rattle.tp_run.specs.declared.fault.RunFault.TheVariants.{FlushFailed, LastFlushFailed}
 use Rattle.tp_run.specs.Failures.{CountsFailures, has_failed}
@@ -17,7 +17,7 @@ use Rattle.tp_work.specs.declared.seat.Seat.{Seat}
 use Rattle.tp_run.proofs.Gathered.{accounted_for, all_settled}
 use Rattle.tp_run.proofs.Failures.{failures_then}
 use Rattle.tp_run.proofs.Faults.{flush_behind, flush_ends, flush_prints, flush_silent, last_said, late_behind, late_behind_of, late_said, late_unfailed, late_unfailed_of}
-use Rattle.tp_run.proofs.Slips.{both_settled}
+use Rattle.tp_run.proofs.Slips.{host_settled}
 use Rattle.tp_run.proofs.serving.finish.Goals as goal
 
 -- ## Each moment of the device
@@ -57,7 +57,7 @@ returns-in_err-confirmed-clause-shown g c k began =
     subst (MayPrint start c.args.flusher.now c.print.new.flusher c.args.outset.port c.args.outset.confirmed was now) (sym is)
     (subst (λ (f : Flushing). MayPrint start c.args.flusher.now f c.args.outset.port c.args.outset.confirmed was now (fault_of ℕ fault)) (sym c.print.ensures.same)
     (may_print_last start c.args.flusher.now c.flush_upto.new.flusher (c.known.ensures.reached k began) (c.flush_upto.ensures.walks k began) c.args.outset.port c.args.outset.confirmed was now
-    (fault_of Receipted fault) (fault_of ℕ fault) (fault_says Receipted ℕ fault) (c.in_err-confirmed.ensures.shown k there)))
+    (fault_of ReceiptValue fault) (fault_of ℕ fault) (fault_says ReceiptValue ℕ fault) (c.in_err-confirmed.ensures.shown k there)))
 
 pub returns-in_err-_mark-clause-shown : goal.returns-in_err-_mark-clause-shown
 returns-in_err-_mark-clause-shown g c k began =
@@ -100,27 +100,21 @@ returns-clause-settled g c k began =
     let walked = subst (λ (f : Flushing). Walked f two) c.print.ensures.same (c.flush_upto-2.ensures.walks k later) in
     let reached = walked_reached start c.args.flusher.now one (c.known.ensures.reached k began) (c.flush_upto.ensures.walks k began) in
     let shows = (shows_on start one two reached walked c.args.outset.port c.args.outset.confirmed O.confirmed.first O.printed (O.are k there)).1 in
-    let next = c.later-next.result in
-    let number = c.number-number.ensures in
-    let other = c.number.ensures in
-    let up = c.later-next.ensures.first in
-    let high = c.later-next.ensures.second in
-    let first : c.args.offered.number ≤ next = omega (arith, number, up) in
-    let second : c.in_ok-confirmed.confirmed.number ≤ next = omega (arith, other, high) in
+    let host = c.print.new.seat in
+    let next = c.number-next.result in
     let S = c.settle.ensures in
     let last = subst (Began start g.J.Naming.before) (sym c.flush_upto-2.ensures.process.opened) later in
-    let stand = S.stand k last in
-    subst (λ (f : Flushing). IfOk c.settle.result (Settled start g.J.Naming.start c.args.job c.args.outset c.args.offered.seat was now f.world.journal)) (sym S.same)
+    subst (λ (f : Flushing). IfOk c.settle.result (Settled start g.J.Naming.start c.args.job c.args.outset c.args.host was now f.world.journal)) (sym S.same)
     (all_settled c.settle.result next _ _ S.next (S.all k last)
-    (λ all. both_settled start g.J.Naming.start c.args.job c.args.outset _ was now two.world.journal next c.args.offered c.in_ok-confirmed.confirmed O shows first second S.below.0 S.below.1 stand.0 stand.1
-    (accounted_for g.J.Naming.start c.args.job two.world.journal c.args.outset.next next (λ (seat : Seat g.row.J.Denot). seat.slips) c.args.seats.items c.args.offered.seat c.in_ok-confirmed.confirmed.seat
-    (sym c.args.seats.ok.0 ∙ c.requires.count) c.requires.seats (subst (λ n. AreAll n next two.world.journal (flat_map (λ (seat : Seat g.row.J.Denot). seat.slips) c.args.seats.items ++ c.args.offered.seat ++ c.in_ok-confirmed.confirmed.seat)) (sym c.requires.first) all))))
+    (λ all. host_settled start g.J.Naming.start c.args.job c.args.outset _ was now two.world.journal next c.args.host host c.in_ok-confirmed.confirmed O shows c.number-next.ensures (S.stand k last)
+    (accounted_for g.J.Naming.start c.args.job two.world.journal c.args.outset.next next (λ (seat : Seat g.row.J.Denot). seat.slips) c.args.seats.items host
+    (sym c.args.seats.ok.0 ∙ c.requires.count) c.requires.seats (subst (λ n. AreAll n next two.world.journal (host ++ flat_map (λ (seat : Seat g.row.J.Denot). seat.slips) c.args.seats.items)) (sym c.requires.first) all))))
 
 -- ## How it ended
 
 pub returns-clause-stored : goal.returns-clause-stored
 returns-clause-stored g c =
-    let next = c.later-next.result in
+    let next = c.number-next.result in
     let two = c.flush_upto-2.new.flusher in
     let stored = c.in_ok-_mark.ensures.stored in
     let here = stored.0 in

@@ -1,10 +1,10 @@
-use Rattle.std.proofs.Common.{◌<◌, inl, refl, length, sym, subst, IfOk}
+use Rattle.std.proofs.Common.{◌<◌, ◌++◌, inl, refl, length, sym, ap, subst, ◌∙◌, IfOk}
 use Rattle.std.specs.Prelude.{All}
 use Rattle.tp_work.specs.declared.seat.Seat.{Seat}
 use Rattle.tp_flush.specs.Known.{Began}
 use Rattle.tp_flush.proofs.Turns.{walked_nowhere, walked_then}
 use Rattle.tp_run.specs.Failures.{is_failure, has_failed}
-use Rattle.tp_run.specs.Input.{rest_at}
+use Rattle.tp_run.specs.Input.{input_slips, rest_at}
 use Rattle.tp_run.specs.Ran.{Settled}
 use Rattle.tp_run.specs.Worked.{Worked, idle}
 use Rattle.tp_run.proofs.Failures.{counted, failures_then, uncounted}
@@ -22,9 +22,10 @@ returns-clause-walks g c k began =
 
 pub returns-clause-settled : goal.returns-clause-settled
 returns-clause-settled g c k began =
+    let handed = c.in-Ok.ensures.receipt.slips ∙ ap (λ slips. slips ++ input_slips c.args.outset c.args.input.now) c.requires.host in
     let was = (g.O.Outlet.value c.args.out.now).taken in
     let now = (g.O.Outlet.value c.finish-done.new.out).taken in
-    subst (λ slips. IfOk c.finish-done.result (Settled g.J.Naming.formatted g.J.Naming.start c.args.job c.args.outset slips was now c.finish-done.new.flusher.world.journal)) c.in-Ok.ensures.receipt.slips
+    subst (λ slips. IfOk c.finish-done.result (Settled g.J.Naming.formatted g.J.Naming.start c.args.job c.args.outset slips was now c.finish-done.new.flusher.world.journal)) handed
     (c.finish-done.ensures.settled k (subst (Began g.J.Naming.formatted g.J.Naming.before) (sym c.work-flusher.ensures.process.opened) began))
 
 pub returns-clause-shown : goal.returns-clause-shown

@@ -1,6 +1,7 @@
 use Rattle.std.proofs.Common.{[], ◌∷◌, ◌++◌, sym, ap, ◌∙◌}
 use Rattle.tp_book.specs.Acts.{confirm_entries}
 use Rattle.tp_book.specs.Host.{after_confirm}
+use Rattle.tp_book.specs.Receipts.{confirm_receipt}
 use Rattle.tp_shared.specs.Seals.{Stage}
 use Rattle.tp_work.proofs.Sessions.{did_just, has_port, seen_twice}
 use Rattle.tp_work.proofs.holds.confirm_seen.Goals as goal
@@ -21,6 +22,6 @@ returns-clause-confirmed g c =
       exact = E.answer;
       nothing = E.nothing;
       did =
-          did_just c.confirm-done.result g.J.Naming.first found left (after_confirm found.book c.args.port c.args.upto) (confirm_entries found.book c.args.port c.args.upto)
-          E.book E.number E.noted E.err K.tied;
+          did_just c.confirm-done.result g.J.Naming.first found left (after_confirm found.book c.args.port c.args.upto) (confirm_receipt found.book c.args.port c.args.upto) (confirm_entries found.book c.args.port c.args.upto)
+          c.args.seat.now c.confirm-done.new.seat E.book E.given E.number E.noted E.err K.tied;
     }

@@ -1,6 +1,7 @@
 use Rattle.std.proofs.Common.{[], ◌∷◌, ◌++◌, map, sym, ap, ◌∙◌}
 use Rattle.tp_model.specs.declared.entry.Entry.TheVariants.{HostIn}
 use Rattle.tp_book.specs.Host.{after_inputs}
+use Rattle.tp_book.specs.Receipts.{input_receipt}
 use Rattle.tp_shared.specs.Seals.{Stage}
 use Rattle.tp_work.proofs.Sessions.{did_just, has_port, seen_twice}
 use Rattle.tp_work.proofs.holds.offer_seen.Goals as goal
@@ -21,6 +22,6 @@ returns-clause-offered g c =
       exact = E.answer;
       nothing = E.nothing;
       did =
-          did_just c.offer-done.result g.J.Naming.first found left (after_inputs found.book c.args.port c.args.bytes.now) (map (HostIn c.args.port) c.args.bytes.now)
-          E.book E.number E.noted E.err K.tied;
+          did_just c.offer-done.result g.J.Naming.first found left (after_inputs found.book c.args.port c.args.bytes.now) (input_receipt found.book c.args.port c.args.bytes.now) (map (HostIn c.args.port) c.args.bytes.now)
+          c.args.seat.now c.offer-done.new.seat E.book E.given E.number E.noted E.err K.tied;
     }

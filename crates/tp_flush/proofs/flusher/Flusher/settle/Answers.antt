@@ -1,4 +1,4 @@
-use Rattle.std.proofs.Common.{sym, subst, arith}
+use Rattle.std.proofs.Common.{sym, subst}
 use Rattle.tp_model.specs.Disk.{MayBe}
 use Rattle.tp_flush.specs.Flushing.{Flushing}
 use Rattle.tp_flush.specs.Known.{Began}
@@ -7,12 +7,12 @@ use Rattle.tp_flush.proofs.Settling.{below_more, now_recovers, recovers_with}
 use Rattle.tp_flush.proofs.flusher.Flusher.settle.Goals as goal
 
 pub returns-clause-recovers : goal.returns-clause-recovers
-returns-clause-recovers g c k began seen left may =
+returns-clause-recovers g c k began below left may =
     let w = c.args.self.now.world in
     let same = c.settle_pass.ensures.same.0 in
     let reached = c.known.ensures.reached k began in
-    recovers_with g.J.Naming.formatted w.journal w.mark c.args.receipt.now.seat left
+    recovers_with g.J.Naming.formatted w.journal w.mark c.args.seat.now left
     (now_recovers g.J.Naming.formatted w reached left (subst (λ m. MayBe m left) (sym (c.known.ensures.disk k)) may))
-    (below_more c.args.receipt.now.number w.mark c.args.receipt.now.seat (omega (arith, seen, c.settle_pass.ensures.mark)) c.settle_under.ensures.below)
-    (subst (λ (v : Flushing). SlipsStand v.world.journal c.args.receipt.now.seat) same
+    (below_more c.args.pass.now.at w.mark c.args.seat.now c.settle_pass.ensures.mark below)
+    (subst (λ (v : Flushing). SlipsStand v.world.journal c.args.seat.now) same
     (c.settle_under.ensures.stand k (subst (λ (v : Flushing). Began g.J.Naming.formatted g.J.Naming.before v.opened) (sym same) began)))

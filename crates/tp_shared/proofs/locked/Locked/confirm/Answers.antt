@@ -1,5 +1,13 @@
+use Rattle.std.proofs.Common.{◌≡◌, List, length, subst}
+use Rattle.tp_model.specs.declared.entry.Entry.{Entry}
+use Rattle.tp_book.specs.Acts.{confirm_entries}
+use Rattle.tp_shared.specs.Frozen.{frozen_in}
+use Rattle.tp_shared.specs.Gains.{HoldNoted}
+use Rattle.tp_shared.specs.Seals.{Stage}
 use Rattle.tp_shared.proofs.Hosting.{hosted_confirm}
 use Rattle.tp_shared.proofs.Keeping.{hosted_written}
+use Rattle.tp_shared.proofs.Sealing.{noted_by}
+use Rattle.tp_shared.proofs.Writing.{as_many}
 use Rattle.tp_shared.proofs.locked.Locked.confirm.Goals as goal
 
 pub invariant_of-self : goal.invariant_of-self
@@ -12,3 +20,18 @@ invariant_of-self-2 g c =
     let H = hosted_confirm b new c.args.port c.args.upto c.in_ok-given.ensures.ok c.in_ok-given.ensures.agreed c.in_ok-given.ensures.acts in
     hosted_written c.self.invariant c.entries-before.result.now c.entries-before.ensures.entries c.entries-before.ensures.numbers H
     c.write_new.ensures.names.0 c.write_new.ensures.first c.write_new.ensures.roll
+
+pub returns-clause-noted : goal.returns-clause-noted
+returns-clause-noted g c =
+    let b = c.self.inside.book in
+    let new = c.confirm.new.self in
+    let inv = c.self.invariant in
+    let Are = (λ (entries : List Entry). entries ≡ confirm_entries b c.args.port c.args.upto) in
+    let H = hosted_confirm b new c.args.port c.args.upto c.in_ok-given.ensures.ok c.in_ok-given.ensures.agreed c.in_ok-given.ensures.acts in
+    let many = as_many c.entries-before.result.now b.state.entries c.entries-before.ensures.entries in
+    let old_stage : Stage = record { book = b; all = c.self.inside.roll.items; numbered_from = c.self.inside.told.value.numbered_from; frozen = frozen_in c.self.inside.seals.items } in
+    let new_stage : Stage = record { book = new; all = c.write_new.new.roll.items; numbered_from = c.self.inside.told.value.numbered_from; frozen = frozen_in c.self.inside.seals.items } in
+    subst (λ stage. HoldNoted (λ (entries : List Entry). entries ≡ confirm_entries stage.book c.args.port c.args.upto) g.J.Naming.first stage new_stage c.args.seat.now c.write_new.new.slips.items) c.self.view_is
+    (subst (λ seat. HoldNoted Are g.J.Naming.first old_stage new_stage seat c.write_new.new.slips.items) c.seat.view_is
+    (noted_by Are b new old_stage new_stage g.J.Naming.first c.self.inside.roll.first (length c.entries-before.result.now) c.seat.inside.slips.items c.write_new.new.slips.items
+    H.grown many inv.first_is c.write_new.ensures.roll c.write_new.ensures.slips c.write_new.ensures.sound))

@@ -1,0 +1,8 @@
+-- Slips with numbers below a bound.
+use Rattle.std.specs.Prelude.{◌<◌, ℕ, List}
+use Rattle.std.specs.List.{AllByRecursion}
+use Rattle.tp_model.specs.declared.entry.Entry.{Entry}
+
+-- the numbers of slips are below this one
+abbrev pub AreBelow : ℕ → List (ℕ × Entry) → Type 0
+AreBelow number slips = AllByRecursion (λ slip. slip.0 < number) slips
