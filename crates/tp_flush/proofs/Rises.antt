@@ -32,9 +32,9 @@ all_then : {P Q : Rise → Type 0} → ((rise : Rise) → P rise → Q rise) →
 all_then then [] all = tt
 all_then then (rise ∷ rises) all = (then rise all.0, all_then then rises all.1)
 
-all_front : (P : Rise → Type 0) (rises more : List Rise) → AllByRecursion P (rises ++ more) → AllByRecursion P rises
+pub all_front : {A : Type 0} (P : A → Type 0) (xs more : List A) → AllByRecursion P (xs ++ more) → AllByRecursion P xs
 all_front P [] more all = tt
-all_front P (rise ∷ rises) more all = (all.0, all_front P rises more all.1)
+all_front P (x ∷ xs) more all = (all.0, all_front P xs more all.1)
 
 all_push : (P : Rise → Type 0) (rises : List Rise) (rise : Rise) → AllByRecursion P rises → P rise → AllByRecursion P (rises ++ rise ∷ [])
 all_push P [] rise all last = (last, tt)

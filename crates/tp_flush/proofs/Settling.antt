@@ -25,6 +25,7 @@ use Rattle.tp_shared.specs.Told.{IsFirst, ToldSince, told_of}
 use Rattle.tp_shared.proofs.Telling.{told_journal}
 use Rattle.tp_flush.specs.Known.{Reached}
 use Rattle.tp_flush.specs.Settled.{AreIn, RecoversWith, SlipsStand}
+use Rattle.tp_flush.proofs.Rises.{all_front}
 
 -- ## The journal has as many entries as their numbers say
 
@@ -90,6 +91,17 @@ slips_stand before first stage key w slips F S T long sound =
     let begun = F.base in
     let many : first ≡ length front = omega (arith, lengths, left, right, entries, kept, net, next, base, begun, long) in
     stand_in w.journal front stage.all more slips both (subst (λ n. Sound (item_of n stage.all) slips) many sound)
+
+-- ## Some of them
+
+stand_behind : (journal : List Entry) (before slips : List (ℕ × Entry)) → SlipsStand journal (before ++ slips) → SlipsStand journal slips
+stand_behind journal [] slips stand = stand
+stand_behind journal (slip ∷ before) slips stand = stand_behind journal before slips stand.1
+
+-- slips that stand beside each other among others
+pub stand_among : (journal : List Entry) (all before some behind : List (ℕ × Entry)) → all ≡ before ++ some ++ behind → SlipsStand journal all → SlipsStand journal some
+stand_among journal all before some behind is stand =
+    stand_behind journal before some (all_front (λ slip. slip.0 < length journal → slice_get journal slip.0 ≡ Some slip.1) (before ++ some) behind (subst (SlipsStand journal) is stand))
 
 -- ## What a crash leaves of them
 

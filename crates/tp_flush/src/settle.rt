@@ -1,6 +1,6 @@
 //! What passes and slips are worth: what a pass saw beside the flusher's mark, and slips beside its journal.
 
-ghost use Rattle.std.specs.Prelude.{◌≡◌, ◌≤◌, ℕ, List, drop};
+ghost use Rattle.std.specs.Prelude.{◌≡◌, ◌≤◌, ◌++◌, ℕ, List, drop};
 ghost use Rattle.std.specs.List.{AllByRecursion};
 ghost use Rattle.tp_model.specs.NodeState.{NodeState};
 ghost use Rattle.tp_model.specs.Node.{t414};
@@ -58,9 +58,10 @@ impl<J: Naming, D: Disk> Flusher<J, D> {
         self.settle_seat(&mut held, seat);
     }
 
-    /// Changes nothing. Where `pass` saw a number above those of all slips, as that of the last receipt that came with them is, so that it
-    /// was told that all of it is stored, whatever a crash leaves from now on of the device as it is opens to what leads where a prefix of
-    /// the journal leads, and in the prefix each of the slips' entries stands at its number.
+    /// Changes nothing. Take any slips that stand beside each other in `seat`, as those of a receipt do. Where `pass` saw a number above
+    /// theirs, as the receipt's is, so that it was told that they are stored, whatever a crash leaves from now on of the device as it is
+    /// opens to what leads where a prefix of the journal leads, and in the prefix each of their entries stands at its number, whatever
+    /// became of the other slips.
     pub fn settle<R: Wait>(
         &mut self,
         rt: &R,
@@ -72,8 +73,9 @@ impl<J: Naming, D: Disk> Flusher<J, D> {
         ensures same { (self.new ≡ self.old) × (pass.new ≡ pass.old) × (seat.new ≡ seat.old) }
         ensures mark { pass.old.at ≤ self.old.world.mark }
         ensures stand { D.keeps → Began J.formatted J.before self.old.opened → SlipsStand self.old.world.journal seat.old }
-        ensures recovers { D.keeps → Began J.formatted J.before self.old.opened → AreBelow pass.old.at seat.old
-            → (left : List ℕ) → MayBe self.old.state.now left → RecoversWith J.formatted self.old.world.journal self.old.world.mark seat.old left }
+        ensures recovers { D.keeps → Began J.formatted J.before self.old.opened
+            → (before some behind : List (ℕ × Entry)) → seat.old ≡ before ++ some ++ behind → AreBelow pass.old.at some
+            → (left : List ℕ) → MayBe self.old.state.now left → RecoversWith J.formatted self.old.world.journal self.old.world.mark some left }
     {
         self.known();
         self.settle_pass(shared, pass);

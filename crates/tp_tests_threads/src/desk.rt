@@ -327,7 +327,15 @@ impl<J: Naming> Desk<J> {
         };
         let is_early = self.is_stored(&receipt);
         let is_flushed = self.flush(rt, alloc).is_ok();
+        self.settle(rt);
         !is_early && is_flushed && self.is_stored(&receipt)
+    }
+
+    /// Settles the host's seat and the pass with the flusher.
+    fn settle<R: Wait>(&mut self, rt: &R) {
+        let shared = self.net.shared();
+        self.flusher
+            .settle(rt, shared, &mut self.pass, &mut self.host);
     }
 
     /// Confirms the outputs of the port up to a position: the receipt's number, and whether the pass says that it is stored.

@@ -3,16 +3,21 @@ use Rattle.tp_model.specs.Disk.{MayBe}
 use Rattle.tp_flush.specs.Flushing.{Flushing}
 use Rattle.tp_flush.specs.Known.{Began}
 use Rattle.tp_flush.specs.Settled.{SlipsStand}
-use Rattle.tp_flush.proofs.Settling.{below_more, now_recovers, recovers_with}
+use Rattle.tp_flush.proofs.Settling.{below_more, now_recovers, recovers_with, stand_among}
 use Rattle.tp_flush.proofs.flusher.Flusher.settle.Goals as goal
 
 pub returns-clause-recovers : goal.returns-clause-recovers
-returns-clause-recovers g c k began below left may =
+returns-clause-recovers g c k began before some behind is below left may =
     let w = c.args.self.now.world in
     let same = c.settle_pass.ensures.same.0 in
     let reached = c.known.ensures.reached k began in
-    recovers_with g.J.Naming.formatted w.journal w.mark c.args.seat.now left
+    recovers_with g.J.Naming.formatted w.journal w.mark some left
     (now_recovers g.J.Naming.formatted w reached left (subst (λ m. MayBe m left) (sym (c.known.ensures.disk k)) may))
-    (below_more c.args.pass.now.at w.mark c.args.seat.now c.settle_pass.ensures.mark below)
-    (subst (λ (v : Flushing). SlipsStand v.world.journal c.args.seat.now) same
-    (c.settle_under.ensures.stand k (subst (λ (v : Flushing). Began g.J.Naming.formatted g.J.Naming.before v.opened) (sym same) began)))
+    (below_more c.args.pass.now.at w.mark some c.settle_pass.ensures.mark below)
+    (
+    stand_among w.journal c.args.seat.now before some behind is
+    (
+    subst (λ (v : Flushing). SlipsStand v.world.journal c.args.seat.now) same
+    (c.settle_under.ensures.stand k (subst (λ (v : Flushing). Began g.J.Naming.formatted g.J.Naming.before v.opened) (sym same) began))
+    )
+    )
