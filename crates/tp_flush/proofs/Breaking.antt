@@ -1,5 +1,5 @@
 -- What the flusher knows of the book's store.
-use Rattle.std.proofs.Common.{◌≡◌, Bool, true, false, List, sym, subst, ◌∙◌}
+use Rattle.std.proofs.Common.{◌≡◌, Bool, false, List, sym, subst, ◌∙◌}
 use Rattle.std.proofs.lemmas.Bool.{true≢false}
 use Rattle.tp_model.specs.NodeState.{NodeState}
 use Rattle.tp_model.specs.Runs.{World}

@@ -1,28 +1,25 @@
 -- The other area stays closed, whatever is appended to the open one or put behind its gate.
-use Rattle.std.proofs.Common.{◌≡◌, ◌≢◌, ◌⊎◌, inl, inr, ℕ, zero, suc, ◌+◌, ◌-◌, ◌*◌, ◌<◌, ◌≤◌, List, [], ◌∷◌, length, get_or, refl, sym, ap, subst, ◌∙◌, Bool, true, false, Option, Some, None, Result, Ok, Err, OnOk, arith, get_or-set_other}
+use Rattle.std.proofs.Common.{◌≡◌, ◌≢◌, ◌⊎◌, inl, inr, ℕ, zero, suc, ◌+◌, ◌-◌, ◌<◌, ◌≤◌, List, [], ◌∷◌, length, get_or, refl, sym, ap, subst, ◌∙◌, Bool, true, false, Option, Some, None, Result, Ok, Err, OnOk, arith, get_or-set_other}
 use Rattle.std.specs.Prelude.{not, if◌then◌else◌, replicate}
 use Rattle.std.proofs.lemmas.Bool.Decides.{eqb_tells}
-use Rattle.std.specs.List.{AllByRecursion}
 use Rattle.std.proofs.lemmas.Bool.{ltb-true, true≢false}
 use Rattle.tp_model.specs.declared.entry.Entry.{Entry}
 use Rattle.tp_model.specs.declared.areas.TwoAreas.{TwoAreas}
 use Rattle.tp_model.specs.declared.limits.TheConstants.{AREA_HEAD_BYTES, MAX_NODES}
 use Rattle.tp_model.specs.Bytes.{u8_at}
 use Rattle.tp_model.specs.NodeState.{NodeState}
-use Rattle.tp_model.specs.Node.{t414}
 use Rattle.tp_model.specs.Snapshot.{MarkedNetwork}
 use Rattle.tp_model.specs.FrozenAs.{IsFrozenAs}
-use Rattle.tp_model.specs.Acts.{Act, acted, happens}
-use Rattle.tp_model.specs.Runs.{World, is_trim}
+use Rattle.tp_model.specs.Runs.{World}
 use Rattle.tp_model.specs.Areas.{gate_closed}
 use Rattle.tp_model.specs.Device.{area_start, areas_end, content_of, is_open}
 use Rattle.tp_model.specs.Disk.{Moment, SameOutside}
 use Rattle.tp_model.specs.DiskHistory.{State}
 use Rattle.tp_model.specs.StoreCalls.{Called, clear_calls, group_calls, put_calls}
 use Rattle.tp_model.specs.Group.{group_length}
-use Rattle.tp_model.specs.Journal.{is_roomy}
+use Rattle.tp_model.specs.Journal.{image_length, is_roomy}
 use Rattle.tp_model.specs.Topology.{Topology}
-use Rattle.tp_area.specs.Pieces.{piece_length, piece_place}
+use Rattle.tp_area.specs.Pieces.{piece_place}
 use Rattle.tp_area.specs.declared.place.Place.{Place}
 use Rattle.tp_area.specs.declared.fault.StoreFault.{StoreFault}
 use Rattle.tp_area.specs.Appended.{Appended, body_of}
@@ -42,7 +39,7 @@ use Rattle.tp_flush.specs.Copying.{IsPartOut}
 use Rattle.tp_flush.specs.Flushing.{KeepsCopy}
 use Rattle.tp_flush.proofs.Appends.{Answered, after_group}
 use Rattle.tp_flush.proofs.Beside.{areas_fit, content_kept, put_content}
-use Rattle.tp_flush.proofs.Puts.{Answered as PutAnswered, piece_inside}
+use Rattle.tp_flush.proofs.Puts.{Answered as PutAnswered, image_inside}
 use Rattle.tp_flush.proofs.Standing.{other_kept}
 
 -- ## A group
@@ -152,17 +149,17 @@ clear_content place s new whole some called = go (is_open (u8_at s.now.bytes (ot
         (inl (omega arith)) some
 
 -- a piece that was put leaves the images of other nodes
-pub piece_images : (t : Topology) (net : MarkedNetwork NodeState) (place : Place) (s new : State) (node piece : ℕ) (bytes : List ℕ) (p : Progress) → areas_end place.areas ≤ length s.now.bytes
-    → is_roomy t place.areas.length ≡ true → node < length t.pages → piece ≤ get_or t.pages node 0 → length bytes ≡ piece_length piece → is_out p node ≡ false
-    → Called (put_calls ((other_gate place + 1 + piece_place t node piece, bytes) ∷ [])) s new
+pub piece_images : (t : Topology) (net : MarkedNetwork NodeState) (place : Place) (s new : State) (node at : ℕ) (bytes : List ℕ) (p : Progress) → areas_end place.areas ≤ length s.now.bytes
+    → is_roomy t place.areas.length ≡ true → node < length t.pages → piece_place t node 0 ≤ at → at + length bytes ≤ piece_place t node 0 + image_length (get_or t.pages node 0) → is_out p node ≡ false
+    → Called (put_calls ((other_gate place + 1 + at, bytes) ∷ [])) s new
     → ((i : ℕ) → i < length t.pages → is_out p i ≡ true → IsPartOut t net (content_beside place s) i (get_or t.pages i 0))
     → (i : ℕ) → i < length t.pages → is_out p i ≡ true → IsPartOut t net (content_beside place new) i (get_or t.pages i 0)
-piece_images t net place s new node piece bytes p whole roomy there low long free called images i i_there out =
-    let inside : piece_place t node piece + piece_length piece < place.areas.length = piece_inside t place.areas.length node piece roomy there low in
+piece_images t net place s new node at bytes p whole roomy there from until free called images i i_there out =
+    let inside = image_inside t place.areas.length node roomy there in
     let size : length (content_beside place s) ≡ place.areas.length - 1 = length-content_of place.areas (not place.second) s.now.bytes (areas_fit place.areas (length s.now.bytes) (not place.second) whole) in
     let other : i ≢ node = λ same. true≢false (sym out ∙ ap (is_out p) same ∙ free) in
-    subst (λ xs. IsPartOut t net xs i (get_or t.pages i 0)) (sym (put_content place (piece_place t node piece) bytes s new whole (omega (arith, inside, long)) called))
-    (other_kept t net (content_beside place s) node piece bytes long (omega (arith, inside, size)) i other i_there there low (images i i_there out))
+    subst (λ xs. IsPartOut t net xs i (get_or t.pages i 0)) (sym (put_content place at bytes s new whole (omega (arith, inside, until)) called))
+    (other_kept t net (content_beside place s) at bytes (omega (arith, inside, until, size)) i node other i_there there from until (images i i_there out))
 
 -- ## Looks at the book
 

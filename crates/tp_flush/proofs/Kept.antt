@@ -1,5 +1,5 @@
 -- What the flusher keeps as it looks at the book, and as it raises the mark.
-use Rattle.std.proofs.Common.{◌≡◌, ℕ, ◌+◌, ◌<◌, ◌≤◌, true, List, ◌++◌, length, refl, sym, ap, subst, ◌∙◌, Bool, arith, length-drop}
+use Rattle.std.proofs.Common.{◌≡◌, ℕ, ◌+◌, ◌<◌, ◌≤◌, List, ◌++◌, length, refl, sym, ap, subst, ◌∙◌, Bool, arith, length-drop}
 use Rattle.std.specs.Prelude.{◌-◌, drop, max}
 use Rattle.std.specs.List.{AllByRecursion}
 use Rattle.tp_model.specs.declared.entry.Entry.{Entry}

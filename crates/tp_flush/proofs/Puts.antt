@@ -1,6 +1,6 @@
 -- What is written into the other area while the flusher rests is a piece of a run, whether it was done or a call of the device
 -- failed.
-use Rattle.std.proofs.Common.{◌≡◌, ℕ, zero, suc, ◌+◌, ◌-◌, ◌*◌, ◌<◌, ◌≤◌, refl, sym, ap, subst, ◌∙◌, Bool, true, false, Option, None, Some, Result, Ok, Err, OnOk, OnErr, MatchResult, List, [], ◌∷◌, length, take, get_or, arith}
+use Rattle.std.proofs.Common.{◌≡◌, ℕ, zero, suc, ◌+◌, ◌-◌, ◌*◌, ◌<◌, ◌≤◌, refl, sym, ap, subst, ◌∙◌, Bool, true, false, Option, None, Result, Ok, Err, OnOk, OnErr, MatchResult, List, [], ◌∷◌, length, take, get_or, arith}
 use Rattle.std.specs.Prelude.{if◌then◌else◌, sum_by, nat_le, IfOk}
 use Rattle.std.specs.List.{list_all}
 use Rattle.std.proofs.Math.Dec.{eqb-suc-zero}
@@ -24,8 +24,8 @@ use Rattle.tp_model.specs.Runs.{World}
 use Rattle.tp_model.specs.Walks.{AreWalked, Walks}
 use Rattle.tp_area.specs.declared.place.Place.{Place}
 use Rattle.tp_area.specs.declared.fault.StoreFault.{StoreFault}
-use Rattle.tp_area.specs.declared.fault.StoreFault.TheVariants.{AreaFull, DeviceFailed as StoreFailed}
-use Rattle.tp_area.specs.Other.{if_open, other_gate, put_refusal}
+use Rattle.tp_area.specs.declared.fault.StoreFault.TheVariants.{DeviceFailed as StoreFailed}
+use Rattle.tp_area.specs.Other.{if_open, other_gate}
 use Rattle.tp_area.specs.Pieces.{piece_length, piece_place, place_in_image}
 use Rattle.tp_model.specs.Topology.{Topology, is_page_count, is_topology}
 use Rattle.tp_model.specs.Journal.{image_length, is_roomy}
@@ -191,20 +191,11 @@ pub piece_ends : (piece pages : ℕ) → piece ≤ pages → place_in_image piec
 piece_ends zero pages low = omega arith
 piece_ends (suc piece) pages low = omega (arith, low, place_suc piece, length_suc piece)
 
-pub piece_inside : (t : Topology) (area node piece : ℕ) → is_roomy t area ≡ true → node < length t.pages → piece ≤ get_or t.pages node 0 → piece_place t node piece + piece_length piece < area
-piece_inside t area node piece roomy there low =
-    let wide = leb-true _ _ roomy in
-    omega (arith, wide, sum_front t.pages node there, piece_ends piece (get_or t.pages node 0) low)
-
 pub if_answered : (r : Result Unit StoreFault) (q : Result Unit FlushFault) → MatchResult r (λ unit. q ≡ Ok unit) (λ fault. q ≡ Err DeviceFailed) → (P : Type 0) → OnOk r P → IfOk q (λ done. P)
 if_answered (Ok x) q is P given = subst (λ (y : Result Unit FlushFault). IfOk y (λ done. P)) (sym is) given
 if_answered (Err e) q is P given = subst (λ (y : Result Unit FlushFault). IfOk y (λ done. P)) (sym is) tt
 
 -- ## Where images begin
-
--- a piece stands behind where its image begins
-pub place_from : (t : Topology) (node piece image inner : ℕ) → image ≡ piece_place t node 0 → inner ≡ place_in_image piece → image + inner ≡ piece_place t node piece
-place_from t node piece image inner begins is = omega (arith, begins, is)
 
 sum_next : (pages : List ℕ) (i : ℕ) → i < length pages → sum_by image_length (take (suc i) pages) ≡ sum_by image_length (take i pages) + image_length (get_or pages i 0)
 sum_next [] i low = absurd (omega (arith, low))

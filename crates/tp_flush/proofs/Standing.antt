@@ -1,6 +1,6 @@
 -- Pieces of frozen images stand where they were put, also once others are put beside them.
 use Rattle.std.proofs.Common.{◌≡◌, ◌≢◌, ◌⊎◌, inl, inr, ℕ, zero, suc, ◌+◌, ◌*◌, ◌<◌, ◌≤◌, List, [], ◌∷◌, length, take, drop, get_or, slice_get, Some, sym, ap, subst, ◌∙◌, arith, length-take}
-use Rattle.std.specs.Prelude.{sum_by}
+use Rattle.std.specs.Prelude.{flat_map, sum_by}
 use Rattle.std.proofs.lemmas.Bool.{cases_lt}
 use Rattle.std.proofs.lemmas.List.Sums.{sum_by-cons}
 use Rattle.tp_model.specs.declared.limits.TheConstants.{IMAGE_HEAD_BYTES, PAGE_BYTES}
@@ -16,9 +16,11 @@ use Rattle.tp_model.specs.Journal.{image_length}
 use Rattle.tp_model.specs.Opening.{nodes_place}
 use Rattle.tp_model.specs.Topology.{Topology}
 use Rattle.tp_area.specs.Pieces.{piece_length, piece_place, place_in_image}
+use Rattle.tp_law_machine.proofs.Moments.{length-written}
 use Rattle.tp_law_device.proofs.Frozen.{cut_frozen, image_in_pieces}
 use Rattle.tp_law_device.proofs.Pieces.{there_kept, there_written}
-use Rattle.tp_shared.specs.Pieces.{IsFrozenHead, IsFrozenPage}
+use Rattle.tp_area.proofs.PutLaws.{written_nothing, written_twice}
+use Rattle.tp_shared.specs.Pieces.{AreFrozenPages, IsFrozenHead, IsFrozenPage}
 use Rattle.tp_area.specs.Tails.{content_beside}
 use Rattle.tp_flush.specs.Flushing.{Flushing}
 use Rattle.tp_flush.specs.Ends.{NothingStored}
@@ -34,14 +36,16 @@ front_sum (p ∷ ps) zero (suc j) low there = omega (arith, sum_by-cons image_le
 front_sum (p ∷ ps) (suc i) (suc j) low there =
     omega (arith, front_sum ps i j (omega (arith, low)) (omega (arith, there)), sum_by-cons image_length p (take i ps), sum_by-cons image_length p (take j ps))
 
--- a piece ends before another one begins, or behind it
-abbrev pub LieApart : Topology → ℕ → ℕ → ℕ → ℕ → Type 0
-LieApart t i p j q = (piece_place t i p + piece_length p ≤ piece_place t j q) ⊎ (piece_place t j q + piece_length q ≤ piece_place t i p)
+-- a piece ends before `at`, or begins behind `count` bytes from there
+abbrev pub LiesApart : Topology → ℕ → ℕ → ℕ → ℕ → Type 0
+LiesApart t i p at count = (piece_place t i p + piece_length p ≤ at) ⊎ (at + count ≤ piece_place t i p)
 
-pub nodes_apart : (t : Topology) (i p j q : ℕ) → i ≢ j → i < length t.pages → j < length t.pages → p ≤ get_or t.pages i 0 → q ≤ get_or t.pages j 0 → LieApart t i p j q
-nodes_apart t i p j q other i_there j_there low high = elim (cases_lt i j) [
-  | inl before ↦ inl (omega (arith, front_sum t.pages i j before j_there, piece_ends p (get_or t.pages i 0) low))
-  | inr from ↦ inr (omega (arith, front_sum t.pages j i (behind from) i_there, piece_ends q (get_or t.pages j 0) high))
+-- from bytes of another node's image
+pub nodes_apart : (t : Topology) (i p j at count : ℕ) → i ≢ j → i < length t.pages → j < length t.pages → p ≤ get_or t.pages i 0 → piece_place t j 0 ≤ at
+    → at + count ≤ piece_place t j 0 + image_length (get_or t.pages j 0) → LiesApart t i p at count
+nodes_apart t i p j at count other i_there j_there low from until = elim (cases_lt i j) [
+  | inl before ↦ inl (omega (arith, front_sum t.pages i j before j_there, piece_ends p (get_or t.pages i 0) low, from))
+  | inr high ↦ inr (omega (arith, front_sum t.pages j i (behind high) i_there, until))
 ]
   where
     behind : j ≤ i → j < i
@@ -55,37 +59,36 @@ in_order p zero low = absurd (omega (arith, low))
 in_order zero (suc q) low = omega (arith, place_suc q)
 in_order (suc p) (suc q) low = omega (arith, low, place_suc p, place_suc q, length_suc p)
 
-pub pieces_apart : (t : Topology) (i p q : ℕ) → p < q → LieApart t i p i q
-pieces_apart t i p q low = inl (omega (arith, in_order p q low))
+pub pieces_apart : (t : Topology) (i p q count : ℕ) → p < q → LiesApart t i p (piece_place t i q) count
+pieces_apart t i p q count low = inl (omega (arith, in_order p q low))
 
 -- ## Pieces stay
 
-piece_kept : (content : List ℕ) (t : Topology) (i p j q : ℕ) (bytes more : List ℕ) → length bytes ≤ piece_length p → length more ≡ piece_length q → LieApart t i p j q
-    → piece_place t j q + piece_length q ≤ length content → IsThere content (piece_place t i p) bytes → IsThere (written content (piece_place t j q) more) (piece_place t i p) bytes
-piece_kept content t i p j q bytes more few long (inl front) room there =
-    there_kept content (piece_place t i p) bytes (piece_place t j q) more (omega (arith, room, long)) (inl (omega (arith, front, few))) there
-piece_kept content t i p j q bytes more few long (inr behind) room there =
-    there_kept content (piece_place t i p) bytes (piece_place t j q) more (omega (arith, room, long)) (inr (omega (arith, behind, long))) there
+piece_kept : (content : List ℕ) (t : Topology) (i p at : ℕ) (bytes more : List ℕ) → length bytes ≤ piece_length p → LiesApart t i p at (length more) → at + length more ≤ length content
+    → IsThere content (piece_place t i p) bytes → IsThere (written content at more) (piece_place t i p) bytes
+piece_kept content t i p at bytes more few (inl front) room there = there_kept content (piece_place t i p) bytes at more room (inl (omega (arith, front, few))) there
+piece_kept content t i p at bytes more few (inr behind) room there = there_kept content (piece_place t i p) bytes at more room (inr behind) there
 
-module _ (t : Topology) (net : MarkedNetwork NodeState) (content : List ℕ) (j q : ℕ) (more : List ℕ) (long : length more ≡ piece_length q) (room : piece_place t j q + piece_length q ≤ length content) where
-  -- what stood stands beside a piece that is put
-  pub part_kept : (i count : ℕ) → LieApart t i 0 j q → ((page : ℕ) → page < count → LieApart t i (suc page) j q) → IsPartOut t net content i count → IsPartOut t net (written content (piece_place t j q) more) i count
+module _ (t : Topology) (net : MarkedNetwork NodeState) (content : List ℕ) (at : ℕ) (more : List ℕ) (room : at + length more ≤ length content) where
+  -- what stood stands beside bytes that are put
+  pub part_kept : (i count : ℕ) → LiesApart t i 0 at (length more) → ((page : ℕ) → page < count → LiesApart t i (suc page) at (length more)) → IsPartOut t net content i count
+      → IsPartOut t net (written content at more) i count
   part_kept i count head each P = record {
     node = P.node;
     frozen = P.frozen;
     long = P.long;
-    head = piece_kept content t i 0 j q (image_head P.node) more (omega (arith, P.long)) long head room P.head;
+    head = piece_kept content t i 0 at (image_head P.node) more (omega (arith, P.long)) head room P.head;
     pages = λ page low.
-        piece_kept content t i (suc page) j q (take PAGE_BYTES (drop (PAGE_BYTES * page) P.node.memory)) more (omega (arith, length_suc page, length-take PAGE_BYTES (drop (PAGE_BYTES * page) P.node.memory))) long
+        piece_kept content t i (suc page) at (take PAGE_BYTES (drop (PAGE_BYTES * page) P.node.memory)) more (omega (arith, length_suc page, length-take PAGE_BYTES (drop (PAGE_BYTES * page) P.node.memory)))
         (each page low) room (P.pages page low);
   }
 
   -- of another node
-  pub other_kept : (i : ℕ) → i ≢ j → i < length t.pages → j < length t.pages → q ≤ get_or t.pages j 0 → IsPartOut t net content i (get_or t.pages i 0)
-      → IsPartOut t net (written content (piece_place t j q) more) i (get_or t.pages i 0)
-  other_kept i other i_there j_there high =
-      part_kept i (get_or t.pages i 0) (nodes_apart t i 0 j q other i_there j_there (omega arith) high)
-      (λ page low. nodes_apart t i (suc page) j q other i_there j_there (omega (arith, low)) high)
+  pub other_kept : (i j : ℕ) → i ≢ j → i < length t.pages → j < length t.pages → piece_place t j 0 ≤ at → at + length more ≤ piece_place t j 0 + image_length (get_or t.pages j 0)
+      → IsPartOut t net content i (get_or t.pages i 0) → IsPartOut t net (written content at more) i (get_or t.pages i 0)
+  other_kept i j other i_there j_there from until =
+      part_kept i (get_or t.pages i 0) (nodes_apart t i 0 j at (length more) other i_there j_there (omega arith) from until)
+      (λ page low. nodes_apart t i (suc page) j at (length more) other i_there j_there (omega (arith, low)) from until)
 
 same_frozen : (net : MarkedNetwork NodeState) (i : ℕ) (a b : NodeState) → IsFrozenAs net i a → IsFrozenAs net i b → a ≡ b
 same_frozen net i a b F G = let first = F.is in let second = G.is in cc
@@ -106,8 +109,8 @@ pub page_out : (t : Topology) (net : MarkedNetwork NodeState) (content : List �
     → piece_place t i (suc count) + PAGE_BYTES ≤ length content → IsPartOut t net (written content (piece_place t i (suc count)) bytes) i (suc count)
 unfolding part_kept
 page_out t net content i count bytes P F long room =
-    let K = part_kept t net content i (suc count) bytes (omega (arith, long, length_suc count)) (omega (arith, room, length_suc count)) i count (pieces_apart t i 0 (suc count) (omega arith))
-    (λ page low. pieces_apart t i (suc page) (suc count) (omega (arith, low))) P in
+    let K = part_kept t net content (piece_place t i (suc count)) bytes (omega (arith, room, long)) i count (pieces_apart t i 0 (suc count) (length bytes) (omega arith))
+    (λ page low. pieces_apart t i (suc page) (suc count) (length bytes) (omega (arith, low))) P in
     let here : F.node ≡ P.node = same_frozen net i F.node P.node F.frozen P.frozen in
     let is : bytes ≡ take PAGE_BYTES (drop (PAGE_BYTES * count) P.node.memory) = F.is ∙ ap (λ (n : NodeState). take PAGE_BYTES (drop (PAGE_BYTES * count) n.memory)) here in
     let new : List ℕ = written content (piece_place t i (suc count)) bytes in
@@ -125,6 +128,33 @@ page_out t net content i count bytes P F long room =
             subst (λ (k : ℕ). IsThere new (piece_place t i (suc k)) (take PAGE_BYTES (drop (PAGE_BYTES * k) P.node.memory))) (sym same) last
       ];
     }
+
+-- the first page's place, and the next one's
+page_next : (t : Topology) (i page : ℕ) → piece_place t i (suc page) + PAGE_BYTES ≡ piece_place t i (suc (suc page))
+page_next t i page = omega (arith, place_suc page, place_suc (suc page))
+
+-- pages behind those that stand, in one piece
+pub pages_out : (t : Topology) (net : MarkedNetwork NodeState) (content : List ℕ) (i first : ℕ) (pages : List (List ℕ)) → IsPartOut t net content i first → AreFrozenPages net i first (length pages) pages
+    → ((k : ℕ) → k < length pages → length (get_or pages k []) ≡ PAGE_BYTES) → piece_place t i (suc first) + PAGE_BYTES * length pages ≤ length content
+    → IsPartOut t net (written content (piece_place t i (suc first)) (flat_map (λ page. page) pages)) i (first + length pages)
+pages_out t net content i first [] P frozen long room =
+    let none : first ≡ first + 0 = omega arith in
+    subst (λ xs. IsPartOut t net xs i (first + 0)) (sym (written_nothing content (piece_place t i (suc first)))) (subst (IsPartOut t net content i) none P)
+pages_out t net content i first (page ∷ pages) P frozen long room =
+    let at = piece_place t i (suc first) in
+    let size : length page ≡ PAGE_BYTES = long 0 (omega arith) in
+    let here : first + 0 ≡ first = omega arith in
+    let one : IsPartOut t net (written content at page) i (suc first) =
+    page_out t net content i first page P (subst (λ n. IsFrozenPage net i n page) here (frozen 0 (omega arith))) size (omega (arith, room)) in
+    let next : at + length page ≡ piece_place t i (suc (suc first)) = omega (arith, size, page_next t i first) in
+    let many : suc first + length pages ≡ first + suc (length pages) = omega arith in
+    let rest =
+    pages_out t net (written content at page) i (suc first) pages one
+    (λ k low. let up : first + suc k ≡ suc first + k = omega arith in subst (λ n. IsFrozenPage net i n (get_or pages k [])) up (frozen (suc k) (omega (arith, low))))
+    (λ k low. long (suc k) (omega (arith, low))) (omega (arith, room, page_next t i first, length-written content at page (omega (arith, room, size)))) in
+    subst (λ xs. IsPartOut t net xs i (first + suc (length pages))) (written_twice content at page (flat_map (λ p. p) pages) (omega (arith, room)))
+    (subst (λ n. IsPartOut t net (written (written content at page) n (flat_map (λ p. p) pages)) i (first + suc (length pages))) (sym next)
+    (subst (IsPartOut t net (written (written content at page) (piece_place t i (suc (suc first))) (flat_map (λ p. p) pages)) i) many rest))
 
 -- ## The images of a cut
 

@@ -1,7 +1,8 @@
 //! The flusher copies the frozen images of a snapshot, some pages a hold of the locks.
 
-ghost use Rattle.std.specs.Prelude.{◌≡◌, ◌+◌, ◌<◌, ◌≤◌, true, false, length, get_or, IfOk};
-ghost use Rattle.tp_model.specs.declared.limits.TheConstants.{MAX_NODES, MAX_PAGES};
+ghost use Rattle.std.specs.Prelude.{◌≡◌, ◌+◌, ◌*◌, ◌<◌, ◌≤◌, ℕ, [], true, false, flat_map, length, get_or, IfOk};
+ghost use Rattle.arrayvec.specs.ArrayVec.{array_vec_len};
+ghost use Rattle.tp_model.specs.declared.limits.TheConstants.{MAX_NODES, MAX_PAGES, PAGE_BYTES};
 ghost use Rattle.tp_model.specs.WriteOrder.{Resting};
 ghost use Rattle.tp_area.specs.Tails.{content_beside};
 ghost use Rattle.tp_area.specs.Pieces.{piece_place};
@@ -10,11 +11,14 @@ ghost use Rattle.tp_flush.specs.Progress.{is_out};
 ghost use Rattle.tp_flush.specs.Flushing.{FlushedOn};
 ghost use Rattle.tp_flush.specs.Images.{Imaged, NodeImaged, StayOut};
 ghost use Rattle.tp_flush.specs.Ends.{Tried};
+ghost use Rattle.tp_flush.specs.declared.images.TheConstants.{PAGES_A_HOLD};
 
 use crate::fault::FlushFault;
 use crate::flusher::Flusher;
 use crate::imaged::{Image, Images};
+use crate::places::place_in_image;
 use crate::turn::FLUSHER;
+use arrayvec::ArrayVec;
 use std::sync::Wait;
 use tp_area::FIELDS_BYTES;
 use tp_disk::Disk;
@@ -25,6 +29,23 @@ use tp_shared::{Gate, Look, Naming, Shared};
 /// How many pages are read in one hold of a node's lock, at most. A turn of a node in that cell waits for all of them: for less than
 /// a microsecond, where a turn of 1,024 steps takes four.
 const PAGES_A_HOLD: usize = 4;
+
+/// How many bytes they have, at most.
+const BYTES_A_HOLD: usize = PAGES_A_HOLD * PAGE_BYTES;
+
+/// Pages, one behind the other.
+fn joined(pages: &[[u8; PAGE_BYTES]]) -> ArrayVec<u8, BYTES_A_HOLD>
+    requires { length pages.now ≤ PAGES_A_HOLD }
+    ensures bytes { result.items ≡ flat_map (λ page. page) pages.now }
+    ensures len { array_vec_len result ≡ PAGE_BYTES * length pages.now }
+    ensures each { (k : ℕ) → k < length pages.now → length (get_or pages.now k []) ≡ PAGE_BYTES }
+{
+    let mut joined = ArrayVec::new();
+    for page in pages {
+        let _all_fit = joined.try_extend_from_slice(page);
+    }
+    joined
+}
 
 impl<J: Naming, D: Disk> Flusher<J, D> {
     /// How many pages a node has.
@@ -82,7 +103,7 @@ impl<J: Naming, D: Disk> Flusher<J, D> {
     }
 
     /// Copies pages of a frozen image, which begins at `image`, from `first` on: as many as find room in `pages`, which they go by way of. They
-    /// are read in one hold of the node's lock. False where the node isn't frozen, or has fewer.
+    /// are read in one hold of the node's lock, and put by one call of the device. False where the node isn't frozen, or has fewer.
     fn copy_pages<R: Wait, G: Gate>(
         &mut self,
         rt: &R,
@@ -100,6 +121,7 @@ impl<J: Naming, D: Disk> Flusher<J, D> {
         requires there { node < length J.start.nodes }
         requires room { first + length pages.old ≤ get_or self.old.topology.pages node 0 }
         requires few { first + length pages.old ≤ MAX_PAGES }
+        requires some { (0 < length pages.old) × (length pages.old ≤ PAGES_A_HOLD) }
         requires free { is_out self.old.progress node ≡ false }
         requires stands { D.keeps → IsPartOut self.old.topology self.old.world.net (content_beside self.old.place self.old.state) node first }
         ensures tried { Tried result self.old self.new }
@@ -110,10 +132,10 @@ impl<J: Naming, D: Disk> Flusher<J, D> {
         if self.read_pages(rt, shared, node, first, pages) < pages.len() {
             return Ok(false);
         }
-        for k in 0..pages.len() {
-            gate.at(FLUSHER, PAGE_COPIED);
-            self.put(rt, shared, node as usize, image, first + k + 1, &pages[k])?;
-        }
+        gate.at(FLUSHER, PAGE_COPIED);
+        let inner = place_in_image(first + 1);
+        let bytes = joined(pages);
+        self.put(rt, shared, node as usize, image, inner, bytes.as_slice())?;
         Ok(true)
     }
 

@@ -1,14 +1,14 @@
-//! The flusher writes a frozen image into the other area, piece by piece.
+//! The flusher writes a frozen image into the other area, bytes by bytes.
 
 ghost use Rattle.std.specs.Prelude.{◌≡◌, ◌+◌, ◌<◌, ◌≤◌, true, false, length, get_or, IfOk};
-ghost use Rattle.tp_area.specs.Pieces.{piece_length, piece_place};
+ghost use Rattle.tp_area.specs.Pieces.{piece_place};
 ghost use Rattle.tp_area.specs.Tails.{content_beside};
 ghost use Rattle.tp_model.specs.Disk.{written};
 ghost use Rattle.tp_shared.specs.Pieces.{AreFrozenPages, IsFrozenHead};
 ghost use Rattle.tp_shared.specs.Frozen.{keeps_pages};
 ghost use Rattle.tp_flush.specs.Copying.{IsGone, IsPartOut};
 ghost use Rattle.tp_flush.specs.Progress.{is_out, with_out};
-ghost use Rattle.tp_model.specs.declared.limits.TheConstants.{MAX_PAGES};
+ghost use Rattle.tp_model.specs.Journal.{image_length};
 ghost use Rattle.tp_model.specs.WriteOrder.{Resting};
 ghost use Rattle.tp_flush.specs.Flushing.{FlushedOn};
 ghost use Rattle.tp_flush.specs.Ends.{Tried, NothingStored};
@@ -16,7 +16,6 @@ ghost use Rattle.tp_flush.specs.Ends.{Tried, NothingStored};
 use crate::appending::answer_of;
 use crate::fault::FlushFault;
 use crate::flusher::Flusher;
-use crate::places::place_in_image;
 use crate::telling::tell_where;
 use crate::whole::Whole;
 use std::sync::Wait;
@@ -45,35 +44,33 @@ impl<J: Naming, D: Disk> Flusher<J, D> {
         answer_of(done)
     }
 
-    /// Puts a piece of the frozen image of `node` into the other area, where that image begins at `image`. Where a call of the device
-    /// fails, the book is told.
+    /// Puts `bytes` into the other area where the frozen image of `node` has its place, which begins at `image`: the first of them at `inner`
+    /// of it. Where a call of the device fails, the book is told.
     pub(crate) fn put<R: Wait>(
         &mut self,
         rt: &R,
         shared: &Shared<J>,
         node: usize,
         image: u64,
-        piece: usize,
+        inner: u64,
         bytes: &[u8],
     ) -> Result<(), FlushFault>
         requires rests { self.old.world.at ≡ Resting }
         requires cleared { self.old.progress.cleared ≡ true }
         requires node { node < length self.old.topology.pages }
         requires image { image ≡ piece_place self.old.topology node 0 }
-        requires piece { piece ≤ get_or self.old.topology.pages node 0 }
-        requires few { piece ≤ MAX_PAGES }
-        requires whole { length bytes.now ≡ piece_length piece }
+        requires within { inner + length bytes.now ≤ image_length (get_or self.old.topology.pages node 0) }
         requires free { is_out self.old.progress node ≡ false }
         ensures tried { Tried result self.old self.new }
         ensures same { (self.new.world.net ≡ self.old.world.net) × (self.new.progress ≡ self.old.progress) }
-        ensures room { D.keeps → piece_place self.old.topology node piece + piece_length piece ≤ length (content_beside self.old.place self.old.state) }
-        ensures content { D.keeps → IfOk result (λ done. content_beside self.new.place self.new.state ≡ written (content_beside self.old.place self.old.state) (piece_place self.old.topology node piece) bytes.now) }
+        ensures room { D.keeps → image + inner + length bytes.now ≤ length (content_beside self.old.place self.old.state) }
+        ensures content { D.keeps → IfOk result (λ done. content_beside self.new.place self.new.state ≡ written (content_beside self.old.place self.old.state) (image + inner) bytes.now) }
         ensures goes { FlushedOn D.keeps J.formatted J.before self.old self.new }
     {
         self.known();
         let _node = node;
         let Flusher { parts, told } = self;
-        let done = parts.store.put_at(image + place_in_image(piece), bytes);
+        let done = parts.store.put_at(image + inner, bytes);
         parts.whole = Whole::of(&*parts);
         tell_where(rt, shared, parts.store.broken, &mut parts.key, told);
         answer_of(done)

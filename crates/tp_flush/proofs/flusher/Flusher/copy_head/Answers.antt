@@ -1,7 +1,11 @@
-use Rattle.std.proofs.Common.{rules, arith, subst, sym}
+use Rattle.std.proofs.Common.{rules, arith, ◌≡◌, ◌+◌, length, subst, sym}
+use Rattle.tp_model.specs.declared.limits.TheConstants.{IMAGE_HEAD_BYTES}
+use Rattle.tp_model.specs.Disk.{written}
+use Rattle.tp_model.specs.Topology.{Topology}
+use Rattle.tp_area.specs.Pieces.{piece_place}
 use Rattle.tp_flush.proofs.Goings.{goes_then, tried_then, went_then}
 use Rattle.tp_area.specs.Tails.{content_beside}
-use Rattle.tp_flush.specs.Copying.{HasRecorded}
+use Rattle.tp_flush.specs.Copying.{HasRecorded, IsPartOut}
 use Rattle.tp_flush.proofs.Standing.{head_out, part_put}
 use Rattle.tp_flush.proofs.flusher.Flusher.copy_head.Goals as goal
 
@@ -30,9 +34,15 @@ pub returns-clause-stands : goal.returns-clause-stands
 returns-clause-stands g c k = λ found.
     let b = c.read_head.new.self in
     let d = c.put.new.self in
-    let E = c.in_ok-put.ensures in
-    part_put b d _ c.args.node 0 (E.content k) c.put.ensures.same.0 c.put.ensures.goes.process.topology
-    (head_out b.topology b.world.net (content_beside b.place b.state) c.args.node c.read_head.new.out (c.read_head.ensures.head c.if-not-read_head.false) (search rules) (omega (arith, c.put.ensures.room k)))
+    let R = c.read_head.ensures in
+    let head = c.read_head.new.out in
+    let content = content_beside b.place b.state in
+    let begins = subst (λ (t : Topology). c.args.image ≡ piece_place t c.args.node 0) (sym R.goes.process.topology) c.requires.image in
+    let at : c.args.image + 0 ≡ piece_place b.topology c.args.node 0 = omega (arith, begins) in
+    let size : length head ≡ IMAGE_HEAD_BYTES = search rules in
+    part_put b d _ c.args.node 0 (c.in_ok-put.ensures.content k) c.put.ensures.same.0 c.put.ensures.goes.process.topology
+    (subst (λ n. IsPartOut b.topology b.world.net (written content n head) c.args.node 0) (sym at)
+    (head_out b.topology b.world.net content c.args.node head (R.head c.if-not-read_head.false) size (omega (arith, c.put.ensures.room k, at, size))))
 
 pub returns-clause-recorded : goal.returns-clause-recorded
 returns-clause-recorded g c = λ found.

@@ -1,17 +1,18 @@
-use Rattle.std.proofs.Common.{◌≡◌, ◌+◌, ◌<◌, ◌≤◌, [], ◌∷◌, false, get_or, length, refl, sym, subst, ap, ◌∙◌, ℕ, true, arith, IfOk, OnErr, OnOk}
+use Rattle.std.proofs.Common.{◌≡◌, ◌+◌, ◌<◌, ◌≤◌, [], ◌∷◌, false, get_or, length, refl, sym, subst, ap, ◌∙◌, ℕ, true, arith, IfOk, OnOk}
 use Rattle.std.specs.Prelude.{Ok}
 use Rattle.tp_model.specs.NodeState.{NodeState}
 use Rattle.tp_model.specs.Node.{t414}
-use Rattle.tp_model.specs.Disk.{IsWithin, Moment}
+use Rattle.tp_model.specs.Disk.{Moment}
 use Rattle.tp_model.specs.DiskHistory.{State}
 use Rattle.tp_model.specs.DeviceAreas.{device_areas}
+use Rattle.tp_model.specs.Journal.{image_length}
 use Rattle.tp_model.specs.Opening.{verdict}
 use Rattle.tp_model.specs.Runs.{World}
 use Rattle.tp_model.specs.Walks.{Walks}
-use Rattle.tp_model.specs.StoreCalls.{Broke, Called, put_calls}
+use Rattle.tp_model.specs.StoreCalls.{Called, put_calls}
 use Rattle.tp_model.specs.WriteOrder.{Resting}
 use Rattle.tp_area.specs.Other.{OtherIsClosed, PutBehind, other_gate}
-use Rattle.tp_area.specs.Pieces.{piece_length, piece_place}
+use Rattle.tp_area.specs.Pieces.{piece_place}
 use Rattle.tp_shared.specs.Told.{IsFirst}
 use Rattle.tp_shared.specs.declared.told.Told.{Told}
 use Rattle.tp_area.specs.Tails.{content_beside}
@@ -26,7 +27,7 @@ use Rattle.tp_flush.proofs.Devices.{piece_head, put_device}
 use Rattle.tp_flush.proofs.Beside.{put_content}
 use Rattle.tp_area.specs.declared.place.Place.{Place}
 use Rattle.tp_model.specs.Disk.{written}
-use Rattle.tp_flush.proofs.Puts.{if_answered, piece_inside, Answered, after_put, on_ok, on_ok_same, piece_walks, place_from, put_answered, put_keeps, put_known, put_net, put_stored, put_tried, told_put}
+use Rattle.tp_flush.proofs.Puts.{if_answered, image_inside, Answered, after_put, on_ok, on_ok_same, piece_walks, put_answered, put_keeps, put_known, put_net, put_stored, put_tried, told_put}
 use Rattle.tp_flush.proofs.Forms.{holds_at}
 use Rattle.tp_flush.proofs.Breaking.{first_where, whole_where}
 use Rattle.tp_flush.proofs.flusher.Flusher.put.Given as given
@@ -38,10 +39,19 @@ resting g c = ap (λ (v : Flushing). v.world.at) c.self.view_is ∙ c.requires.r
 unbroken : (g : given.Over) (c : goal.After-answer_of g) → c.self.inside.parts.store.broken ≡ false
 unbroken g c = rests_unbroken c.self.inside.parts.store.broken (sym c.self.invariant.3.at ∙ resting g c)
 
-at_is : (g : given.Over) (c : goal.After-answer_of g) → c.args.image + c.place_in_image.result ≡ piece_place c.self.inside.parts.topology c.args.node c.args.piece
-at_is g c =
-    place_from c.self.inside.parts.topology c.args.node c.args.piece c.args.image c.place_in_image.result
-    (subst (λ (v : Flushing). c.args.image ≡ piece_place v.topology c.args.node 0) (sym c.self.view_is) c.requires.image) c.place_in_image.ensures.value
+-- where its first byte goes
+abbrev place : (g : given.Over) (c : goal.After-answer_of g) → ℕ
+place g c = c.args.image + c.args.inner
+
+-- where the image begins and ends
+begins : (g : given.Over) (c : goal.After-answer_of g) → c.args.image ≡ piece_place c.self.inside.parts.topology c.args.node 0
+begins g c = subst (λ (v : Flushing). c.args.image ≡ piece_place v.topology c.args.node 0) (sym c.self.view_is) c.requires.image
+
+there : (g : given.Over) (c : goal.After-answer_of g) → c.args.node < length c.self.inside.parts.topology.pages
+there g c = subst (λ (v : Flushing). c.args.node < length v.topology.pages) (sym c.self.view_is) c.requires.node
+
+within : (g : given.Over) (c : goal.After-answer_of g) → c.args.inner + length c.args.bytes.now ≤ image_length (get_or c.self.inside.parts.topology.pages c.args.node 0)
+within g c = subst (λ (v : Flushing). c.args.inner + length c.args.bytes.now ≤ image_length (get_or v.topology.pages c.args.node 0)) (sym c.self.view_is) c.requires.within
 
 answered : (g : given.Over) (c : goal.After-answer_of g)
     → Answered c.put_at-done.result c.put_at-done.new.self.broken (g.D.Disk.failures_of c.self.inside.parts.store.disk) (g.D.Disk.failures_of c.put_at-done.new.self.disk)
@@ -50,10 +60,8 @@ answered g c =
     put_answered a.result a.new.self.broken a.new.self.filled (g.D.Disk.failures_of c.self.inside.parts.store.disk) (g.D.Disk.failures_of a.new.self.disk) a.ensures.done (a.ensures.failed (unbroken g c))
 
 put_to : (g : given.Over) (c : goal.After-answer_of g) → g.D.Disk.keeps
-    → OnOk c.put_at-done.result (PutBehind c.self.inside.parts.store.place (piece_place c.self.inside.parts.topology c.args.node c.args.piece) c.args.bytes.now (g.D.Disk.state c.self.inside.parts.store.disk) (g.D.Disk.state c.put_at-done.new.self.disk))
-put_to g c k =
-    subst (λ at. OnOk c.put_at-done.result (PutBehind c.self.inside.parts.store.place at c.args.bytes.now (g.D.Disk.state c.self.inside.parts.store.disk) (g.D.Disk.state c.put_at-done.new.self.disk))) (at_is g c)
-    (c.put_at-done.ensures.put k)
+    → OnOk c.put_at-done.result (PutBehind c.self.inside.parts.store.place (place g c) c.args.bytes.now (g.D.Disk.state c.self.inside.parts.store.disk) (g.D.Disk.state c.put_at-done.new.self.disk))
+put_to g c k = c.put_at-done.ensures.put k
 
 walked : (g : given.Over) (c : goal.After-answer_of g) → g.D.Disk.keeps → Began g.J.Naming.formatted g.J.Naming.before c.self.inside.parts.whole.known.opened
     → Walks t414 device_areas c.self.inside.parts.whole.known.world
@@ -65,32 +73,31 @@ walked g c k began =
     let a = c.put_at-done in
     let s : State = g.D.Disk.state p.store.disk in
     let new : State = g.D.Disk.state a.new.self.disk in
-    let at = piece_place p.topology c.args.node c.args.piece in
+    let at = place g c in
     let K = c.self.invariant.3 in
     let o = opens g.J.Naming.formatted w (K.reached k began) in
     piece_walks w s new p.store.place (resting g c) (K.disk k) o.0 o.1 (other_gate p.store.place + 1 + at) c.args.bytes.now
-    (subst (λ n. IsWithin (device_areas.spare s.now.bytes) (other_gate p.store.place + 1 + n, length c.args.bytes.now)) (at_is g c)
-    (a.ensures.asked k (unbroken g c) o.0 (subst (λ (m : Moment). verdict m.bytes ≡ Ok o.0) (K.disk k) o.1)))
+    (a.ensures.asked k (unbroken g c) o.0 (subst (λ (m : Moment). verdict m.bytes ≡ Ok o.0) (K.disk k) o.1))
     a.result a.new.self.broken (g.D.Disk.failures_of p.store.disk) (g.D.Disk.failures_of a.new.self.disk) (answered g c)
     (on_ok a.result (PutBehind p.store.place at c.args.bytes.now s new) (Called (put_calls ((other_gate p.store.place + 1 + at, c.args.bytes.now) ∷ [])) s new) (λ P. P.called) (put_to g c k))
-    (subst (λ n. OnErr a.result (Broke (put_calls ((other_gate p.store.place + 1 + n, c.args.bytes.now) ∷ [])) s new)) (at_is g c) (a.ensures.broke k (unbroken g c)))
+    (a.ensures.broke k (unbroken g c))
 
-inside : (g : given.Over) (c : goal.After-answer_of g) → piece_place c.self.inside.parts.topology c.args.node c.args.piece + piece_length c.args.piece < c.self.inside.parts.store.place.areas.length
+inside : (g : given.Over) (c : goal.After-answer_of g) → place g c + length c.args.bytes.now < c.self.inside.parts.store.place.areas.length
 inside g c =
     let p = c.self.inside.parts in
-    piece_inside p.topology p.store.place.areas.length c.args.node c.args.piece c.self.invariant.4.roomy
-    (subst (λ (v : Flushing). c.args.node < length v.topology.pages) (sym c.self.view_is) c.requires.node)
-    (subst (λ (v : Flushing). c.args.piece ≤ get_or v.topology.pages c.args.node 0) (sym c.self.view_is) c.requires.piece)
+    let ends = image_inside p.topology p.store.place.areas.length c.args.node c.self.invariant.4.roomy (there g c) in
+    let begin = begins g c in
+    let fits = within g c in
+    omega (arith, ends, begin, fits)
 
 pub put_at-done-requires-clause-inside : goal.put_at-done-requires-clause-inside
 put_at-done-requires-clause-inside g c =
     let p = c.self.inside.parts in
-    let fits = piece_inside p.topology p.store.place.areas.length c.args.node c.args.piece c.self.invariant.4.roomy
-    (subst (λ (v : Flushing). c.args.node < length v.topology.pages) (sym c.self.view_is) c.requires.node)
-    (subst (λ (v : Flushing). c.args.piece ≤ get_or v.topology.pages c.args.node 0) (sym c.self.view_is) c.requires.piece) in
-    let is = place_from p.topology c.args.node c.args.piece c.args.image c.place_in_image.result
-    (subst (λ (v : Flushing). c.args.image ≡ piece_place v.topology c.args.node 0) (sym c.self.view_is) c.requires.image) c.place_in_image.ensures.value in
-    omega (arith, fits, is, c.requires.whole)
+    let there = subst (λ (v : Flushing). c.args.node < length v.topology.pages) (sym c.self.view_is) c.requires.node in
+    let ends = image_inside p.topology p.store.place.areas.length c.args.node c.self.invariant.4.roomy there in
+    let begin = subst (λ (v : Flushing). c.args.image ≡ piece_place v.topology c.args.node 0) (sym c.self.view_is) c.requires.image in
+    let fits = subst (λ (v : Flushing). c.args.inner + length c.args.bytes.now ≤ image_length (get_or v.topology.pages c.args.node 0)) (sym c.self.view_is) c.requires.within in
+    omega (arith, ends, begin, fits)
 
 pub tell_where-requires-clause-whole : goal.tell_where-requires-clause-whole
 tell_where-requires-clause-whole g c =
@@ -113,16 +120,16 @@ invariant_of-self g c =
       subst (λ (k : Known). KeepsCopy g.D.Disk.keeps k.world.net new a.new.self.place a.new.self.broken p.topology p.progress) (sym c.of-parts.ensures)
           (subst (λ net. KeepsCopy g.D.Disk.keeps net new a.new.self.place a.new.self.broken p.topology p.progress) (sym (put_net a.new.self.broken p.whole.known.world new.now))
           (put_copies g.D.Disk.keeps p.whole.known.world.net new p.store.place a.new.self.place p.topology p.progress a.result a.new.self.broken (g.D.Disk.failures_of p.store.disk) (g.D.Disk.failures_of a.new.self.disk) c.self.invariant.4.roomy (answered g c) a.ensures.place
-          (λ k. on_ok a.result (PutBehind p.store.place (piece_place p.topology c.args.node c.args.piece) c.args.bytes.now s new) (OtherIsClosed p.store.place new) (λ P. P.closed) (put_to g c k))
-          (λ k. on_ok a.result (PutBehind p.store.place (piece_place p.topology c.args.node c.args.piece) c.args.bytes.now s new) ((i : ℕ) → i < length p.topology.pages → is_out p.progress i ≡ true → IsPartOut p.topology p.whole.known.world.net (content_beside p.store.place new) i (get_or p.topology.pages i 0))
-          (λ P. piece_images p.topology p.whole.known.world.net p.store.place s new c.args.node c.args.piece c.args.bytes.now p.progress (omega (arith, p.store.whole, g.met.D.Disk.whole k p.store.disk)) c.self.invariant.4.roomy
-          (subst (λ (v : Flushing). c.args.node < length v.topology.pages) (sym c.self.view_is) c.requires.node) (subst (λ (v : Flushing). c.args.piece ≤ get_or v.topology.pages c.args.node 0) (sym c.self.view_is) c.requires.piece)
-          c.requires.whole (subst (λ (v : Flushing). is_out v.progress c.args.node ≡ false) (sym c.self.view_is) c.requires.free) P.called (c.self.invariant.4.images k (unbroken g c))) (put_to g c k)))),
+          (λ k. on_ok a.result (PutBehind p.store.place (place g c) c.args.bytes.now s new) (OtherIsClosed p.store.place new) (λ P. P.closed) (put_to g c k))
+          (λ k. on_ok a.result (PutBehind p.store.place (place g c) c.args.bytes.now s new) ((i : ℕ) → i < length p.topology.pages → is_out p.progress i ≡ true → IsPartOut p.topology p.whole.known.world.net (content_beside p.store.place new) i (get_or p.topology.pages i 0))
+          (λ P. piece_images p.topology p.whole.known.world.net p.store.place s new c.args.node (place g c) c.args.bytes.now p.progress (omega (arith, p.store.whole, g.met.D.Disk.whole k p.store.disk)) c.self.invariant.4.roomy
+          (there g c) (omega (arith, begins g c)) (omega (arith, begins g c, within g c))
+          (subst (λ (v : Flushing). is_out v.progress c.args.node ≡ false) (sym c.self.view_is) c.requires.free) P.called (c.self.invariant.4.images k (unbroken g c))) (put_to g c k)))),
       subst (λ (k : Known). IsOfDevice g.D.Disk.keeps g.J.Naming.room k.world new a.new.self.place a.new.self.broken p.topology) (sym c.of-parts.ensures)
           (put_device g.D.Disk.keeps g.J.Naming.room p.whole.known.world s new p.store.place a.new.self.place p.topology a.result a.new.self.broken (g.D.Disk.failures_of p.store.disk) (g.D.Disk.failures_of a.new.self.disk)
           (subst (λ broken. IsOfDevice g.D.Disk.keeps g.J.Naming.room p.whole.known.world s p.store.place broken p.topology) (unbroken g c) c.self.invariant.5) (answered g c) a.ensures.place
-          (λ k. on_ok a.result (PutBehind p.store.place (piece_place p.topology c.args.node c.args.piece) c.args.bytes.now s new) (HeadSays p.topology p.store.place.areas new.now.bytes)
-          (λ P. piece_head p.store.place (piece_place p.topology c.args.node c.args.piece) c.args.bytes.now s new p.topology (omega (arith, p.store.whole, g.met.D.Disk.whole k p.store.disk)) (omega (arith, inside g c, c.requires.whole)) P.called
+          (λ k. on_ok a.result (PutBehind p.store.place (place g c) c.args.bytes.now s new) (HeadSays p.topology p.store.place.areas new.now.bytes)
+          (λ P. piece_head p.store.place (place g c) c.args.bytes.now s new p.topology (omega (arith, p.store.whole, g.met.D.Disk.whole k p.store.disk)) (inside g c) P.called
           (c.self.invariant.5.head k (unbroken g c))) (put_to g c k))),
       subst (λ (k : Known). g.J.Naming.first ≤ k.world.stored) (sym c.of-parts.ensures) (omega (arith, put_stored a.new.self.broken p.whole.known.world new.now, c.self.invariant.6)),
       subst (λ (t : Told). t.numbered_from ≤ c.of-parts.result.known.world.stored) (sym c.tell_where.ensures.key)
@@ -197,8 +204,8 @@ pub returns-clause-room : goal.returns-clause-room
 returns-clause-room g c k =
     let p = c.self.inside.parts in
     let s : State = g.D.Disk.state p.store.disk in
-    subst (λ (v : Flushing). piece_place v.topology c.args.node c.args.piece + piece_length c.args.piece ≤ length (content_beside v.place v.state)) c.self.view_is
-    (piece_room p.store.place s (piece_place p.topology c.args.node c.args.piece + piece_length c.args.piece) (omega (arith, p.store.whole, g.met.D.Disk.whole k p.store.disk)) (inside g c))
+    subst (λ (v : Flushing). place g c + length c.args.bytes.now ≤ length (content_beside v.place v.state)) c.self.view_is
+    (piece_room p.store.place s (place g c + length c.args.bytes.now) (omega (arith, p.store.whole, g.met.D.Disk.whole k p.store.disk)) (inside g c))
 
 pub returns-clause-content : goal.returns-clause-content
 returns-clause-content g c k =
@@ -206,9 +213,9 @@ returns-clause-content g c k =
     let a = c.put_at-done in
     let s : State = g.D.Disk.state p.store.disk in
     let new : State = g.D.Disk.state a.new.self.disk in
-    let at = piece_place p.topology c.args.node c.args.piece in
-    subst (λ (v : Flushing). IfOk c.answer_of.result (λ done. content_beside a.new.self.place new ≡ written (content_beside v.place v.state) (piece_place v.topology c.args.node c.args.piece) c.args.bytes.now)) c.self.view_is
+    let at = place g c in
+    subst (λ (v : Flushing). IfOk c.answer_of.result (λ done. content_beside a.new.self.place new ≡ written (content_beside v.place v.state) at c.args.bytes.now)) c.self.view_is
     (if_answered a.result c.answer_of.result c.answer_of.ensures (content_beside a.new.self.place new ≡ written (content_beside p.store.place s) at c.args.bytes.now)
     (on_ok a.result (PutBehind p.store.place at c.args.bytes.now s new) (content_beside a.new.self.place new ≡ written (content_beside p.store.place s) at c.args.bytes.now)
     (λ P. ap (λ (q : Place). content_beside q new) a.ensures.place
-    ∙ put_content p.store.place at c.args.bytes.now s new (omega (arith, p.store.whole, g.met.D.Disk.whole k p.store.disk)) (omega (arith, inside g c, c.requires.whole)) P.called) (put_to g c k)))
+    ∙ put_content p.store.place at c.args.bytes.now s new (omega (arith, p.store.whole, g.met.D.Disk.whole k p.store.disk)) (inside g c) P.called) (put_to g c k)))
