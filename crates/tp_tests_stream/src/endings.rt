@@ -159,17 +159,29 @@ const GOES_ON: Row = Row {
     ..ROW
 };
 
-/// One that is to end once a node has halted.
+/// One that is to end once a node has halted, and not where nothing is left to do.
 const HALTS_AT_ONCE: Row = Row {
     stop_on_halt: true,
+    until_quiet: false,
+    turns: Some(300),
     why: Ending::Halted,
     ..GOES_ON
+};
+
+/// One that is to end where nothing is left to do, too.
+const HALTS_OR_RESTS: Row = Row {
+    until_quiet: true,
+    ..HALTS_AT_ONCE
 };
 
 /// A node that has halted before ends the next stream too that is to end so, and is told again.
 #[test]
 fn a_node_that_halted_before_ends_a_stream(rt: HostRuntime) -> Result<(), Fail> {
-    let steps = [step_of(&GOES_ON), step_of(&HALTS_AT_ONCE)];
+    let steps = [
+        step_of(&GOES_ON),
+        step_of(&HALTS_AT_ONCE),
+        step_of(&HALTS_OR_RESTS),
+    ];
     assert!(rt; are_steps_on(&rt, fresh(HALTS), &steps)?);
     Ok(())
 }

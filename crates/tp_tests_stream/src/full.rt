@@ -83,9 +83,13 @@ const FULL: Fresh = Fresh {
     area: 17_546,
 };
 
-/// No byte of an input finds any room: that is said.
+/// No byte of an input finds any room: that is said, long before these turns were made.
 const REFUSED: Step = Step {
     asked: Asked {
+        task: Task {
+            turns: Some(20_000),
+            ..QUIET
+        },
         input: 7,
         most: 7,
         ..NO_INPUT
