@@ -159,11 +159,11 @@ const GOES_ON: Row = Row {
     ..ROW
 };
 
-/// One that is to end once a node has halted, and not where nothing is left to do.
+/// One that is to end once a node has halted, and before any turn.
 const HALTS_AT_ONCE: Row = Row {
     stop_on_halt: true,
     until_quiet: false,
-    turns: Some(300),
+    turns: Some(0),
     why: Ending::Halted,
     ..GOES_ON
 };
