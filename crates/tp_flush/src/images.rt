@@ -28,8 +28,8 @@ use tp_shared::{Gate, Look, Naming, Shared};
 /// a microsecond, where a turn of 1,024 steps takes four.
 const PAGES_A_HOLD: usize = 4;
 
-/// How many go out by one call of the device, at most.
-const PAGES_A_CALL: usize = 16;
+/// How many go out by one call of the device, at most: those of four holds.
+const PAGES_A_CALL: usize = 4 * PAGES_A_HOLD;
 
 /// The bytes of pages, one behind the other.
 fn joined(pages: &[[u8; PAGE_BYTES]]) -> &[u8]
