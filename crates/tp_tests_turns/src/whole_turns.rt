@@ -308,6 +308,19 @@ const NO_FRAME: Story<'static> = Story {
     cut: None,
 };
 
+/// So it does where each take and each run is an entry of its own.
+const NO_FRAME_APART: Story<'static> = Story {
+    steps: [
+        Some((Step::Node(1, 16), 0, 1, None, None)),
+        Some((Step::Node(0, 16), 0, 2, None, None)),
+        Some((Step::Begin, 0, 2, Some(8), None)),
+        Some((Step::Node(1, 16), 0, 2, Some(4), Some(8))),
+        Some((Step::Node(0, 16), 0, 2, Some(3), None)),
+        Some((Step::Node(1, 16), 0, 2, Some(3), None)),
+    ],
+    ..NO_FRAME
+};
+
 #[test]
 fn turns_go_as_they_were_told(rt: HostRuntime) -> Result<(), Fail> {
     for story in [
@@ -320,6 +333,7 @@ fn turns_go_as_they_were_told(rt: HostRuntime) -> Result<(), Fail> {
         LOWER_LINK_FIRST,
         LINK_BY_LINK,
         NO_FRAME,
+        NO_FRAME_APART,
     ] {
         assert!(rt; plays(rt.alloc(), &story)?);
     }
