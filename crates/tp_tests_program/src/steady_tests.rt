@@ -340,7 +340,7 @@ fn is_tried<R: AllocGlobal + Threads + Sync>(
     changing.rewind(count.wrapping_sub(usize::from(times)), Some(pace));
     let answer = asked(rt, changing, reader);
     if is_read {
-        is_alike(&answer, &still)
+        answer.status == 0 && is_alike(&answer, &still)
     } else {
         answer.is(1, b"", b"tpnet: Busy\n")
     }
