@@ -1,5 +1,5 @@
 -- What a turn does with images.
-use Rattle.std.proofs.Common.{◌≡◌, inl, inr, ℕ, ◌<◌, Bool, true, false, List, [], ◌∷◌, ◌++◌, length, get_or, refl, sym, ap, subst, ◌∙◌, arith, get_or-set_other}
+use Rattle.std.proofs.Common.{◌≡◌, ◌⊎◌, inl, inr, ℕ, ◌<◌, Bool, true, false, List, [], ◌∷◌, ◌++◌, length, get_or, Option, Some, refl, sym, ap, subst, ◌∙◌, arith, get_or-set_other}
 use Rattle.std.proofs.lemmas.Bool.{true≢false}
 use Rattle.std.proofs.lemmas.Bool.Decides.{eqb_tells}
 use Rattle.tp_model.specs.Topology.{Topology}
@@ -11,7 +11,7 @@ use Rattle.tp_flush.specs.declared.imaged.Images.TheVariants.{NoSnapshot, Out, E
 use Rattle.tp_flush.specs.declared.progress.Progress.{Progress}
 use Rattle.tp_flush.specs.Progress.{is_out, with_out}
 use Rattle.tp_flush.specs.Flushing.{Flushing}
-use Rattle.tp_flush.specs.Images.{EndsSo, HasNextImage, Imaged, ImagedIn, NodeImaged, StayOut}
+use Rattle.tp_flush.specs.Images.{EndsSo, HasNextImage, Imaged, ImagedIn, NodeImaged, OneWentOut, StayOut}
 
 -- ## Images that are out stay out
 

@@ -14,7 +14,6 @@ mod Closed
 mod Gone
 mod Devices
 mod Standing
-mod Holds
 mod Beside
 pub mod Settling
 pub mod All

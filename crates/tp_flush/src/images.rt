@@ -1,6 +1,7 @@
-//! The flusher copies the frozen images of a snapshot, some pages a hold of the locks, and the pages of several holds by one call of the device.
+//! The flusher copies the frozen images of a snapshot, some pages a hold of the locks.
 
 ghost use Rattle.std.specs.Prelude.{◌≡◌, ◌+◌, ◌*◌, ◌<◌, ◌≤◌, ℕ, [], true, false, flat_map, length, get_or, IfOk};
+ghost use Rattle.arrayvec.specs.ArrayVec.{array_vec_len};
 ghost use Rattle.tp_model.specs.declared.limits.TheConstants.{MAX_NODES, MAX_PAGES, PAGE_BYTES};
 ghost use Rattle.tp_model.specs.WriteOrder.{Resting};
 ghost use Rattle.tp_area.specs.Tails.{content_beside};
@@ -9,14 +10,15 @@ ghost use Rattle.tp_flush.specs.Copying.{HasRecorded, IsPartOut};
 ghost use Rattle.tp_flush.specs.Progress.{is_out};
 ghost use Rattle.tp_flush.specs.Flushing.{FlushedOn};
 ghost use Rattle.tp_flush.specs.Images.{Imaged, NodeImaged, StayOut};
-ghost use Rattle.tp_shared.specs.Pieces.{AreFrozenPages};
-ghost use Rattle.tp_flush.specs.Ends.{NothingStored, Tried};
+ghost use Rattle.tp_flush.specs.Ends.{Tried};
+ghost use Rattle.tp_flush.specs.declared.images.TheConstants.{PAGES_A_HOLD};
 
 use crate::fault::FlushFault;
 use crate::flusher::Flusher;
 use crate::imaged::{Image, Images};
 use crate::places::place_in_image;
 use crate::turn::FLUSHER;
+use arrayvec::ArrayVec;
 use std::sync::Wait;
 use tp_area::FIELDS_BYTES;
 use tp_disk::Disk;
@@ -28,16 +30,21 @@ use tp_shared::{Gate, Look, Naming, Shared};
 /// a microsecond, where a turn of 1,024 steps takes four.
 const PAGES_A_HOLD: usize = 4;
 
-/// How many go out by one call of the device, at most: those of four holds.
-const PAGES_A_CALL: usize = 4 * PAGES_A_HOLD;
+/// How many bytes they have, at most.
+const BYTES_A_HOLD: usize = PAGES_A_HOLD * PAGE_BYTES;
 
-/// The bytes of pages, one behind the other.
-fn joined(pages: &[[u8; PAGE_BYTES]]) -> &[u8]
-    ensures bytes { result.now ≡ flat_map (λ page. page) pages.now }
-    ensures len { length result.now ≡ PAGE_BYTES * length pages.now }
+/// Pages, one behind the other.
+fn joined(pages: &[[u8; PAGE_BYTES]]) -> ArrayVec<u8, BYTES_A_HOLD>
+    requires { length pages.now ≤ PAGES_A_HOLD }
+    ensures bytes { result.items ≡ flat_map (λ page. page) pages.now }
+    ensures len { array_vec_len result ≡ PAGE_BYTES * length pages.now }
     ensures each { (k : ℕ) → k < length pages.now → length (get_or pages.now k []) ≡ PAGE_BYTES }
 {
-    pages.as_flattened()
+    let mut joined = ArrayVec::new();
+    for page in pages {
+        let _all_fit = joined.try_extend_from_slice(page);
+    }
+    joined
 }
 
 impl<J: Naming, D: Disk> Flusher<J, D> {
@@ -95,42 +102,8 @@ impl<J: Naming, D: Disk> Flusher<J, D> {
         Ok(true)
     }
 
-    /// Reads pages of the frozen image of `node` from `first` on, as many as find room in `out`, some of them a hold of the node's lock. False
-    /// where the node isn't frozen, or has fewer.
-    fn read_holds<R: Wait, G: Gate>(
-        &mut self,
-        rt: &R,
-        shared: &Shared<J>,
-        gate: &G,
-        node: u8,
-        first: usize,
-        out: &mut [[u8; PAGE_BYTES]],
-    ) -> bool
-        requires rests { self.old.world.at ≡ Resting }
-        requires there { node < length J.start.nodes }
-        requires few { first + length out.old ≤ MAX_PAGES }
-        ensures went { NothingStored self.old self.new }
-        ensures same { (self.new.state ≡ self.old.state) × (self.new.progress ≡ self.old.progress) }
-        ensures pages { result ≡ true → AreFrozenPages self.new.world.net node first (length out.old) out.new }
-        ensures goes { FlushedOn D.keeps J.formatted J.before self.old self.new }
-    {
-        self.known();
-        let count = out.len();
-        let mut read = 0;
-        while read < count {
-            let behind = count.min(read + PAGES_A_HOLD);
-            let pages = &mut out[read..behind];
-            if self.read_pages(rt, shared, node, first + read, pages) < pages.len() {
-                return false;
-            }
-            gate.at(FLUSHER, PAGE_COPIED);
-            read = behind;
-        }
-        true
-    }
-
-    /// Copies pages of a frozen image, which begins at `image`, from `first` on, as many as find room in `pages`, which they go by way of: by
-    /// one call of the device. False where the node isn't frozen, or has fewer.
+    /// Copies pages of a frozen image, which begins at `image`, from `first` on: as many as find room in `pages`, which they go by way of. They
+    /// are read in one hold of the node's lock, and put by one call of the device. False where the node isn't frozen, or has fewer.
     fn copy_pages<R: Wait, G: Gate>(
         &mut self,
         rt: &R,
@@ -148,7 +121,7 @@ impl<J: Naming, D: Disk> Flusher<J, D> {
         requires there { node < length J.start.nodes }
         requires room { first + length pages.old ≤ get_or self.old.topology.pages node 0 }
         requires few { first + length pages.old ≤ MAX_PAGES }
-        requires some { 0 < length pages.old }
+        requires some { (0 < length pages.old) × (length pages.old ≤ PAGES_A_HOLD) }
         requires free { is_out self.old.progress node ≡ false }
         requires stands { D.keeps → IsPartOut self.old.topology self.old.world.net (content_beside self.old.place self.old.state) node first }
         ensures tried { Tried result self.old self.new }
@@ -156,11 +129,13 @@ impl<J: Naming, D: Disk> Flusher<J, D> {
         ensures stands { D.keeps → IfOk result (λ found. found ≡ true → IsPartOut self.new.topology self.new.world.net (content_beside self.new.place self.new.state) node (first + length pages.old)) }
         ensures goes { FlushedOn D.keeps J.formatted J.before self.old self.new }
     {
-        if !self.read_holds(rt, shared, gate, node, first, pages) {
+        if self.read_pages(rt, shared, node, first, pages) < pages.len() {
             return Ok(false);
         }
+        gate.at(FLUSHER, PAGE_COPIED);
         let inner = place_in_image(first + 1);
-        self.put(rt, shared, node as usize, image, inner, joined(pages))?;
+        let bytes = joined(pages);
+        self.put(rt, shared, node as usize, image, inner, bytes.as_slice())?;
         Ok(true)
     }
 
@@ -172,7 +147,7 @@ impl<J: Naming, D: Disk> Flusher<J, D> {
         gate: &G,
         node: u8,
         image: u64,
-        pages: &mut [[u8; PAGE_BYTES]; PAGES_A_CALL],
+        pages: &mut [[u8; PAGE_BYTES]; PAGES_A_HOLD],
     ) -> Result<bool, FlushFault>
         requires rests { self.old.world.at ≡ Resting }
         requires cleared { self.old.progress.cleared ≡ true }
@@ -192,7 +167,7 @@ impl<J: Naming, D: Disk> Flusher<J, D> {
         let count = self.pages_of(node as usize);
         let mut done = 0;
         while done < count {
-            let next = (count - done).min(PAGES_A_CALL);
+            let next = (count - done).min(PAGES_A_HOLD);
             if !self.copy_pages(rt, shared, gate, node, image, done, &mut pages[..next])? {
                 return Ok(false);
             }
@@ -211,7 +186,7 @@ impl<J: Naming, D: Disk> Flusher<J, D> {
         look: &Look,
         node: u8,
         image: u64,
-        pages: &mut [[u8; PAGE_BYTES]; PAGES_A_CALL],
+        pages: &mut [[u8; PAGE_BYTES]; PAGES_A_HOLD],
     ) -> Result<Image, FlushFault>
         requires rests { self.old.world.at ≡ Resting }
         requires cleared { self.old.progress.cleared ≡ true }
@@ -265,7 +240,7 @@ impl<J: Naming, D: Disk> Flusher<J, D> {
         let count = self.nodes().min(shared.nodes() as usize);
         let mut image = FIELDS_BYTES as u64;
         let mut left = self.parts.pages_a_turn;
-        let mut pages = [[0; PAGE_BYTES]; PAGES_A_CALL];
+        let mut pages = [[0; PAGE_BYTES]; PAGES_A_HOLD];
         for node in 0..count {
             let done = self.copy_node(rt, shared, gate, look, node as u8, image, &mut pages)?;
             match done.left(node as u8, left) {

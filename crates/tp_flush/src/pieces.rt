@@ -1,4 +1,4 @@
-//! The flusher reads a frozen image under its node's lock, and writes it into the other area.
+//! The flusher writes a frozen image into the other area, bytes by bytes.
 
 ghost use Rattle.std.specs.Prelude.{◌≡◌, ◌+◌, ◌<◌, ◌≤◌, true, false, length, get_or, IfOk};
 ghost use Rattle.tp_area.specs.Pieces.{piece_place};
