@@ -1,7 +1,6 @@
 //! The flusher copies the frozen images of a snapshot, some pages a hold of the locks.
 
 ghost use Rattle.std.specs.Prelude.{◌≡◌, ◌+◌, ◌*◌, ◌<◌, ◌≤◌, ℕ, [], true, false, flat_map, length, get_or, IfOk};
-ghost use Rattle.arrayvec.specs.ArrayVec.{array_vec_len};
 ghost use Rattle.tp_model.specs.declared.limits.TheConstants.{MAX_NODES, MAX_PAGES, PAGE_BYTES};
 ghost use Rattle.tp_model.specs.WriteOrder.{Resting};
 ghost use Rattle.tp_area.specs.Tails.{content_beside};
@@ -18,7 +17,6 @@ use crate::flusher::Flusher;
 use crate::imaged::{Image, Images};
 use crate::places::place_in_image;
 use crate::turn::FLUSHER;
-use arrayvec::ArrayVec;
 use std::sync::Wait;
 use tp_area::FIELDS_BYTES;
 use tp_disk::Disk;
@@ -30,21 +28,13 @@ use tp_shared::{Gate, Look, Naming, Shared};
 /// a microsecond, where a turn of 1,024 steps takes four.
 const PAGES_A_HOLD: usize = 4;
 
-/// How many bytes they have, at most.
-const BYTES_A_HOLD: usize = PAGES_A_HOLD * PAGE_BYTES;
-
-/// Pages, one behind the other.
-fn joined(pages: &[[u8; PAGE_BYTES]]) -> ArrayVec<u8, BYTES_A_HOLD>
-    requires { length pages.now ≤ PAGES_A_HOLD }
-    ensures bytes { result.items ≡ flat_map (λ page. page) pages.now }
-    ensures len { array_vec_len result ≡ PAGE_BYTES * length pages.now }
+/// The bytes of pages, which lie one behind the other.
+fn joined(pages: &[[u8; PAGE_BYTES]]) -> &[u8]
+    ensures bytes { result.now ≡ flat_map (λ page. page) pages.now }
+    ensures len { length result.now ≡ PAGE_BYTES * length pages.now }
     ensures each { (k : ℕ) → k < length pages.now → length (get_or pages.now k []) ≡ PAGE_BYTES }
 {
-    let mut joined = ArrayVec::new();
-    for page in pages {
-        let _all_fit = joined.try_extend_from_slice(page);
-    }
-    joined
+    pages.as_flattened()
 }
 
 impl<J: Naming, D: Disk> Flusher<J, D> {
@@ -134,8 +124,7 @@ impl<J: Naming, D: Disk> Flusher<J, D> {
         }
         gate.at(FLUSHER, PAGE_COPIED);
         let inner = place_in_image(first + 1);
-        let bytes = joined(pages);
-        self.put(rt, shared, node as usize, image, inner, bytes.as_slice())?;
+        self.put(rt, shared, node as usize, image, inner, joined(pages))?;
         Ok(true)
     }
 

@@ -1,4 +1,4 @@
-//! The flusher writes a frozen image into the other area, bytes by bytes.
+//! The flusher writes a frozen image into the other area, a run of its bytes at a time.
 
 ghost use Rattle.std.specs.Prelude.{◌≡◌, ◌+◌, ◌<◌, ◌≤◌, true, false, length, get_or, IfOk};
 ghost use Rattle.tp_area.specs.Pieces.{piece_place};

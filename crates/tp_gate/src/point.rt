@@ -15,7 +15,7 @@ pub const COMMITTED: u8 = 4;
 /// The flusher has copied the entries that it will append. No lock is held.
 pub const BACKLOG_COPIED: u8 = 5;
 
-/// The flusher has copied a page of a frozen node. No lock is held.
+/// The flusher has read pages of a frozen node, which it will put. No lock is held.
 pub const PAGE_COPIED: u8 = 6;
 
 /// A piece of a recovery begins: none of its entries is replayed yet. The process is the piece's first node.

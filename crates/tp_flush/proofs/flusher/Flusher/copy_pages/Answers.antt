@@ -45,12 +45,12 @@ returns-clause-stands g c k = λ found.
     let inner = c.place_in_image-inner.ensures.value in
     let next : first + 1 ≡ suc first = omega arith in
     omega (arith, begins, inner, ap place_in_image next) in
-    let bytes : c.as_slice.result.now ≡ flat_map (λ (page : List ℕ). page) pages = c.as_slice.ensures.value ∙ c.joined-bytes.ensures.bytes in
-    let many : length c.as_slice.result.now ≡ PAGE_BYTES * length pages = ap length c.as_slice.ensures.value ∙ c.joined-bytes.ensures.len in
+    let bytes : c.joined.result.now ≡ flat_map (λ (page : List ℕ). page) pages = c.joined.ensures.bytes in
+    let many : length c.joined.result.now ≡ PAGE_BYTES * length pages = c.joined.ensures.len in
     let all : length pages ≡ length c.args.pages.now = search rules in
     let stood = part_looked c.args.self.now b R.went R.same.0 R.goes.process.topology c.args.node first (c.requires.stands k) in
-    let out = pages_out b.topology b.world.net content c.args.node first pages stood (λ i low. R.pages i (omega (arith, low, all))) c.joined-bytes.ensures.each (omega (arith, E.room k, at, many)) in
+    let out = pages_out b.topology b.world.net content c.args.node first pages stood (λ i low. R.pages i (omega (arith, low, all))) c.joined.ensures.each (omega (arith, E.room k, at, many)) in
     part_put b d _ c.args.node (first + length c.args.pages.now) (c.in_ok-put.ensures.content k) E.same.0 E.goes.process.topology
-    (subst (λ n. IsPartOut b.topology b.world.net (written content n c.as_slice.result.now) c.args.node (first + length c.args.pages.now)) (sym at)
+    (subst (λ n. IsPartOut b.topology b.world.net (written content n c.joined.result.now) c.args.node (first + length c.args.pages.now)) (sym at)
     (subst (λ xs. IsPartOut b.topology b.world.net (written content (piece_place b.topology c.args.node (suc first)) xs) c.args.node (first + length c.args.pages.now)) (sym bytes)
     (subst (λ n. IsPartOut b.topology b.world.net (written content (piece_place b.topology c.args.node (suc first)) (flat_map (λ page. page) pages)) c.args.node (first + n)) all out)))
