@@ -10,6 +10,7 @@ ghost use Rattle.tp_stream.specs.Streamed.{CameBegun, CameOfFlush};
 
 use crate::fault::StreamFault;
 use crate::flushing::flush;
+use crate::lent::Lent;
 use crate::pace::Pace;
 use crate::shift::Shift;
 use crate::task::Task;
@@ -43,8 +44,26 @@ fn work<J: Naming, R: Wait>(rt: &R, net: &Net<J, NoGate>, shift: &Shift, seat: &
     }
 }
 
-/// Lets a worker at each seat make turns until none is left, each in a thread of its own where one can be made, and then tells the
-/// flusher.
+/// Makes turns in each shift, until no more will be opened.
+fn stay<J: Naming, R: Wait>(rt: &R, net: &Net<J, NoGate>, shift: &Shift, seat: &mut Seat<J>)
+    requires queue { seat.old.hand.of ≡ Some net.now.queue }
+    ensures queue { seat.new.hand.of ≡ Some net.now.queue }
+{
+    shift.crew.come();
+    let mut seen = 0;
+    for _ in rt.forever() {
+        let Some(opened) = shift.crew.wait(rt, seen) else {
+            return;
+        };
+        seen = opened;
+        shift.crew.enter();
+        work(rt, net, shift, seat);
+        shift.leave();
+    }
+}
+
+/// Lets a worker at each seat make turns in each shift, until no more will be opened, each in a thread of its own where one can be made. One that has
+/// none comes only then, so no shift is opened.
 fn work_all<J: Naming + Send + Sync, R: Threads + Wait + Sync>(
     rt: &R,
     net: &Net<J, NoGate>,
@@ -62,73 +81,66 @@ fn work_all<J: Naming + Send + Sync, R: Threads + Wait + Sync>(
         &|_, seat: &mut Seat<J>|
             requires { seat.now.hand.of ≡ Some net.now.queue }
             ensures { seat.exit.now.hand.of ≡ Some net.entry.now.queue }
-        { work(rt, net, shift, seat) },
+        { stay(rt, net, shift, seat) },
     );
-    shift.end();
 }
 
-/// Makes the flusher's turns while workers make theirs, each once something was journalled, until they have ended or one is refused,
-/// which ends the shift.
+/// Does work in this thread while a worker at each seat stays, in threads of their own where some can be made; else they come behind it.
+/// The work has to say in the end that no more shifts will be opened.
+pub(crate) fn go_with_workers<
+    J: Naming + Send + Sync,
+    W: Lent<Back = B> + Drop,
+    R: Threads + Wait + Sync,
+    B,
+>(rt: &R, net: &Net<J, NoGate>, shift: &Shift, seats: Vec<Seat<J>>, work: W) -> B
+    requires seats { All (λ seat. seat.hand.of ≡ Some net.now.queue) seats.items }
+    requires begins { W.may_begin work }
+    ensures { W.gives work result }
+{
+    let ((), back) = join(
+        rt,
+        move ||
+            requires { All (λ seat. seat.hand.of ≡ Some net.now.queue) seats.items }
+        {
+            let mut seats = seats;
+            work_all(rt, net, shift, seats.as_mut_slice());
+        },
+        move || -> B
+            requires { W.may_begin work }
+            ensures { W.gives work result }
+        { work.go() },
+    );
+    back
+}
+
+/// Makes the flusher's turns while workers make theirs, each once something was journalled beyond the `before` entries, until the shift has
+/// ended or one is refused, which ends it.
 fn flush_beside<J: Naming, D: Disk, R: Wait>(
     rt: &R,
     alloc: Global,
     shared: &Shared<J>,
     shift: &Shift,
-    first: Flusher<J, D>,
-) -> (Flusher<J, D>, Result<(), StreamFault>)
-    ensures walks { D.keeps → Began J.formatted J.before first.opened → Walked first result.0 }
-    ensures process { IsSameProcess first result.0 }
-    ensures failures { first.world.at ≡ Resting → FailedWhere (answer_failed result.1) first result.0 }
-    ensures begun { IfErr result.1 CameOfFlush }
+    before: u64,
+    flusher: &mut Flusher<J, D>,
+) -> Result<(), StreamFault>
+    ensures walks { D.keeps → Began J.formatted J.before flusher.old.opened → Walked flusher.old flusher.new }
+    ensures process { IsSameProcess flusher.old flusher.new }
+    ensures failures { flusher.old.world.at ≡ Resting → FailedWhere (answer_failed result) flusher.old flusher.new }
+    ensures begun { IfErr result CameOfFlush }
 {
-    first.known();
-    let mut flusher = first;
-    let mut seen = 0;
+    flusher.known();
+    let mut seen = before;
     for _ in rt.forever() {
-        let Some(news) = shift.wait(rt, seen) else {
+        let Some(made) = shift.wait(rt, seen) else {
             break;
         };
-        seen = news;
-        if let Err(fault) = flush(rt, alloc, shared, &mut flusher) {
+        seen = made;
+        if let Err(fault) = flush(rt, alloc, shared, flusher) {
             shift.stop();
-            return (flusher, Err(fault));
+            return Err(fault);
         }
     }
-    (flusher, Ok(()))
-}
-
-/// A shift: workers make turns, and the flusher its own in a thread of its own meanwhile, where one can be made, and else behind them.
-fn make_shift<J: Naming + Send + Sync, D: Disk + Send + Drop, R: Threads + Wait + Sync>(
-    rt: &R,
-    alloc: Global,
-    net: &Net<J, NoGate>,
-    shift: &Shift,
-    seats: Vec<Seat<J>>,
-    flusher: Flusher<J, D>,
-) -> (Flusher<J, D>, Vec<Seat<J>>, Result<(), StreamFault>)
-    requires seats { All (λ seat. seat.hand.of ≡ Some net.now.queue) seats.items }
-    ensures walks { D.keeps → Began J.formatted J.before flusher.opened → Walked flusher result.0 }
-    ensures process { IsSameProcess flusher result.0 }
-    ensures failures { flusher.world.at ≡ Resting → FailedWhere (answer_failed result.2) flusher result.0 }
-    ensures begun { IfErr result.2 CameOfFlush }
-    ensures seats { All (λ seat. seat.hand.of ≡ Some net.now.queue) result.1.items }
-{
-    let shared = net.shared();
-    let ((flusher, flushed), seats) = join(
-        rt,
-        move || -> (Flusher<J, D>, Result<(), StreamFault>)
-            ensures { (D.keeps → Began J.formatted J.before flusher.opened → Walked flusher result.0) × IsSameProcess flusher result.0 × (flusher.world.at ≡ Resting → FailedWhere (answer_failed result.1) flusher result.0) × IfErr result.1 CameOfFlush }
-        { flush_beside(rt, alloc, shared, shift, flusher) },
-        move || -> Vec<Seat<J>>
-            requires { All (λ seat. seat.hand.of ≡ Some net.now.queue) seats.items }
-            ensures { All (λ seat. seat.hand.of ≡ Some net.entry.now.queue) result.items }
-        {
-            let mut seats = seats;
-            work_all(rt, net, shift, seats.as_mut_slice());
-            seats
-        },
-    );
-    (flusher, seats, flushed)
+    Ok(())
 }
 
 /// How many turns the journal has room for, and for a confirm a port behind them, under the book's lock: at most `most`.
@@ -150,11 +162,12 @@ fn most_of(task: Task, turns: &Turns, workers: u64) -> u64 {
     }
 }
 
-/// Takes the book's lock, and asks under it for a shift of at most `most` turns.
-fn shift_of<J: Naming, R: Wait>(rt: &R, shared: &Shared<J>, pace: Pace, most: u64) -> Shift {
+/// Takes the book's lock, and asks under it for how many turns it has room, at most `most`.
+fn turns_under<J: Naming, R: Wait>(rt: &R, shared: &Shared<J>, pace: Pace, most: u64) -> u64
+    ensures { result ≤ most }
+{
     let held = shared.book().lock(rt);
-    let turns = turns_in(&held, pace, most);
-    Shift::new(turns, 2 * (u64::from(shared.nodes()) + 1))
+    turns_in(&held, pace, most)
 }
 
 /// What comes of a shift: the fault of a flush, or why turns were refused.
@@ -176,34 +189,28 @@ fn outcome_of(
     }
 }
 
-/// Workers make turns until the journal may have no room for one more, they have made as many as they may, or nothing is left to do, and the
-/// flusher makes its own beside them.
-pub(crate) fn go_beside<J: Naming + Send + Sync, D: Disk + Send + Drop, R: Threads + Wait + Sync>(
+/// Workers, who have all come, make turns until the journal may have no room for one more, they have made as many as they may, or nothing is left
+/// to do, and the flusher makes its own beside them.
+pub(crate) fn go_beside<J: Naming, D: Disk, R: Wait>(
     rt: &R,
     alloc: Global,
-    net: &Net<J, NoGate>,
+    shared: &Shared<J>,
+    shift: &Shift,
     pace: Pace,
     turns: &mut Turns,
-    seats: Vec<Seat<J>>,
-    flusher: Flusher<J, D>,
-) -> (
-    Flusher<J, D>,
-    Vec<Seat<J>>,
-    Result<Option<Ending>, StreamFault>,
-)
-    requires seats { All (λ seat. seat.hand.of ≡ Some net.now.queue) seats.items }
-    ensures walks { D.keeps → Began J.formatted J.before flusher.opened → Walked flusher result.0 }
-    ensures process { IsSameProcess flusher result.0 }
+    flusher: &mut Flusher<J, D>,
+) -> Result<Option<Ending>, StreamFault>
+    ensures walks { D.keeps → Began J.formatted J.before flusher.old.opened → Walked flusher.old flusher.new }
+    ensures process { IsSameProcess flusher.old flusher.new }
     ensures whose { turns.new.whose ≡ turns.old.whose }
     ensures idle { turns.new.idle ≡ 0 }
-    ensures goes_on { IfOk result.2 (λ ended. ended ≡ None) }
-    ensures failures { flusher.world.at ≡ Resting → FailedWhere (answer_failed result.2) flusher result.0 }
-    ensures begun { IfErr result.2 CameBegun }
-    ensures seats { All (λ seat. seat.hand.of ≡ Some net.now.queue) result.1.items }
+    ensures goes_on { IfOk result (λ ended. ended ≡ None) }
+    ensures failures { flusher.old.world.at ≡ Resting → FailedWhere (answer_failed result) flusher.old flusher.new }
+    ensures begun { IfErr result CameBegun }
 {
-    let most = most_of(pace.task, turns, seats.len() as u64);
-    let shift = shift_of(rt, net.shared(), pace, most);
-    let (flusher, seats, flushed) = make_shift(rt, alloc, net, &shift, seats, flusher);
+    let most = most_of(pace.task, turns, u64::from(pace.workers));
+    let before = shift.open(turns_under(rt, shared, pace, most));
+    let flushed = flush_beside(rt, alloc, shared, shift, before, flusher);
     turns.add(shift.count(), shift.has_halted(), shift.is_idle());
-    (flusher, seats, outcome_of(flushed, &shift))
+    outcome_of(flushed, shift)
 }

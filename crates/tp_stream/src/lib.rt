@@ -3,10 +3,13 @@
 
 mod beginning;
 mod beside;
+mod crew;
 mod endings;
 mod fault;
 mod flushing;
 mod input;
+mod leading;
+mod lent;
 mod opening;
 mod output;
 mod pace;

@@ -18,10 +18,12 @@ use crate::beside::go_beside;
 use crate::endings::{are_over, ending, is_asked, may_wait};
 use crate::fault::StreamFault;
 use crate::flushing::{finish, flush};
+use crate::leading::lead;
 use crate::pace::Pace;
 use crate::pumping::{Pumped, can_confirm, pump, rest};
 use crate::rounds::round;
 use crate::settling::settle;
+use crate::shift::Shift;
 use crate::stopping::{find_halted, tell_stopped};
 use crate::telling::tell;
 use crate::turns::Turns;
@@ -36,10 +38,10 @@ use tp_work::Net;
 
 /// How a stream goes on: its turns, the slips of what they journalled, and those of what steps of its streams did.
 #[derive(Drop)]
-struct Going<J: Naming> {
-    turns: Turns,
-    seat: Seat<J>,
-    steps: Seat<J>,
+pub(crate) struct Going<J: Naming> {
+    pub(crate) turns: Turns,
+    pub(crate) seat: Seat<J>,
+    pub(crate) steps: Seat<J>,
 }
 
 /// Turns; or, where the journal has no room for one, or nothing is left to do but an input for which it has no room, a snapshot is brought
@@ -164,125 +166,84 @@ fn cycle<J: Naming, D: Disk, S: Sink, I: Source, L: Listener, P: Stop, R: Wait>(
     go_on(rt, alloc, shared, pace, going, flusher, streams, stop)
 }
 
-/// A cycle; and behind it, where it isn't over and there is more to do than a round did, workers make turns, with the flusher's beside them.
-fn lap<
-    J: Naming + Send + Sync,
-    D: Disk + Send + Drop,
-    S: Sink,
-    I: Source,
-    L: Listener,
-    P: Stop,
-    R: Threads + Wait + Sync,
->(
+/// A cycle; and behind it, where it isn't over, there is more to do than a round did, and all workers have come, a shift, with the flusher's turns
+/// beside it.
+fn lap<J: Naming, D: Disk, S: Sink, I: Source, L: Listener, P: Stop, R: Wait>(
     rt: &R,
     alloc: Global,
-    net: &Net<J, NoGate>,
+    shared: &Shared<J>,
+    shift: &Shift,
     pace: Pace,
     going: &mut Going<J>,
-    seats: Vec<tp_work::Seat<J>>,
-    flusher: Flusher<J, D>,
+    flusher: &mut Flusher<J, D>,
     streams: &mut Streams<S, I>,
     listener: &mut L,
     stop: &mut P,
-) -> (
-    Flusher<J, D>,
-    Vec<tp_work::Seat<J>>,
-    Result<Option<Ending>, StreamFault>,
-)
-    requires rested { HaveRested J.start going.old.turns.whose going.old.turns.idle }
-    requires seats { All (λ seat. seat.hand.of ≡ Some net.now.queue) seats.items }
-    ensures walks { D.keeps → Began J.formatted J.before flusher.opened → Walked flusher result.0 }
-    ensures process { IsSameProcess flusher result.0 }
-    ensures put { D.keeps → Began J.formatted J.before flusher.opened
-        → AllStepped J.formatted flusher result.0 streams.old.outputs.items streams.new.outputs.items }
-    ensures why { IfOk result.2 (λ ended. IfSome ended (IsWhyEnded J.start pace.task)) }
-    ensures inputs { IfOk result.2 (λ ended. IfSome ended (LeavesNoInput (list_all (λ i. is_over i.ended i.is_blocked) streams.new.inputs.items))) }
-    ensures looks { IfOk result.2 (LooksAtMostOnce pace.task (P.answers stop.old) (P.answers stop.new)) }
+) -> Result<Option<Ending>, StreamFault>
+    requires { HaveRested J.start going.old.turns.whose going.old.turns.idle }
+    ensures walks { D.keeps → Began J.formatted J.before flusher.old.opened → Walked flusher.old flusher.new }
+    ensures process { IsSameProcess flusher.old flusher.new }
+    ensures put { D.keeps → Began J.formatted J.before flusher.old.opened
+        → AllStepped J.formatted flusher.old flusher.new streams.old.outputs.items streams.new.outputs.items }
+    ensures why { IfOk result (λ ended. IfSome ended (IsWhyEnded J.start pace.task)) }
+    ensures inputs { IfOk result (λ ended. IfSome ended (LeavesNoInput (list_all (λ i. is_over i.ended i.is_blocked) streams.new.inputs.items))) }
+    ensures looks { IfOk result (LooksAtMostOnce pace.task (P.answers stop.old) (P.answers stop.new)) }
     ensures told { ToldLater (length J.start.nodes) (L.told listener.old) (L.told listener.new) }
-    ensures rested { OnOk result.2 (HaveRested J.start going.new.turns.whose going.new.turns.idle) }
-    ensures failures { flusher.world.at ≡ Resting → FailedWhere (answer_failed result.2) flusher result.0 }
-    ensures begun { IfErr result.2 CameBegun }
-    ensures seats { All (λ seat. seat.hand.of ≡ Some net.now.queue) result.1.items }
+    ensures rested { OnOk result (HaveRested J.start going.new.turns.whose going.new.turns.idle) }
+    ensures failures { flusher.old.world.at ≡ Resting → FailedWhere (answer_failed result) flusher.old flusher.new }
+    ensures begun { IfErr result CameBegun }
 {
-    let mut flusher = flusher;
     let done = cycle(
-        rt,
-        alloc,
-        net.shared(),
-        pace,
-        going,
-        &mut flusher,
-        streams,
-        listener,
-        stop,
+        rt, alloc, shared, pace, going, flusher, streams, listener, stop,
     );
     let goes_on = going.turns.is_busy && !going.turns.is_full;
     if let Ok(None) = done
         && goes_on
     {
-        return go_beside(rt, alloc, net, pace, &mut going.turns, seats, flusher);
+        if shift.crew.are_here(rt, u64::from(pace.workers)) {
+            return go_beside(rt, alloc, shared, shift, pace, &mut going.turns, flusher);
+        }
+        going.turns.stay_alone();
     }
-    (flusher, seats, done)
+    done
 }
 
-/// All cycles, until nothing more is to be done or one is refused; and whether each process had nothing to do in its last turn.
-fn cycles<
-    J: Naming + Send + Sync,
-    D: Disk + Send + Drop,
-    S: Sink,
-    I: Source,
-    L: Listener,
-    P: Stop,
-    R: Threads + Wait + Sync,
->(
+/// All laps, until nothing more is to be done or one is refused.
+pub(crate) fn laps<J: Naming, D: Disk, S: Sink, I: Source, L: Listener, P: Stop, R: Wait>(
     rt: &R,
     alloc: Global,
-    net: &Net<J, NoGate>,
-    seats: Vec<tp_work::Seat<J>>,
-    seat: Seat<J>,
-    steps: Seat<J>,
+    shared: &Shared<J>,
+    shift: &Shift,
     pace: Pace,
-    first: Flusher<J, D>,
+    going: &mut Going<J>,
+    flusher: &mut Flusher<J, D>,
     streams: &mut Streams<S, I>,
     listener: &mut L,
     stop: &mut P,
-) -> (Flusher<J, D>, Result<Option<Ending>, StreamFault>, bool)
-    requires { All (λ seat. seat.hand.of ≡ Some net.now.queue) seats.items }
-    ensures walks { D.keeps → Began J.formatted J.before first.opened → Walked first result.0 }
-    ensures process { IsSameProcess first result.0 }
-    ensures put { D.keeps → Began J.formatted J.before first.opened
-        → AllStepped J.formatted first result.0 streams.old.outputs.items streams.new.outputs.items }
-    ensures why { IfOk result.1 (λ ended. IfSome ended (IsWhyEnded J.start pace.task)) }
-    ensures inputs { IfOk result.1 (λ ended. IfSome ended (LeavesNoInput (list_all (λ i. is_over i.ended i.is_blocked) streams.new.inputs.items))) }
+) -> Result<Option<Ending>, StreamFault>
+    requires { HaveRested J.start going.old.turns.whose going.old.turns.idle }
+    ensures walks { D.keeps → Began J.formatted J.before flusher.old.opened → Walked flusher.old flusher.new }
+    ensures process { IsSameProcess flusher.old flusher.new }
+    ensures put { D.keeps → Began J.formatted J.before flusher.old.opened
+        → AllStepped J.formatted flusher.old flusher.new streams.old.outputs.items streams.new.outputs.items }
+    ensures why { IfOk result (λ ended. IfSome ended (IsWhyEnded J.start pace.task)) }
+    ensures inputs { IfOk result (λ ended. IfSome ended (LeavesNoInput (list_all (λ i. is_over i.ended i.is_blocked) streams.new.inputs.items))) }
     ensures told { ToldLater (length J.start.nodes) (L.told listener.old) (L.told listener.new) }
-    ensures looks { IfOk result.1 (HaveLooked pace.task (P.answers stop.old) (P.answers stop.new)) }
-    ensures failures { first.world.at ≡ Resting → FailedWhere (answer_failed result.1) first result.0 }
-    ensures begun { IfErr result.1 CameBegun }
+    ensures looks { IfOk result (HaveLooked pace.task (P.answers stop.old) (P.answers stop.new)) }
+    ensures failures { flusher.old.world.at ≡ Resting → FailedWhere (answer_failed result) flusher.old flusher.new }
+    ensures begun { IfErr result CameBegun }
 {
-    first.known();
-    let shared = net.shared();
-    let mut flusher = first;
-    let mut seats = seats;
-    let has_halted = pace.task.stop_on_halt && find_halted(rt, shared);
-    let mut going = Going {
-        turns: Turns::new(has_halted),
-        seat,
-        steps,
-    };
+    flusher.known();
     let mut last = Ok(None);
     for _ in rt.forever() {
         let Ok(None) = last else {
             break;
         };
-        let (there, freed, done) = lap(
-            rt, alloc, net, pace, &mut going, seats, flusher, streams, listener, stop,
+        last = lap(
+            rt, alloc, shared, shift, pace, going, flusher, streams, listener, stop,
         );
-        flusher = there;
-        seats = freed;
-        last = done;
     }
-    let rests = going.turns.is_quiet(shared.nodes());
-    (flusher, last, rests)
+    last
 }
 
 /// Makes turns, and lets each stream make its steps, until that ends. Answers the number that the next entry gets, all below
@@ -323,9 +284,16 @@ pub(crate) fn serve<
     ensures begun { IfErr result.1 CameBegun }
 {
     let shared = net.shared();
-    let (mut there, last, rests) = cycles(
-        rt, alloc, net, seats, seat, steps, pace, flusher, streams, listener, stop,
+    let has_halted = pace.task.stop_on_halt && find_halted(rt, shared);
+    let going = Going {
+        turns: Turns::new(has_halted),
+        seat,
+        steps,
+    };
+    let (mut there, going, last) = lead(
+        rt, alloc, net, seats, pace, going, flusher, streams, listener, stop,
     );
+    let rests = going.turns.is_quiet(shared.nodes());
     let why = match last {
         Ok(Some(why)) => why,
         // The loop goes on as long as nothing is answered.

@@ -3,6 +3,7 @@
 ghost use Rattle.std.specs.Prelude.{◌≤◌, IfErr};
 ghost use Rattle.tp_stream.specs.Streamed.{CameOfTurns};
 
+use crate::crew::Crew;
 use crate::fault::StreamFault;
 use std::sync::Wait;
 use std::sync::atomic::{AtomicBool, AtomicU64, Ordering};
@@ -14,18 +15,19 @@ use tp_work::{Turn, TurnFault};
 /// How many microseconds the flusher sleeps where too little was made. No turn wakes it.
 const SLEEP: u64 = 500;
 
-/// A shift: how many turns its workers may make, and how many were drawn; how many of the last ones in a row had nothing to do, and how
-/// many of these end it; entries made, or a greater number; whether it is to end, whether the workers have ended, whether a node has
-/// halted; and whether a turn was refused for want of memory, or since the book says that it is broken. No lock is taken for it.
+/// Shifts, one behind the other, of workers that stay. Of the one that was opened last: how many turns it may have, and how many of these are
+/// left; how many of the last ones in a row had nothing to do, and how many of these end it; and whether it is to end. Of all of them: entries
+/// made, or a greater number; whether a node has halted; and whether a turn was refused for want of memory, or since the book says that
+/// it is broken. No lock is taken for it.
 #[derive(Drop)]
 pub(crate) struct Shift {
-    turns: u64,
-    drawn: AtomicU64,
+    pub(crate) crew: Crew,
+    turns: AtomicU64,
+    left: AtomicU64,
     idle: AtomicU64,
     idle_at_most: u64,
     made: AtomicU64,
     is_over: AtomicBool,
-    ended: AtomicBool,
     has_halted: AtomicBool,
     lacks_memory: AtomicBool,
     is_broken: AtomicBool,
@@ -47,26 +49,51 @@ fn seen_of(turn: &Turn) -> (bool, bool) {
 }
 
 impl Shift {
-    /// A shift of `turns` turns. It ends sooner where `idle_at_most` in a row had nothing to do.
-    pub(crate) fn new(turns: u64, idle_at_most: u64) -> Shift {
+    /// None is open. One that is ends sooner than its turns where `idle_at_most` in a row had nothing to do.
+    pub(crate) fn new(idle_at_most: u64) -> Shift {
         Shift {
-            turns,
-            drawn: AtomicU64::new(0),
+            crew: Crew::new(),
+            turns: AtomicU64::new(0),
+            left: AtomicU64::new(0),
             idle: AtomicU64::new(0),
             idle_at_most,
             made: AtomicU64::new(0),
             is_over: AtomicBool::new(false),
-            ended: AtomicBool::new(false),
             has_halted: AtomicBool::new(false),
             lacks_memory: AtomicBool::new(false),
             is_broken: AtomicBool::new(false),
         }
     }
 
+    /// Opens one of `turns` turns, where none is open, and wakes the workers. Answers how many entries were made before, or a greater number.
+    /// What the one before had left is taken away first, so a worker that wakes late draws no turn that isn't counted.
+    pub(crate) fn open(&self, turns: u64) -> u64 {
+        self.left.store(0, Ordering::SeqCst);
+        self.idle.store(0, Ordering::SeqCst);
+        self.turns.store(turns, Ordering::SeqCst);
+        self.is_over.store(false, Ordering::SeqCst);
+        let made = self.made.load(Ordering::SeqCst);
+        self.left.store(turns, Ordering::SeqCst);
+        self.crew.call();
+        made
+    }
+
     /// Takes one of the turns that are left; false where none is, or where it is to end.
     pub(crate) fn draw(&self) -> bool {
         !self.is_over.load(Ordering::SeqCst)
-            && self.drawn.fetch_add(1, Ordering::SeqCst) < self.turns
+            && self
+                .left
+                .fetch_update(
+                    Ordering::SeqCst,
+                    Ordering::SeqCst,
+                    |left| left.checked_sub(1),
+                )
+                .is_ok()
+    }
+
+    /// Whether no more turns are made.
+    fn is_out(&self) -> bool {
+        self.is_over.load(Ordering::SeqCst) || self.left.load(Ordering::SeqCst) == 0
     }
 
     /// Has it end: no more turns are made.
@@ -107,22 +134,28 @@ impl Shift {
         }
     }
 
-    /// Tells that the workers have ended, and wakes the flusher.
-    pub(crate) fn end(&self) {
-        self.ended.store(true, Ordering::SeqCst);
-        self.made.fetch_add(1, Ordering::SeqCst);
-        self.made.wake_one();
+    /// A worker makes no more turns of the one that is open. The last one wakes the flusher.
+    pub(crate) fn leave(&self) {
+        if self.crew.leave() {
+            self.made.fetch_add(1, Ordering::SeqCst);
+            self.made.wake_one();
+        }
+    }
+
+    /// Whether it has ended: no more turns are made, and no worker is in one. A worker that comes later finds none left.
+    fn has_ended(&self) -> bool {
+        self.is_out() && self.crew.is_out()
     }
 
     /// Waits until as many entries more than `seen` were made as fill a group, or some while it slept for [`SLEEP`] microseconds, and answers how
-    /// many there are; `None` once the workers have ended.
+    /// many there are; `None` once it has ended.
     pub(crate) fn wait<R: Wait>(&self, rt: &R, seen: u64) -> Option<u64> {
         let mut has_slept = false;
         for _ in rt.forever() {
-            if self.ended.load(Ordering::SeqCst) {
+            let made = self.made.load(Ordering::SeqCst);
+            if self.has_ended() {
                 return None;
             }
-            let made = self.made.load(Ordering::SeqCst);
             let more = made.saturating_sub(seen);
             if more >= MAX_GROUP as u64 || has_slept && more > 0 {
                 return Some(made);
@@ -137,9 +170,10 @@ impl Shift {
         None
     }
 
-    /// How many turns were made.
+    /// How many turns were made in the one that was opened last.
     pub(crate) fn count(&self) -> u64 {
-        self.drawn.load(Ordering::SeqCst).min(self.turns)
+        let left = self.left.load(Ordering::SeqCst);
+        self.turns.load(Ordering::SeqCst).saturating_sub(left)
     }
 
     /// Whether a node has halted.
@@ -152,7 +186,7 @@ impl Shift {
         self.idle.load(Ordering::SeqCst) > self.idle_at_most
     }
 
-    /// Why its turns were refused, where they were for another reason than room.
+    /// Why turns were refused, where they were for another reason than room.
     pub(crate) fn outcome(&self) -> Result<(), StreamFault>
         ensures { IfErr result CameOfTurns }
     {

@@ -156,6 +156,14 @@ impl Turns {
         self.is_busy = self.is_busy && !is_idle;
     }
 
+    /// There are no workers for what is to be done, or not yet: the next round has as many turns as where there are none.
+    pub(crate) fn stay_alone(&mut self)
+        ensures whose { self.new.whose ≡ self.old.whose }
+        ensures idle { self.new.idle ≡ self.old.idle }
+    {
+        self.is_busy = false;
+    }
+
     /// A stream has moved, so that settling isn't in vain.
     pub(crate) fn moved(&mut self)
         ensures whose { self.new.whose ≡ self.old.whose }

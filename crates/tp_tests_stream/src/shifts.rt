@@ -110,3 +110,39 @@ fn workers_make_the_turns_that_are_worth_it(rt: HostRuntime) -> Result<(), Fail>
     }
     Ok(())
 }
+
+/// How many turns are made at most in the next test: those of a round, and fewer in the shift behind it than it has room for. There is more to do
+/// than that: each of three nodes counts for 768 turns at first.
+const BOUND: u64 = 2124;
+
+/// Workers make just the turns that are left of those that were asked for, and no entry more than one for each turn.
+#[test]
+fn a_shift_keeps_the_bound_of_turns(rt: HostRuntime) -> Result<(), Fail> {
+    let row = Row {
+        text: CHAIN,
+        workers: 3,
+        quantum: 128,
+        has_shifts: true,
+    };
+    let step = step_of(&row);
+    let task = Task {
+        turns: Some(BOUND as u32),
+        ..step.asked.task
+    };
+    let step = Step {
+        asked: Asked { task, ..step.asked },
+        why: Some(Ending::Turns),
+        then: None,
+        turns: [BOUND - ROUND, BOUND - ROUND],
+        next: BOUND,
+        ..step
+    };
+    let fresh = Fresh {
+        text: row.text,
+        code: COUNTS,
+        begin: NUMBERS,
+        area: 1_048_576,
+    };
+    assert!(rt; are_steps_on(&rt, fresh, &[step])?);
+    Ok(())
+}

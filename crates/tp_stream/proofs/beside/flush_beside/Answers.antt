@@ -8,8 +8,8 @@ use Rattle.tp_stream.proofs.beside.flush_beside.Goals as goal
 pub loop-init : goal.loop-init
 loop-init g c = record {
   process = record { opened = refl; size = refl; topology = refl };
-  failures = λ rests. none_failed c.args.first rests;
-  walks = λ k began. walked_nowhere c.args.first (c.known.ensures.disk k);
+  failures = λ rests. none_failed c.args.flusher.now rests;
+  walks = λ k began. walked_nowhere c.args.flusher.now (c.known.ensures.disk k);
 }
 
 pub loop-preserved : goal.loop-preserved
@@ -19,15 +19,15 @@ loop-preserved g c =
     record {
       process = record { opened = Q.opened ∙ P.opened; size = Q.size ∙ P.size; topology = Q.topology ∙ P.topology };
       failures = λ rests.
-          let F = c.loop.invariant.failures rests in failed_then false c.args.first c.loop.flusher c.flush.new.flusher F (c.in_default-flush.ensures.failures F.at);
+          let F = c.loop.invariant.failures rests in failed_then false c.args.flusher.now c.loop.flusher c.flush.new.flusher F (c.in_default-flush.ensures.failures F.at);
       walks = λ k began.
-          walked_then c.args.first c.loop.flusher c.flush.new.flusher (c.loop.invariant.walks k began)
+          walked_then c.args.flusher.now c.loop.flusher c.flush.new.flusher (c.loop.invariant.walks k began)
           (c.flush.ensures.walks k (subst (Began g.J.Naming.formatted g.J.Naming.before) (sym P.opened) began));
     }
 
 pub returns-in-Err-clause-walks : goal.returns-in-Err-clause-walks
 returns-in-Err-clause-walks g c k began =
-    walked_then c.args.first c.loop.flusher c.flush.new.flusher (c.loop.invariant.walks k began)
+    walked_then c.args.flusher.now c.loop.flusher c.flush.new.flusher (c.loop.invariant.walks k began)
     (c.flush.ensures.walks k (subst (Began g.J.Naming.formatted g.J.Naming.before) (sym c.loop.invariant.process.opened) began))
 
 pub returns-in-Err-clause-process : goal.returns-in-Err-clause-process
@@ -38,4 +38,4 @@ returns-in-Err-clause-process g c =
 
 pub returns-in-Err-clause-failures : goal.returns-in-Err-clause-failures
 returns-in-Err-clause-failures g c rests =
-    let F = c.loop.invariant.failures rests in failed_then (fault_failed c.in-Err.fault) c.args.first c.loop.flusher c.flush.new.flusher F (c.in-Err.ensures.failures F.at)
+    let F = c.loop.invariant.failures rests in failed_then (fault_failed c.in-Err.fault) c.args.flusher.now c.loop.flusher c.flush.new.flusher F (c.in-Err.ensures.failures F.at)

@@ -7,7 +7,7 @@ use Rattle.tp_stream.proofs.beside.flush_beside.Given as goal
 
 abbrev pub invariant-loop : goal.invariant-loop
 invariant-loop g l = record {
-  process : IsSameProcess l.fn.first l.flusher;
-  failures : l.fn.first.world.at ≡ Resting → FailedWhere false l.fn.first l.flusher;
-  walks : g.D.Disk.keeps → Began g.J.Naming.formatted g.J.Naming.before l.fn.first.opened → Walked l.fn.first l.flusher;
+  process : IsSameProcess l.fn.flusher l.flusher;
+  failures : l.fn.flusher.world.at ≡ Resting → FailedWhere false l.fn.flusher l.flusher;
+  walks : g.D.Disk.keeps → Began g.J.Naming.formatted g.J.Naming.before l.fn.flusher.opened → Walked l.fn.flusher l.flusher;
 }

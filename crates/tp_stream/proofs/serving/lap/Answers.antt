@@ -6,11 +6,11 @@ use Rattle.tp_stream.proofs.serving.lap.Goals as goal
 
 pub returns-clause-walks : goal.returns-clause-walks
 returns-clause-walks g c k began =
-    walked_then c.args.flusher c.cycle-done.new.flusher c.go_beside.result.0 (c.cycle-done.ensures.walks k began)
+    walked_then c.args.flusher.now c.cycle-done.new.flusher c.go_beside.new.flusher (c.cycle-done.ensures.walks k began)
     (c.go_beside.ensures.walks k (subst (Began g.J.Naming.formatted g.J.Naming.before) (sym c.cycle-done.ensures.process.opened) began))
 
 pub returns-clause-put : goal.returns-clause-put
 returns-clause-put g c k began =
     let there = subst (Began g.J.Naming.formatted g.J.Naming.before) (sym c.cycle-done.ensures.process.opened) began in
-    all_until g.J.Naming.formatted c.args.flusher c.cycle-done.new.flusher c.go_beside.result.0 (c.cycle-done.ensures.walks k began) (c.go_beside.ensures.walks k there)
+    all_until g.J.Naming.formatted c.args.flusher.now c.cycle-done.new.flusher c.go_beside.new.flusher (c.cycle-done.ensures.walks k began) (c.go_beside.ensures.walks k there)
     c.args.streams.now.outputs.items c.cycle-done.new.streams.outputs.items (c.cycle-done.ensures.put k began)
