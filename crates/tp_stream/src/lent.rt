@@ -1,5 +1,7 @@
 //! Work with all that it was lent for that, which it gives back.
 
+ghost use Rattle.std.specs.Prelude.{◌≡◌};
+
 /// Work, and what it gives back behind it: a closure wouldn't say what it left in what it was lent.
 pub(crate) trait Lent {
     type Back;

@@ -25,27 +25,27 @@ loop-init g c = record {
 pub loop-preserved : goal.loop-preserved
 loop-preserved g c =
     let P = c.loop.invariant.process in
-    let Q = c.lap.ensures.process in
+    let Q = c.lap-last.ensures.process in
     let going : c.loop.last ≡ Ok None = c.in-Ok-None.is ∙ ap Ok (rw c.in-Ok-None.is at c.in-Ok-None.field-0-is) in
     record {
       process = record { opened = Q.opened ∙ P.opened; size = Q.size ∙ P.size; topology = Q.topology ∙ P.topology };
       walks = λ k began.
-          walked_then c.args.flusher.now c.loop.flusher c.lap.new.flusher (c.loop.invariant.walks k began)
-          (c.lap.ensures.walks k (subst (Began g.J.Naming.formatted g.J.Naming.before) (sym P.opened) began));
+          walked_then c.args.flusher.now c.loop.flusher c.lap-last.new.flusher (c.loop.invariant.walks k began)
+          (c.lap-last.ensures.walks k (subst (Began g.J.Naming.formatted g.J.Naming.before) (sym P.opened) began));
       put = λ k began.
           let there = subst (Began g.J.Naming.formatted g.J.Naming.before) (sym P.opened) began in
-          all_then g.J.Naming.formatted c.args.flusher.now c.loop.flusher c.lap.new.flusher (c.loop.invariant.walks k began) (c.lap.ensures.walks k there)
-          c.args.streams.now.outputs.items c.loop.streams.outputs.items c.lap.new.streams.outputs.items (c.loop.invariant.put k began) (c.lap.ensures.put k there);
-      why = c.lap.ensures.why;
-      inputs = c.lap.ensures.inputs;
-      told = later_then (length g.J.Naming.start.nodes) _ _ _ c.loop.invariant.told c.lap.ensures.told;
+          all_then g.J.Naming.formatted c.args.flusher.now c.loop.flusher c.lap-last.new.flusher (c.loop.invariant.walks k began) (c.lap-last.ensures.walks k there)
+          c.args.streams.now.outputs.items c.loop.streams.outputs.items c.lap-last.new.streams.outputs.items (c.loop.invariant.put k began) (c.lap-last.ensures.put k there);
+      why = c.lap-last.ensures.why;
+      inputs = c.lap-last.ensures.inputs;
+      told = later_then (length g.J.Naming.start.nodes) _ _ _ c.loop.invariant.told c.lap-last.ensures.told;
       looks =
           looks_then g.J.Naming.start c.args.pace.task (g.P.Stop.answers c.args.stop.now)
-          (g.P.Stop.answers c.loop.stop) (g.P.Stop.answers c.lap.new.stop) c.loop.last c.lap.result going c.loop.invariant.looks c.lap.ensures.why
-          c.lap.ensures.looks;
-      rested = c.lap.ensures.rested;
+          (g.P.Stop.answers c.loop.stop) (g.P.Stop.answers c.lap-last.new.stop) c.loop.last c.lap-last.result going c.loop.invariant.looks c.lap-last.ensures.why
+          c.lap-last.ensures.looks;
+      rested = c.lap-last.ensures.rested;
       failures = λ rests.
           let F = subst (λ last. FailedWhere (answer_failed last) c.args.flusher.now c.loop.flusher) going (c.loop.invariant.failures rests) in
-          failed_then (answer_failed c.lap.result) c.args.flusher.now c.loop.flusher c.lap.new.flusher F (c.lap.ensures.failures F.at);
-      begun = c.lap.ensures.begun;
+          failed_then (answer_failed c.lap-last.result) c.args.flusher.now c.loop.flusher c.lap-last.new.flusher F (c.lap-last.ensures.failures F.at);
+      begun = c.lap-last.ensures.begun;
     }

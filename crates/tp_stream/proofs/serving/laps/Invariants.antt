@@ -1,5 +1,5 @@
 use Rattle.std.specs.List.{list_all}
-use Rattle.std.specs.Prelude.{IfErr, IfOk, IfSome, OnOk, length}
+use Rattle.std.specs.Prelude.{◌≡◌, IfErr, IfOk, IfSome, OnOk, length}
 use Rattle.tp_model.specs.WriteOrder.{Resting}
 use Rattle.tp_flush.specs.Known.{Began}
 use Rattle.tp_flush.specs.Flushing.{IsSameProcess, Walked}

@@ -9,7 +9,7 @@ use Rattle.tp_stream.proofs.Stepping.{all_until}
 use Rattle.tp_stream.proofs.serving.serve.Goals as goal
 
 pub lead-there-requires-clause-rested : goal.lead-there-requires-clause-rested
-lead-there-requires-clause-rested g c = none_rested g.J.Naming.start c.new.result.whose c.new.result.idle (omega arith) c.new.ensures.idle
+lead-there-requires-clause-rested g c = λ κs lives. none_rested g.J.Naming.start c.new.result.whose c.new.result.idle (omega arith) c.new.ensures.idle
 
 pub returns-in-Ok-clause-walks : goal.returns-in-Ok-clause-walks
 returns-in-Ok-clause-walks g c k began =

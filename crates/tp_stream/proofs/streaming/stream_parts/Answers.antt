@@ -1,4 +1,4 @@
-use Rattle.std.proofs.Common.{◌≡◌, Ok, Err, Some, false, length, refl, sym, ap, subst, ◌∙◌}
+use Rattle.std.proofs.Common.{◌≡◌, Ok, Err, Some, false, refl, sym, ap, subst, ◌∙◌}
 use Rattle.tp_model.specs.NodeState.{NodeState}
 use Rattle.std.specs.Prelude.{IfOk}
 use Rattle.tp_model.specs.DiskHistory.{State}
