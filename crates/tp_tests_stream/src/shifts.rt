@@ -17,6 +17,14 @@ struct Row {
     has_shifts: bool,
 }
 
+/// Three nodes that compute side by side, and three workers.
+const SIDE_BY_SIDE: Row = Row {
+    text: CHAIN,
+    workers: 3,
+    quantum: 128,
+    has_shifts: true,
+};
+
 /// Turns that are too short for threads by one step of each node's, and others; three nodes that compute side by side, and one worker. In a
 /// round of node and host each node's turn runs as many steps as it may: 64 in the mean with 128, and fewer with 127.
 const ROWS: &[Row] = &[
@@ -32,12 +40,7 @@ const ROWS: &[Row] = &[
         quantum: 128,
         has_shifts: true,
     },
-    Row {
-        text: CHAIN,
-        workers: 3,
-        quantum: 128,
-        has_shifts: true,
-    },
+    SIDE_BY_SIDE,
     Row {
         text: CHAIN,
         workers: 1,
@@ -115,16 +118,10 @@ fn workers_make_the_turns_that_are_worth_it(rt: HostRuntime) -> Result<(), Fail>
 /// than that: each of three nodes counts for 768 turns at first.
 const BOUND: u64 = 2124;
 
-/// Workers make just the turns that are left of those that were asked for, and no entry more than one for each turn.
+/// A round and one shift make just the turns that were asked for, and no more entries than one for each turn.
 #[test]
 fn a_shift_keeps_the_bound_of_turns(rt: HostRuntime) -> Result<(), Fail> {
-    let row = Row {
-        text: CHAIN,
-        workers: 3,
-        quantum: 128,
-        has_shifts: true,
-    };
-    let step = step_of(&row);
+    let step = step_of(&SIDE_BY_SIDE);
     let task = Task {
         turns: Some(BOUND as u32),
         ..step.asked.task
@@ -133,12 +130,12 @@ fn a_shift_keeps_the_bound_of_turns(rt: HostRuntime) -> Result<(), Fail> {
         asked: Asked { task, ..step.asked },
         why: Some(Ending::Turns),
         then: None,
-        turns: [BOUND - ROUND, BOUND - ROUND],
+        turns: [BOUND, BOUND],
         next: BOUND,
         ..step
     };
     let fresh = Fresh {
-        text: row.text,
+        text: CHAIN,
         code: COUNTS,
         begin: NUMBERS,
         area: 1_048_576,
