@@ -1,5 +1,6 @@
 pub mod Advances
 pub mod Ahead
+pub mod Asks
 pub mod Behind
 pub mod Codes
 pub mod Exact

@@ -204,6 +204,7 @@ fn output<M: Mem>(
 }
 
 /// Does `in`: count A, channel B, pointer C.
+#[inline(always)]
 pub fn chan_in<M: Mem>(cpu: &mut Cpu, mem: &mut M) -> Result<(), Undone>
     ensures does { Does (λ cpu. input_at (channel_at cpu.regs.b) cpu) (λ cpu. input_at_ranges (channel_at cpu.regs.b) cpu) (M.kept mem.old) cpu.old (M.bytes mem.old) result cpu.new (M.bytes mem.new) }
     ensures kept { M.kept mem.new ≡ kept_after result (M.kept mem.old) (input_at_ranges (channel_at cpu.old.regs.b) cpu.old (M.bytes mem.old)) }
@@ -232,6 +233,7 @@ pub fn chan_in<M: Mem>(cpu: &mut Cpu, mem: &mut M) -> Result<(), Undone>
 }
 
 /// Does `out`: count A, channel B, pointer C.
+#[inline(always)]
 pub fn chan_out<M: Mem>(cpu: &mut Cpu, mem: &mut M) -> Result<(), Undone>
     ensures does { Does (λ cpu. output_at (channel_at cpu.regs.b) cpu) (λ cpu. output_at_ranges (channel_at cpu.regs.b) cpu) (M.kept mem.old) cpu.old (M.bytes mem.old) result cpu.new (M.bytes mem.new) }
     ensures kept { M.kept mem.new ≡ kept_after result (M.kept mem.old) (output_at_ranges (channel_at cpu.old.regs.b) cpu.old (M.bytes mem.old)) }

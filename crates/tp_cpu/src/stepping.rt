@@ -5,15 +5,22 @@ ghost use Rattle.tp_model.specs.Step.{executed, instruction, idle, in_state, ste
 ghost use Rattle.tp_model.specs.SharedPages.{LacksFrames, kept_after};
 ghost use Rattle.tp_model.specs.StepWrites.{executed_ranges, instruction_ranges, idle_ranges, in_state_ranges, step_ranges};
 ghost use Rattle.tp_cpu.specs.Ends.{Does};
-ghost use Rattle.tp_cpu.specs.Acts.{Acts, WhereNoFrame, kept_acted, kept_past, fault_of};
+ghost use Rattle.tp_cpu.specs.Acts.{Acts, AsksLink, WhereNoFrame, kept_acted, kept_past, fault_of};
 
+use crate::advancing::runs;
 use crate::effect::effect;
 use crate::fetch::fetch;
+use crate::spelling::spelling_at;
+use crate::waiting::OPR;
 use crate::{
-    KEPT_AT, NOT_PROCESS, Undone, dispatch_high, dispatch_low, interrupt, load, pass, restore,
+    KEPT_AT, NOT_PROCESS, Undone, channel_at, dispatch_high, dispatch_low, interrupt, load, op_at,
+    pass, restore,
 };
 use tp_mem::Mem;
-use tp_model::{Cpu, DecodeFault, Fault, Instr, State, StepEnd};
+use tp_model::{
+    ChannelWord, Cpu, DecodeFault, Fault, InRequest, Instr, Op, OutRequest, Regs, State, StepEnd,
+    Wish,
+};
 
 /// Says why a node halts at bytes that spell no instruction. Bytes that end too soon end outside memory.
 #[inline(always)]
@@ -87,8 +94,46 @@ fn act<M: Mem>(cpu: &mut Cpu, mem: &mut M) -> Option<Result<(), Undone>>
     }
 }
 
+/// Answers what a process asks of a link, where its next step is `in` at an input link's word or `out` at an output link's: that is all the
+/// step does, and the node ends it. Where it answers `None`, `act` says what the step is.
+#[inline(always)]
+fn asked<M: Mem>(cpu: &Cpu, mem: &M) -> Option<StepEnd>
+    ensures { AsksLink (step_of cpu.now (M.bytes mem.now)) result }
+{
+    if !runs(cpu) {
+        return None;
+    }
+    let Regs { a, b, c, .. } = cpu.regs;
+    let word = channel_at(b);
+    if matches!(word, ChannelWord::Internal) {
+        return None;
+    }
+    let spelling = spelling_at(mem, cpu.iptr)?;
+    if spelling.code != OPR {
+        return None;
+    }
+    match (word, op_at(spelling.operand)) {
+        (ChannelWord::Input(link), Some(Op::In)) => Some(StepEnd::LinkIn(InRequest {
+            link,
+            wish: Wish::Message {
+                pointer: c,
+                count: a,
+            },
+            next: spelling.next,
+        })),
+        (ChannelWord::Output(link), Some(Op::Out)) => Some(StepEnd::LinkOut(OutRequest {
+            link,
+            pointer: c,
+            count: a,
+            word: None,
+            next: spelling.next,
+        })),
+        _ => None,
+    }
+}
+
 /// Makes one step of the processor, if there is one.
-#[inline]
+#[inline(always)]
 #[tactic(auto, unfolding(tp_model::specs::Step::step_of, tp_model::specs::StepWrites::step_ranges))]
 pub fn step<M: Mem>(cpu: &mut Cpu, mem: &mut M) -> StepEnd
     ensures makes { MakesStep (step_of cpu.old (M.bytes mem.old)) cpu.old (M.bytes mem.old) result cpu.new (M.bytes mem.new) }
@@ -97,6 +142,9 @@ pub fn step<M: Mem>(cpu: &mut Cpu, mem: &mut M) -> StepEnd
 {
     if cpu.halt.is_some() {
         return StepEnd::Idle;
+    }
+    if let Some(end) = asked(cpu, mem) {
+        return end;
     }
     match act(cpu, mem) {
         None => StepEnd::Idle,

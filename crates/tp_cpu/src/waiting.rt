@@ -14,7 +14,7 @@ use tp_mem::Mem;
 use tp_model::{ChannelWord, Cpu, Op, Regs};
 
 /// The code of `opr`.
-const OPR: u8 = 0xF;
+pub(crate) const OPR: u8 = 0xF;
 
 /// Waits as the first process at the channel B: count A, pointer C.
 #[inline(always)]
