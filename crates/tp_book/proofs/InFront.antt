@@ -1,9 +1,9 @@
 -- What a node receives: links in order, taken off the fronts of their lines, up to each line's first Marker.
-use Rattle.std.proofs.Common.{◌≡◌, ℕ, zero, suc, ◌+◌, ◌*◌, ◌<◌, ◌≤◌, true, cond, List, [], ◌∷◌, ◌++◌, length, map, drop, set, get_or, refl, sym, ap, ◌∙◌, arith, add-one, drop-cons, Option, Some, None, IsSome, slice_get}
+use Rattle.std.proofs.Common.{◌≡◌, ℕ, ◌+◌, ◌*◌, ◌<◌, ◌≤◌, true, List, [], ◌∷◌, ◌++◌, length, map, drop, set, get_or, refl, sym, ap, subst, ◌∙◌, arith, add-one, drop-cons, Option, Some, None, IsSome, slice_get}
 use Rattle.std.specs.Prelude.{is_some}
 use Rattle.std.specs.List.{AllByRecursion}
 use Rattle.std.proofs.lemmas.Bool.{true≢false}
-use Rattle.std.proofs.lemmas.List.{length-append, length-map, drop_all}
+use Rattle.std.proofs.lemmas.List.{length-append, length-map, map-append, drop_all}
 use Rattle.tp_model.specs.declared.link.Token.{Token}
 use Rattle.tp_model.specs.declared.link.Token.TheVariants.{Data, Ack, Marker}
 use Rattle.tp_model.specs.declared.link.Received.{Received}
@@ -33,12 +33,37 @@ pub received_few : (tokens : List (ℕ × Token)) (k : ℕ) (one : Received) (no
 received_few tokens k one now is few =
     omega (arith, few, received_length one, ap length is, length-append tokens (map (λ t. (k, t)) (received one)), length-map {B = ℕ × Token} (received one) (λ t. (k, t)))
 
--- the tokens are on lines with low numbers
-pub low_at : (wires : List (Option WireEnd)) (N i most : ℕ) (tokens : List (ℕ × Token)) (k : ℕ) (d : ℕ × Token) → AllByRecursion (λ m. m.0 < most) (by_line wires N i tokens) → k < length tokens
-    → incoming wires N i (get_or tokens k d).0 < most
-low_at wires N i most [] k d all below = absurd (omega (arith, below))
-low_at wires N i most (m ∷ ms) zero d all below = all.0
-low_at wires N i most (m ∷ ms) (suc k) d all below = low_at wires N i most ms k d all.1 (omega (arith, below))
+-- by the lines that come in there
+pub lines_from : (wires : List (Option WireEnd)) (N i : ℕ) (links : List Received) (k : ℕ) → k < length links
+    → by_line wires N i (by_link k (drop k links)) ≡ by_line wires N i (map (λ t. (k, t)) (received (get_or links k Nothing))) ++ by_line wires N i (by_link (k + 1) (drop (k + 1) links))
+lines_from wires N i links k below =
+    ap (by_line wires N i) (links_from links k below)
+    ∙ map-append (λ m. (incoming wires N i m.0, m.1)) (map (λ t. (k, t)) (received (get_or links k Nothing))) (by_link (k + 1) (drop (k + 1) links))
+
+pub taken_few : (wires : List (Option WireEnd)) (N i : ℕ) (tokens : List (ℕ × Token)) (k : ℕ) (one : Received) (now : List (ℕ × Token)) → now ≡ tokens ++ by_line wires N i (map (λ t. (k, t)) (received one))
+    → length tokens ≤ 2 * k → length now ≤ 2 * (k + 1)
+taken_few wires N i tokens k one now is few =
+    let mine = map {B = ℕ × Token} (λ t. (k, t)) (received one) in
+    let same : length (by_line wires N i mine) ≡ length (received one) = length-map mine (λ m. (incoming wires N i m.0, m.1)) ∙ length-map {B = ℕ × Token} (received one) (λ t. (k, t)) in
+    omega (arith, few, received_length one, ap length is, length-append tokens (by_line wires N i mine), same)
+
+-- what is so of all elements is so of those in front, and of those behind
+all_front : {A : Type 0} (P : A → Type 0) (xs ys : List A) → AllByRecursion P (xs ++ ys) → AllByRecursion P xs
+all_front P [] ys all = tt
+all_front P (x ∷ xs) ys all = (all.0, all_front P xs ys all.1)
+
+all_behind : {A : Type 0} (P : A → Type 0) (xs ys : List A) → AllByRecursion P (xs ++ ys) → AllByRecursion P ys
+all_behind P [] ys all = all
+all_behind P (x ∷ xs) ys all = all_behind P xs ys all.1
+
+-- where all tokens are on lines with low numbers, so are those of the link whose turn it is
+pub low_on : (wires : List (Option WireEnd)) (N i most : ℕ) (links : List Received) (k : ℕ) (tokens : List (ℕ × Token)) → k < length links
+    → tokens ++ by_line wires N i (by_link k (drop k links)) ≡ by_line wires N i (by_link 0 links) → AllByRecursion (λ m. m.0 < most) (by_line wires N i (by_link 0 links))
+    → AllByRecursion (λ m. m.0 < most) (by_line wires N i (map (λ t. (k, t)) (received (get_or links k Nothing))))
+low_on wires N i most links k tokens below is low =
+    let left = all_behind (λ m. m.0 < most) tokens (by_line wires N i (by_link k (drop k links))) (subst (AllByRecursion (λ m. m.0 < most)) (sym is) low) in
+    all_front (λ m. m.0 < most) (by_line wires N i (map (λ t. (k, t)) (received (get_or links k Nothing)))) (by_line wires N i (by_link (k + 1) (drop (k + 1) links)))
+    (subst (AllByRecursion (λ m. m.0 < most)) (lines_from wires N i links k below) left)
 
 -- ## Taken off
 

@@ -60,24 +60,69 @@ pub fn incoming(wires: &[Option<WireEnd>], nodes: usize, node: usize, link: usiz
     }
 }
 
-/// Tokens by the lines that come in on their links.
-pub fn lines_of(
+/// Lists what a node received, by the lines that come in on its links.
+#[inline(always)]
+pub(crate) fn taken_of(
     wires: &[Option<WireEnd>],
     nodes: usize,
     node: usize,
-    tokens: &[(u8, Token)],
+    takes: &[Received; 4],
 ) -> ArrayVec<(u16, Token), 8>
     requires nodes { nodes ≤ 2 ^ 32 }
     requires node { node < 2 ^ 32 }
-    requires few { length tokens.now ≤ 8 }
-    requires low { AllByRecursion (λ m. m.0 < 2 ^ 16) (by_line wires.now nodes node tokens.now) }
-    ensures { result.items ≡ by_line wires.now nodes node tokens.now }
+    requires low { AllByRecursion (λ m. m.0 < 2 ^ 16) (by_line wires.now nodes node (by_link 0 takes.now)) }
+    ensures { result.items ≡ by_line wires.now nodes node (by_link 0 takes.now) }
 {
     let mut taken = ArrayVec::new();
-    for m in tokens {
-        taken.push((incoming(wires, nodes, node, usize::from(m.0)) as u16, m.1));
+    for link in 0..4 {
+        add_taken(&mut taken, wires, nodes, node, link, takes[link]);
     }
     taken
+}
+
+/// Appends the tokens that were received on `link`, by the line that comes in there.
+#[inline(always)]
+fn add_taken(
+    taken: &mut ArrayVec<(u16, Token), 8>,
+    wires: &[Option<WireEnd>],
+    nodes: usize,
+    node: usize,
+    link: usize,
+    one: Received,
+)
+    requires nodes { nodes ≤ 2 ^ 32 }
+    requires node { node < 2 ^ 32 }
+    requires link { link < 2 ^ 32 }
+    requires room { length taken.old.items ≤ 6 }
+    requires low { AllByRecursion (λ m. m.0 < 2 ^ 16) (by_line wires.now nodes node (map (λ token. (link, token)) (received one))) }
+    ensures { taken.new.items ≡ taken.old.items ++ by_line wires.now nodes node (map (λ token. (link, token)) (received one)) }
+{
+    if let Received::Nothing = one {
+        return;
+    }
+    let line = incoming(wires, nodes, node, link) as u16;
+    add_on_line(taken, line, one);
+}
+
+/// Appends the tokens that were received on the link where `line` comes in, in order.
+#[inline(always)]
+fn add_on_line(taken: &mut ArrayVec<(u16, Token), 8>, line: u16, one: Received)
+    requires { length taken.old.items ≤ 6 }
+    ensures { taken.new.items ≡ taken.old.items ++ map (λ token. (line, token)) (received one) }
+{
+    match one {
+        Received::Nothing => {}
+        Received::JustData(byte) => taken.push((line, Token::Data(byte))),
+        Received::JustAck => taken.push((line, Token::Ack)),
+        Received::DataThenAck(byte) => {
+            taken.push((line, Token::Data(byte)));
+            taken.push((line, Token::Ack));
+        }
+        Received::AckThenData(byte) => {
+            taken.push((line, Token::Ack));
+            taken.push((line, Token::Data(byte)));
+        }
+    }
 }
 
 /// Takes tokens off the fronts of their lines.
