@@ -1,5 +1,5 @@
 -- What a node does at Markers before it receives.
-use Rattle.std.proofs.Common.{◌≡◌, ℕ, ◌+◌, ◌*◌, Bool, true, false, cond, List, [], ◌∷◌, ◌++◌, refl, sym, ap, subst, ◌∙◌, add-one, append_assoc, Option, Some, None}
+use Rattle.std.proofs.Common.{◌≡◌, ℕ, zero, suc, ◌+◌, ◌*◌, Bool, true, false, cond, List, [], ◌∷◌, ◌++◌, refl, sym, ap, subst, ◌∙◌, add-one, append_assoc, Option, Some, None}
 use Rattle.std.specs.Prelude.{◌&&◌}
 use Rattle.std.proofs.lemmas.Bool.{and_from}
 use Rattle.tp_model.specs.declared.link.Token.TheVariants.{Marker}
@@ -13,7 +13,7 @@ use Rattle.tp_book.specs.Marked.{after_close}
 use Rattle.tp_turn.specs.Turns.{Then, InOrder}
 use Rattle.tp_turn.specs.Moments.{TurnMoment, moment_of, IsNodeOf, Done}
 use Rattle.tp_turn.specs.Whole.{close_acts, ClosesFront}
-use Rattle.tp_turn.proofs.Adding.{added_none, added_more}
+use Rattle.tp_turn.proofs.Adding.{added_none, added_more, order_none, then_more}
 use Rattle.tp_turn.proofs.Fronted.{closed_added}
 
 module _ (b : BookValue) (number link : ℕ) (n : NodeContents) (N : IsNodeOf b number n) where
@@ -75,3 +75,15 @@ behind_more number one part count a b c D E =
         other_did = record { between = b; first = D.did.second; second = E.acts; are = refl; one_did = D.did.other_did; other_did = E.did };
       };
     })
+
+-- one part, and then links of a node that hasn't recorded
+pub behind_unrecorded : (number : ℕ) (one : TurnMoment → List Act → TurnMoment → Type 0) (a : TurnMoment) (b : BookValue) (n : NodeContents) → IsNodeOf b number n
+    → has_recorded_in b.state.snapshot number ≡ false → Done number one a (moment_of b n) → (count : ℕ)
+    → Done number (Then one (InOrder (λ k. ClosesFront number k) count)) a (moment_of b n)
+behind_unrecorded number one a b n N not D zero =
+    let here = moment_of b n in
+    then_more number one (InOrder (λ k. ClosesFront number k) 0) a here here D (order_none number (λ k. ClosesFront number k) here N.there)
+behind_unrecorded number one a b n N not D (suc count) =
+    let here = moment_of b n in
+    subst (λ done. Done number (Then one (InOrder (λ k. ClosesFront number k) done)) a here) (add-one count)
+    (behind_more number one (λ k. ClosesFront number k) count a here here (behind_unrecorded number one a b n N not D count) (front_unrecorded b number count n N not))

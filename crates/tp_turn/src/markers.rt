@@ -39,6 +39,10 @@ pub(crate) fn answer_markers(book: &mut Book, node: &mut Node, number: u8)
     ensures is { IsNodeOf book.new number node.new }
 {
     record_asked(book, node, number);
+    book.known();
+    if !book.recorded(number as usize) {
+        return;
+    }
     for link in 0..4 {
         close_front(book, node, number, link);
     }

@@ -1,7 +1,8 @@
 //! A node's turn in the form of its book. It is opened in one hold of the book and committed in another, between which the form may
 //! change: so it is committed by how it was opened.
 
-ghost use Rattle.std.specs.Prelude.{◌≡◌, Some, None, true, false, slice_get};
+ghost use Rattle.std.specs.Prelude.{◌≡◌, Some, None, true, false, length, slice_get};
+ghost use Rattle.tp_model.specs.Turn.{by_link, received};
 ghost use Rattle.tp_book.specs.Calls.{without_run};
 ghost use Rattle.tp_turn.specs.Moments.{IsNodeOf, Added, moment_of};
 ghost use Rattle.tp_turn.specs.Opened.{HasTurnedBy, IsOpenedIn, OpensIn, opened_acts, taken_in};
@@ -9,8 +10,8 @@ ghost use Rattle.tp_turn.specs.Opened.{HasTurnedBy, IsOpenedIn, OpensIn, opened_
 use crate::receiving::Taken;
 use crate::stages::{Stretch, commit_turn, open_turn};
 use crate::whole::{commit_whole, open_whole};
-use tp_book::{Book, Refusal, tokens_of};
-use tp_model::Form;
+use tp_book::{Book, Refusal};
+use tp_model::{Form, Received};
 use tp_node::{Node, Ran};
 
 /// How a node's turn was opened.
@@ -22,6 +23,26 @@ pub enum Opened {
     Whole(Taken),
 }
 
+/// Counts the tokens that were received on one link.
+#[inline(always)]
+fn count_of(one: Received) -> u64
+    ensures { result ≡ length (received one) }
+{
+    match one {
+        Received::Nothing => 0,
+        Received::JustData(_) | Received::JustAck => 1,
+        Received::DataThenAck(_) | Received::AckThenData(_) => 2,
+    }
+}
+
+/// Counts the tokens that were received on all links, as many as `tokens_of` would list.
+#[inline(always)]
+fn count_all(takes: &[Received; 4]) -> u64
+    ensures { result ≡ length (by_link 0 takes.now) }
+{
+    count_of(takes[0]) + count_of(takes[1]) + count_of(takes[2]) + count_of(takes[3])
+}
+
 impl Opened {
     /// How many tokens the node took.
     pub fn taken(&self) -> u64
@@ -29,7 +50,7 @@ impl Opened {
     {
         match self {
             Opened::Apart(taken) => *taken,
-            Opened::Whole(taken) => tokens_of(&taken.takes).len() as u64,
+            Opened::Whole(taken) => count_all(&taken.takes),
         }
     }
 }

@@ -50,6 +50,7 @@ pub fn open_turn(book: &mut Book, node: &mut Node, number: u8) -> Result<u64, Re
 
 /// Lets a node run for at most `quantum` steps. No book is needed. It ends for want of a frame only before a step that would
 /// write shared pages which outnumber the free frames; that step isn't counted.
+#[inline(never)]
 pub fn run_node(node: &mut Node, quantum: u16) -> Stretch
     ensures asked { result.ran.max ≡ quantum }
     ensures steps { steps t414 result.ran.count node.old.live ≡ Some (node.new.live, result.sent.items) }

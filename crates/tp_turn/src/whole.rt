@@ -20,6 +20,7 @@ use tp_model::{Received, Token};
 use tp_node::{Node, Ran};
 
 /// Journals a turn for which room was reserved, and in which `node` took `takes`, made `count` steps and sent `tokens` for all of it.
+#[inline(always)]
 fn commit(
     book: &mut Book,
     node: &Node,
@@ -42,6 +43,7 @@ fn commit(
 
 /// The journal is full for a turn. Where the node has recorded, it receives what the running snapshot needs, for which room is kept, and
 /// that is one entry of no steps; none where there is nothing. Answers why the turn ends.
+#[inline(never)]
 fn take_needed(book: &mut Book, node: &mut Node, number: u8) -> Refusal
     requires free { slice_get book.old.runs number ≡ Some false }
     requires idle { book.old.ready ≡ None }
@@ -70,6 +72,7 @@ fn take_needed(book: &mut Book, node: &mut Node, number: u8) -> Refusal
 /// Errors: `StoreBroken` and `Memory` where no turn could be reserved, and nothing was received; `JournalFull` where the journal has no
 /// room for a turn: then a node that has recorded received what the running snapshot needs, and that was journalled. What was recorded and
 /// closed before stays, and nothing is reserved. No other comes.
+#[inline(always)]
 pub fn open_whole(book: &mut Book, node: &mut Node, number: u8) -> Result<Taken, Refusal>
     requires free { slice_get book.old.runs number ≡ Some false }
     requires idle { book.old.ready ≡ None }
@@ -101,8 +104,32 @@ fn all_sent(answers: &[(u8, Token)], sent: &[(u8, Token)]) -> ArrayVec<(u8, Toke
     tokens
 }
 
+/// Journals a turn for which room was reserved, and in which `node` answered `sent` to what it took and then sent `more` as it ran: as
+/// `commit`, with the two joined.
+#[inline(never)]
+fn commit_all(
+    book: &mut Book,
+    node: &Node,
+    number: u8,
+    takes: &[Received; 4],
+    count: u16,
+    sent: &ArrayVec<(u8, Token), 8>,
+    more: &ArrayVec<(u8, Token), 8>,
+)
+    requires reserved { slice_get book.old.runs number ≡ Some true }
+    requires idle { book.old.ready ≡ None }
+    requires form { book.old.form ≡ Turns }
+    requires turned { HasTurnedOn book.old number takes.now count (sent.now.items ++ more.now.items) node.now }
+    ensures added { Added number node.now.live (turn_acts number takes.now count) (without_run book.old number) book.new }
+    ensures is { IsNodeOf book.new number node.now }
+{
+    let tokens = all_sent(sent.as_slice(), more.as_slice());
+    commit(book, node, number, takes, count, tokens.as_slice());
+}
+
 /// Journals what a node received and ran since its turn was opened: one entry, or none where it took nothing and made no step. The
 /// reservation ends. The book may have changed in between by what others do.
+#[inline(always)]
 pub fn commit_whole(book: &mut Book, node: &Node, number: u8, taken: Taken, stretch: Stretch) -> Ran
     requires reserved { slice_get book.old.runs number ≡ Some true }
     requires idle { book.old.ready ≡ None }
@@ -114,8 +141,11 @@ pub fn commit_whole(book: &mut Book, node: &Node, number: u8, taken: Taken, stre
 {
     let Taken { takes, sent } = taken;
     let Stretch { ran, sent: more } = stretch;
-    let tokens = all_sent(sent.as_slice(), more.as_slice());
-    commit(book, node, number, &takes, ran.count(), tokens.as_slice());
+    if sent.is_empty() {
+        commit(book, node, number, &takes, ran.count(), more.as_slice());
+    } else {
+        commit_all(book, node, number, &takes, ran.count(), &sent, &more);
+    }
     ran
 }
 

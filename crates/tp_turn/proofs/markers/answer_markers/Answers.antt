@@ -1,10 +1,27 @@
+use Rattle.std.proofs.Common.{◌≡◌, false, arith, rules}
+use Rattle.std.proofs.lemmas.Option.{slice_get_within}
+use Rattle.tp_book.specs.Needs.{has_recorded_in}
+use Rattle.tp_book.specs.Book.{agreed}
+use Rattle.tp_book.proofs.Commit.{length-agreed}
 use Rattle.tp_turn.specs.Turns.{InOrder}
 use Rattle.tp_turn.specs.Moments.{moment_of}
 use Rattle.tp_turn.specs.Settled.{Records}
 use Rattle.tp_turn.specs.Whole.{ClosesFront}
 use Rattle.tp_turn.proofs.Adding.{order_none, then_more}
-use Rattle.tp_turn.proofs.Marking.{behind_more}
+use Rattle.tp_turn.proofs.Marking.{behind_more, behind_unrecorded}
 use Rattle.tp_turn.proofs.markers.answer_markers.Goals as goal
+
+pub recorded-requires : goal.recorded-requires
+recorded-requires c =
+    let b = c.record_asked.new.book.state in
+    let below = slice_get_within (agreed b) c.args.number c.record_asked.new.node.live c.record_asked.ensures.is.there in
+    omega (arith, c.known.ensures.shaped.count, below, length-agreed b c.known.ensures.keeps)
+
+pub returns-then-not-recorded-clause-done : goal.returns-then-not-recorded-clause-done
+returns-then-not-recorded-clause-done c =
+    let b = c.record_asked.new.book in
+    let not : has_recorded_in b.state.snapshot c.args.number ≡ false = search rules in
+    behind_unrecorded c.args.number (Records c.args.number) (moment_of c.args.book.now c.args.node.now) b c.record_asked.new.node c.record_asked.ensures.is not c.record_asked.ensures.done 4
 
 pub loop-link-init : goal.loop-link-init
 loop-link-init c =
