@@ -25,6 +25,7 @@ fn halt_outside(cpu: &mut Cpu)
 }
 
 /// Queues the process of a descriptor, behind what the token puts into memory.
+#[inline(always)]
 #[tactic(auto, using(crate::proofs::FirstStored::word_behind))]
 fn wake<M: Mem>(cpu: &mut Cpu, mem: &mut M, first: First, descriptor: u32) -> Result<(), NoFrame>
     requires { IsSome (first_stored first (M.bytes mem.old)) }
@@ -75,6 +76,7 @@ fn signal<M: Mem>(cpu: &mut Cpu, mem: &mut M, descriptor: u32) -> Result<(), NoF
 }
 
 /// Puts into memory what the token does, and tells whom it concerns.
+#[inline(always)]
 pub(crate) fn tell<M: Mem>(
     cpu: &mut Cpu,
     mem: &mut M,

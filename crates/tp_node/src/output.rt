@@ -42,6 +42,7 @@ fn hold<M: Mem>(mem: &mut M, first: Option<(u32, u32)>) -> Result<(), Undone>
 }
 
 /// Writes a word behind a first one.
+#[inline(always)]
 fn store_behind<M: Mem>(
     mem: &mut M,
     first: Option<(u32, u32)>,
@@ -68,6 +69,7 @@ fn is_held<M: Mem>(mem: &M, first: Option<(u32, u32)>) -> bool
 }
 
 /// Begins an output behind a first word that is to be stored.
+#[inline(always)]
 #[tactic(auto, using(tp_cpu::proofs::Behind::behind))]
 fn output_after<M: Mem>(
     engine: &mut OutEngine,

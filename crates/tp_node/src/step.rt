@@ -36,6 +36,7 @@ fn on_link(link: u8, token: Option<Token>) -> Option<(u8, Token)>
 }
 
 /// Ends a step that asks something of an output end.
+#[inline(always)]
 fn output<M: Mem>(head: &mut Head, mem: &mut M, request: OutRequest) -> StepOutcome
     ensures makes { Makes (asks_output request (state_with head.old (M.bytes mem.old))) (LacksFrames (M.kept mem.old) (asks_output_ranges request (state_with head.old (M.bytes mem.old)))) (state_with head.old (M.bytes mem.old)) result (state_with head.new (M.bytes mem.new)) }
     ensures kept { M.kept mem.new ≡ kept_made result (M.kept mem.old) (asks_output_ranges request (state_with head.old (M.bytes mem.old))) }
@@ -66,6 +67,7 @@ fn output<M: Mem>(head: &mut Head, mem: &mut M, request: OutRequest) -> StepOutc
 }
 
 /// Ends a step that asks something of an input end.
+#[inline(always)]
 fn input<M: Mem>(head: &mut Head, mem: &mut M, request: InRequest) -> StepOutcome
     ensures makes { Makes (asks_input request (state_with head.old (M.bytes mem.old))) (LacksFrames (M.kept mem.old) (asks_input_ranges request (state_with head.old (M.bytes mem.old)))) (state_with head.old (M.bytes mem.old)) result (state_with head.new (M.bytes mem.new)) }
     ensures kept { M.kept mem.new ≡ kept_made result (M.kept mem.old) (asks_input_ranges request (state_with head.old (M.bytes mem.old))) }

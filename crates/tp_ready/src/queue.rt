@@ -60,6 +60,7 @@ impl ReadyQueue {
     /// Takes the number that waits longest: after all calls of all hands in front of this one it stands first. `None` comes only where the
     /// queue was empty at some moment of the call, so that there are more hands than numbers, and then `hand` is free as before, and called
     /// nothing. The answer is added to `answers`.
+    #[inline(always)]
     pub fn take<R: Wait>(&self, rt: &R, hand: &mut Hand, answers: &mut Answers) -> Option<Turn>
         requires { hand.old.of ≡ Some self.now }
         ensures hand { MatchOption result ((hand.new.of ≡ Some self.now) × (hand.new.past ≡ hand.old.past)) (λ turn. hand.new.of ≡ None) }
@@ -85,6 +86,7 @@ impl ReadyQueue {
     }
 
     /// Puts the number of `turn` behind all that wait, and frees `hand`.
+    #[inline(always)]
     pub fn put_back<R: Wait>(&self, rt: &R, hand: &mut Hand, turn: Turn)
         requires hand { hand.old.of ≡ None }
         requires turn { turn.of ≡ self.now }

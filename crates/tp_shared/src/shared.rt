@@ -136,6 +136,7 @@ impl<J: Naming> Shared<J> {
     /// one entry. A turn is reserved, and the node runs for at most `quantum` steps while the book's lock is let go. `seat` gets the slips
     /// of the entries. Where no turn can be reserved, or memory or the store is wanting, nothing ran, and the slips of what was taken are
     /// in `seat`. `seen` gets the book as it was found and as it was left, for each hold of its lock.
+    #[inline(always)]
     pub fn turn<G: Gate, R: Wait>(
         &self,
         rt: &R,
@@ -176,6 +177,7 @@ impl<J: Naming> Shared<J> {
     /// The host's turn: each of its ports in order takes at most three tokens of the line that comes to it, a Marker among them.
     /// `seat` gets the slips of the entries, also where the turn broke off, and `seen` the book as it was found and as it was left. Answers
     /// how many tokens were taken; a Marker isn't counted.
+    #[inline(always)]
     pub fn host_turn<G: Gate, R: Wait>(
         &self,
         rt: &R,

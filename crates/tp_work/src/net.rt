@@ -43,6 +43,7 @@ impl<J: Naming, G: Gate> Net<J, G> {
     /// A turn of the process that waits longest: the one whose number the ready queue hands out, as `seat` keeps. It goes to the end of
     /// the queue, whatever its turn did, and the hand of `seat` makes no other call. `seat` gets the slips of what was journalled, and what
     /// was seen of the book. `Empty` is the queue's own answer, and comes only where there are more seats than processes.
+    #[inline(always)]
     pub fn turn<R: Wait>(&self, rt: &R, seat: &mut Seat<J>) -> Result<Turn, TurnFault>
         requires queue { seat.old.hand.of ≡ Some self.now.queue }
         ensures queue { seat.new.hand.of ≡ Some self.now.queue }
@@ -67,6 +68,7 @@ impl<J: Naming, G: Gate> Net<J, G> {
     }
 
     // A turn of a process.
+    #[inline(always)]
     fn turn_of<R: Wait>(
         &self,
         rt: &R,
