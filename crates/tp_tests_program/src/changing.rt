@@ -7,7 +7,13 @@ ghost use Rattle.tp_tests_program.specs.Changing.{changing_keeps, no_changing};
 
 use std::alloc::{AllocError, Global};
 use tp_disk::{DeviceFailed, RawDisk};
-use tp_tests_fixtures::{SIZE, place};
+
+/// Puts a piece into bytes at a place, in one call. What would go past the end is left out.
+fn put(bytes: &mut [u8], at: usize, piece: &[u8]) {
+    let start = at.min(bytes.len());
+    let count = piece.len().min(bytes.len() - start);
+    bytes[start..start + count].copy_from_slice(&piece[..count]);
+}
 
 /// Bytes that were written at a place.
 #[derive(Drop)]
@@ -31,6 +37,8 @@ pub(crate) struct Pace {
 pub(crate) struct Changing {
     alloc: Global,
     bytes: Vec<u8>,
+    /// What it held at first.
+    zeros: Vec<u8>,
     writes: Vec<Written>,
     /// How many of the writes have come to pass.
     pub(crate) done: usize,
@@ -40,11 +48,12 @@ pub(crate) struct Changing {
 }
 
 impl Changing {
-    /// A device to which nothing was written.
-    pub(crate) fn new(alloc: Global) -> Result<Changing, AllocError> {
+    /// A device of `size` bytes to which nothing was written.
+    pub(crate) fn new(alloc: Global, size: usize) -> Result<Changing, AllocError> {
         Ok(Changing {
             alloc,
-            bytes: Vec::from_elem(alloc, 0u8, SIZE)?,
+            bytes: Vec::from_elem(alloc, 0u8, size)?,
+            zeros: Vec::from_elem(alloc, 0u8, size)?,
             writes: Vec::new(alloc),
             done: 0,
             pace: None,
@@ -59,7 +68,7 @@ impl Changing {
 
     /// Goes back to where the first `done` writes had come to pass. The others come to pass at `pace`, where there is one.
     pub(crate) fn rewind(&mut self, done: usize, pace: Option<Pace>) {
-        self.bytes.fill(0);
+        put(&mut self.bytes, 0, &self.zeros);
         self.done = 0;
         self.come_to_pass(done);
         self.pace = pace;
@@ -75,7 +84,7 @@ impl Changing {
             ..
         } = self;
         for written in writes.iter().skip(*done).take(count) {
-            place(bytes, written.at, &written.bytes);
+            put(bytes, written.at, &written.bytes);
             *done = done.saturating_add(1);
         }
     }
@@ -98,7 +107,7 @@ impl Changing {
     /// Writes bytes, and keeps them.
     pub(crate) fn write(&mut self, at: u64, bytes: &[u8]) -> Result<(), AllocError> {
         let (at, bytes) = (at as usize, Vec::from_slice(self.alloc, bytes)?);
-        place(&mut self.bytes, at, &bytes);
+        put(&mut self.bytes, at, &bytes);
         self.writes.push(Written { at, bytes })?;
         self.done = self.writes.len();
         Ok(())
@@ -108,7 +117,7 @@ impl Changing {
     fn read(&mut self, at: u64, out: &mut [u8]) {
         self.begin();
         let start = (at as usize).min(self.bytes.len());
-        place(out, 0, &self.bytes[start..]);
+        put(out, 0, &self.bytes[start..]);
     }
 
     /// The device.
