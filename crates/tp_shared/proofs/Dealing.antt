@@ -10,6 +10,7 @@ use Rattle.tp_shared.specs.Parted.{name_of, IsDealt}
 use Rattle.tp_shared.specs.declared.dealt.Dealt.{Dealt}
 use Rattle.tp_shared.specs.declared.place.Place.{Place}
 use Rattle.tp_shared.specs.declared.seal.NodeSeal.{NodeSeal}
+use Rattle.tp_shared.specs.declared.cells.TheConstants.{CELLS}
 
 -- ## Lists
 
@@ -77,21 +78,21 @@ celled_none cell names = record { each = λ k p e. cc; all = λ k h. absurd (ome
 more_in : (name other i count more : ℕ) (p : Place) → name ≡ other → count ≤ more → IsPlaceOf name i count p → IsPlaceOf other i more p
 more_in name other i count more p same few I = record { there = (let t = I.there in omega (arith, t, few)); named = I.named ∙ same; shows = I.shows }
 
-module _ (cell : ℕ) (ss : List NodeSeal) (t : NodeSeal) (places : List Place) (p : Place) (small : cell < 4) (C : AreOfCell cell (name_of ss) (length ss) places) (P : IsPlaceOf t.seal.name (length ss) (suc (length ss)) p) where
-  old_each : (k : ℕ) (q : Place) → slice_get places k ≡ Some q → IsPlaceOf (name_of (ss ++ t ∷ []) (4 * k + cell)) (4 * k + cell) (suc (length ss)) q
+module _ (cell : ℕ) (ss : List NodeSeal) (t : NodeSeal) (places : List Place) (p : Place) (small : cell < CELLS) (C : AreOfCell cell (name_of ss) (length ss) places) (P : IsPlaceOf t.seal.name (length ss) (suc (length ss)) p) where
+  old_each : (k : ℕ) (q : Place) → slice_get places k ≡ Some q → IsPlaceOf (name_of (ss ++ t ∷ []) (CELLS * k + cell)) (CELLS * k + cell) (suc (length ss)) q
   old_each k q e =
       let was = C.each k q e in
-      more_in (name_of ss (4 * k + cell)) (name_of (ss ++ t ∷ []) (4 * k + cell)) (4 * k + cell) (length ss) (suc (length ss)) q (sym (name_before ss t (4 * k + cell) was.there)) (omega arith) was
+      more_in (name_of ss (CELLS * k + cell)) (name_of (ss ++ t ∷ []) (CELLS * k + cell)) (CELLS * k + cell) (length ss) (suc (length ss)) q (sym (name_before ss t (CELLS * k + cell) was.there)) (omega arith) was
 
   -- a node of another cell
-  away : length ss % 4 ≢ cell → AreOfCell cell (name_of (ss ++ t ∷ [])) (suc (length ss)) places
-  away other = record { each = old_each; all = λ k h. let differ : 4 * k + cell ≢ length ss = λ e. other (omega (arith, e, small)) in C.all k (omega (arith, h, differ)) }
+  away : length ss % CELLS ≢ cell → AreOfCell cell (name_of (ss ++ t ∷ [])) (suc (length ss)) places
+  away other = record { each = old_each; all = λ k h. let differ : CELLS * k + cell ≢ length ss = λ e. other (omega (arith, e, small)) in C.all k (omega (arith, h, differ)) }
 
-  here : length ss % 4 ≡ cell → AreOfCell cell (name_of (ss ++ t ∷ [])) (suc (length ss)) (places ++ p ∷ [])
+  here : length ss % CELLS ≡ cell → AreOfCell cell (name_of (ss ++ t ∷ [])) (suc (length ss)) (places ++ p ∷ [])
   here same = record { each = each; all = all }
     where
       -- the places are as many as nodes of the cell
-      places_few : length places ≤ length ss / 4
+      places_few : length places ≤ length ss / CELLS
       places_few = elim (cases_eq (length places) 0) [
         | inl none ↦ omega (arith, none)
         | inr some ↦
@@ -100,23 +101,23 @@ module _ (cell : ℕ) (ss : List NodeSeal) (t : NodeSeal) (places : List Place) 
             omega (arith, there, some, same)
       ]
 
-      places_all : length places ≡ length ss / 4
-      places_all = elim (cases_eq (length ss / 4) 0) [
+      places_all : length places ≡ length ss / CELLS
+      places_all = elim (cases_eq (length ss / CELLS) 0) [
         | inl none ↦ (let few = places_few in omega (arith, none, few))
         | inr some ↦
-            let more = C.all (length ss / 4 - 1) (omega (arith, some, same)) in
+            let more = C.all (length ss / CELLS - 1) (omega (arith, some, same)) in
             let few = places_few in
             omega (arith, more, few, some)
       ]
 
-      place_is : 4 * length places + cell ≡ length ss
+      place_is : CELLS * length places + cell ≡ length ss
       place_is = let a = places_all in omega (arith, a, same)
 
-      each : (k : ℕ) (q : Place) → slice_get (places ++ p ∷ []) k ≡ Some q → IsPlaceOf (name_of (ss ++ t ∷ []) (4 * k + cell)) (4 * k + cell) (suc (length ss)) q
+      each : (k : ℕ) (q : Place) → slice_get (places ++ p ∷ []) k ≡ Some q → IsPlaceOf (name_of (ss ++ t ∷ []) (CELLS * k + cell)) (CELLS * k + cell) (suc (length ss)) q
       each k q e = elim (cases_eq k (length places)) [
         | inl last ↦
             let is : p ≡ q = same_some p q (sym (at_end places p k last) ∙ e) in
-            let at : 4 * k + cell ≡ length ss = (let a = place_is in omega (arith, a, last)) in
+            let at : CELLS * k + cell ≡ length ss = (let a = place_is in omega (arith, a, last)) in
             subst (λ i. IsPlaceOf (name_of (ss ++ t ∷ []) i) i (suc (length ss)) q) (sym at)
             (subst (IsPlaceOf (name_of (ss ++ t ∷ []) (length ss)) (length ss) (suc (length ss))) is
             (more_in t.seal.name (name_of (ss ++ t ∷ []) (length ss)) (length ss) (suc (length ss)) (suc (length ss)) p (sym (name_last ss t)) (omega arith) P))
@@ -125,19 +126,19 @@ module _ (cell : ℕ) (ss : List NodeSeal) (t : NodeSeal) (places : List Place) 
             old_each k q (sym (before_end places p k within) ∙ e)
       ]
 
-      all : (k : ℕ) → 4 * k + cell < suc (length ss) → k < length (places ++ p ∷ [])
+      all : (k : ℕ) → CELLS * k + cell < suc (length ss) → k < length (places ++ p ∷ [])
       all k h = let l = length-append places (p ∷ []) in let a = place_is in omega (arith, l, a, h)
 
   pub celled_more : AreOfCell cell (name_of (ss ++ t ∷ [])) (suc (length ss)) (with_place cell (length ss) p places)
-  celled_more = elim (cases_eq (length ss % 4) cell) [
-    | inl same ↦ subst (λ test. AreOfCell cell (name_of (ss ++ t ∷ [])) (suc (length ss)) (cond test (places ++ p ∷ []) places)) (sym (eq-eqb (length ss % 4) cell same)) (here same)
-    | inr other ↦ subst (λ test. AreOfCell cell (name_of (ss ++ t ∷ [])) (suc (length ss)) (cond test (places ++ p ∷ []) places)) (sym (ne_eqb (length ss % 4) cell other)) (away other)
+  celled_more = elim (cases_eq (length ss % CELLS) cell) [
+    | inl same ↦ subst (λ test. AreOfCell cell (name_of (ss ++ t ∷ [])) (suc (length ss)) (cond test (places ++ p ∷ []) places)) (sym (eq-eqb (length ss % CELLS) cell same)) (here same)
+    | inr other ↦ subst (λ test. AreOfCell cell (name_of (ss ++ t ∷ [])) (suc (length ss)) (cond test (places ++ p ∷ []) places)) (sym (ne_eqb (length ss % CELLS) cell other)) (away other)
   ]
 
 -- places keep what is known of them under names that are equal to theirs
 pub celled_named : (cell : ℕ) (names others : ℕ → ℕ) (count : ℕ) (places : List Place) → ((i : ℕ) → others i ≡ names i) → AreOfCell cell names count places → AreOfCell cell others count places
 celled_named cell names others count places same C = record {
-  each = λ k p e. more_in (names (4 * k + cell)) (others (4 * k + cell)) (4 * k + cell) count count p (sym (same (4 * k + cell))) (omega arith) (C.each k p e);
+  each = λ k p e. more_in (names (CELLS * k + cell)) (others (CELLS * k + cell)) (CELLS * k + cell) count count p (sym (same (CELLS * k + cell))) (omega arith) (C.each k p e);
   all = C.all;
 }
 
@@ -151,17 +152,29 @@ sealed_named names others ss b same S i s e = subst (λ n. IsSealOf n s.seal.val
 -- ## All of them
 
 module _ (b : BookValue) where
-  pub dealt_none : (ss : List NodeSeal) (d : Dealt) → ss ≡ [] → d.p0.items ≡ [] → d.p1.items ≡ [] → d.p2.items ≡ [] → d.p3.items ≡ [] → IsDealt b ss d 0
-  dealt_none ss d none e0 e1 e2 e3 = record {
+  pub dealt_none : (ss : List NodeSeal) (d : Dealt) → ss ≡ [] → d.p0.items ≡ [] → d.p1.items ≡ [] → d.p2.items ≡ [] → d.p3.items ≡ [] → d.p4.items ≡ [] → d.p5.items ≡ [] → d.p6.items ≡ [] → d.p7.items ≡ [] → d.p8.items ≡ [] → d.p9.items ≡ [] → d.p10.items ≡ [] → d.p11.items ≡ [] → d.p12.items ≡ [] → d.p13.items ≡ [] → d.p14.items ≡ [] → d.p15.items ≡ [] → IsDealt b ss d 0
+  dealt_none ss d none e0 e1 e2 e3 e4 e5 e6 e7 e8 e9 e10 e11 e12 e13 e14 e15 = record {
     many = ap length none;
     sealed = subst (λ xs. Sealed (name_of xs) xs b) (sym none) (sealed_none (name_of []) b);
     zeroth = subst (AreOfCell 0 (name_of ss) 0) (sym e0) (celled_none 0 (name_of ss));
     first = subst (AreOfCell 1 (name_of ss) 0) (sym e1) (celled_none 1 (name_of ss));
     second = subst (AreOfCell 2 (name_of ss) 0) (sym e2) (celled_none 2 (name_of ss));
     third = subst (AreOfCell 3 (name_of ss) 0) (sym e3) (celled_none 3 (name_of ss));
+    fourth = subst (AreOfCell 4 (name_of ss) 0) (sym e4) (celled_none 4 (name_of ss));
+    fifth = subst (AreOfCell 5 (name_of ss) 0) (sym e5) (celled_none 5 (name_of ss));
+    sixth = subst (AreOfCell 6 (name_of ss) 0) (sym e6) (celled_none 6 (name_of ss));
+    seventh = subst (AreOfCell 7 (name_of ss) 0) (sym e7) (celled_none 7 (name_of ss));
+    eighth = subst (AreOfCell 8 (name_of ss) 0) (sym e8) (celled_none 8 (name_of ss));
+    ninth = subst (AreOfCell 9 (name_of ss) 0) (sym e9) (celled_none 9 (name_of ss));
+    tenth = subst (AreOfCell 10 (name_of ss) 0) (sym e10) (celled_none 10 (name_of ss));
+    eleventh = subst (AreOfCell 11 (name_of ss) 0) (sym e11) (celled_none 11 (name_of ss));
+    twelfth = subst (AreOfCell 12 (name_of ss) 0) (sym e12) (celled_none 12 (name_of ss));
+    thirteenth = subst (AreOfCell 13 (name_of ss) 0) (sym e13) (celled_none 13 (name_of ss));
+    fourteenth = subst (AreOfCell 14 (name_of ss) 0) (sym e14) (celled_none 14 (name_of ss));
+    fifteenth = subst (AreOfCell 15 (name_of ss) 0) (sym e15) (celled_none 15 (name_of ss));
   }
 
-  cell_more : (cell : ℕ) (ss new : List NodeSeal) (t : NodeSeal) (p : Place) (places more : List Place) (count : ℕ) → cell < 4 → count ≡ length ss → new ≡ ss ++ t ∷ [] → more ≡ with_place cell count p places
+  cell_more : (cell : ℕ) (ss new : List NodeSeal) (t : NodeSeal) (p : Place) (places more : List Place) (count : ℕ) → cell < CELLS → count ≡ length ss → new ≡ ss ++ t ∷ [] → more ≡ with_place cell count p places
       → AreOfCell cell (name_of ss) count places → IsPlaceOf t.seal.name count (suc count) p → AreOfCell cell (name_of new) (suc count) more
   cell_more cell ss new t p places more count small many is same C P =
       subst (AreOfCell cell (name_of new) (suc count)) (sym same)
@@ -171,12 +184,27 @@ module _ (b : BookValue) where
 
   pub dealt_more : (ss new : List NodeSeal) (d e : Dealt) (t : NodeSeal) (p : Place) (count index : ℕ) → IsDealt b ss d count → new ≡ ss ++ t ∷ [] → index ≡ count
       → e.p0.items ≡ with_place 0 index p d.p0.items → e.p1.items ≡ with_place 1 index p d.p1.items → e.p2.items ≡ with_place 2 index p d.p2.items → e.p3.items ≡ with_place 3 index p d.p3.items
+      → e.p4.items ≡ with_place 4 index p d.p4.items → e.p5.items ≡ with_place 5 index p d.p5.items → e.p6.items ≡ with_place 6 index p d.p6.items → e.p7.items ≡ with_place 7 index p d.p7.items
+      → e.p8.items ≡ with_place 8 index p d.p8.items → e.p9.items ≡ with_place 9 index p d.p9.items → e.p10.items ≡ with_place 10 index p d.p10.items → e.p11.items ≡ with_place 11 index p d.p11.items
+      → e.p12.items ≡ with_place 12 index p d.p12.items → e.p13.items ≡ with_place 13 index p d.p13.items → e.p14.items ≡ with_place 14 index p d.p14.items → e.p15.items ≡ with_place 15 index p d.p15.items
       → IsSealOf t.seal.name t.seal.value.state t.frozen t.seal.name b count → IsPlaceOf t.seal.name count (suc count) p → IsDealt b new e (suc count)
-  dealt_more ss new d e t p count index D is at e0 e1 e2 e3 S P = record {
+  dealt_more ss new d e t p count index D is at e0 e1 e2 e3 e4 e5 e6 e7 e8 e9 e10 e11 e12 e13 e14 e15 S P = record {
     many = let l = ap length is ∙ length-append ss (t ∷ []) in let m = D.many in omega (arith, l, m);
     sealed = subst (λ xs. Sealed (name_of xs) xs b) (sym is) (sealed_more ss t b D.sealed (subst (IsSealOf t.seal.name t.seal.value.state t.frozen t.seal.name b) (sym D.many) S));
     zeroth = cell_more 0 ss new t p d.p0.items e.p0.items count (omega arith) (sym D.many) is (subst (λ i. e.p0.items ≡ with_place 0 i p d.p0.items) at e0) D.zeroth P;
     first = cell_more 1 ss new t p d.p1.items e.p1.items count (omega arith) (sym D.many) is (subst (λ i. e.p1.items ≡ with_place 1 i p d.p1.items) at e1) D.first P;
     second = cell_more 2 ss new t p d.p2.items e.p2.items count (omega arith) (sym D.many) is (subst (λ i. e.p2.items ≡ with_place 2 i p d.p2.items) at e2) D.second P;
     third = cell_more 3 ss new t p d.p3.items e.p3.items count (omega arith) (sym D.many) is (subst (λ i. e.p3.items ≡ with_place 3 i p d.p3.items) at e3) D.third P;
+    fourth = cell_more 4 ss new t p d.p4.items e.p4.items count (omega arith) (sym D.many) is (subst (λ i. e.p4.items ≡ with_place 4 i p d.p4.items) at e4) D.fourth P;
+    fifth = cell_more 5 ss new t p d.p5.items e.p5.items count (omega arith) (sym D.many) is (subst (λ i. e.p5.items ≡ with_place 5 i p d.p5.items) at e5) D.fifth P;
+    sixth = cell_more 6 ss new t p d.p6.items e.p6.items count (omega arith) (sym D.many) is (subst (λ i. e.p6.items ≡ with_place 6 i p d.p6.items) at e6) D.sixth P;
+    seventh = cell_more 7 ss new t p d.p7.items e.p7.items count (omega arith) (sym D.many) is (subst (λ i. e.p7.items ≡ with_place 7 i p d.p7.items) at e7) D.seventh P;
+    eighth = cell_more 8 ss new t p d.p8.items e.p8.items count (omega arith) (sym D.many) is (subst (λ i. e.p8.items ≡ with_place 8 i p d.p8.items) at e8) D.eighth P;
+    ninth = cell_more 9 ss new t p d.p9.items e.p9.items count (omega arith) (sym D.many) is (subst (λ i. e.p9.items ≡ with_place 9 i p d.p9.items) at e9) D.ninth P;
+    tenth = cell_more 10 ss new t p d.p10.items e.p10.items count (omega arith) (sym D.many) is (subst (λ i. e.p10.items ≡ with_place 10 i p d.p10.items) at e10) D.tenth P;
+    eleventh = cell_more 11 ss new t p d.p11.items e.p11.items count (omega arith) (sym D.many) is (subst (λ i. e.p11.items ≡ with_place 11 i p d.p11.items) at e11) D.eleventh P;
+    twelfth = cell_more 12 ss new t p d.p12.items e.p12.items count (omega arith) (sym D.many) is (subst (λ i. e.p12.items ≡ with_place 12 i p d.p12.items) at e12) D.twelfth P;
+    thirteenth = cell_more 13 ss new t p d.p13.items e.p13.items count (omega arith) (sym D.many) is (subst (λ i. e.p13.items ≡ with_place 13 i p d.p13.items) at e13) D.thirteenth P;
+    fourteenth = cell_more 14 ss new t p d.p14.items e.p14.items count (omega arith) (sym D.many) is (subst (λ i. e.p14.items ≡ with_place 14 i p d.p14.items) at e14) D.fourteenth P;
+    fifteenth = cell_more 15 ss new t p d.p15.items e.p15.items count (omega arith) (sym D.many) is (subst (λ i. e.p15.items ≡ with_place 15 i p d.p15.items) at e15) D.fifteenth P;
   }

@@ -5,17 +5,18 @@ use Rattle.std.proofs.lemmas.List.{length-set}
 use Rattle.tp_law_machine.proofs.Partial.{slice_get-set_same, slice_get-set_other}
 use Rattle.tp_shared.specs.declared.place.Place.{Place}
 use Rattle.tp_shared.specs.Cells.{IsPlaceOf, AreOfCell}
+use Rattle.tp_shared.specs.declared.cells.TheConstants.{CELLS}
 
 some_same : (x y : Place) → Some x ≡ Some y → x ≡ y
 some_same x y e = cc
 
 -- another place where one was
-pub celled_after : (first : ℕ) (names : ℕ → ℕ) (count : ℕ) (places : List Place) (k : ℕ) (was p : Place) → AreOfCell first names count places → slice_get places k ≡ Some was → IsPlaceOf (names (4 * k + first)) (4 * k + first) count p → AreOfCell first names count (set places k p)
+pub celled_after : (first : ℕ) (names : ℕ → ℕ) (count : ℕ) (places : List Place) (k : ℕ) (was p : Place) → AreOfCell first names count places → slice_get places k ≡ Some was → IsPlaceOf (names (CELLS * k + first)) (CELLS * k + first) count p → AreOfCell first names count (set places k p)
 celled_after first names count places k was p C there I = record {
   each = λ j q e. elim (cases_eq j k) [
     | inl same ↦
         let is : p ≡ q = some_same p q (sym (slice_get-set_same places k p was there) ∙ ap (slice_get (set places k p)) (sym same) ∙ e) in
-        subst (λ n. IsPlaceOf (names (4 * n + first)) (4 * n + first) count q) (sym same) (subst (IsPlaceOf (names (4 * k + first)) (4 * k + first) count) is I)
+        subst (λ n. IsPlaceOf (names (CELLS * n + first)) (CELLS * n + first) count q) (sym same) (subst (IsPlaceOf (names (CELLS * k + first)) (CELLS * k + first) count) is I)
     | inr other ↦ C.each j q (sym (slice_get-set_other places k j p other) ∙ e)
   ];
   all = λ j h. let l = length-set places k p in let b = C.all j h in omega (arith, l, b);

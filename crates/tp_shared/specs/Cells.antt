@@ -2,6 +2,7 @@
 use Rattle.std.specs.Prelude.{◌≡◌, ◌<◌, ℕ, ◌+◌, ◌*◌, ◌%◌, ◌==◌, if◌then◌else◌, List, [], ◌∷◌, ◌++◌, length, Some, slice_get}
 use Rattle.tp_shared.specs.declared.place.Place.{Place}
 use Rattle.tp_shared.specs.Seals.{KeyShows}
+use Rattle.tp_shared.specs.declared.cells.TheConstants.{CELLS}
 
 -- A node that is there, with the key of its name, which shows it. No turn of it is open.
 pub record IsPlaceOf (name i count : ℕ) (p : Place) : Type 0 where
@@ -9,11 +10,11 @@ pub record IsPlaceOf (name i count : ℕ) (p : Place) : Type 0 where
   pub named : p.key.name ≡ name
   pub shows : KeyShows p
 
--- each fourth node from `first` on, among `count`
+-- each node of the cell `first`, among `count`: the node `first`, and from it on each `CELLS`th
 pub record AreOfCell (first : ℕ) (names : ℕ → ℕ) (count : ℕ) (places : List Place) : Type 0 where
-  pub each : (k : ℕ) (p : Place) → slice_get places k ≡ Some p → IsPlaceOf (names (4 * k + first)) (4 * k + first) count p
-  pub all : (k : ℕ) → 4 * k + first < count → k < length places
+  pub each : (k : ℕ) (p : Place) → slice_get places k ≡ Some p → IsPlaceOf (names (CELLS * k + first)) (CELLS * k + first) count p
+  pub all : (k : ℕ) → CELLS * k + first < count → k < length places
 
 -- the places of a cell, and behind them one more where it belongs there
 abbrev pub with_place : ℕ → ℕ → Place → List Place → List Place
-with_place cell index place places = if index % 4 == cell then places ++ place ∷ [] else places
+with_place cell index place places = if index % CELLS == cell then places ++ place ∷ [] else places

@@ -32,6 +32,18 @@ pub record IsDealt (b : BookValue) (seals : List NodeSeal) (dealt : Dealt) (coun
   pub first : AreOfCell 1 (name_of seals) count dealt.p1.items
   pub second : AreOfCell 2 (name_of seals) count dealt.p2.items
   pub third : AreOfCell 3 (name_of seals) count dealt.p3.items
+  pub fourth : AreOfCell 4 (name_of seals) count dealt.p4.items
+  pub fifth : AreOfCell 5 (name_of seals) count dealt.p5.items
+  pub sixth : AreOfCell 6 (name_of seals) count dealt.p6.items
+  pub seventh : AreOfCell 7 (name_of seals) count dealt.p7.items
+  pub eighth : AreOfCell 8 (name_of seals) count dealt.p8.items
+  pub ninth : AreOfCell 9 (name_of seals) count dealt.p9.items
+  pub tenth : AreOfCell 10 (name_of seals) count dealt.p10.items
+  pub eleventh : AreOfCell 11 (name_of seals) count dealt.p11.items
+  pub twelfth : AreOfCell 12 (name_of seals) count dealt.p12.items
+  pub thirteenth : AreOfCell 13 (name_of seals) count dealt.p13.items
+  pub fourteenth : AreOfCell 14 (name_of seals) count dealt.p14.items
+  pub fifteenth : AreOfCell 15 (name_of seals) count dealt.p15.items
 
 -- The parts belong together: no take is made ready, there is a seal and a place for each node, and there is no entry yet that
 -- the roll would have. Both halves of what the flusher is told are of one name, and nothing of the book was seen.

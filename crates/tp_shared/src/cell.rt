@@ -2,6 +2,7 @@
 
 ghost use Rattle.std.specs.Prelude.{◌≡◌, ◌<◌, ◌≤◌, ◌%◌, length, IfErr, MatchResult};
 ghost use Rattle.tp_model.specs.declared.limits.TheConstants.{MAX_STEPS};
+ghost use Rattle.tp_shared.specs.declared.cells.TheConstants.{CELLS};
 ghost use Rattle.tp_shared.specs.Cells.{AreOfCell};
 ghost use Rattle.tp_shared.specs.Entries.{IsTurnRefusal, OpenedEntries, TookAlone};
 ghost use Rattle.tp_shared.specs.Gains.{Gained};
@@ -12,6 +13,7 @@ ghost use Rattle.tp_shared.specs.RecordedIn.{RecordedIn};
 ghost use Rattle.tp_shared.specs.TurnsMade.{TurnBrokenOff, TurnCommitted, TurnOpened, TurnMade};
 ghost use Rattle.tp_turn.specs.Opened.{opened_entries, sent_in, turn_received};
 
+use crate::cells::CELLS;
 use crate::gate::{COMMITTED, Gate, NODE_LOCKED, RUN_DONE};
 use crate::locked::Locked;
 use crate::naming::Naming;
@@ -27,7 +29,7 @@ use tp_book::Refusal;
 use tp_node::Ran;
 use tp_turn::{Opened, Stretch};
 
-/// Every fourth node, from the node `I` on.
+/// Every sixteenth node, from the node `I` on.
 #[derive(Drop)]
 pub struct Cell<const I: usize, J: Naming> {
     pub(crate) places: Vec<Place>,
@@ -165,13 +167,13 @@ impl<const I: usize, J: Naming> Cell<I, J> {
     ) -> Result<NodeTurn, Refusal>
         requires quantum { quantum ≤ MAX_STEPS }
         requires there { number < length J.start.nodes }
-        requires here { number % 4 ≡ I }
+        requires here { number % CELLS ≡ I }
         ensures turned { MatchResult result (λ turn. NodeTurned J.start number quantum turn seat.old seat.new) (λ e. Gained (TookAlone J.start number) seat.old seat.new) }
         ensures went { MatchResult result (λ turn. TurnMade J.start number quantum turn (in_hand seen.old seat.old) (in_hand seen.new seat.new)) (λ e. TurnBrokenOff J.start number e (in_hand seen.old seat.old) (in_hand seen.new seat.new)) }
         ensures refused { IfErr result IsTurnRefusal }
     {
         let Cell { places, .. } = self;
-        let place = &mut places[number as usize / 4];
+        let place = &mut places[number as usize / CELLS];
         turn_of(rt, gate, book, place, seat, seen, number, quantum)
     }
 
@@ -183,11 +185,11 @@ impl<const I: usize, J: Naming> Cell<I, J> {
         number: u8,
     ) -> Recorded<J>
         requires there { number < length J.start.nodes }
-        requires here { number % 4 ≡ I }
+        requires here { number % CELLS ≡ I }
         ensures recorded { RecordedIn J.start number result.seen result.done }
     {
         let Cell { places, .. } = self;
-        let place = &mut places[number as usize / 4];
+        let place = &mut places[number as usize / CELLS];
         record_of(rt, book, place, number)
     }
 }

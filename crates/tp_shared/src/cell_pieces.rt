@@ -1,11 +1,13 @@
 //! Frozen nodes under their locks.
 
 ghost use Rattle.std.specs.Prelude.{◌≡◌, ◌<◌, ◌≤◌, ◌+◌, ◌%◌, ◌&&◌, ℕ, true, false, length, nat_lt};
+ghost use Rattle.tp_shared.specs.declared.cells.TheConstants.{CELLS};
 ghost use Rattle.tp_shared.specs.Frozen.{has_page, keeps_pages};
 ghost use Rattle.tp_shared.specs.Pieces.{AreFrozenPages, IsFrozenHead};
 ghost use Rattle.tp_shared.specs.Told.{ToldSince};
 
 use crate::cell::Cell;
+use crate::cells::CELLS;
 use crate::locked::Locked;
 use crate::naming::Naming;
 use crate::pieces::{drop_of, head_of, pages_of};
@@ -26,13 +28,13 @@ impl<const I: usize, J: Naming> Cell<I, J> {
     ) -> bool
         requires name { key.old.name ≡ J.flusher }
         requires there { number < length J.start.nodes }
-        requires here { number % 4 ≡ I }
+        requires here { number % CELLS ≡ I }
         ensures name { key.new.name ≡ key.old.name }
         ensures since { ToldSince key.old.value key.new.value }
         ensures kept { result ≡ keeps_pages key.new.value.frozen number }
         ensures head { result ≡ true → IsFrozenHead key.new.value.net number out.new }
     {
-        let place = &mut self.places[number as usize / 4];
+        let place = &mut self.places[number as usize / CELLS];
         head_of(rt, book, place, key, number, out)
     }
 
@@ -48,14 +50,14 @@ impl<const I: usize, J: Naming> Cell<I, J> {
     ) -> usize
         requires name { key.old.name ≡ J.flusher }
         requires there { number < length J.start.nodes }
-        requires here { number % 4 ≡ I }
+        requires here { number % CELLS ≡ I }
         ensures name { key.new.name ≡ key.old.name }
         ensures since { ToldSince key.old.value key.new.value }
         ensures few { result ≤ length out.old }
         ensures kept { (k : ℕ) → k < length out.old → nat_lt k result ≡ (keeps_pages key.new.value.frozen number && has_page key.new.value.net number (first + k)) }
         ensures pages { AreFrozenPages key.new.value.net number first result out.new }
     {
-        let place = &mut self.places[number as usize / 4];
+        let place = &mut self.places[number as usize / CELLS];
         pages_of(rt, book, place, key, number, first, out)
     }
 
@@ -69,12 +71,12 @@ impl<const I: usize, J: Naming> Cell<I, J> {
     )
         requires name { key.old.name ≡ J.flusher }
         requires there { number < length J.start.nodes }
-        requires here { number % 4 ≡ I }
+        requires here { number % CELLS ≡ I }
         ensures name { key.new.name ≡ key.old.name }
         ensures since { ToldSince key.old.value key.new.value }
         ensures gone { keeps_pages key.new.value.frozen number ≡ false }
     {
-        let place = &mut self.places[number as usize / 4];
+        let place = &mut self.places[number as usize / CELLS];
         drop_of(rt, book, place, key, number);
     }
 }

@@ -1,4 +1,4 @@
-//! What threads share: the book under one lock, the nodes under four others, and the durable mark.
+//! What threads share: the book under one lock, the nodes under sixteen others, and the durable mark.
 #![tactic(auto)]
 
 mod agreeing;
@@ -6,6 +6,7 @@ mod audit;
 mod backlog;
 mod cell;
 mod cell_pieces;
+mod cells;
 mod copies;
 mod dealt;
 pub mod gate;

@@ -13,6 +13,7 @@ ghost use Rattle.tp_shared.specs.NodeTurned.{NodeTurned};
 ghost use Rattle.tp_shared.specs.TurnsMade.{TurnBrokenOff, HostTurnMade, TurnMade};
 
 use crate::cell::Cell;
+use crate::cells::{CELLS, in_cell};
 use crate::gate::{COMMITTED, Gate};
 use crate::locked::Locked;
 use crate::naming::Naming;
@@ -43,7 +44,7 @@ fn host_hold<J: Naming, R: Wait>(
     held.host_turn_seen(seat, seen)
 }
 
-/// The book under its lock, the nodes under four others, node `i` in cell `i` mod 4, and the mark. Where a thread holds two
+/// The book under its lock, the nodes under sixteen others, node `i` in cell `i` mod 16, and the mark. Where a thread holds two
 /// locks, the first is a cell's, and the second the book's.
 #[derive(Drop)]
 pub struct Shared<J: Naming> {
@@ -52,6 +53,18 @@ pub struct Shared<J: Naming> {
     pub(crate) c1: Mutex<Cell<1, J>>,
     pub(crate) c2: Mutex<Cell<2, J>>,
     pub(crate) c3: Mutex<Cell<3, J>>,
+    pub(crate) c4: Mutex<Cell<4, J>>,
+    pub(crate) c5: Mutex<Cell<5, J>>,
+    pub(crate) c6: Mutex<Cell<6, J>>,
+    pub(crate) c7: Mutex<Cell<7, J>>,
+    pub(crate) c8: Mutex<Cell<8, J>>,
+    pub(crate) c9: Mutex<Cell<9, J>>,
+    pub(crate) c10: Mutex<Cell<10, J>>,
+    pub(crate) c11: Mutex<Cell<11, J>>,
+    pub(crate) c12: Mutex<Cell<12, J>>,
+    pub(crate) c13: Mutex<Cell<13, J>>,
+    pub(crate) c14: Mutex<Cell<14, J>>,
+    pub(crate) c15: Mutex<Cell<15, J>>,
     mark: Mark,
     nodes: u8,
     ports: u8,
@@ -89,6 +102,18 @@ impl<J: Naming> Shared<J> {
             c1: Mutex::new(Cell::new(dealt.p1)),
             c2: Mutex::new(Cell::new(dealt.p2)),
             c3: Mutex::new(Cell::new(dealt.p3)),
+            c4: Mutex::new(Cell::new(dealt.p4)),
+            c5: Mutex::new(Cell::new(dealt.p5)),
+            c6: Mutex::new(Cell::new(dealt.p6)),
+            c7: Mutex::new(Cell::new(dealt.p7)),
+            c8: Mutex::new(Cell::new(dealt.p8)),
+            c9: Mutex::new(Cell::new(dealt.p9)),
+            c10: Mutex::new(Cell::new(dealt.p10)),
+            c11: Mutex::new(Cell::new(dealt.p11)),
+            c12: Mutex::new(Cell::new(dealt.p12)),
+            c13: Mutex::new(Cell::new(dealt.p13)),
+            c14: Mutex::new(Cell::new(dealt.p14)),
+            c15: Mutex::new(Cell::new(dealt.p15)),
             mark,
             nodes,
             ports,
@@ -152,12 +177,7 @@ impl<J: Naming> Shared<J> {
         ensures went { MatchResult result (λ turn. TurnMade J.start number quantum turn (in_hand seen.old seat.old) (in_hand seen.new seat.new)) (λ e. TurnBrokenOff J.start number e (in_hand seen.old seat.old) (in_hand seen.new seat.new)) }
         ensures refused { IfErr result IsTurnRefusal }
     {
-        match number % 4 {
-            0 => lock_soon(rt, &self.c0).turn(rt, gate, &self.book, seat, seen, number, quantum),
-            1 => lock_soon(rt, &self.c1).turn(rt, gate, &self.book, seat, seen, number, quantum),
-            2 => lock_soon(rt, &self.c2).turn(rt, gate, &self.book, seat, seen, number, quantum),
-            _ => lock_soon(rt, &self.c3).turn(rt, gate, &self.book, seat, seen, number, quantum),
-        }
+        in_cell!(self, number, cell => lock_soon(rt, cell).turn(rt, gate, &self.book, seat, seen, number, quantum))
     }
 
     /// The node `number` records where a snapshot asks it to. It takes nothing, and nothing runs. Answers whether it recorded, with the
@@ -166,12 +186,7 @@ impl<J: Naming> Shared<J> {
         requires { number < length J.start.nodes }
         ensures recorded { RecordedIn J.start number result.seen result.done }
     {
-        match number % 4 {
-            0 => self.c0.lock(rt).record(rt, &self.book, number),
-            1 => self.c1.lock(rt).record(rt, &self.book, number),
-            2 => self.c2.lock(rt).record(rt, &self.book, number),
-            _ => self.c3.lock(rt).record(rt, &self.book, number),
-        }
+        in_cell!(self, number, cell => cell.lock(rt).record(rt, &self.book, number))
     }
 
     /// The host's turn: each of its ports in order takes at most three tokens of the line that comes to it, a Marker among them.

@@ -5,6 +5,7 @@ ghost use Rattle.tp_shared.specs.Frozen.{has_page, keeps_pages};
 ghost use Rattle.tp_shared.specs.Pieces.{AreFrozenPages, IsFrozenHead};
 ghost use Rattle.tp_shared.specs.Told.{ToldSince};
 
+use crate::cells::{CELLS, in_cell};
 use crate::naming::Naming;
 use crate::shared::Shared;
 use crate::soon::lock_soon;
@@ -31,12 +32,7 @@ impl<J: Naming> Shared<J> {
         ensures head { result ≡ true → IsFrozenHead key.new.value.net number out.new }
     {
         let book = self.book();
-        match number % 4 {
-            0 => lock_soon(rt, &self.c0).frozen_head(rt, book, key, number, out),
-            1 => lock_soon(rt, &self.c1).frozen_head(rt, book, key, number, out),
-            2 => lock_soon(rt, &self.c2).frozen_head(rt, book, key, number, out),
-            _ => lock_soon(rt, &self.c3).frozen_head(rt, book, key, number, out),
-        }
+        in_cell!(self, number, cell => lock_soon(rt, cell).frozen_head(rt, book, key, number, out))
     }
 
     /// Pages of its memory as it recorded, from the page `first` on: as many as it has and as find room in `out`. Answers how many: none
@@ -59,12 +55,7 @@ impl<J: Naming> Shared<J> {
         ensures pages { AreFrozenPages key.new.value.net number first result out.new }
     {
         let book = self.book();
-        match number % 4 {
-            0 => lock_soon(rt, &self.c0).frozen_pages(rt, book, key, number, first, out),
-            1 => lock_soon(rt, &self.c1).frozen_pages(rt, book, key, number, first, out),
-            2 => lock_soon(rt, &self.c2).frozen_pages(rt, book, key, number, first, out),
-            _ => lock_soon(rt, &self.c3).frozen_pages(rt, book, key, number, first, out),
-        }
+        in_cell!(self, number, cell => lock_soon(rt, cell).frozen_pages(rt, book, key, number, first, out))
     }
 
     /// Lets the frozen pages of node `number` go, once all are out. `key` shows then what is told of the book: no page of the node is
@@ -77,11 +68,6 @@ impl<J: Naming> Shared<J> {
         ensures gone { keeps_pages key.new.value.frozen number ≡ false }
     {
         let book = self.book();
-        match number % 4 {
-            0 => lock_soon(rt, &self.c0).drop_frozen(rt, book, key, number),
-            1 => lock_soon(rt, &self.c1).drop_frozen(rt, book, key, number),
-            2 => lock_soon(rt, &self.c2).drop_frozen(rt, book, key, number),
-            _ => lock_soon(rt, &self.c3).drop_frozen(rt, book, key, number),
-        }
+        in_cell!(self, number, cell => lock_soon(rt, cell).drop_frozen(rt, book, key, number))
     }
 }

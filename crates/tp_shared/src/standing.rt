@@ -2,8 +2,10 @@
 
 ghost use Rattle.std.specs.Prelude.{◌≡◌, ◌<◌, ◌%◌, ◌/◌, IfSome, length, slice_get};
 ghost use Rattle.tp_node.specs.Standing.{standing};
+ghost use Rattle.tp_shared.specs.declared.cells.TheConstants.{CELLS};
 
 use crate::cell::Cell;
+use crate::cells::{CELLS, in_cell};
 use crate::naming::Naming;
 use crate::shared::Shared;
 use std::sync::Wait;
@@ -13,10 +15,10 @@ impl<const I: usize, J: Naming> Cell<I, J> {
     /// Where the node `number`, which is one of the cell's, stands.
     pub(crate) fn standing(&self, number: u8) -> Standing
         requires there { number < length J.start.nodes }
-        requires here { number % 4 ≡ I }
-        ensures { IfSome (slice_get self.now (number / 4)) (λ place. result ≡ standing place.node.live) }
+        requires here { number % CELLS ≡ I }
+        ensures { IfSome (slice_get self.now (number / CELLS)) (λ place. result ≡ standing place.node.live) }
     {
-        self.places[number as usize / 4].node.standing()
+        self.places[number as usize / CELLS].node.standing()
     }
 }
 
@@ -25,11 +27,6 @@ impl<J: Naming> Shared<J> {
     pub fn standing<R: Wait>(&self, rt: &R, number: u8) -> Standing
         requires there { number < length J.start.nodes }
     {
-        match number % 4 {
-            0 => self.c0.lock(rt).standing(number),
-            1 => self.c1.lock(rt).standing(number),
-            2 => self.c2.lock(rt).standing(number),
-            _ => self.c3.lock(rt).standing(number),
-        }
+        in_cell!(self, number, cell => cell.lock(rt).standing(number))
     }
 }

@@ -17,7 +17,7 @@ use tp_work::Seat;
 /// The node that is held. None of `OTHERS` is under its lock.
 const HELD: u8 = 1;
 
-const OTHERS: [u8; 11] = [2, 3, 4, 6, 7, 8, 10, 11, 12, 14, 15];
+const OTHERS: [u8; 14] = [2, 3, 4, 5, 6, 7, 8, 9, 10, 11, 12, 13, 14, 15];
 
 /// A process that no gate holds here.
 const FREE: u8 = 0;

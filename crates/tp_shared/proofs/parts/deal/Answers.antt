@@ -22,6 +22,9 @@ loop-node-preserved c =
     (record { node = c.in-Some.node; key = c.ends_of-seal.result.1 }) count c.len-index.result c.loop-node.invariant c.in_ok-push.ensures.items
     (let l = c.len-index.ensures in let k = c.loop-node.seals.ok.0 in let m = c.loop-node.invariant.many in omega (arith, l, k, m))
     c.in_ok-push-2.ensures.zeroth c.in_ok-push-2.ensures.first c.in_ok-push-2.ensures.second c.in_ok-push-2.ensures.third
+    c.in_ok-push-2.ensures.fourth c.in_ok-push-2.ensures.fifth c.in_ok-push-2.ensures.sixth c.in_ok-push-2.ensures.seventh
+    c.in_ok-push-2.ensures.eighth c.in_ok-push-2.ensures.ninth c.in_ok-push-2.ensures.tenth c.in_ok-push-2.ensures.eleventh
+    c.in_ok-push-2.ensures.twelfth c.in_ok-push-2.ensures.thirteenth c.in_ok-push-2.ensures.fourteenth c.in_ok-push-2.ensures.fifteenth
     (record {
       named = refl;
       node = agrees.there ∙ ap (λ (a : Agreement). Some a.node) (sym shows);
