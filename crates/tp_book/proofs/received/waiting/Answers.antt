@@ -1,4 +1,3 @@
-use Rattle.std.proofs.Common.{sym, ap, ◌∙◌}
 use Rattle.tp_model.specs.Network.{on_line}
 use Rattle.tp_book.proofs.InFront.{by_two-before}
 use Rattle.tp_book.proofs.received.waiting.Goals as goal
