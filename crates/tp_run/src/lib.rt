@@ -2,6 +2,7 @@
 #![tactic(auto)]
 
 mod accounting;
+mod aside;
 mod beginning;
 mod compacting;
 mod fault;

@@ -28,7 +28,8 @@ fn due_behind(made: u64, missing: u64) -> u64
 }
 
 /// How many turns there are, and how many were drawn; entries made, or a greater number; whether the workers have ended; how many
-/// entries since the kept cut begin a snapshot (`every`), and at how many made entries that may be so (`due`). No lock is taken for it.
+/// entries since the kept cut begin a snapshot (`every`), and at how many made entries that may be so (`due`); 1 once no turn is left
+/// (`over`), and 0 before. No lock is taken for it.
 #[derive(Drop)]
 pub(crate) struct Watch {
     turns: u64,
@@ -37,6 +38,7 @@ pub(crate) struct Watch {
     ended: AtomicBool,
     every: u64,
     due: AtomicU64,
+    over: AtomicU64,
 }
 
 impl Watch {
@@ -49,6 +51,7 @@ impl Watch {
             ended: AtomicBool::new(false),
             every,
             due: AtomicU64::new(0),
+            over: AtomicU64::new(0),
         }
     }
 
@@ -58,14 +61,24 @@ impl Watch {
     }
 
     /// Takes one of the turns that are left; false where none is. With the last one of [`LOOK_TURNS`] the flusher has a turn to make: a
-    /// snapshot may go on by what is no entry. Nobody is woken.
+    /// snapshot may go on by what is no entry. Nobody is woken but, where none is left, who rests.
     pub(crate) fn draw(&self) -> bool {
         let before = self.drawn.fetch_add(1, Ordering::SeqCst);
         if before % LOOK_TURNS == LOOK_TURNS - 1 {
             self.count_anew();
             self.tell(1);
         }
-        before < self.turns
+        let is_left = before < self.turns;
+        if !is_left {
+            self.over.store(1, Ordering::SeqCst);
+            self.over.wake_all();
+        }
+        is_left
+    }
+
+    /// Sleeps for `micros` microseconds, or until no turn is left.
+    pub(crate) fn rest<R: Wait>(&self, rt: &R, micros: u64) {
+        self.over.park_timeout(rt, 0, Duration::from_micros(micros));
     }
 
     /// Tells that a turn made `count` entries, or fewer. The flusher sees it where it is awake, and once it has slept.

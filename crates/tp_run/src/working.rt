@@ -3,6 +3,7 @@
 ghost use Rattle.std.specs.Prelude.{◌≡◌, ◌≤◌, All, Some, length};
 ghost use Rattle.tp_run.specs.Worked.{Worked};
 
+use crate::aside::Aside;
 use crate::beginning::{begin_where_due, missing_in};
 use crate::watch::Watch;
 use std::alloc::Global;
@@ -23,6 +24,14 @@ fn told_of(done: &Result<Turn, TurnFault>, made: u64) -> u64
     }
 }
 
+/// How many steps a turn had.
+fn steps_of(done: &Result<Turn, TurnFault>) -> u16 {
+    match done {
+        Ok(Turn { ran: Some(ran), .. }) => ran.count(),
+        Ok(Turn { ran: None, .. }) | Err(_) => 0,
+    }
+}
+
 /// Begins a snapshot where it is time. That it is refused is passed over. No lock is taken before enough entries may have been made.
 fn begin<J: Naming, R: Wait>(rt: &R, alloc: Global, shared: &Shared<J>, watch: &Watch) {
     let Some(made) = watch.made_when_due() else {
@@ -34,18 +43,21 @@ fn begin<J: Naming, R: Wait>(rt: &R, alloc: Global, shared: &Shared<J>, watch: &
     watch.set_due(made, missing_in(&held, watch.every()));
 }
 
-/// Makes turns until none is left. A refused turn counts. It never waits for the flusher. `seat` has the slips of just these turns.
+/// Makes turns until none is left. A refused turn counts. It never waits for the flusher; one that `helps` rests while turns are short.
+/// `seat` has the slips of just these turns.
 fn work<J: Naming, R: Wait>(
     rt: &R,
     alloc: Global,
     net: &Net<J, NoGate>,
     watch: &Watch,
+    helps: bool,
     seat: &mut Seat<J>,
 )
     requires hand { seat.old.hand.of ≡ Some net.now.queue }
     requires worked { Worked J.start net.now.quantum seat.old.slips }
     ensures worked { Worked J.start net.now.quantum seat.new.slips }
 {
+    let mut aside = Aside::new();
     for _ in 0..u32::MAX {
         if !watch.draw() {
             return;
@@ -57,11 +69,17 @@ fn work<J: Naming, R: Wait>(
         if matches!(done, Err(TurnFault::Empty)) {
             thread::yield_now();
         }
+        let rest = aside.count(steps_of(&done));
+        if let Some(micros) = rest
+            && helps
+        {
+            watch.rest(rt, micros);
+        }
     }
 }
 
 /// Lets a worker at each seat make turns until none is left, each in a thread of its own where one can be made, and then tells the
-/// flusher.
+/// flusher. The first worker never rests.
 pub(crate) fn work_all<J: Naming + Send + Sync, R: Threads + Wait + Sync>(
     rt: &R,
     alloc: Global,
@@ -78,10 +96,10 @@ pub(crate) fn work_all<J: Naming + Send + Sync, R: Threads + Wait + Sync>(
         rt,
         seats,
         threads,
-        &|_, seat: &mut Seat<J>|
+        &|index, seat: &mut Seat<J>|
             requires { (seat.now.hand.of ≡ Some net.now.queue) × Worked J.start net.now.quantum seat.now.slips }
             ensures { Worked J.start net.entry.now.quantum seat.exit.now.slips }
-        { work(rt, alloc, net, watch, seat) },
+        { work(rt, alloc, net, watch, index > 0, seat) },
     );
     watch.end();
 }

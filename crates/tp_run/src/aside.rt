@@ -1,0 +1,69 @@
+//! When a worker steps aside.
+
+ghost use Rattle.std.specs.Prelude.{◌≡◌, ◌<◌, ◌≤◌, ◌+◌, None, Some};
+
+/// Over how many of its turns a worker counts their steps.
+const COUNTED: u64 = 64;
+
+/// How many steps these turns have where threads beside each other begin to make more of them than one does: 160 each, in the mean.
+const ENOUGH: u64 = 10_240;
+
+/// How many microseconds a worker rests for at first, and at most.
+const SHORTEST: u64 = 250;
+
+const LONGEST: u64 = 8_000;
+
+/// How many turns a worker has made since it last looked, how many steps they had, and for how many microseconds it rests next.
+#[derive(Drop)]
+pub(crate) struct Aside {
+    turns: u64,
+    steps: u64,
+    rest: u64,
+}
+
+/// How long a worker rests that has rested for `rest` microseconds.
+fn longer(rest: u64) -> u64
+    ensures longest { result ≤ LONGEST }
+    ensures longer { rest < LONGEST → rest ≤ result }
+{
+    rest.saturating_mul(2).min(LONGEST)
+}
+
+impl Aside {
+    /// No turn was made yet.
+    pub(crate) fn new() -> Aside
+        ensures { (result.turns ≡ 0) × (result.steps ≡ 0) × (result.rest ≡ SHORTEST) }
+    {
+        Aside {
+            turns: 0,
+            steps: 0,
+            rest: SHORTEST,
+        }
+    }
+
+    /// Counts a turn of `steps` steps. Answers for how many microseconds the worker had better rest, if it had: behind each [`COUNTED`] turns
+    /// that had fewer than [`ENOUGH`] steps, each time for longer.
+    pub(crate) fn count(&mut self, steps: u16) -> Option<u64>
+        ensures early { self.old.turns + 1 < COUNTED → (result ≡ None) × (self.new.rest ≡ self.old.rest) }
+        ensures short { COUNTED ≤ self.old.turns + 1 → self.old.steps + steps < ENOUGH → result ≡ Some self.old.rest }
+        ensures long { COUNTED ≤ self.old.turns + 1 → ENOUGH ≤ self.old.steps + steps → (result ≡ None) × (self.new.rest ≡ SHORTEST) }
+        ensures anew { COUNTED ≤ self.old.turns + 1 → (self.new.turns ≡ 0) × (self.new.steps ≡ 0) }
+    {
+        self.turns = self.turns.saturating_add(1);
+        self.steps = self.steps.saturating_add(u64::from(steps));
+        if self.turns < COUNTED {
+            return None;
+        }
+        let made = self.steps;
+        let rest = self.rest;
+        self.turns = 0;
+        self.steps = 0;
+        if made < ENOUGH {
+            self.rest = longer(rest);
+            Some(rest)
+        } else {
+            self.rest = SHORTEST;
+            None
+        }
+    }
+}
