@@ -28,6 +28,7 @@ one run 300 "$tpnet" "$rounds"
 one open 180 "$tpnet" "$rounds"
 one forms 180 "$tpnet" 64 "$rounds"
 one stream 180 "$tpnet" 4
+one waits 180 "$tpnet" "$rounds"
 one checkpoint 300 "$tpnet" "$rounds"
 
 python3 - "$top/bench/README.md" "$kept/said" "${ONLY:-all}" <<'PY'
@@ -50,6 +51,10 @@ ROWS = [
     ("open", "seconds to open, 16 steps an entry, four threads", "one thread", "1.8", r"device-16, best.*one thread over four ([\d.]+)"),
     ("forms", "bytes a second through three nodes", "the same device in a plain area", "", r"relay: .*best ([\d.]+, median [\d.]+)"),
     ("stream", "bytes a second from pipe to pipe, two nodes", "the same groups written alone", "0.5", r"stream .*ratio ([\d.]+)"),
+    ("waits", "microseconds of one byte in and out of an idle network, on a disk", "a group written alone", "at most 1.3", r"byte .*ratio ([\d.]+ best, [\d.]+ median)"),
+    ("waits", "entries a second of a stream of four nodes that compute, four workers", "one worker", "3", r"streams .*ratio ([\d.]+ best, [\d.]+ median)"),
+    ("waits", "entries a second of four pairs that hand a byte on, four workers", "one worker", "2", r"pairs .*ratio ([\d.]+ best, [\d.]+ median)"),
+    ("waits", "seconds of a stream of four nodes that compute, on a disk", "the longer of turns and groups", "at most 1.1", r"disk .*ratio ([\d.]+ best, [\d.]+ median)"),
     ("checkpoint", "entries a second with checkpoints", "without", "0.8", r"entries  with .*ratio of the medians ([\d.]+)"),
     ("checkpoint", "seconds of a checkpoint", "a raw copy", "1.0", r"copy .*ratio of the medians ([\d.]+)"),
     ("checkpoint", "the 99th percentile of turns of 1,024 steps beside a snapshot", "the median turn without one", "at most 1.3", r"of 1024 steps.*the 99th percentile ([\d.]+)"),
