@@ -13,6 +13,15 @@ const LOOK_TURNS: u64 = 64;
 /// waits for the device and for one such sleep.
 const SLEEP: u64 = 500;
 
+/// The first worker hasn't begun to make turns.
+const UNBEGUN: u64 = 0;
+
+/// It makes turns.
+const MAKES_TURNS: u64 = 1;
+
+/// No turn is left.
+const ENDED: u64 = 2;
+
 /// At how many made entries it is worth a look at the book again, after `made` were made and `missing` were wanting then. `missing` is
 /// 0 where a snapshot has begun or can't begin: then it isn't until `count_anew`.
 fn due_behind(made: u64, missing: u64) -> u64
@@ -28,8 +37,8 @@ fn due_behind(made: u64, missing: u64) -> u64
 }
 
 /// How many turns there are, and how many were drawn; entries made, or a greater number; whether the workers have ended; how many
-/// entries since the kept cut begin a snapshot (`every`), and at how many made entries that may be so (`due`); 1 once no turn is left
-/// (`over`), and 0 before. No lock is taken for it.
+/// entries since the kept cut begin a snapshot (`every`), and at how many made entries that may be so (`due`); and what the first
+/// worker does (`first`). No lock is taken for it.
 #[derive(Drop)]
 pub(crate) struct Watch {
     turns: u64,
@@ -38,7 +47,7 @@ pub(crate) struct Watch {
     ended: AtomicBool,
     every: u64,
     due: AtomicU64,
-    over: AtomicU64,
+    first: AtomicU64,
 }
 
 impl Watch {
@@ -51,7 +60,7 @@ impl Watch {
             ended: AtomicBool::new(false),
             every,
             due: AtomicU64::new(0),
-            over: AtomicU64::new(0),
+            first: AtomicU64::new(UNBEGUN),
         }
     }
 
@@ -70,15 +79,21 @@ impl Watch {
         }
         let is_left = before < self.turns;
         if !is_left {
-            self.over.store(1, Ordering::SeqCst);
-            self.over.wake_all();
+            self.first.store(ENDED, Ordering::SeqCst);
+            self.first.wake_all();
         }
         is_left
     }
 
-    /// Sleeps for `micros` microseconds, or until no turn is left.
+    /// Tells that the first worker begins to make turns.
+    pub(crate) fn begin_first(&self) {
+        self.first.store(MAKES_TURNS, Ordering::SeqCst);
+    }
+
+    /// Sleeps for `micros` microseconds, or until no turn is left; not at all where the first worker makes none.
     pub(crate) fn rest<R: Wait>(&self, rt: &R, micros: u64) {
-        self.over.park_timeout(rt, 0, Duration::from_micros(micros));
+        self.first
+            .park_timeout(rt, MAKES_TURNS as u32, Duration::from_micros(micros));
     }
 
     /// Tells that a turn made `count` entries, or fewer. The flusher sees it where it is awake, and once it has slept.

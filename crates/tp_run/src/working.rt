@@ -58,6 +58,9 @@ fn work<J: Naming, R: Wait>(
     ensures worked { Worked J.start net.now.quantum seat.new.slips }
 {
     let mut aside = Aside::new();
+    if !helps {
+        watch.begin_first();
+    }
     for _ in 0..u32::MAX {
         if !watch.draw() {
             return;
@@ -79,7 +82,7 @@ fn work<J: Naming, R: Wait>(
 }
 
 /// Lets a worker at each seat make turns until none is left, each in a thread of its own where one can be made, and then tells the
-/// flusher. The first worker never rests.
+/// flusher. The first worker never rests, and the others only while it makes turns.
 pub(crate) fn work_all<J: Naming + Send + Sync, R: Threads + Wait + Sync>(
     rt: &R,
     alloc: Global,
