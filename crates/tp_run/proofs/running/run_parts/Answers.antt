@@ -1,5 +1,5 @@
-use Rattle.std.proofs.Common.{◌≡◌, Ok, Err, false, refl, ap, sym, subst, ◌∙◌}
-use Rattle.std.specs.Prelude.{IfOk}
+use Rattle.std.proofs.Common.{◌≡◌, Ok, Err, Some, false, refl, ap, sym, subst, ◌∙◌}
+use Rattle.std.specs.Prelude.{[], All, IfOk}
 use Rattle.tp_model.specs.DiskHistory.{State}
 use Rattle.tp_model.specs.Opening.{held_of, verdict}
 use Rattle.tp_model.specs.Runs.{World, reopened}
@@ -55,6 +55,10 @@ returns-clause-called g c k began =
     let ran : RanInto start job input was now done old.state new.state =
     served_ran c.stored_slips_are_recovered.ensures start before opened job input was now old new done there reads world (c.serve-flusher.ensures.walks k first) c.serve-flusher.ensures.stored settled shown in
     subst (λ s. RanInto start job input was now done (g.D.Disk.state c.args.store.disk) s) (sym c.into_disk-2.ensures.state) (subst (λ s. RanInto start job input was now done s new.state) c.over-flusher.ensures.device.0 ran)
+
+pub serve-flusher-requires-clause-seats : goal.serve-flusher-requires-clause-seats
+serve-flusher-requires-clause-seats g c κs within =
+    subst (λ queue. All (λ seat. (seat.hand.of ≡ Some queue) × (seat.slips ≡ [])) c.in-Ok.seats.items) (sym c.seat-host.ensures.same.1) c.in-Ok.ensures.seats
 
 pub serve-flusher-requires-clause-first : goal.serve-flusher-requires-clause-first
 serve-flusher-requires-clause-first g c κs within = ap (λ (u : Outset). u.next) c.requires.outset ∙ sym c.requires.stands.first ∙ c.requires.names.first_is
