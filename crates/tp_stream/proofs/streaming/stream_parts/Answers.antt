@@ -72,6 +72,10 @@ returns-clause-failures g c =
     let F = c.serve-flusher.ensures.failures (ap (λ (w : World NodeState). w.at) c.over-flusher.ensures.world) in
     c.into_disk-2.ensures.failures ∙ F.calls ∙ ap (λ n. calls_failed (answer_failed done) n) c.over-flusher.ensures.device.2
 
+pub serve-flusher-requires-after_bounds : goal.serve-flusher-requires-after_bounds
+serve-flusher-requires-after_bounds g c κs within k d there =
+    (c.in-Ok.ensures.seats k d there).0 ∙ ap Some (sym (c.seat-steps.ensures.same.1 ∙ c.seat-seat.ensures.same.1))
+
 -- ## Where there is no memory for workers
 
 pub returns-in_default-clause-streamed : goal.returns-in_default-clause-streamed
