@@ -79,6 +79,17 @@ fn add_work<J: Naming>(work: &mut Work<J>, other: Work<J>) {
     work.is_refused = work.is_refused || is_refused;
 }
 
+/// The book of a network that no thread shares any more, and what turns did whose slips are audited.
+fn audited<J: Naming>(shared: Shared<J>, work: Work<J>) -> (Locked<J>, Work<J>)
+    ensures few { length result.1.seat ≤ length result.0.all }
+    ensures each { length result.1.seat ≡ length result.0.all → (n : ℕ) → shown n result.1.seat ≡ item_of J.first result.0.all n }
+{
+    let mut locked = shared.into_locked();
+    let mut work = work;
+    locked.audit(&mut work.seat);
+    (locked, work)
+}
+
 /// Two threads make `count` turns each, of the nodes 0 and 1 at once. Then nodes 0, 1 and 0 make four more each. All slips
 /// are audited.
 pub fn work_of_both<J: Naming + Send + Sync, R: Threads + Wait + Sync>(
@@ -104,9 +115,7 @@ pub fn work_of_both<J: Naming + Send + Sync, R: Threads + Wait + Sync>(
     for number in [0, 1, 0] {
         all = make_turns(rt, lent, all, number, 4, quantum);
     }
-    let mut locked = shared.into_locked();
-    locked.audit(&mut all.seat);
-    (locked, all)
+    audited(shared, all)
 }
 
 /// How many tokens the nodes of `parts` took and how many steps they made, and whether a turn was refused.
