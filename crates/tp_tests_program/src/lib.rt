@@ -6,6 +6,8 @@ mod changing;
 #[cfg(test)]
 mod format_tests;
 #[cfg(test)]
+mod growth;
+#[cfg(test)]
 mod program_tests;
 #[cfg(test)]
 mod run_tests;
