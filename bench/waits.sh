@@ -5,7 +5,8 @@
 #             byte after byte, 3 milliseconds apart
 #   streams   four nodes that compute, a port each: entries a second of `run --stream` by four workers beside one, in memory; and of `run` by four
 #             beside one, which says what the machine gives
-#   pairs     four pairs of nodes that hand a byte back and forth: entries a second of `run` by four workers beside one, in memory
+#   hands     four pairs of nodes that hand a byte back and forth: entries a second of `run` by four workers beside one, in memory
+#   works     of four such pairs whose nodes compute for some 1,000 steps between two bytes
 #   disk      such a stream of four nodes on a device in FOLDER: its seconds beside the longer of two, those of that stream in memory, and those of
 #             its groups written and synced alone in FOLDER
 # usage: bench/waits.sh TPNET [ROUNDS [FOLDER]]      5 rounds, and /tmp, which should be on a disk, by default
@@ -72,21 +73,48 @@ int main(int count, char **words) {
 C
 cc -O2 -o "$work/raw" "$work/raw.c"
 
-# takes a byte from link 0 and sends it on link 0 (echo), or on link 3 (hands), for ever; `first` sends first
-printf 'pages 4\niptr 80000100\nwptr 80000200\nat 80000100: 11 24 F2 54 41 F7\nat 80000106: 11 24 F2 50 41 FB\nat 8000010C: 60 02\n' > "$work/echo.txt"
-printf 'pages 4\niptr 80000100\nwptr 80000200\nat 80000100: 11 24 F2 54 41 F7\nat 80000106: 11 24 F2 53 41 FB\nat 8000010C: 60 02\n' > "$work/hands.txt"
-sed 's/^iptr 80000100/iptr 80000106/' "$work/hands.txt" > "$work/first.txt"
-for name in echo hands first; do "$top/tools/make-image" "$work/$name.txt" "$work/$name.img"; done
+# takes a byte from link 0 and sends it on link 0 (echo), or on link 3 (hands), or there once it has computed for some 1,000 steps (works), for
+# ever; `_first` sends first
+cat > "$work/hands.asm" <<'T'
+process start 80000200
+place = 1
+left = 2
+start:
+    ldlp place
+    mint
+    ldnlp 4             # link0.in
+    ldc 1
+    in
+send:
+    ldlp place
+    mint
+    ldnlp 3             # link3.out
+    ldc 1
+    out
+    j start
+T
+sed 's/ldnlp 3 .*/ldnlp 0             # link0.out/' "$work/hands.asm" > "$work/echo.asm"
+sed 's/^send:/    ldc 200\n    stl left\nagain:\n    ldl left\n    adc -1\n    stl left\n    ldl left\n    cj send\n    j again\nsend:/' "$work/hands.asm" > "$work/works.asm"
+for name in hands works; do sed 's/^process start/process send/' "$work/$name.asm" > "$work/${name}_first.asm"; done
+for name in echo hands hands_first works works_first; do "$top/tools/assemble" "$work/$name.asm" "$work/$name.img"; done
 "$top/tools/make-image" "$top/examples/compute.txt" "$work/n0.img"
 for number in 1 2 3; do cp "$work/n0.img" "$work/n$number.img"; done
 printf 'node echo 4\nport h\nwire echo.0 h\n' > "$work/echo.net"
 for number in 0 1 2 3; do printf 'node n%d 4\n' $number; done > "$work/four.net"
 for number in 0 1 2 3; do printf 'port p%d\n' $number; done >> "$work/four.net"
 for number in 0 1 2 3; do printf 'wire n%d.0 p%d\n' $number $number; done >> "$work/four.net"
-for number in 0 1 2 3; do printf 'node a%d 4\nnode b%d 4\n' $number $number; cp "$work/first.img" "$work/a$number.img"; cp "$work/hands.img" "$work/b$number.img"; done > "$work/pairs.net"
-printf 'port h\n' >> "$work/pairs.net"
-for number in 0 1 2 3; do printf 'wire a%d.3 b%d.0\nwire b%d.3 a%d.0\n' $number $number $number $number; done >> "$work/pairs.net"
-for name in echo four pairs; do "$tpnet" format "$work/$name" "$work/$name.net" "$work" $((1 << 24)) > "$work/said"; done
+for pairs in hands works; do
+    mkdir "$work/$pairs.d"
+    for number in 0 1 2 3; do
+        cp "$work/${pairs}_first.img" "$work/$pairs.d/a$number.img"
+        cp "$work/$pairs.img" "$work/$pairs.d/b$number.img"
+        printf 'node a%d 4\nnode b%d 4\n' $number $number
+    done > "$work/$pairs.net"
+    printf 'port h\n' >> "$work/$pairs.net"
+    for number in 0 1 2 3; do printf 'wire a%d.3 b%d.0\nwire b%d.3 a%d.0\n' $number $number $number $number; done >> "$work/$pairs.net"
+    "$tpnet" format "$work/$pairs" "$work/$pairs.net" "$work/$pairs.d" $((1 << 24)) > "$work/said"
+done
+for name in echo four; do "$tpnet" format "$work/$name" "$work/$name.net" "$work" $((1 << 24)) > "$work/said"; done
 
 python3 - "$tpnet" "$work" "$rounds" "$folder" <<'PY'
 import os, shutil, statistics, struct, subprocess, sys, tempfile, time
@@ -155,7 +183,7 @@ with tempfile.TemporaryDirectory(prefix="bench-waits-", dir=folder) as disk, tem
         raw.append(statistics.median(waits([os.path.join(work, "raw"), fresh("echo", disk), "echo"])))
         ours.append(statistics.median(waits([tpnet, "run", fresh("echo", disk), "--stream", "--until-quiet", "--in", "0=-", "--out", "0=-"])))
     said("byte", ours, raw, "there and back %.0f, raw %.0f microseconds" % (1e6 * statistics.median(ours), 1e6 * statistics.median(raw)))
-    for name, which, words, turns, stream in (("streams", "four", ["--quantum", "4096"], TURNS, True), ("run", "four", ["--quantum", "4096"], TURNS, False), ("pairs", "pairs", [], PAIR_TURNS, False)):
+    for name, which, words, turns, stream in (("streams", "four", ["--quantum", "4096"], TURNS, True), ("run", "four", ["--quantum", "4096"], TURNS, False), ("hands", "hands", [], PAIR_TURNS, False), ("works", "works", [], TURNS, False)):
         one, four = [], []
         for _ in rounds:
             one.append(an_entry(memory, which, words, turns, 1, stream))
