@@ -8,9 +8,10 @@ const COUNTED: u64 = 64;
 /// How many steps these turns have where threads beside each other begin to make more of them than one does: 160 each, in the mean.
 const ENOUGH: u64 = 10_240;
 
-/// How many microseconds a worker rests for at first, and at most.
+/// How many microseconds a worker rests for at first.
 const SHORTEST: u64 = 250;
 
+/// How many it rests for at most.
 const LONGEST: u64 = 8_000;
 
 /// How many turns a worker has made since it last looked, how many steps they had, and for how many microseconds it rests next.

@@ -1,6 +1,6 @@
 //! Workers.
 
-ghost use Rattle.std.specs.Prelude.{◌≡◌, ◌≤◌, All, Some, length};
+ghost use Rattle.std.specs.Prelude.{◌≡◌, ◌≤◌, All, None, Some, IfErr, IfOk, IfSome, length};
 ghost use Rattle.tp_run.specs.Worked.{Worked};
 
 use crate::aside::Aside;
@@ -24,8 +24,12 @@ fn told_of(done: &Result<Turn, TurnFault>, made: u64) -> u64
     }
 }
 
-/// How many steps a turn had.
-fn steps_of(done: &Result<Turn, TurnFault>) -> u16 {
+/// How many steps a turn had: none where it was refused, or the host's.
+fn steps_of(done: &Result<Turn, TurnFault>) -> u16
+    ensures made { IfOk done.now (λ turn. IfSome turn.ran (λ ran. result ≡ ran.count)) }
+    ensures none { IfErr done.now (λ fault. result ≡ 0) }
+    ensures host { IfOk done.now (λ turn. turn.ran ≡ None → result ≡ 0) }
+{
     match done {
         Ok(Turn { ran: Some(ran), .. }) => ran.count(),
         Ok(Turn { ran: None, .. }) | Err(_) => 0,

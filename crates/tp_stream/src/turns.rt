@@ -9,7 +9,7 @@ use crate::task::Task;
 const MOST_SETTLED: u32 = 64;
 
 /// How many steps in a turn, in the mean of a round, make it worth a thread.
-const HEAVY: u64 = 64;
+const HEAVY: u64 = 160;
 
 /// What a process did in its turn: whether there was nothing that it could do, whether it is a node that has halted, and how many steps it made.
 #[derive(Clone, Copy)]

@@ -21,36 +21,36 @@ struct Row {
 const SIDE_BY_SIDE: Row = Row {
     text: CHAIN,
     workers: 3,
-    quantum: 128,
+    quantum: 256,
     has_shifts: true,
 };
 
 /// Turns that are too short for threads by one step of each node's, and others; three nodes that compute side by side, and one worker. In a
-/// round of node and host each node's turn runs as many steps as it may: 64 in the mean with 128, and fewer with 127.
+/// round of node and host each node's turn runs as many steps as it may: 160 in the mean with 320, and fewer with 319.
 const ROWS: &[Row] = &[
     Row {
         text: ONE,
         workers: 3,
-        quantum: 127,
+        quantum: 319,
         has_shifts: false,
     },
     Row {
         text: ONE,
         workers: 3,
-        quantum: 128,
+        quantum: 320,
         has_shifts: true,
     },
     SIDE_BY_SIDE,
     Row {
         text: CHAIN,
         workers: 1,
-        quantum: 128,
+        quantum: 256,
         has_shifts: false,
     },
     Row {
         text: CHAIN,
         workers: 16,
-        quantum: 128,
+        quantum: 256,
         has_shifts: true,
     },
 ];
@@ -93,7 +93,7 @@ fn step_of(row: &Row) -> Step {
     }
 }
 
-/// Where turns have 64 steps in the mean of a round, and more than one worker is asked for, workers make turns between two cycles; what comes
+/// Where turns have 160 steps in the mean of a round, and more than one worker is asked for, workers make turns between two cycles; what comes
 /// out is what comes out by one.
 #[test]
 fn workers_make_the_turns_that_are_worth_it(rt: HostRuntime) -> Result<(), Fail> {
