@@ -94,7 +94,7 @@ send:
     j start
 T
 sed 's/ldnlp 3 .*/ldnlp 0             # link0.out/' "$work/hands.asm" > "$work/echo.asm"
-sed 's/^send:/    ldc 200\n    stl left\nagain:\n    ldl left\n    adc -1\n    stl left\n    ldl left\n    cj send\n    j again\nsend:/' "$work/hands.asm" > "$work/works.asm"
+sed 's/^send:/    ldc 160\n    stl left\nagain:\n    ldl left\n    adc -1\n    stl left\n    ldl left\n    cj send\n    j again\nsend:/' "$work/hands.asm" > "$work/works.asm"
 for name in hands works; do sed 's/^process start/process send/' "$work/$name.asm" > "$work/${name}_first.asm"; done
 for name in echo hands hands_first works works_first; do "$top/tools/assemble" "$work/$name.asm" "$work/$name.img"; done
 "$top/tools/make-image" "$top/examples/compute.txt" "$work/n0.img"
