@@ -1,6 +1,6 @@
 //! When a worker steps aside.
 
-ghost use Rattle.std.specs.Prelude.{◌≡◌, ◌<◌, ◌≤◌, ◌+◌, None, Some};
+ghost use Rattle.std.specs.Prelude.{◌≡◌, ◌<◌, ◌≤◌, ◌+◌, ◌*◌, ◌^◌, min, None, Some};
 
 /// Over how many of its turns a worker counts their steps.
 const COUNTED: u64 = 64;
@@ -24,8 +24,8 @@ pub(crate) struct Aside {
 
 /// How long a worker rests that has rested for `rest` microseconds.
 fn longer(rest: u64) -> u64
+    ensures longer { rest < 2 ^ 63 → result ≡ min (rest * 2) LONGEST }
     ensures longest { result ≤ LONGEST }
-    ensures longer { rest < LONGEST → rest ≤ result }
 {
     rest.saturating_mul(2).min(LONGEST)
 }
@@ -45,8 +45,10 @@ impl Aside {
     /// Counts a turn of `steps` steps. Answers for how many microseconds the worker had better rest, if it had: behind each [`COUNTED`] turns
     /// that had fewer than [`ENOUGH`] steps, each time for longer.
     pub(crate) fn count(&mut self, steps: u16) -> Option<u64>
-        ensures early { self.old.turns + 1 < COUNTED → (result ≡ None) × (self.new.rest ≡ self.old.rest) }
-        ensures short { COUNTED ≤ self.old.turns + 1 → self.old.steps + steps < ENOUGH → result ≡ Some self.old.rest }
+        ensures early { self.old.turns + 1 < COUNTED → (result ≡ None) × (self.new.turns ≡ self.old.turns + 1) × (self.new.rest ≡ self.old.rest) }
+        ensures steps { self.old.turns + 1 < COUNTED → self.old.steps + steps < 2 ^ 64 → self.new.steps ≡ self.old.steps + steps }
+        ensures short { COUNTED ≤ self.old.turns + 1 → self.old.steps + steps < ENOUGH →
+            (result ≡ Some self.old.rest) × (self.old.rest < 2 ^ 63 → self.new.rest ≡ min (self.old.rest * 2) LONGEST) }
         ensures long { COUNTED ≤ self.old.turns + 1 → ENOUGH ≤ self.old.steps + steps → (result ≡ None) × (self.new.rest ≡ SHORTEST) }
         ensures anew { COUNTED ≤ self.old.turns + 1 → (self.new.turns ≡ 0) × (self.new.steps ≡ 0) }
     {
