@@ -1,8 +1,8 @@
 #!/bin/bash
 # Runs what compares the program with its anchors, and makes one table of it in bench/README.md: goal, anchor, ratio, date and machine;
 # in some 30 minutes on a quiet machine once all is built, outside the gate. What fails or takes too long is a row without a ratio.
-# usage: bench/all.sh TPNET [ROUNDS]      3 rounds by default, in /dev/shm
-#        ONLY="steps link" bench/all.sh ..      these alone; the other rows stay as they are
+# usage: bench/all.sh TPNET [ROUNDS]      3 rounds by default, in /dev/shm; where it says so on /tmp, which should be on a disk
+#        ONLY="steps link run.disk" bench/all.sh ..      these alone; the other rows stay as they are
 # BUILT=FOLDER names where what is built, and what each said, is kept (/tmp/bench-all where it isn't named)
 top=$(cd "$(dirname "$0")/.." && pwd)
 tpnet=$(realpath "$1") || exit 2
@@ -10,21 +10,24 @@ rounds=${2:-3}
 kept=$(realpath -m "${BUILT:-/tmp/bench-all}")
 mkdir -p "$kept/said"
 
-# one of the scripts: its name, its seconds, its words
+# one of the scripts: its name, or its name, a `.` and what is measured by it; its seconds, its words
 one() {
-    local name=$1 seconds=$2
+    local name=$1 script=${1%%.*} seconds=$2
     shift 2
     case " ${ONLY:-$name} " in *" $name "*) ;; *) return ;; esac
     echo "$name .." >&2
-    BUILT="$kept/$name" timeout "$seconds" "$top/bench/$name.sh" "$@" > "$kept/said/$name" 2> "$kept/said/$name.err" || echo "    $name stopped: status $?" >&2
+    BUILT="$kept/$script" timeout "$seconds" "$top/bench/$script.sh" "$@" > "$kept/said/$name" 2> "$kept/said/$name.err" || echo "    $name stopped: status $?" >&2
 }
 
 # what is built first isn't timed; steps and book build what they count
-for name in run open checkpoint; do one "$name" 3600 "$tpnet" 0; done
+for name in run open checkpoint journal; do one "$name" 3600 "$tpnet" 0; done
 one steps 1200 0
 one book 1200 0
 one link 240 "$tpnet"
 one run 300 "$tpnet" "$rounds"
+MEASURES=entries one run.disk 300 "$tpnet" 4 /tmp
+one journal 300 "$tpnet" 5 /dev/shm
+one journal.disk 300 "$tpnet" 16 /tmp
 one open 180 "$tpnet" "$rounds"
 one forms 180 "$tpnet" 64 "$rounds"
 one stream 180 "$tpnet" 4
@@ -46,7 +49,10 @@ ROWS = [
     ("run", "steps a second, four workers", "one worker", "3.6", r"workers .*ratio ([\d.]+ best, [\d.]+ median)"),
     ("run", "steps a second of `run`", "the interpreter alone, the same memory", "", r"\(cow memory\); ratio ([\d.]+ best, [\d.]+ median)"),
     ("run", "steps a second of `run`", "the plain interpreter at its best", "", r"\(plain at its best\); ratio ([\d.]+ best, [\d.]+ median)"),
-    ("run", "durable entries a second, in memory", "the same groups written alone", "0.5", r"entries  run .*ratio ([\d.]+ best, [\d.]+ median)"),
+    ("run", "durable entries a second of `run`, in memory", "the same groups written alone", "0.5", r"entries  run .*ratio ([\d.]+ best, [\d.]+ median)"),
+    ("run.disk", "durable entries a second of `run`, on a disk", "the same groups written alone", "0.95", r"entries  run .*ratio ([\d.]+ best, [\d.]+ median)"),
+    ("journal", "durable entries a second of the store, groups of 64, in memory", "the same groups written alone", "0.5", r"groups of 64: .*ratio ([\d.]+ best, [\d.]+ median)"),
+    ("journal.disk", "durable entries a second of the store, groups of 64, on a disk", "the same groups written alone", "0.95", r"groups of 64: .*ratio ([\d.]+ best, [\d.]+ median)"),
     ("open", "seconds to open, 64 steps an entry, four threads", "one thread", "2.2", r"device-64, best.*one thread over four ([\d.]+)"),
     ("open", "seconds to open, 16 steps an entry, four threads", "one thread", "1.8", r"device-16, best.*one thread over four ([\d.]+)"),
     ("forms", "bytes a second through three nodes", "the same device in a plain area", "", r"relay: .*best ([\d.]+, median [\d.]+)"),

@@ -53,9 +53,9 @@ static void copy(void) {
         for (int page = 0; page < page_count; page++) put(piece, 1024, at), at += 1024;
     }
     put(piece, 8, area + 13), put(piece, lines, at), put(piece, sizeof piece, at + lines), put(piece, 12, area + 1);
-    if (fsync(file) != 0) exit(1);
+    if (fdatasync(file) != 0) exit(1);
     put(piece, 1, area);
-    if (fsync(file) != 0) exit(1);
+    if (fdatasync(file) != 0) exit(1);
 }
 
 static void *copies(void *none) {

@@ -42,7 +42,7 @@ static void put(int file, size_t count, off_t at) {
 }
 
 static void settle(int file) {
-    if (fsync(file) != 0) exit(1);
+    if (fdatasync(file) != 0) exit(1);
 }
 
 int main(int count, char **words) {
@@ -120,7 +120,7 @@ def raw_of(file):
 
 def run(file, turns, workers, every):
     """The seconds of a run on a new copy of the formatted device, and what `show` says of it then."""
-    subprocess.run(["cp", "--sparse=always", os.path.join(work, "device"), file], check=True)
+    subprocess.run(["cp", "--sparse=never", os.path.join(work, "device"), file], check=True)
     subprocess.run(["sync", file], check=True)
     took = timed([tpnet, "run", file, "--turns", str(turns), "--workers", str(workers), "--quantum", "1", "--every", str(every)])
     shown = subprocess.run([tpnet, "show", file], capture_output=True, text=True, check=True).stdout
@@ -163,13 +163,13 @@ def of_turns(file, quantum):
     """Times turns of `quantum` steps, and in turns with them loops that take as long as the median turn."""
     of_rounds, of_kinds = [], {"turn": [], "bare": []}
     for _ in rounds:
-        subprocess.run(["cp", "--sparse=always", os.path.join(work, "device"), file], check=True)
+        subprocess.run(["cp", "--sparse=never", os.path.join(work, "device"), file], check=True)
         program = os.path.join(work, "crates", "bench_turns", "out", "bench_turns")
         lines = subprocess.run([program, file, "20", "600", str(quantum)], capture_output=True, text=True, check=True).stdout.splitlines()
         found = rounds_of([tuple(map(int, line.split())) for line in lines], quantum)
         usual = statistics.median(statistics.median(alone) for alone, _ in found)
         for kind, rounds_found in of_kinds.items():
-            subprocess.run(["cp", "--sparse=always", os.path.join(work, "device"), file], check=True)
+            subprocess.run(["cp", "--sparse=never", os.path.join(work, "device"), file], check=True)
             rounds_found += loops_of(file, kind, usual)
         of_rounds += found
     print("    turns    of %d steps, %d rounds, of %d turns alone and %d beside a snapshot: %.1f us alone; the 99th percentile %.2f times that (quietest quarter %.2f), %.2f alone; the slowest %.1f" % (
@@ -209,7 +209,7 @@ for folder in sys.argv[5:]:
             assert count == 1, count
             return took - plain
         def copy():
-            subprocess.run(["cp", "--sparse=always", os.path.join(work, "device"), file], check=True)
+            subprocess.run(["cp", "--sparse=never", os.path.join(work, "device"), file], check=True)
             subprocess.run(["sync", file], check=True)
             return timed(raw_of(file)) - timed(["true"])
         ours, raw = [], []

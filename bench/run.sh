@@ -12,7 +12,7 @@
 #             microseconds, so a few rounds say nothing
 # usage: bench/run.sh TPNET [ROUNDS [FOLDER ..]]      5 rounds in /dev/shm (in memory, so only our own cost shows) by default.
 #                                                     The time of a run is that of a run without turns less
-#        WORKERS_ALONE=1 bench/run.sh ..                            four workers beside one alone, for which nothing is built
+#        MEASURES="workers turns" bench/run.sh ..                   these alone; for workers and turns nothing is built
 # BUILT=FOLDER names where what is built is kept, and taken from if it is there; with 0 ROUNDS nothing else is done
 set -e
 top=$(cd "$(dirname "$0")/.." && pwd)
@@ -24,7 +24,8 @@ work=$([ -n "$BUILT" ] && realpath -m "$BUILT" || mktemp -d /tmp/bench-run-XXXX)
 [ -n "$BUILT" ] || trap 'rm -rf "$work"' EXIT
 mkdir -p "$work"
 
-if [ ! -e "$work/built" ] && [ -z "$WORKERS_ALONE" ]; then
+measures=${MEASURES:-workers steps turns entries}
+if [ ! -e "$work/built" ] && [[ $measures == *steps* || $measures == *entries* ]]; then
     tar -C "$top" -c --exclude=incremental crates crates.txt HANDLES | tar -C "$work" -x
     cow='s/FlatMemory::new(rt.alloc(), 4, /CowMemory::new(rt.alloc(), 4, 4, /; s/FlatMemory/CowMemory/g'
     mkdir -p "$work/crates/bench_flat/src" "$work/crates/bench_cow/src" "$work/steps"
@@ -56,7 +57,7 @@ static double seconds(void) {
 }
 
 static void put(int file, const void *bytes, size_t count, off_t at) {
-    if (pwrite(file, bytes, count, at) != (ssize_t)count || fsync(file) != 0) exit(1);
+    if (pwrite(file, bytes, count, at) != (ssize_t)count || fdatasync(file) != 0) exit(1);
 }
 
 int main(int count, char **words) {
@@ -93,9 +94,9 @@ printf 'node a 4\nport h\n' > "$work/one.net"
 printf 'node a 4\nnode b 4\nnode c 4\nnode d 4\nport h\n' > "$work/four.net"
 "$tpnet" format "$work/one" "$work/one.net" "$work" $((1 << 23)) > "$work/said"
 "$tpnet" format "$work/four" "$work/four.net" "$work" $((1 << 23)) > "$work/said"
-python3 - "$tpnet" "$work" "$rounds" "${folders[@]}" <<'PY'
+python3 - "$tpnet" "$work" "$rounds" "$measures" "${folders[@]}" <<'PY'
 import os, shutil, statistics, struct, subprocess, sys, tempfile, time
-tpnet, work, rounds = sys.argv[1:4]
+tpnet, work, rounds, measures = sys.argv[1:5]
 rounds = range(int(rounds))
 TURNS, SHORT_TURNS, NEVER = 20000, 200000, (1 << 32) - 1
 
@@ -105,7 +106,7 @@ def timed(command, cwd=None, given=None):
     return time.monotonic() - begun
 
 def fresh(which, file):
-    subprocess.run(["cp", "--sparse=always", os.path.join(work, which), file], check=True)
+    subprocess.run(["cp", "--sparse=never", os.path.join(work, which), file], check=True)
     subprocess.run(["sync", file], check=True)
 
 def journal(file):
@@ -136,60 +137,71 @@ def said(name, mine, other, what):
     print("    %-8s %s; ratio %.2f best, %.2f median" % (
         name, what, min(other) / min(mine), statistics.median(other) / statistics.median(mine)), flush=True)
 
-for folder in sys.argv[4:]:
+def workers(file):
+    one, four = [], []
+    for _ in rounds:
+        idle = run("four", file, 0, 1, 4096)
+        one.append(made("four", file, TURNS, 1, 4096, idle))
+        four.append(made("four", file, TURNS, 4, 4096, idle))
+    steps_of, entries_of = ([[way[at] for way in ways] for ways in (four, one)] for at in (0, 1))
+    said("workers", *steps_of, "1 worker %.1f, 4 workers %.1f million steps a second" % tuple(1e-6 / min(ways) for ways in reversed(steps_of)))
+    said("", *entries_of, "1 worker %.0f, 4 workers %.0f entries a second; %.2f and %.2f a turn" % (
+        1 / min(entries_of[1]), 1 / min(entries_of[0]), one[0][2], four[0][2]))
+
+def steps(file):
+    ours, alone = [], {"cow memory": [], "flat memory": [], "plain at its best": []}
+    for _ in rounds:
+        idle = run("one", file, 0, 1, 4096)
+        ours.append(made("one", file, TURNS, 1, 4096, idle)[0])
+        for kind, times in alone.items():
+            if kind == "plain at its best":
+                times.append(timed([os.path.join(work, "plain_fast"), "steps", os.path.join(work, "a.img"), "100000000"]) / 1e8)
+            else:
+                program = "bench_" + kind.split()[0]
+                times.append(timed([os.path.join(work, "crates", program, "out", program)], cwd=os.path.join(work, "steps")) / 1e8)
+    for kind, times in alone.items():
+        said("steps", ours, times, "run %.1f, interpreter alone %.1f million a second (%s)" % (1e-6 / min(ours), 1e-6 / min(times), kind))
+
+def turns(file):
+    found = []
+    for _ in rounds:
+        idle = run("four", file, 0, 1, 1)
+        found.append(made("four", file, SHORT_TURNS, 1, 1, idle)[1])
+    print("    turns    one step: %.0f ns an entry best, %.0f median" % (1e9 * min(found), 1e9 * statistics.median(found)), flush=True)
+
+def run_entries(file):
+    idle = run("one", file, 0, 2, 1)
+    took = run("one", file, SHORT_TURNS, 2, 1) - idle
+    first, counts, _ = journal(file)
+    return took / sum(counts), first, counts
+
+def write_groups(file, first, counts):
+    fresh("one", file)
+    raw = subprocess.run([os.path.join(work, "raw"), file, str(first)], input=" ".join(map(str, counts)).encode(), capture_output=True, check=True)
+    return float(raw.stdout) / sum(counts)
+
+def entries(file):
+    ours, plain, sizes = [], [], []
+    _, first, counts = run_entries(file)
+    for number in range(4 * len(rounds)):
+        if number % 2 == 1:
+            plain.append(write_groups(file, first, counts))
+        took, first, now = run_entries(file)
+        if number % 2 == 0:
+            plain.append(write_groups(file, first, now))
+        counts = now
+        ours.append(took)
+        sizes.append(sum(counts) / len(counts))
+    said("entries", ours, plain, "run %.0f, raw %.0f a second, groups of %.1f" % (
+        1 / statistics.median(ours), 1 / statistics.median(plain), statistics.median(sizes)))
+
+MEASURES = {"workers": workers, "steps": steps, "turns": turns, "entries": entries}
+for folder in sys.argv[5:]:
     kind = subprocess.run(["stat", "-f", "-c", "%T", folder], capture_output=True, text=True, check=True).stdout.strip()
     print("%s (%s), best and median of %d:" % (folder, kind, len(rounds)))
     with tempfile.TemporaryDirectory(prefix="bench-run-", dir=folder) as place:
-        file = os.path.join(place, "device")
-        one, four = [], []
-        for _ in rounds:
-            idle = run("four", file, 0, 1, 4096)
-            one.append(made("four", file, TURNS, 1, 4096, idle))
-            four.append(made("four", file, TURNS, 4, 4096, idle))
-        steps_of, entries_of = ([[way[at] for way in ways] for ways in (four, one)] for at in (0, 1))
-        said("workers", *steps_of, "1 worker %.1f, 4 workers %.1f million steps a second" % tuple(1e-6 / min(ways) for ways in reversed(steps_of)))
-        said("", *entries_of, "1 worker %.0f, 4 workers %.0f entries a second; %.2f and %.2f a turn" % (
-            1 / min(entries_of[1]), 1 / min(entries_of[0]), one[0][2], four[0][2]))
-        if os.environ.get("WORKERS_ALONE"):
-            continue
-        ours, alone = [], {"cow memory": [], "flat memory": [], "plain at its best": []}
-        for _ in rounds:
-            idle = run("one", file, 0, 1, 4096)
-            ours.append(made("one", file, TURNS, 1, 4096, idle)[0])
-            for kind_of, times in alone.items():
-                if kind_of == "plain at its best":
-                    times.append(timed([os.path.join(work, "plain_fast"), "steps", os.path.join(work, "a.img"), "100000000"]) / 1e8)
-                else:
-                    program = "bench_" + kind_of.split()[0]
-                    times.append(timed([os.path.join(work, "crates", program, "out", program)], cwd=os.path.join(work, "steps")) / 1e8)
-        for kind_of, times in alone.items():
-            said("steps", ours, times, "run %.1f, interpreter alone %.1f million a second (%s)" % (1e-6 / min(ours), 1e-6 / min(times), kind_of))
-        if kind == "tmpfs":
-            turns = []
-            for _ in rounds:
-                idle = run("four", file, 0, 1, 1)
-                turns.append(made("four", file, SHORT_TURNS, 1, 1, idle)[1])
-            print("    turns    one step: %.0f ns an entry best, %.0f median" % (1e9 * min(turns), 1e9 * statistics.median(turns)), flush=True)
-        def run_entries():
-            idle = run("one", file, 0, 2, 1)
-            took = run("one", file, SHORT_TURNS, 2, 1) - idle
-            first, counts, _ = journal(file)
-            return took / sum(counts), first, counts
-        def write_groups(first, counts):
-            fresh("one", file)
-            raw = subprocess.run([os.path.join(work, "raw"), file, str(first)], input=" ".join(map(str, counts)).encode(), capture_output=True, check=True)
-            return float(raw.stdout) / sum(counts)
-        ours, plain, sizes = [], [], []
-        _, first, counts = run_entries()
-        for number in range(4 * len(rounds)):
-            if number % 2 == 1:
-                plain.append(write_groups(first, counts))
-            took, first, now = run_entries()
-            if number % 2 == 0:
-                plain.append(write_groups(first, now))
-            counts = now
-            ours.append(took)
-            sizes.append(sum(counts) / len(counts))
-        said("entries", ours, plain, "run %.0f, raw %.0f a second, groups of %.1f" % (
-            1 / statistics.median(ours), 1 / statistics.median(plain), statistics.median(sizes)))
+        for measure in measures.split():
+            # in memory alone: elsewhere it would be a measure of syncs
+            if measure != "turns" or kind == "tmpfs":
+                MEASURES[measure](os.path.join(place, "device"))
 PY

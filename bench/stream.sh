@@ -25,7 +25,7 @@ enum { PIECE = 4096, GROUP = 16 + 16 * 64 };
 static char piece[PIECE], body[GROUP];
 
 static void put(int file, const void *bytes, size_t count, off_t at) {
-    if (pwrite(file, bytes, count, at) != (ssize_t)count || fsync(file) != 0) exit(1);
+    if (pwrite(file, bytes, count, at) != (ssize_t)count || fdatasync(file) != 0) exit(1);
 }
 
 int main(int count, char **words) {
