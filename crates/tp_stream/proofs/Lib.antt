@@ -8,6 +8,7 @@ pub mod Notices
 pub mod Puts
 pub mod Quiets
 pub mod Runs
+pub mod Served
 pub mod Shown
 pub mod Standings
 pub mod Started

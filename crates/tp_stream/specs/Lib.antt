@@ -9,6 +9,7 @@ pub mod Over
 pub mod Put
 pub mod Quiet
 pub mod Rooms
+pub mod Served
 pub mod Standing
 pub mod Steps
 pub mod Streamed

@@ -7,6 +7,7 @@ mod crew;
 mod endings;
 mod fault;
 mod flushing;
+mod ground;
 mod input;
 mod leading;
 mod lent;

@@ -2,14 +2,13 @@
 
 ghost use Rattle.std.specs.List.{list_all};
 ghost use Rattle.std.specs.Prelude.{◌≡◌, ◌≤◌, length, All, Some, IfOk, IfSome, IfErr, OnOk};
-ghost use Rattle.tp_model.specs.WriteOrder.{Resting};
 ghost use Rattle.tp_flush.specs.Known.{Began};
-ghost use Rattle.tp_flush.specs.Flushing.{IsSameProcess, Walked};
 ghost use Rattle.tp_stream_files.specs.Inputs.{is_over};
-ghost use Rattle.tp_stream.specs.Failures.{FailedWhere, answer_failed};
+ghost use Rattle.tp_stream.specs.Failures.{answer_failed};
 ghost use Rattle.tp_stream.specs.Looks.{HaveLooked, LooksAtMostOnce, LooksOnce};
 ghost use Rattle.tp_stream.specs.Over.{LeavesNoInput};
 ghost use Rattle.tp_stream.specs.Quiet.{HaveRested, IsWhyEnded};
+ghost use Rattle.tp_stream.specs.Served.{ServedAnswer, ServedOn};
 ghost use Rattle.tp_stream.specs.Steps.{AllStepped};
 ghost use Rattle.tp_stream.specs.Streamed.{CameBegun, CameBetween, CameOfTurns};
 ghost use Rattle.tp_stream.specs.Told.{ToldLater};
@@ -18,8 +17,8 @@ use crate::beside::go_beside;
 use crate::endings::{are_over, ending, is_asked, may_wait};
 use crate::fault::StreamFault;
 use crate::flushing::{finish, flush};
+use crate::ground::Ground;
 use crate::leading::lead;
-use crate::pace::Pace;
 use crate::pumping::{Pumped, can_confirm, pump, rest};
 use crate::rounds::round;
 use crate::settling::settle;
@@ -27,14 +26,12 @@ use crate::shift::Shift;
 use crate::stopping::{find_halted, tell_stopped};
 use crate::telling::tell;
 use crate::turns::Turns;
-use std::alloc::Global;
 use std::sync::Wait;
 use std::thread::Threads;
 use tp_disk::Disk;
 use tp_flush::Flusher;
-use tp_shared::{Naming, NoGate, Seat, Shared};
+use tp_shared::{Naming, Seat};
 use tp_stream_files::{Ended, Ending, Input, Listener, Sink, Source, Stop, Streams};
-use tp_work::Net;
 
 /// How a stream goes on: its turns, the slips of what they journalled, and those of what steps of its streams did.
 #[derive(Drop)]
@@ -44,14 +41,27 @@ pub(crate) struct Going<J: Naming> {
     pub(crate) steps: Seat<J>,
 }
 
+impl<J: Naming> Going<J> {
+    /// No turn was made, and no step. Looks whether a node has halted before where that is to end the stream. `seat` gets the slips of turns,
+    /// `steps` those of steps.
+    pub(crate) fn new<R: Wait>(ground: Ground<'_, J, R>, seat: Seat<J>, steps: Seat<J>) -> Going<J>
+        ensures rested { HaveRested J.start result.turns.whose result.turns.idle }
+    {
+        let Ground { rt, net, pace, .. } = ground;
+        let has_halted = pace.task.stop_on_halt && find_halted(rt, net.shared());
+        Going {
+            turns: Turns::new(has_halted),
+            seat,
+            steps,
+        }
+    }
+}
+
 /// Turns; or, where the journal has no room for one, or nothing is left to do but an input for which it has no room, a snapshot is brought
 /// to its end. Where something else is to be done meanwhile, and nothing is left to do but an input whose bytes haven't come yet, it
 /// rests.
 fn make_turns<J: Naming, I: Source, R: Wait>(
-    rt: &R,
-    alloc: Global,
-    shared: &Shared<J>,
-    pace: Pace,
+    ground: Ground<'_, J, R>,
     going: &mut Going<J>,
     inputs: &mut [Input<I>],
     pumped: Pumped,
@@ -61,6 +71,13 @@ fn make_turns<J: Naming, I: Source, R: Wait>(
     ensures rested { OnOk result (HaveRested J.start going.new.turns.whose going.new.turns.idle) }
     ensures begun { IfErr result CameOfTurns }
 {
+    let Ground {
+        rt,
+        alloc,
+        net,
+        pace,
+    } = ground;
+    let shared = net.shared();
     let Going { turns, seat, .. } = going;
     let lacks_input = pumped == Pumped::Nothing && turns.is_quiet(shared.nodes()) && !over;
     if pumped == Pumped::Moved {
@@ -81,10 +98,7 @@ fn make_turns<J: Naming, I: Source, R: Wait>(
 /// turn was made.
 #[tactic(auto, using(crate::proofs::Stepping::all_still))]
 fn go_on<J: Naming, D: Disk, S: Sink, I: Source, P: Stop, R: Wait>(
-    rt: &R,
-    alloc: Global,
-    shared: &Shared<J>,
-    pace: Pace,
+    ground: Ground<'_, J, R>,
     going: &mut Going<J>,
     flusher: &mut Flusher<J, D>,
     streams: &mut Streams<S, I>,
@@ -94,13 +108,20 @@ fn go_on<J: Naming, D: Disk, S: Sink, I: Source, P: Stop, R: Wait>(
     ensures same { flusher.new ≡ flusher.old }
     ensures put { D.keeps → Began J.formatted J.before flusher.old.opened
         → AllStepped J.formatted flusher.old flusher.old streams.old.outputs.items streams.new.outputs.items }
-    ensures why { IfOk result (λ ended. IfSome ended (IsWhyEnded J.start pace.task)) }
+    ensures why { IfOk result (λ ended. IfSome ended (IsWhyEnded J.start ground.entry.pace.task)) }
     ensures inputs { IfOk result (λ ended. IfSome ended (LeavesNoInput (list_all (λ i. is_over i.ended i.is_blocked) streams.new.inputs.items))) }
-    ensures looks { IfOk result (LooksOnce pace.task going.old.turns.made going.new.turns.made (P.answers stop.old) (P.answers stop.new)) }
+    ensures looks { IfOk result (LooksOnce ground.entry.pace.task going.old.turns.made going.new.turns.made (P.answers stop.old) (P.answers stop.new)) }
     ensures over { IfOk result (λ ended. IfSome ended (λ why. going.new ≡ record going.old { steps = going.new.steps })) }
     ensures rested { OnOk result (HaveRested J.start going.new.turns.whose going.new.turns.idle) }
     ensures begun { IfErr result CameBetween }
 {
+    let Ground {
+        rt,
+        alloc,
+        net,
+        pace,
+    } = ground;
+    let shared = net.shared();
     if !can_confirm(rt, shared, pace) && going.turns.may_settle() {
         settle(rt, alloc, shared, &mut going.seat, &mut going.turns)?;
         return Ok(None);
@@ -120,26 +141,14 @@ fn go_on<J: Naming, D: Disk, S: Sink, I: Source, P: Stop, R: Wait>(
     if let Some(why) = ending(pace.task, &going.turns, shared.nodes(), asked, pumped, over) {
         return Ok(Some(why));
     }
-    make_turns(
-        rt,
-        alloc,
-        shared,
-        pace,
-        going,
-        &mut streams.inputs,
-        pumped,
-        over,
-    )?;
+    make_turns(ground, going, &mut streams.inputs, pumped, over)?;
     Ok(None)
 }
 
 /// A flush, how far it has come, and all that comes behind that before the next flush.
 #[tactic(auto, using(crate::proofs::Stepping::all_still))]
 fn cycle<J: Naming, D: Disk, S: Sink, I: Source, L: Listener, P: Stop, R: Wait>(
-    rt: &R,
-    alloc: Global,
-    shared: &Shared<J>,
-    pace: Pace,
+    ground: Ground<'_, J, R>,
     going: &mut Going<J>,
     flusher: &mut Flusher<J, D>,
     streams: &mut Streams<S, I>,
@@ -147,33 +156,31 @@ fn cycle<J: Naming, D: Disk, S: Sink, I: Source, L: Listener, P: Stop, R: Wait>(
     stop: &mut P,
 ) -> Result<Option<Ending>, StreamFault>
     requires { HaveRested J.start going.old.turns.whose going.old.turns.idle }
-    ensures walks { D.keeps → Began J.formatted J.before flusher.old.opened → Walked flusher.old flusher.new }
-    ensures process { IsSameProcess flusher.old flusher.new }
-    ensures put { D.keeps → Began J.formatted J.before flusher.old.opened
-        → AllStepped J.formatted flusher.old flusher.new streams.old.outputs.items streams.new.outputs.items }
-    ensures why { IfOk result (λ ended. IfSome ended (IsWhyEnded J.start pace.task)) }
-    ensures inputs { IfOk result (λ ended. IfSome ended (LeavesNoInput (list_all (λ i. is_over i.ended i.is_blocked) streams.new.inputs.items))) }
-    ensures looks { IfOk result (LooksOnce pace.task going.old.turns.made going.new.turns.made (P.answers stop.old) (P.answers stop.new)) }
+    ensures served { ServedOn D.keeps J.formatted J.before (answer_failed result) flusher.old flusher.new streams.old.outputs.items streams.new.outputs.items }
+    ensures answer { ServedAnswer J.start ground.entry.pace.task (list_all (λ i. is_over i.ended i.is_blocked) streams.new.inputs.items) result }
+    ensures looks { IfOk result (LooksOnce ground.entry.pace.task going.old.turns.made going.new.turns.made (P.answers stop.old) (P.answers stop.new)) }
     ensures told { ToldLater (length J.start.nodes) (L.told listener.old) (L.told listener.new) }
     ensures over { IfOk result (λ ended. IfSome ended (λ why. going.new ≡ record going.old { steps = going.new.steps })) }
     ensures rested { OnOk result (HaveRested J.start going.new.turns.whose going.new.turns.idle) }
-    ensures failures { flusher.old.world.at ≡ Resting → FailedWhere (answer_failed result) flusher.old flusher.new }
-    ensures begun { IfErr result CameBegun }
 {
+    let Ground {
+        rt,
+        alloc,
+        net,
+        pace,
+    } = ground;
+    let shared = net.shared();
     flush(rt, alloc, shared, flusher)?;
     let made = going.turns.made;
     tell(rt, shared, pace, flusher, made, &streams.outputs, listener);
-    go_on(rt, alloc, shared, pace, going, flusher, streams, stop)
+    go_on(ground, going, flusher, streams, stop)
 }
 
 /// A cycle; and behind it, where it isn't over, there is more to do than a round did, and all workers have come, a shift, with the flusher's turns
 /// beside it.
 fn lap<J: Naming, D: Disk, S: Sink, I: Source, L: Listener, P: Stop, R: Wait>(
-    rt: &R,
-    alloc: Global,
-    shared: &Shared<J>,
+    ground: Ground<'_, J, R>,
     shift: &Shift,
-    pace: Pace,
     going: &mut Going<J>,
     flusher: &mut Flusher<J, D>,
     streams: &mut Streams<S, I>,
@@ -181,26 +188,25 @@ fn lap<J: Naming, D: Disk, S: Sink, I: Source, L: Listener, P: Stop, R: Wait>(
     stop: &mut P,
 ) -> Result<Option<Ending>, StreamFault>
     requires { HaveRested J.start going.old.turns.whose going.old.turns.idle }
-    ensures walks { D.keeps → Began J.formatted J.before flusher.old.opened → Walked flusher.old flusher.new }
-    ensures process { IsSameProcess flusher.old flusher.new }
-    ensures put { D.keeps → Began J.formatted J.before flusher.old.opened
-        → AllStepped J.formatted flusher.old flusher.new streams.old.outputs.items streams.new.outputs.items }
-    ensures why { IfOk result (λ ended. IfSome ended (IsWhyEnded J.start pace.task)) }
-    ensures inputs { IfOk result (λ ended. IfSome ended (LeavesNoInput (list_all (λ i. is_over i.ended i.is_blocked) streams.new.inputs.items))) }
-    ensures looks { IfOk result (LooksAtMostOnce pace.task (P.answers stop.old) (P.answers stop.new)) }
+    ensures served { ServedOn D.keeps J.formatted J.before (answer_failed result) flusher.old flusher.new streams.old.outputs.items streams.new.outputs.items }
+    ensures answer { ServedAnswer J.start ground.entry.pace.task (list_all (λ i. is_over i.ended i.is_blocked) streams.new.inputs.items) result }
+    ensures looks { IfOk result (LooksAtMostOnce ground.entry.pace.task (P.answers stop.old) (P.answers stop.new)) }
     ensures told { ToldLater (length J.start.nodes) (L.told listener.old) (L.told listener.new) }
     ensures rested { OnOk result (HaveRested J.start going.new.turns.whose going.new.turns.idle) }
-    ensures failures { flusher.old.world.at ≡ Resting → FailedWhere (answer_failed result) flusher.old flusher.new }
-    ensures begun { IfErr result CameBegun }
 {
-    let done = cycle(
-        rt, alloc, shared, pace, going, flusher, streams, listener, stop,
-    );
+    let Ground {
+        rt,
+        alloc,
+        net,
+        pace,
+    } = ground;
+    let done = cycle(ground, going, flusher, streams, listener, stop);
     let goes_on = going.turns.is_busy && !going.turns.is_full;
     if let Ok(None) = done
         && goes_on
     {
         if shift.crew.are_here(rt, u64::from(pace.workers)) {
+            let shared = net.shared();
             return go_beside(rt, alloc, shared, shift, pace, &mut going.turns, flusher);
         }
         going.turns.stay_alone();
@@ -210,11 +216,8 @@ fn lap<J: Naming, D: Disk, S: Sink, I: Source, L: Listener, P: Stop, R: Wait>(
 
 /// All laps, until nothing more is to be done or one is refused.
 pub(crate) fn laps<J: Naming, D: Disk, S: Sink, I: Source, L: Listener, P: Stop, R: Wait>(
-    rt: &R,
-    alloc: Global,
-    shared: &Shared<J>,
+    ground: Ground<'_, J, R>,
     shift: &Shift,
-    pace: Pace,
     going: &mut Going<J>,
     flusher: &mut Flusher<J, D>,
     streams: &mut Streams<S, I>,
@@ -222,26 +225,18 @@ pub(crate) fn laps<J: Naming, D: Disk, S: Sink, I: Source, L: Listener, P: Stop,
     stop: &mut P,
 ) -> Result<Option<Ending>, StreamFault>
     requires { HaveRested J.start going.old.turns.whose going.old.turns.idle }
-    ensures walks { D.keeps → Began J.formatted J.before flusher.old.opened → Walked flusher.old flusher.new }
-    ensures process { IsSameProcess flusher.old flusher.new }
-    ensures put { D.keeps → Began J.formatted J.before flusher.old.opened
-        → AllStepped J.formatted flusher.old flusher.new streams.old.outputs.items streams.new.outputs.items }
-    ensures why { IfOk result (λ ended. IfSome ended (IsWhyEnded J.start pace.task)) }
-    ensures inputs { IfOk result (λ ended. IfSome ended (LeavesNoInput (list_all (λ i. is_over i.ended i.is_blocked) streams.new.inputs.items))) }
+    ensures served { ServedOn D.keeps J.formatted J.before (answer_failed result) flusher.old flusher.new streams.old.outputs.items streams.new.outputs.items }
+    ensures answer { ServedAnswer J.start ground.entry.pace.task (list_all (λ i. is_over i.ended i.is_blocked) streams.new.inputs.items) result }
     ensures told { ToldLater (length J.start.nodes) (L.told listener.old) (L.told listener.new) }
-    ensures looks { IfOk result (HaveLooked pace.task (P.answers stop.old) (P.answers stop.new)) }
-    ensures failures { flusher.old.world.at ≡ Resting → FailedWhere (answer_failed result) flusher.old flusher.new }
-    ensures begun { IfErr result CameBegun }
+    ensures looks { IfOk result (HaveLooked ground.entry.pace.task (P.answers stop.old) (P.answers stop.new)) }
 {
     flusher.known();
     let mut last = Ok(None);
-    for _ in rt.forever() {
+    for _ in ground.rt.forever() {
         let Ok(None) = last else {
             break;
         };
-        last = lap(
-            rt, alloc, shared, shift, pace, going, flusher, streams, listener, stop,
-        );
+        last = lap(ground, shift, going, flusher, streams, listener, stop);
     }
     last
 }
@@ -257,42 +252,28 @@ pub(crate) fn serve<
     P: Stop,
     R: Threads + Wait + Sync,
 >(
-    rt: &R,
-    alloc: Global,
-    net: &Net<J, NoGate>,
+    ground: Ground<'_, J, R>,
     seats: Vec<tp_work::Seat<J>>,
-    seat: Seat<J>,
-    steps: Seat<J>,
-    pace: Pace,
+    going: Going<J>,
     flusher: Flusher<J, D>,
     streams: &mut Streams<S, I>,
     listener: &mut L,
     stop: &mut P,
 ) -> (Flusher<J, D>, Result<Ended, StreamFault>)
-    requires { All (λ seat. seat.hand.of ≡ Some net.now.queue) seats.items }
-    ensures walks { D.keeps → Began J.formatted J.before flusher.opened → Walked flusher result.0 }
-    ensures process { IsSameProcess flusher result.0 }
-    ensures put { D.keeps → Began J.formatted J.before flusher.opened
-        → AllStepped J.formatted flusher result.0 streams.old.outputs.items streams.new.outputs.items }
-    ensures why { IfOk result.1 (λ ended. IsWhyEnded J.start pace.task ended.why) }
+    requires rested { HaveRested J.start going.turns.whose going.turns.idle }
+    requires seats { All (λ seat. seat.hand.of ≡ Some ground.net.now.queue) seats.items }
+    ensures served { ServedOn D.keeps J.formatted J.before (answer_failed result.1) flusher result.0 streams.old.outputs.items streams.new.outputs.items }
+    ensures why { IfOk result.1 (λ ended. IsWhyEnded J.start ground.entry.pace.task ended.why) }
     ensures inputs { IfOk result.1 (λ ended. LeavesNoInput (list_all (λ i. is_over i.ended i.is_blocked) streams.new.inputs.items) ended.why) }
     ensures told { ToldLater (length J.start.nodes) (L.told listener.old) (L.told listener.new) }
-    ensures looks { IfOk result.1 (λ ended. HaveLooked pace.task (P.answers stop.old) (P.answers stop.new) (Some ended.why)) }
+    ensures looks { IfOk result.1 (λ ended. HaveLooked ground.entry.pace.task (P.answers stop.old) (P.answers stop.new) (Some ended.why)) }
     ensures stored { IfOk result.1 (λ ended. ended.next ≤ result.0.world.mark) }
     ensures last { D.keeps → Began J.formatted J.before flusher.opened → IfOk result.1 (λ ended. ended.next ≡ length result.0.world.journal) }
-    ensures failures { flusher.world.at ≡ Resting → FailedWhere (answer_failed result.1) flusher result.0 }
     ensures begun { IfErr result.1 CameBegun }
 {
+    let Ground { rt, alloc, net, .. } = ground;
     let shared = net.shared();
-    let has_halted = pace.task.stop_on_halt && find_halted(rt, shared);
-    let going = Going {
-        turns: Turns::new(has_halted),
-        seat,
-        steps,
-    };
-    let (mut there, going, last) = lead(
-        rt, alloc, net, seats, pace, going, flusher, streams, listener, stop,
-    );
+    let (mut there, going, last) = lead(ground, seats, going, flusher, streams, listener, stop);
     let rests = going.turns.is_quiet(shared.nodes());
     let why = match last {
         Ok(Some(why)) => why,

@@ -34,10 +34,11 @@ ghost use Rattle.tp_work.specs.declared.start.TheConstants.{MAX_WORKERS};
 
 use crate::beginning::task_fault;
 use crate::fault::StreamFault;
+use crate::ground::Ground;
 use crate::opening::parts_of;
 use crate::pace::Pace;
 use crate::rooms::Rooms;
-use crate::serving::serve;
+use crate::serving::{Going, serve};
 use crate::task::Task;
 use std::alloc::Global;
 use std::marker::Brand;
@@ -87,6 +88,16 @@ fn pace_of(task: Task, topology: &Topology, area: u64) -> Pace
     }
 }
 
+/// A device that opened, taken apart for a stream: what it opened to, its topology, the parts of its network, the raiser of its mark, and its
+/// store.
+struct Device<D: Disk> {
+    opened: Snapshot<Opened>,
+    topology: Topology,
+    parts: Parts,
+    raiser: Raiser,
+    store: Store<D>,
+}
+
 /// A stream over the store of a device that was opened, with the parts that were made of it.
 fn stream_parts<
     J: Naming + Send + Sync,
@@ -100,38 +111,41 @@ fn stream_parts<
     rt: &R,
     alloc: Global,
     task: Task,
-    opened: Snapshot<Opened>,
-    topology: Topology,
-    parts: Parts,
-    raiser: Raiser,
-    store: Store<D>,
+    device: Device<D>,
     streams: &mut Streams<S, I>,
     listener: &mut L,
     stop: &mut P,
 ) -> (D, Result<Ended, StreamFault>)
     requires quantum { task.quantum ≤ MAX_STEPS }
-    requires names { Names J.roll J.first J.start J.node J.mark J.flusher J.sights J.room parts }
-    requires stands { IsMadeOf opened.value parts raiser }
-    requires bound { parts.book.room ≡ Some (room opened.value.head.topology opened.value.head.areas.length) }
-    requires cut { IsCut t414_ends opened.value.head.topology opened.value.base opened.value.cut }
-    requires bytes { AllByRecursion IsNodeOfBytes opened.value.cut.nodes }
-    requires place { store.place ≡ place_at opened.value }
-    requires topology { topology ≡ opened.value.head.topology }
-    requires roomy { is_roomy opened.value.head.topology opened.value.head.areas.length ≡ true }
-    requires unbroken { store.broken ≡ false }
-    requires read { D.keeps → verdict (D.state store.disk).now.bytes ≡ Ok opened.value }
-    requires synced { D.keeps → IsSynced (D.state store.disk) }
-    ensures size { D.size_of result.0 ≡ D.size_of store.disk }
-    ensures streamed { D.keeps → Began J.formatted J.before (D.state store.disk).now.bytes
-        → ServedInto J.formatted result.1 streams.old.outputs.items streams.new.outputs.items (D.state store.disk) (D.state result.0) }
+    requires names { Names J.roll J.first J.start J.node J.mark J.flusher J.sights J.room device.parts }
+    requires stands { IsMadeOf device.opened.value device.parts device.raiser }
+    requires bound { device.parts.book.room ≡ Some (room device.opened.value.head.topology device.opened.value.head.areas.length) }
+    requires cut { IsCut t414_ends device.opened.value.head.topology device.opened.value.base device.opened.value.cut }
+    requires bytes { AllByRecursion IsNodeOfBytes device.opened.value.cut.nodes }
+    requires place { device.store.place ≡ place_at device.opened.value }
+    requires topology { device.topology ≡ device.opened.value.head.topology }
+    requires roomy { is_roomy device.opened.value.head.topology device.opened.value.head.areas.length ≡ true }
+    requires unbroken { device.store.broken ≡ false }
+    requires read { D.keeps → verdict (D.state device.store.disk).now.bytes ≡ Ok device.opened.value }
+    requires synced { D.keeps → IsSynced (D.state device.store.disk) }
+    ensures size { D.size_of result.0 ≡ D.size_of device.store.disk }
+    ensures streamed { D.keeps → Began J.formatted J.before (D.state device.store.disk).now.bytes
+        → ServedInto J.formatted result.1 streams.old.outputs.items streams.new.outputs.items (D.state device.store.disk) (D.state result.0) }
     ensures why { IfOk result.1 (λ ended. IsAsked task ended.why) }
     ensures looks { IfOk result.1 (λ ended. HaveLooked task (P.answers stop.old) (P.answers stop.new) (Some ended.why)) }
     ensures over { IfOk result.1 (λ ended. LeavesNoInput (list_all (λ i. is_over i.ended i.is_blocked) streams.new.inputs.items) ended.why) }
-    ensures quiet { IfOk result.1 (λ ended. LeavesNothingToDo topology ended.why) }
-    ensures told { ToldLater (node_count topology) (L.told listener.old) (L.told listener.new) }
-    ensures failures { D.failures_of result.0 ≡ calls_failed (answer_failed result.1) (D.failures_of store.disk) }
+    ensures quiet { IfOk result.1 (λ ended. LeavesNothingToDo device.topology ended.why) }
+    ensures told { ToldLater (node_count device.topology) (L.told listener.old) (L.told listener.new) }
+    ensures failures { D.failures_of result.0 ≡ calls_failed (answer_failed result.1) (D.failures_of device.store.disk) }
     ensures begun { IfErr result.1 CameBegun }
 {
+    let Device {
+        opened,
+        topology,
+        parts,
+        raiser,
+        store,
+    } = device;
     let pace = pace_of(task, &topology, store.place.areas.length);
     let Ok((mut net, seats, key)) = Net::<J, NoGate>::start(
         rt,
@@ -146,9 +160,14 @@ fn stream_parts<
     let (seat, steps) = (net.seat(), net.seat());
     let flusher = Flusher::over(opened, topology, store, key, raiser);
     flusher.known();
-    let (flusher, done) = serve(
-        rt, alloc, &net, seats, seat, steps, pace, flusher, streams, listener, stop,
-    );
+    let ground = Ground {
+        rt,
+        alloc,
+        net: &net,
+        pace,
+    };
+    let going = Going::new(ground, seat, steps);
+    let (flusher, done) = serve(ground, seats, going, flusher, streams, listener, stop);
     (flusher.into_disk(), done)
 }
 
@@ -229,7 +248,12 @@ pub fn stream<
         Ok(made) => made,
         Err(fault) => return (store.into_disk(), Err(fault)),
     };
-    stream_parts::<Brand, D, S, I, L, P, R>(
-        rt, alloc, task, known, topology, parts, raiser, store, streams, listener, stop,
-    )
+    let device = Device {
+        opened: known,
+        topology,
+        parts,
+        raiser,
+        store,
+    };
+    stream_parts::<Brand, D, S, I, L, P, R>(rt, alloc, task, device, streams, listener, stop)
 }

@@ -1,57 +1,63 @@
-use Rattle.std.proofs.Common.{rules, ◌≡◌, Err, length, sym, subst}
+use Rattle.std.proofs.Common.{rules, ◌≡◌, Err, length, refl, sym, subst}
 use Rattle.tp_flush.specs.Known.{Began}
-use Rattle.tp_flush.specs.Flushing.{Flushing, IsSameProcess, Walked}
+use Rattle.tp_flush.specs.Flushing.{Flushing}
 use Rattle.tp_flush.proofs.Turns.{walked_nowhere}
-use Rattle.tp_stream.specs.Steps.{AllStepped}
-use Rattle.tp_stream.specs.Failures.{FailedWhere, answer_failed}
-use Rattle.tp_stream.specs.Streamed.{CameBegun}
-use Rattle.tp_stream.proofs.Failures.{between_begun, between_unfailed, failed_still, flush_begun, if_err}
+use Rattle.tp_stream.specs.Failures.{answer_failed, fault_failed}
+use Rattle.tp_stream.specs.Served.{ServedOn}
+use Rattle.tp_stream.proofs.Failures.{between_begun, between_unfailed, failed_still, flush_begun}
 use Rattle.tp_stream.proofs.Notices.{later_none, later_progress}
+use Rattle.tp_stream.proofs.Served.{fault_answered, served_still}
 use Rattle.tp_stream.proofs.Stepping.{all_since}
 use Rattle.tp_stream.proofs.serving.cycle.Goals as goal
 
-pub returns-clause-walks : goal.returns-clause-walks
-returns-clause-walks g c k began = subst (λ (f : Flushing). Walked c.args.flusher.now f) (sym c.go_on.ensures.same) (c.flush.ensures.walks k began)
-
-pub returns-clause-process : goal.returns-clause-process
-returns-clause-process g c = subst (λ (f : Flushing). IsSameProcess c.args.flusher.now f) (sym c.go_on.ensures.same) c.flush.ensures.process
-
-pub returns-clause-put : goal.returns-clause-put
-returns-clause-put g c k began =
+pub returns-clause-served : goal.returns-clause-served
+returns-clause-served g c =
     let start = g.J.Naming.formatted in
-    let there = subst (Began start g.J.Naming.before) (sym c.flush.ensures.process.opened) began in
-    let W = c.flush.ensures.walks k began in
+    let before = g.J.Naming.before in
+    let old = c.args.flusher.now in
+    let mid = c.flush.new.flusher in
+    let failed = answer_failed c.go_on.result in
     let was = c.args.streams.now.outputs.items in
     let now = c.go_on.new.streams.outputs.items in
-    subst (λ (f : Flushing). AllStepped start c.args.flusher.now f was now) (sym c.go_on.ensures.same)
-    (all_since start c.args.flusher.now c.flush.new.flusher c.flush.new.flusher W (walked_nowhere c.flush.new.flusher W.now) was now (c.go_on.ensures.put k there))
+    let done : ServedOn g.D.Disk.keeps start before failed old mid was now =
+    record {
+      walks = c.flush.ensures.walks;
+      process = c.flush.ensures.process;
+      put = λ k began.
+          let there = subst (Began start before) (sym c.flush.ensures.process.opened) began in
+          let W = c.flush.ensures.walks k began in
+          all_since start old mid mid W (walked_nowhere mid W.now) was now (c.go_on.ensures.put k there);
+      failures = λ rests. failed_still failed old mid mid refl (between_unfailed c.go_on.result c.go_on.ensures.begun) (c.in_ok-flush.ensures.failures rests);
+    } in
+    subst (λ (f : Flushing). ServedOn g.D.Disk.keeps start before failed old f was now) (sym c.go_on.ensures.same) done
+
+pub returns-clause-answer : goal.returns-clause-answer
+returns-clause-answer g c = record { why = c.go_on.ensures.why; inputs = c.go_on.ensures.inputs; begun = between_begun c.go_on.result c.go_on.ensures.begun }
 
 pub returns-clause-over : goal.returns-clause-over
 returns-clause-over g c = c.go_on.ensures.over
 
-pub returns-in_err-flush-clause-told : goal.returns-in_err-flush-clause-told
-returns-in_err-flush-clause-told g c = later_none (length g.J.Naming.start.nodes) (g.L.Listener.told c.args.listener.now)
-
 pub returns-clause-told : goal.returns-clause-told
 returns-clause-told g c =
-    later_progress (length g.J.Naming.start.nodes) c.args.pace.task.tells c.args.pace.rooms.journal c.flush.new.flusher c.args.going.now.turns.made _ _ _ c.tell.ensures
-
-pub returns-clause-failures : goal.returns-clause-failures
-returns-clause-failures g c rests =
-    failed_still _ c.args.flusher.now c.flush.new.flusher c.go_on.new.flusher c.go_on.ensures.same (between_unfailed c.go_on.result c.go_on.ensures.begun) (c.in_ok-flush.ensures.failures rests)
-
-pub returns-clause-begun : goal.returns-clause-begun
-returns-clause-begun g c = between_begun c.go_on.result c.go_on.ensures.begun
+    later_progress (length g.J.Naming.start.nodes) c.args.ground.pace.task.tells c.args.ground.pace.rooms.journal c.flush.new.flusher c.args.going.now.turns.made _ _ _ c.tell.ensures
 
 -- ## A flush that failed
 
-pub returns-in_err-flush-clause-failures : goal.returns-in_err-flush-clause-failures
-returns-in_err-flush-clause-failures g c rests =
-    let is : c.from_residual.result ≡ Err c.in_err-flush.field-0.0 = search rules in
-    subst (λ r. FailedWhere (answer_failed r) c.args.flusher.now c.flush.new.flusher) (sym is) (c.in_err-flush.ensures.failures rests)
-
-pub returns-in_err-flush-clause-begun : goal.returns-in_err-flush-clause-begun
-returns-in_err-flush-clause-begun g c =
+pub returns-in_err-flush-clause-served : goal.returns-in_err-flush-clause-served
+returns-in_err-flush-clause-served g c =
+    let start = g.J.Naming.formatted in
+    let before = g.J.Naming.before in
+    let was = c.args.streams.now.outputs.items in
     let fault = c.in_err-flush.field-0.0 in
     let is : c.from_residual.result ≡ Err fault = search rules in
-    if_err c.from_residual.result fault CameBegun is (flush_begun fault c.in_err-flush.ensures.begun)
+    subst (λ r. ServedOn g.D.Disk.keeps start before (answer_failed r) c.args.flusher.now c.flush.new.flusher was was) (sym is)
+    (served_still g.D.Disk.keeps start before (fault_failed fault) c.args.flusher.now c.flush.new.flusher was c.flush.ensures.walks c.flush.ensures.process c.in_err-flush.ensures.failures)
+
+pub returns-in_err-flush-clause-answer : goal.returns-in_err-flush-clause-answer
+returns-in_err-flush-clause-answer g c =
+    let fault = c.in_err-flush.field-0.0 in
+    let is : c.from_residual.result ≡ Err fault = search rules in
+    fault_answered _ _ _ c.from_residual.result fault is (flush_begun fault c.in_err-flush.ensures.begun)
+
+pub returns-in_err-flush-clause-told : goal.returns-in_err-flush-clause-told
+returns-in_err-flush-clause-told g c = later_none (length g.J.Naming.start.nodes) (g.L.Listener.told c.args.listener.now)

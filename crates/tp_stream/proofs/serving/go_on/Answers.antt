@@ -9,12 +9,12 @@ use Rattle.tp_stream.proofs.serving.go_on.Goals as goal
 
 pub returns-in-Some-clause-why : goal.returns-in-Some-clause-why
 returns-in-Some-clause-why g c =
-    ended_why g.J.Naming.start c.args.pace.task c.args.going.now.turns c.nodes-2.result c.is_asked-asked.result c.in_ok-pumped.pumped c.are_over-over.result c.in-Some.why c.nodes-2.ensures c.requires
+    ended_why g.J.Naming.start c.args.ground.pace.task c.args.going.now.turns c.nodes-2.result c.is_asked-asked.result c.in_ok-pumped.pumped c.are_over-over.result c.in-Some.why c.nodes-2.ensures c.requires
     c.is_asked-asked.ensures.asked c.in-Some.ensures.why
 
 pub returns-in-Some-clause-inputs : goal.returns-in-Some-clause-inputs
 returns-in-Some-clause-inputs g c =
-    leaves_no_input c.args.pace.task c.args.going.now.turns c.nodes-2.result c.is_asked-asked.result c.in_ok-pumped.pumped c.are_over-over.result _ c.in-Some.why
+    leaves_no_input c.args.ground.pace.task c.args.going.now.turns c.nodes-2.result c.is_asked-asked.result c.in_ok-pumped.pumped c.are_over-over.result _ c.in-Some.why
     (c.are_over-over.ensures ∙ ap (λ inputs. list_all (λ i. is_over i.ended i.is_blocked) inputs) c.deref.ensures.value) c.in-Some.ensures.why
 
 -- ## Which fault

@@ -4,14 +4,14 @@ use Rattle.tp_stream.proofs.streaming.stream.Given as goal
 
 abbrev pub ghosts-stream_parts : goal.ghosts-stream_parts
 ghosts-stream_parts g a = record {
-  roll = a.parts.roll;
-  first = a.parts.first;
-  start = record { wires = a.parts.book.state.start.wires; nodes = a.parts.book.state.start.nodes; ports = a.parts.book.state.ports; lines = [] };
-  node = name_of a.parts.seals;
-  mark = a.parts.mark;
-  flusher = a.parts.flusher;
-  sights = a.parts.sights;
-  room = a.parts.book.room;
+  roll = a.device.parts.roll;
+  first = a.device.parts.first;
+  start = record { wires = a.device.parts.book.state.start.wires; nodes = a.device.parts.book.state.start.nodes; ports = a.device.parts.book.state.ports; lines = [] };
+  node = name_of a.device.parts.seals;
+  mark = a.device.parts.mark;
+  flusher = a.device.parts.flusher;
+  sights = a.device.parts.sights;
+  room = a.device.parts.book.room;
   formatted = g.history.formatted;
   before = g.history.before;
 }

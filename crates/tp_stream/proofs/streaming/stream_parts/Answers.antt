@@ -23,7 +23,7 @@ pub returns-clause-streamed : goal.returns-clause-streamed
 returns-clause-streamed g c k began =
     let start = g.J.Naming.formatted in
     let before = g.J.Naming.before in
-    let o = c.args.opened.value in
+    let o = c.args.device.opened.value in
     let old = c.over-flusher.result in
     let new = c.serve-flusher.result.0 in
     let done = c.serve-flusher.result.1 in
@@ -35,9 +35,9 @@ returns-clause-streamed g c k began =
     let was = c.args.streams.now.outputs.items in
     let now = c.serve-flusher.new.streams.outputs.items in
     let S = c.serve-flusher.ensures in
-    subst (λ s. ServedInto start done was now (g.D.Disk.state c.args.store.disk) s) (sym c.into_disk-2.ensures.state)
+    subst (λ s. ServedInto start done was now (g.D.Disk.state c.args.device.store.disk) s) (sym c.into_disk-2.ensures.state)
     (subst (λ s. ServedInto start done was now s new.state) c.over-flusher.ensures.device.0
-    (served start before o old new done there reads world (c.known.ensures.reached k first) (S.walks k first) S.stored (S.last k first) was now (S.put k first)))
+    (served start before o old new done there reads world (c.known.ensures.reached k first) (S.served.walks k first) S.stored (S.last k first) was now (S.served.put k first)))
 
 pub returns-clause-why : goal.returns-clause-why
 returns-clause-why g c =
@@ -52,13 +52,13 @@ returns-clause-looks g c =
 
 pub returns-clause-told : goal.returns-clause-told
 returns-clause-told g c =
-    let many = nodes_of c.args.opened.value c.args.parts.book g.J.Naming.start c.requires.stands.book c.requires.cut c.requires.names.count_is ∙ ap node_count (sym c.requires.topology) in
+    let many = nodes_of c.args.device.opened.value c.args.device.parts.book g.J.Naming.start c.requires.stands.book c.requires.cut c.requires.names.count_is ∙ ap node_count (sym c.requires.topology) in
     subst (λ n. ToldLater n (g.L.Listener.told c.args.listener.now) (g.L.Listener.told c.serve-flusher.new.listener)) many c.serve-flusher.ensures.told
 
 pub returns-clause-quiet : goal.returns-clause-quiet
 returns-clause-quiet g c =
-    let o = c.args.opened.value in
-    let b = c.args.parts.book in
+    let o = c.args.device.opened.value in
+    let b = c.args.device.parts.book in
     let start = g.J.Naming.start in
     let N = c.requires.names in
     let done = c.serve-flusher.result.1 in
@@ -69,11 +69,11 @@ returns-clause-quiet g c =
 pub returns-clause-failures : goal.returns-clause-failures
 returns-clause-failures g c =
     let done = c.serve-flusher.result.1 in
-    let F = c.serve-flusher.ensures.failures (ap (λ (w : World NodeState). w.at) c.over-flusher.ensures.world) in
+    let F = c.serve-flusher.ensures.served.failures (ap (λ (w : World NodeState). w.at) c.over-flusher.ensures.world) in
     c.into_disk-2.ensures.failures ∙ F.calls ∙ ap (λ n. calls_failed (answer_failed done) n) c.over-flusher.ensures.device.2
 
-pub serve-flusher-requires-after_bounds : goal.serve-flusher-requires-after_bounds
-serve-flusher-requires-after_bounds g c κs within k d there =
+pub serve-flusher-requires-clause-seats : goal.serve-flusher-requires-clause-seats
+serve-flusher-requires-clause-seats g c κs within k d there =
     (c.in-Ok.ensures.seats k d there).0 ∙ ap Some (sym (c.seat-steps.ensures.same.1 ∙ c.seat-seat.ensures.same.1))
 
 -- ## Where there is no memory for workers
@@ -81,11 +81,11 @@ serve-flusher-requires-after_bounds g c κs within k d there =
 pub returns-in_default-clause-streamed : goal.returns-in_default-clause-streamed
 returns-in_default-clause-streamed g c k began =
     let outputs = c.args.streams.now.outputs.items in
-    subst (λ d. ServedInto g.J.Naming.formatted (Err Memory) outputs outputs (g.D.Disk.state c.args.store.disk) (g.D.Disk.state d)) (sym c.into_disk.ensures)
-    (unserved g.J.Naming.formatted Memory outputs (g.D.Disk.state c.args.store.disk))
+    subst (λ d. ServedInto g.J.Naming.formatted (Err Memory) outputs outputs (g.D.Disk.state c.args.device.store.disk) (g.D.Disk.state d)) (sym c.into_disk.ensures)
+    (unserved g.J.Naming.formatted Memory outputs (g.D.Disk.state c.args.device.store.disk))
 
 pub returns-in_default-clause-told : goal.returns-in_default-clause-told
-returns-in_default-clause-told g c = later_none (node_count c.args.topology) (g.L.Listener.told c.args.listener.now)
+returns-in_default-clause-told g c = later_none (node_count c.args.device.topology) (g.L.Listener.told c.args.listener.now)
 
 pub returns-in_default-clause-failures : goal.returns-in_default-clause-failures
 returns-in_default-clause-failures g c = uncounted _ _ false refl (ap g.D.Disk.failures_of c.into_disk.ensures)

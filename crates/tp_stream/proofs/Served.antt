@@ -1,0 +1,52 @@
+-- Laps, and flushes behind them, one behind the other.
+use Rattle.std.proofs.Common.{◌≡◌, Bool, false, List, Option, Result, Ok, Err, sym, subst, ◌∙◌}
+use Rattle.tp_model.specs.NodeState.{NodeState}
+use Rattle.tp_model.specs.Network.{Network}
+use Rattle.tp_model.specs.Runs.{World}
+use Rattle.tp_model.specs.WriteOrder.{Resting}
+use Rattle.tp_flush.specs.Flushing.{Flushing, IsSameProcess, Walked}
+use Rattle.tp_flush.specs.Known.{Began}
+use Rattle.tp_flush.proofs.Turns.{walked_then}
+use Rattle.tp_stream_files.specs.Outputs.{OutputValue}
+use Rattle.tp_stream_files.specs.declared.ending.Ending.{Ending}
+use Rattle.tp_stream.specs.declared.fault.StreamFault.{StreamFault}
+use Rattle.tp_stream.specs.declared.task.Task.{Task}
+use Rattle.tp_stream.specs.Failures.{FailedWhere}
+use Rattle.tp_stream.specs.Served.{ServedAnswer, ServedOn}
+use Rattle.tp_stream.specs.Streamed.{CameBegun}
+use Rattle.tp_stream.proofs.Failures.{failed_then}
+use Rattle.tp_stream.proofs.Stepping.{all_still, all_then}
+
+-- one behind the other, where no call of the device failed in the first
+pub served_then : (keeps : Type 0) (start : Network NodeState) (before : World NodeState) (failed : Bool) (old mid new : Flushing) (xs ys zs : List OutputValue)
+    → ServedOn keeps start before false old mid xs ys → ServedOn keeps start before failed mid new ys zs → ServedOn keeps start before failed old new xs zs
+served_then keeps start before failed old mid new xs ys zs S T =
+    let P = S.process in
+    let Q = T.process in
+    record {
+      walks = λ k began. walked_then old mid new (S.walks k began) (T.walks k (subst (Began start before) (sym P.opened) began));
+      process = record { opened = Q.opened ∙ P.opened; size = Q.size ∙ P.size; topology = Q.topology ∙ P.topology };
+      put = λ k began.
+          let there = subst (Began start before) (sym P.opened) began in
+          all_then start old mid new (S.walks k began) (T.walks k there) xs ys zs (S.put k began) (T.put k there);
+      failures = λ rests. let F = S.failures rests in failed_then failed old mid new F (T.failures F.at);
+    }
+
+-- what flushes alone do, beside which nothing is put
+pub served_still : (keeps : Type 0) (start : Network NodeState) (before : World NodeState) (failed : Bool) (old new : Flushing) (xs : List OutputValue)
+    → (keeps → Began start before old.opened → Walked old new) → IsSameProcess old new → (old.world.at ≡ Resting → FailedWhere failed old new)
+    → ServedOn keeps start before failed old new xs xs
+served_still keeps start before failed old new xs walks process failures =
+    record { walks = walks; process = process; put = λ k began. all_still start old new xs; failures = failures }
+
+-- such flushes behind laps
+pub served_until : (keeps : Type 0) (start : Network NodeState) (before : World NodeState) (failed : Bool) (old mid new : Flushing) (xs ys : List OutputValue)
+    → ServedOn keeps start before false old mid xs ys → (keeps → Began start before mid.opened → Walked mid new) → IsSameProcess mid new
+    → (mid.world.at ≡ Resting → FailedWhere failed mid new) → ServedOn keeps start before failed old new xs ys
+served_until keeps start before failed old mid new xs ys S walks process failures =
+    served_then keeps start before failed old mid new xs ys ys S (served_still keeps start before failed mid new ys walks process failures)
+
+-- an answer that is a fault
+pub fault_answered : (start : Network NodeState) (task : Task) (over : Bool) (r : Result (Option Ending) StreamFault) (fault : StreamFault) → r ≡ Err fault → CameBegun fault → ServedAnswer start task over r
+fault_answered start task over (Ok ended) fault is begun = absurd (cc)
+fault_answered start task over (Err other) fault is begun = let same : fault ≡ other = cc in record { why = tt; inputs = tt; begun = subst CameBegun same begun }

@@ -1,0 +1,23 @@
+//! What the laps of a stream stand on.
+
+use crate::pace::Pace;
+use std::alloc::{AllocError, Global};
+use tp_shared::{Naming, NoGate};
+use tp_work::Net;
+
+/// What each lap of a stream stands on, and all that is done in one: what is asked of the system, where memory comes from, the network that
+/// its threads share, and how turns are made.
+pub(crate) struct Ground<'r, J: Naming, R> {
+    pub(crate) rt: &'r R,
+    pub(crate) alloc: Global,
+    pub(crate) net: &'r Net<J, NoGate>,
+    pub(crate) pace: Pace,
+}
+
+impl<'r, J: Naming, R> Clone for Ground<'r, J, R> {
+    fn clone(&self) -> Result<Ground<'r, J, R>, AllocError> {
+        Ok(*self)
+    }
+}
+
+impl<'r, J: Naming, R> Copy for Ground<'r, J, R> {}
