@@ -19,8 +19,9 @@ if [ ! -e "$work/built" ]; then
     tar -C "$top" -c --exclude=incremental crates crates.txt HANDLES | tar -C "$work" -x
     mkdir -p "$work/crates/bench_journal/src"
     cp "$top/bench/journal.rattle" "$work/crates/bench_journal/src/main.rt"
-    # two of its functions stand in tp_tests_opening, too, with their proofs
-    for file in Numbered devices/number_from/Invariants devices/number_from/Answers devices/append_numbered/Answers; do
+    # three of its functions stand in tp_tests_opening, too, with their proofs
+    cp "$top/crates/tp_tests_opening/src/appendable.rt" "$work/crates/bench_journal/src"
+    for file in Numbered appendable/are_appendable/Invariants devices/number_from/Invariants devices/number_from/Answers devices/append_numbered/Answers; do
         proof=$work/crates/bench_journal/proofs/${file#devices/}.antt
         mkdir -p "$(dirname "$proof")"
         sed 's/tp_tests_opening\.proofs\.devices/bench_journal.proofs/; s/tp_tests_opening/bench_journal/; s/^\(append_group[^ ]*\) c =/\1 g c =/' \

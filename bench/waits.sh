@@ -120,7 +120,7 @@ python3 - "$tpnet" "$work" "$rounds" "$folder" <<'PY'
 import os, shutil, statistics, struct, subprocess, sys, tempfile, time
 tpnet, work, rounds, folder = sys.argv[1:5]
 rounds = range(int(rounds))
-BYTES, TURNS, PAIR_TURNS, NEVER = 100, 40000, 400000, (1 << 32) - 1
+BYTES, TURNS, PAIR_TURNS, NEVER = 100, 160000, 400000, (1 << 32) - 1
 
 def timed(command):
     begun = time.monotonic()
