@@ -2,7 +2,6 @@
 
 use std::sync::Wait;
 use std::sync::atomic::{AtomicBool, AtomicU64, Ordering};
-use std::thread;
 use std::time::Duration;
 
 /// How many milliseconds it sleeps, at most, between two looks whether all have come.
@@ -10,10 +9,6 @@ const SLEEP: u64 = 10;
 
 /// How often it looks, at most, as it waits for them.
 const LOOKS: u32 = 100;
-
-/// How often a worker looks for the next shift before it sleeps, and lets other threads go first in between: some hundred microseconds, as
-/// what is done between two shifts mostly takes, since one that sleeps may wake much later.
-const YIELDS: u32 = 400;
 
 /// The workers of a stream: how many have come, and whether these were waited for; how many are in the shift that is open, how many shifts were
 /// opened, on which they sleep, and whether no more will be.
@@ -78,19 +73,8 @@ impl Crew {
         self.call();
     }
 
-    /// Looks for a while whether more shifts were opened than the `seen` ones.
-    fn look(&self, seen: u64) {
-        for _ in 0..YIELDS {
-            if self.opened.load(Ordering::SeqCst) != seen {
-                return;
-            }
-            thread::yield_now();
-        }
-    }
-
     /// Waits until more shifts were opened than the `seen` ones, and answers how many were; `None` once no more will be.
     pub(crate) fn wait<R: Wait>(&self, rt: &R, seen: u64) -> Option<u64> {
-        self.look(seen);
         for _ in rt.forever() {
             let opened = self.opened.load(Ordering::SeqCst);
             if self.is_dismissed.load(Ordering::SeqCst) {
