@@ -1,6 +1,6 @@
 //! Workers, and the flusher beside them.
 
-ghost use Rattle.std.specs.Prelude.{◌≡◌, ◌≤◌, ◌*◌, ◌-◌, All, Some, None, IfOk, IfErr};
+ghost use Rattle.std.specs.Prelude.{◌≡◌, ◌≤◌, ◌*◌, ◌-◌, All, Some, None, IfOk, IfErr, IfSome};
 ghost use Rattle.tp_model.specs.WriteOrder.{Resting};
 ghost use Rattle.tp_flush.specs.Known.{Began};
 ghost use Rattle.tp_flush.specs.Flushing.{IsSameProcess, Walked};
@@ -10,6 +10,7 @@ ghost use Rattle.tp_stream.specs.Streamed.{CameBegun, CameOfFlush};
 
 use crate::fault::StreamFault;
 use crate::flushing::flush;
+use crate::ground::Ground;
 use crate::lent::Lent;
 use crate::pace::Pace;
 use crate::shift::Shift;
@@ -29,6 +30,16 @@ use tp_work::{Net, Seat};
 /// shift about as long as for a round.
 const SHIFT: u64 = 1024;
 
+/// Makes a turn that was drawn in this shift.
+fn one<J: Naming, R: Wait>(rt: &R, net: &Net<J, NoGate>, shift: &Shift, seat: &mut Seat<J>)
+    requires queue { seat.old.hand.of ≡ Some net.now.queue }
+    ensures queue { seat.new.hand.of ≡ Some net.now.queue }
+{
+    let before = seat.count();
+    let done = net.turn(rt, seat);
+    shift.tell(&done, seat.count().saturating_sub(before));
+}
+
 /// Makes turns until none is left in this shift.
 fn work<J: Naming, R: Wait>(rt: &R, net: &Net<J, NoGate>, shift: &Shift, seat: &mut Seat<J>)
     requires queue { seat.old.hand.of ≡ Some net.now.queue }
@@ -38,9 +49,7 @@ fn work<J: Naming, R: Wait>(rt: &R, net: &Net<J, NoGate>, shift: &Shift, seat: &
         if !shift.draw() {
             return;
         }
-        let before = seat.count();
-        let done = net.turn(rt, seat);
-        shift.tell(&done, seat.count().saturating_sub(before));
+        one(rt, net, shift, seat);
     }
 }
 
@@ -113,16 +122,54 @@ pub(crate) fn go_with_workers<
     back
 }
 
+/// Makes turns until none is left in this shift, or the flusher's is due: as many entries more than `seen` were made as fill a group.
+fn help<J: Naming, R: Wait>(
+    rt: &R,
+    net: &Net<J, NoGate>,
+    shift: &Shift,
+    seen: u64,
+    seat: &mut Seat<J>,
+)
+    requires queue { seat.old.hand.of ≡ Some net.now.queue }
+    ensures queue { seat.new.hand.of ≡ Some net.now.queue }
+{
+    for _ in 0..u32::MAX {
+        if shift.is_due(seen) || !shift.draw() {
+            return;
+        }
+        one(rt, net, shift, seat);
+    }
+}
+
+/// Makes such turns where there is a seat for them.
+fn help_seated<J: Naming, R: Wait>(
+    rt: &R,
+    net: &Net<J, NoGate>,
+    shift: &Shift,
+    seen: u64,
+    seat: &mut Option<Seat<J>>,
+)
+    requires queue { IfSome seat.old (λ seat. seat.hand.of ≡ Some net.now.queue) }
+    ensures queue { IfSome seat.new (λ seat. seat.hand.of ≡ Some net.now.queue) }
+{
+    if let Some(seat) = seat {
+        help(rt, net, shift, seen, seat);
+    }
+}
+
 /// Makes the flusher's turns while workers make theirs, each once something was journalled beyond the `before` entries, until the shift has
-/// ended or one is refused, which ends it.
+/// ended or one is refused, which ends it; and between two of them turns, where there is a seat for that.
 fn flush_beside<J: Naming, D: Disk, R: Wait>(
     rt: &R,
     alloc: Global,
-    shared: &Shared<J>,
+    net: &Net<J, NoGate>,
     shift: &Shift,
     before: u64,
+    seat: &mut Option<Seat<J>>,
     flusher: &mut Flusher<J, D>,
 ) -> Result<(), StreamFault>
+    requires queue { IfSome seat.old (λ seat. seat.hand.of ≡ Some net.now.queue) }
+    ensures queue { IfSome seat.new (λ seat. seat.hand.of ≡ Some net.now.queue) }
     ensures walks { D.keeps → Began J.formatted J.before flusher.old.opened → Walked flusher.old flusher.new }
     ensures process { IsSameProcess flusher.old flusher.new }
     ensures failures { flusher.old.world.at ≡ Resting → FailedWhere (answer_failed result) flusher.old flusher.new }
@@ -131,11 +178,12 @@ fn flush_beside<J: Naming, D: Disk, R: Wait>(
     flusher.known();
     let mut seen = before;
     for _ in rt.forever() {
+        help_seated(rt, net, shift, seen, seat);
         let Some(made) = shift.wait(rt, seen) else {
             break;
         };
         seen = made;
-        if let Err(fault) = flush(rt, alloc, shared, flusher) {
+        if let Err(fault) = flush(rt, alloc, net.shared(), flusher) {
             shift.stop();
             return Err(fault);
         }
@@ -192,14 +240,14 @@ fn outcome_of(
 /// Workers, who have all come, make turns until the journal may have no room for one more, they have made as many as they may, or nothing is left
 /// to do, and the flusher makes its own beside them.
 pub(crate) fn go_beside<J: Naming, D: Disk, R: Wait>(
-    rt: &R,
-    alloc: Global,
-    shared: &Shared<J>,
+    ground: Ground<'_, J, R>,
     shift: &Shift,
-    pace: Pace,
     turns: &mut Turns,
+    seat: &mut Option<Seat<J>>,
     flusher: &mut Flusher<J, D>,
 ) -> Result<Option<Ending>, StreamFault>
+    requires queue { IfSome seat.old (λ seat. seat.hand.of ≡ Some ground.net.now.queue) }
+    ensures queue { IfSome seat.new (λ seat. seat.hand.of ≡ Some ground.entry.net.now.queue) }
     ensures walks { D.keeps → Began J.formatted J.before flusher.old.opened → Walked flusher.old flusher.new }
     ensures process { IsSameProcess flusher.old flusher.new }
     ensures whose { turns.new.whose ≡ turns.old.whose }
@@ -208,9 +256,15 @@ pub(crate) fn go_beside<J: Naming, D: Disk, R: Wait>(
     ensures failures { flusher.old.world.at ≡ Resting → FailedWhere (answer_failed result) flusher.old flusher.new }
     ensures begun { IfErr result CameBegun }
 {
+    let Ground {
+        rt,
+        alloc,
+        net,
+        pace,
+    } = ground;
     let most = most_of(pace.task, turns, u64::from(pace.workers));
-    let before = shift.open(turns_under(rt, shared, pace, most));
-    let flushed = flush_beside(rt, alloc, shared, shift, before, flusher);
+    let before = shift.open(turns_under(rt, net.shared(), pace, most));
+    let flushed = flush_beside(rt, alloc, net, shift, before, seat, flusher);
     turns.add(shift.count(), shift.has_halted(), shift.is_idle());
     outcome_of(flushed, shift)
 }

@@ -1,7 +1,7 @@
 //! The thread that calls, beside its workers.
 
 ghost use Rattle.std.specs.List.{list_all};
-ghost use Rattle.std.specs.Prelude.{◌≡◌, length, All, Some, IfOk};
+ghost use Rattle.std.specs.Prelude.{◌≡◌, length, All, Some, IfOk, IfSome};
 ghost use Rattle.tp_stream_files.specs.Inputs.{is_over};
 ghost use Rattle.tp_stream.specs.Failures.{answer_failed};
 ghost use Rattle.tp_stream.specs.Looks.{HaveLooked};
@@ -28,6 +28,7 @@ use tp_work::Seat;
 struct Leading<'r, 's, 'u, 'v, 'w, J: Naming, D: Disk, S: Sink, I: Source, L, P, R> {
     ground: Ground<'r, J, R>,
     shift: &'s Shift,
+    seat: Option<Seat<J>>,
     going: Going<J>,
     flusher: Flusher<J, D>,
     streams: &'u mut Streams<S, I>,
@@ -46,7 +47,9 @@ impl<'r, 's, 'u, 'v, 'w, J: Naming, D: Disk, S: Sink, I: Source, L: Listener, P:
         Result<Option<Ending>, StreamFault>,
     );
 
-    ghost may_begin = { λ work. HaveRested J.start work.going.turns.whose work.going.turns.idle };
+    ghost may_begin = { λ work.
+        HaveRested J.start work.going.turns.whose work.going.turns.idle
+        × IfSome work.seat (λ seat. seat.hand.of ≡ Some work.ground.net.now.queue) };
 
     ghost gives = { λ work back.
         ServedOn D.keeps J.formatted J.before (answer_failed back.5) work.flusher back.0 work.streams.now.outputs.items back.2.now.outputs.items
@@ -61,17 +64,20 @@ impl<'r, 's, 'u, 'v, 'w, J: Naming, D: Disk, S: Sink, I: Source, L: Listener, P:
         let Leading {
             ground,
             shift,
+            seat,
             going,
             flusher,
             streams,
             listener,
             stop,
         } = self;
+        let mut seat = seat;
         let mut going = going;
         let mut flusher = flusher;
         let done = laps(
             ground,
             shift,
+            &mut seat,
             &mut going,
             &mut flusher,
             streams,
@@ -108,12 +114,15 @@ pub(crate) fn lead<
     ensures looks { IfOk result.2 (HaveLooked ground.entry.pace.task (P.answers stop.old) (P.answers stop.new)) }
     ensures told { ToldLater (length J.start.nodes) (L.told listener.old) (L.told listener.new) }
 {
+    let mut seats = seats;
+    let mut seat = seats.pop();
     let shift = Shift::new(2 * (u64::from(ground.net.shared().nodes()) + 1));
     if ground.pace.workers < 2 {
         let (mut going, mut flusher) = (going, flusher);
         let done = laps(
             ground,
             &shift,
+            &mut seat,
             &mut going,
             &mut flusher,
             streams,
@@ -125,6 +134,7 @@ pub(crate) fn lead<
     let leading = Leading {
         ground,
         shift: &shift,
+        seat,
         going,
         flusher,
         streams,

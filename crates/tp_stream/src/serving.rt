@@ -181,33 +181,31 @@ fn cycle<J: Naming, D: Disk, S: Sink, I: Source, L: Listener, P: Stop, R: Wait>(
 fn lap<J: Naming, D: Disk, S: Sink, I: Source, L: Listener, P: Stop, R: Wait>(
     ground: Ground<'_, J, R>,
     shift: &Shift,
+    seat: &mut Option<tp_work::Seat<J>>,
     going: &mut Going<J>,
     flusher: &mut Flusher<J, D>,
     streams: &mut Streams<S, I>,
     listener: &mut L,
     stop: &mut P,
 ) -> Result<Option<Ending>, StreamFault>
-    requires { HaveRested J.start going.old.turns.whose going.old.turns.idle }
+    requires rested { HaveRested J.start going.old.turns.whose going.old.turns.idle }
+    requires queue { IfSome seat.old (λ seat. seat.hand.of ≡ Some ground.net.now.queue) }
+    ensures queue { IfSome seat.new (λ seat. seat.hand.of ≡ Some ground.entry.net.now.queue) }
     ensures served { ServedOn D.keeps J.formatted J.before (answer_failed result) flusher.old flusher.new streams.old.outputs.items streams.new.outputs.items }
     ensures answer { ServedAnswer J.start ground.entry.pace.task (list_all (λ i. is_over i.ended i.is_blocked) streams.new.inputs.items) result }
     ensures looks { IfOk result (LooksAtMostOnce ground.entry.pace.task (P.answers stop.old) (P.answers stop.new)) }
     ensures told { ToldLater (length J.start.nodes) (L.told listener.old) (L.told listener.new) }
     ensures rested { OnOk result (HaveRested J.start going.new.turns.whose going.new.turns.idle) }
 {
-    let Ground {
-        rt,
-        alloc,
-        net,
-        pace,
-    } = ground;
+    let Ground { rt, pace, .. } = ground;
     let done = cycle(ground, going, flusher, streams, listener, stop);
     let goes_on = going.turns.is_busy && !going.turns.is_full;
     if let Ok(None) = done
         && goes_on
     {
-        if shift.crew.are_here(rt, u64::from(pace.workers)) {
-            let shared = net.shared();
-            return go_beside(rt, alloc, shared, shift, pace, &mut going.turns, flusher);
+        let others = u64::from(pace.workers).saturating_sub(1);
+        if shift.crew.are_here(rt, others) {
+            return go_beside(ground, shift, &mut going.turns, seat, flusher);
         }
         going.turns.stay_alone();
     }
@@ -218,13 +216,16 @@ fn lap<J: Naming, D: Disk, S: Sink, I: Source, L: Listener, P: Stop, R: Wait>(
 pub(crate) fn laps<J: Naming, D: Disk, S: Sink, I: Source, L: Listener, P: Stop, R: Wait>(
     ground: Ground<'_, J, R>,
     shift: &Shift,
+    seat: &mut Option<tp_work::Seat<J>>,
     going: &mut Going<J>,
     flusher: &mut Flusher<J, D>,
     streams: &mut Streams<S, I>,
     listener: &mut L,
     stop: &mut P,
 ) -> Result<Option<Ending>, StreamFault>
-    requires { HaveRested J.start going.old.turns.whose going.old.turns.idle }
+    requires rested { HaveRested J.start going.old.turns.whose going.old.turns.idle }
+    requires queue { IfSome seat.old (λ seat. seat.hand.of ≡ Some ground.net.now.queue) }
+    ensures queue { IfSome seat.new (λ seat. seat.hand.of ≡ Some ground.entry.net.now.queue) }
     ensures served { ServedOn D.keeps J.formatted J.before (answer_failed result) flusher.old flusher.new streams.old.outputs.items streams.new.outputs.items }
     ensures answer { ServedAnswer J.start ground.entry.pace.task (list_all (λ i. is_over i.ended i.is_blocked) streams.new.inputs.items) result }
     ensures told { ToldLater (length J.start.nodes) (L.told listener.old) (L.told listener.new) }
@@ -236,7 +237,7 @@ pub(crate) fn laps<J: Naming, D: Disk, S: Sink, I: Source, L: Listener, P: Stop,
         let Ok(None) = last else {
             break;
         };
-        last = lap(ground, shift, going, flusher, streams, listener, stop);
+        last = lap(ground, shift, seat, going, flusher, streams, listener, stop);
     }
     last
 }

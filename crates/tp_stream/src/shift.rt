@@ -12,7 +12,7 @@ use tp_model::limits::MAX_GROUP;
 use tp_node::Why;
 use tp_work::{Turn, TurnFault};
 
-/// How many microseconds the flusher sleeps where too little was made. No turn wakes it.
+/// How many microseconds the flusher sleeps where no turn is left and too little was made. No turn wakes it.
 const SLEEP: u64 = 500;
 
 /// Shifts, one behind the other, of workers that stay. Of the one that was opened last: how many turns it may have, and how many of these are
@@ -145,6 +145,11 @@ impl Shift {
     /// Whether it has ended: no more turns are made, and no worker is in one. A worker that comes later finds none left.
     fn has_ended(&self) -> bool {
         self.is_out() && self.crew.is_out()
+    }
+
+    /// Whether as many entries more than `seen` were made as fill a group.
+    pub(crate) fn is_due(&self, seen: u64) -> bool {
+        self.made.load(Ordering::SeqCst).saturating_sub(seen) >= MAX_GROUP as u64
     }
 
     /// Waits until as many entries more than `seen` were made as fill a group, or some while it slept for [`SLEEP`] microseconds, and answers how

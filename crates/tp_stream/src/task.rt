@@ -13,7 +13,7 @@ pub struct Task {
     /// Whether it ends once it is asked to stop. It is looked for that behind each flush, and while input is waited for.
     pub until_asked: bool,
     /// How many threads make turns at most, 1 to 16, and no more than there are processes. With 1 all is done in the thread that calls; with
-    /// more, the flusher's turns are made beside them.
+    /// more it is one of them, and makes the flusher's turns between its own.
     pub workers: u8,
     /// How many steps a turn may run, 1 to 4,096.
     pub quantum: u16,

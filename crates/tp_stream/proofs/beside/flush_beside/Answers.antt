@@ -7,6 +7,7 @@ use Rattle.tp_stream.proofs.beside.flush_beside.Goals as goal
 
 pub loop-init : goal.loop-init
 loop-init g c = record {
+  queue = c.requires.queue;
   process = record { opened = refl; size = refl; topology = refl };
   failures = λ rests. none_failed c.args.flusher.now rests;
   walks = λ k began. walked_nowhere c.args.flusher.now (c.known.ensures.disk k);
@@ -17,6 +18,7 @@ loop-preserved g c =
     let P = c.loop.invariant.process in
     let Q = c.flush.ensures.process in
     record {
+      queue = c.help_seated.ensures.queue;
       process = record { opened = Q.opened ∙ P.opened; size = Q.size ∙ P.size; topology = Q.topology ∙ P.topology };
       failures = λ rests.
           let F = c.loop.invariant.failures rests in failed_then false c.args.flusher.now c.loop.flusher c.flush.new.flusher F (c.in_default-flush.ensures.failures F.at);

@@ -1,4 +1,4 @@
-use Rattle.std.specs.Prelude.{◌≡◌, false}
+use Rattle.std.specs.Prelude.{◌≡◌, false, IfSome, Some}
 use Rattle.tp_model.specs.WriteOrder.{Resting}
 use Rattle.tp_flush.specs.Known.{Began}
 use Rattle.tp_flush.specs.Flushing.{IsSameProcess, Walked}
@@ -7,6 +7,7 @@ use Rattle.tp_stream.proofs.beside.flush_beside.Given as goal
 
 abbrev pub invariant-loop : goal.invariant-loop
 invariant-loop g l = record {
+  queue : IfSome l.seat (λ seat. seat.hand.of ≡ Some l.net.queue);
   process : IsSameProcess l.fn.flusher l.flusher;
   failures : l.fn.flusher.world.at ≡ Resting → FailedWhere false l.fn.flusher l.flusher;
   walks : g.D.Disk.keeps → Began g.J.Naming.formatted g.J.Naming.before l.fn.flusher.opened → Walked l.fn.flusher l.flusher;

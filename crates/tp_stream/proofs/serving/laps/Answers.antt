@@ -17,7 +17,8 @@ loop-init g c = record {
   answer = record { why = tt; inputs = tt; begun = tt };
   told = later_none (length g.J.Naming.start.nodes) (g.L.Listener.told c.args.listener.now);
   looks = none_looked c.args.ground.pace.task (g.P.Stop.answers c.args.stop.now);
-  rested = c.requires;
+  queue = c.requires.queue;
+  rested = c.requires.rested;
 }
 
 pub loop-preserved : goal.loop-preserved
@@ -38,5 +39,6 @@ loop-preserved g c =
           looks_then g.J.Naming.start c.args.ground.pace.task (g.P.Stop.answers c.args.stop.now)
           (g.P.Stop.answers c.loop.stop) (g.P.Stop.answers c.lap-last.new.stop) c.loop.last c.lap-last.result going c.loop.invariant.looks c.lap-last.ensures.answer.why
           c.lap-last.ensures.looks;
+      queue = c.lap-last.ensures.queue;
       rested = c.lap-last.ensures.rested;
     }

@@ -1,0 +1,5 @@
+use Rattle.std.proofs.Common.{◌≡◌, Some}
+use Rattle.tp_stream.proofs.beside.help.Given as goal
+
+abbrev pub invariant-loop : goal.invariant-loop
+invariant-loop g l = l.seat.hand.of ≡ Some l.net.queue
