@@ -1,16 +1,18 @@
 -- Nodes that are dealt to the cells one after another.
-use Rattle.std.proofs.Common.{◌≡◌, ◌≢◌, ℕ, zero, suc, ◌+◌, ◌*◌, ◌/◌, ◌%◌, ◌<◌, ◌≤◌, cond, inl, inr, List, [], ◌∷◌, ◌++◌, length, get_or, refl, sym, ap, subst, ◌∙◌, arith, Some, slice_get, length-append, eq-eqb, ne_eqb}
+use Rattle.std.proofs.Common.{◌≡◌, ◌≢◌, ℕ, zero, suc, ◌+◌, ◌*◌, ◌/◌, ◌%◌, ◌<◌, ◌≤◌, cond, eqb, inl, inr, List, [], ◌∷◌, ◌++◌, length, get_or, refl, sym, ap, subst, ◌∙◌, arith, Some, slice_get, length-append, eq-eqb, ne_eqb}
 use Rattle.std.specs.Prelude.{◌-◌}
 use Rattle.std.proofs.lemmas.Bool.{cases_eq}
 use Rattle.std.proofs.lemmas.Option.{slice_get_within}
 use Rattle.tp_book.specs.Book.{BookValue}
-use Rattle.tp_shared.specs.Cells.{IsPlaceOf, AreOfCell, with_place}
+use Rattle.tp_shared.specs.Cells.{IsPlaceOf, AreOfCell}
+use Rattle.tp_shared.specs.Hands.{AreOfRow, IsEmptyHand, IsRowWith, with_place}
 use Rattle.tp_shared.specs.Seals.{IsSealOf, Sealed}
 use Rattle.tp_shared.specs.Parted.{name_of, IsDealt}
 use Rattle.tp_shared.specs.declared.dealt.Dealt.{Dealt}
+use Rattle.tp_shared.specs.declared.hand.Hand.{Hand}
 use Rattle.tp_shared.specs.declared.place.Place.{Place}
 use Rattle.tp_shared.specs.declared.seal.NodeSeal.{NodeSeal}
-use Rattle.tp_shared.specs.declared.cells.TheConstants.{CELLS}
+use Rattle.tp_shared.specs.declared.cells.TheConstants.{CELLS, ROW}
 
 -- ## Lists
 
@@ -71,7 +73,11 @@ sealed_more ss t b S T i s e = elim (cases_eq i (length ss)) [
 
 -- ## Cells
 
-pub celled_none : (cell : ℕ) (names : ℕ → ℕ) → AreOfCell cell names 0 []
+-- the places of a cell, and behind them one more where it belongs there
+abbrev cell_with : ℕ → ℕ → Place → List Place → List Place
+cell_with cell index place places = cond (eqb (index % CELLS) cell) (places ++ place ∷ []) places
+
+celled_none : (cell : ℕ) (names : ℕ → ℕ) → AreOfCell cell names 0 []
 celled_none cell names = record { each = λ k p e. cc; all = λ k h. absurd (omega (arith, h)) }
 
 -- a place of one network is one of a larger one
@@ -129,82 +135,120 @@ module _ (cell : ℕ) (ss : List NodeSeal) (t : NodeSeal) (places : List Place) 
       all : (k : ℕ) → CELLS * k + cell < suc (length ss) → k < length (places ++ p ∷ [])
       all k h = let l = length-append places (p ∷ []) in let a = place_is in omega (arith, l, a, h)
 
-  pub celled_more : AreOfCell cell (name_of (ss ++ t ∷ [])) (suc (length ss)) (with_place cell (length ss) p places)
+  pub celled_more : AreOfCell cell (name_of (ss ++ t ∷ [])) (suc (length ss)) (cell_with cell (length ss) p places)
   celled_more = elim (cases_eq (length ss % CELLS) cell) [
     | inl same ↦ subst (λ test. AreOfCell cell (name_of (ss ++ t ∷ [])) (suc (length ss)) (cond test (places ++ p ∷ []) places)) (sym (eq-eqb (length ss % CELLS) cell same)) (here same)
     | inr other ↦ subst (λ test. AreOfCell cell (name_of (ss ++ t ∷ [])) (suc (length ss)) (cond test (places ++ p ∷ []) places)) (sym (ne_eqb (length ss % CELLS) cell other)) (away other)
   ]
 
 -- places keep what is known of them under names that are equal to theirs
-pub celled_named : (cell : ℕ) (names others : ℕ → ℕ) (count : ℕ) (places : List Place) → ((i : ℕ) → others i ≡ names i) → AreOfCell cell names count places → AreOfCell cell others count places
+celled_named : (cell : ℕ) (names others : ℕ → ℕ) (count : ℕ) (places : List Place) → ((i : ℕ) → others i ≡ names i) → AreOfCell cell names count places → AreOfCell cell others count places
 celled_named cell names others count places same C = record {
   each = λ k p e. more_in (names (CELLS * k + cell)) (others (CELLS * k + cell)) (CELLS * k + cell) count count p (sym (same (CELLS * k + cell))) (omega arith) (C.each k p e);
   all = C.all;
 }
 
 -- the places of a cell under the names that were picked
-pub celled_start : (cell : ℕ) (names : ℕ → ℕ) (seals : List NodeSeal) (n m : ℕ) (places : List Place) → n ≡ m → ((i : ℕ) → names i ≡ name_of seals i) → AreOfCell cell (name_of seals) n places → AreOfCell cell names m places
+celled_start : (cell : ℕ) (names : ℕ → ℕ) (seals : List NodeSeal) (n m : ℕ) (places : List Place) → n ≡ m → ((i : ℕ) → names i ≡ name_of seals i) → AreOfCell cell (name_of seals) n places → AreOfCell cell names m places
 celled_start cell names seals n m places same named C = subst (λ k. AreOfCell cell names k places) same (celled_named cell (name_of seals) names n places named C)
 
 pub sealed_named : (names others : ℕ → ℕ) (ss : List NodeSeal) (b : BookValue) → ((i : ℕ) → others i ≡ names i) → Sealed names ss b → Sealed others ss b
 sealed_named names others ss b same S i s e = subst (λ n. IsSealOf n s.seal.value.state s.frozen s.seal.name b i) (sym (same i)) (S i s e)
 
+-- ## Rows
+
+-- a cell of a row is the one with its number
+cell_here : (row at index : ℕ) (p : Place) (xs : List Place) → at < ROW → index % CELLS / ROW ≡ row → with_place at index p xs ≡ cell_with (ROW * row + at) index p xs
+cell_here row at index p xs small here = elim (cases_eq (index % ROW) at) [
+  | inl same ↦ ap (λ test. cond test (xs ++ p ∷ []) xs) (eq-eqb (index % ROW) at same ∙ sym (eq-eqb (index % CELLS) (ROW * row + at) (omega (arith, same, here, small))))
+  | inr other ↦ ap (λ test. cond test (xs ++ p ∷ []) xs) (ne_eqb (index % ROW) at other ∙ sym (ne_eqb (index % CELLS) (ROW * row + at) (λ e. other (omega (arith, e, here, small)))))
+]
+
+cell_away : (row at index : ℕ) (p : Place) (xs : List Place) → at < ROW → index % CELLS / ROW ≢ row → xs ≡ cell_with (ROW * row + at) index p xs
+cell_away row at index p xs small away = ap (λ test. cond test (xs ++ p ∷ []) xs) (sym (ne_eqb (index % CELLS) (ROW * row + at) (λ e. away (omega (arith, e, small)))))
+
+-- what each cell of a row has, once a place was dealt
+module _ (row index : ℕ) (p : Place) (old new : Hand) (W : IsRowWith row index p old new) where
+  grown0 : new.places0.items ≡ cell_with (ROW * row + 0) index p old.places0.items
+  grown0 = elim (cases_eq (index % CELLS / ROW) row) [
+    | inl here ↦ (W.here here).zeroth ∙ cell_here row 0 index p old.places0.items (omega arith) here
+    | inr away ↦ ap (λ (h : Hand). h.places0.items) (W.away away) ∙ cell_away row 0 index p old.places0.items (omega arith) away
+  ]
+
+  grown1 : new.places1.items ≡ cell_with (ROW * row + 1) index p old.places1.items
+  grown1 = elim (cases_eq (index % CELLS / ROW) row) [
+    | inl here ↦ (W.here here).first ∙ cell_here row 1 index p old.places1.items (omega arith) here
+    | inr away ↦ ap (λ (h : Hand). h.places1.items) (W.away away) ∙ cell_away row 1 index p old.places1.items (omega arith) away
+  ]
+
+  grown2 : new.places2.items ≡ cell_with (ROW * row + 2) index p old.places2.items
+  grown2 = elim (cases_eq (index % CELLS / ROW) row) [
+    | inl here ↦ (W.here here).second ∙ cell_here row 2 index p old.places2.items (omega arith) here
+    | inr away ↦ ap (λ (h : Hand). h.places2.items) (W.away away) ∙ cell_away row 2 index p old.places2.items (omega arith) away
+  ]
+
+  grown3 : new.places3.items ≡ cell_with (ROW * row + 3) index p old.places3.items
+  grown3 = elim (cases_eq (index % CELLS / ROW) row) [
+    | inl here ↦ (W.here here).third ∙ cell_here row 3 index p old.places3.items (omega arith) here
+    | inr away ↦ ap (λ (h : Hand). h.places3.items) (W.away away) ∙ cell_away row 3 index p old.places3.items (omega arith) away
+  ]
+
+row_none : (a b c d : ℕ) (names : ℕ → ℕ) (hand : Hand) → IsEmptyHand hand → AreOfRow a b c d names 0 hand
+row_none a b c d names hand E = record {
+  zeroth = subst (AreOfCell a names 0) (sym E.zeroth) (celled_none a names);
+  first = subst (AreOfCell b names 0) (sym E.first) (celled_none b names);
+  second = subst (AreOfCell c names 0) (sym E.second) (celled_none c names);
+  third = subst (AreOfCell d names 0) (sym E.third) (celled_none d names);
+}
+
+-- the places of a row under the names that were picked
+pub row_start : (a b c d : ℕ) (names : ℕ → ℕ) (seals : List NodeSeal) (n m : ℕ) (hand : Hand) → n ≡ m → ((i : ℕ) → names i ≡ name_of seals i) → AreOfRow a b c d (name_of seals) n hand → AreOfRow a b c d names m hand
+row_start a b c d names seals n m hand same named R = record {
+  zeroth = celled_start a names seals n m hand.places0.items same named R.zeroth;
+  first = celled_start b names seals n m hand.places1.items same named R.first;
+  second = celled_start c names seals n m hand.places2.items same named R.second;
+  third = celled_start d names seals n m hand.places3.items same named R.third;
+}
+
 -- ## All of them
 
 module _ (b : BookValue) where
-  pub dealt_none : (ss : List NodeSeal) (d : Dealt) → ss ≡ [] → d.p0.items ≡ [] → d.p1.items ≡ [] → d.p2.items ≡ [] → d.p3.items ≡ [] → d.p4.items ≡ [] → d.p5.items ≡ [] → d.p6.items ≡ [] → d.p7.items ≡ [] → d.p8.items ≡ [] → d.p9.items ≡ [] → d.p10.items ≡ [] → d.p11.items ≡ [] → d.p12.items ≡ [] → d.p13.items ≡ [] → d.p14.items ≡ [] → d.p15.items ≡ [] → IsDealt b ss d 0
-  dealt_none ss d none e0 e1 e2 e3 e4 e5 e6 e7 e8 e9 e10 e11 e12 e13 e14 e15 = record {
+  pub dealt_none : (ss : List NodeSeal) (d : Dealt) → ss ≡ [] → IsEmptyHand d.row0 → IsEmptyHand d.row1 → IsEmptyHand d.row2 → IsEmptyHand d.row3 → IsDealt b ss d 0
+  dealt_none ss d none e0 e1 e2 e3 = record {
     many = ap length none;
     sealed = subst (λ xs. Sealed (name_of xs) xs b) (sym none) (sealed_none (name_of []) b);
-    zeroth = subst (AreOfCell 0 (name_of ss) 0) (sym e0) (celled_none 0 (name_of ss));
-    first = subst (AreOfCell 1 (name_of ss) 0) (sym e1) (celled_none 1 (name_of ss));
-    second = subst (AreOfCell 2 (name_of ss) 0) (sym e2) (celled_none 2 (name_of ss));
-    third = subst (AreOfCell 3 (name_of ss) 0) (sym e3) (celled_none 3 (name_of ss));
-    fourth = subst (AreOfCell 4 (name_of ss) 0) (sym e4) (celled_none 4 (name_of ss));
-    fifth = subst (AreOfCell 5 (name_of ss) 0) (sym e5) (celled_none 5 (name_of ss));
-    sixth = subst (AreOfCell 6 (name_of ss) 0) (sym e6) (celled_none 6 (name_of ss));
-    seventh = subst (AreOfCell 7 (name_of ss) 0) (sym e7) (celled_none 7 (name_of ss));
-    eighth = subst (AreOfCell 8 (name_of ss) 0) (sym e8) (celled_none 8 (name_of ss));
-    ninth = subst (AreOfCell 9 (name_of ss) 0) (sym e9) (celled_none 9 (name_of ss));
-    tenth = subst (AreOfCell 10 (name_of ss) 0) (sym e10) (celled_none 10 (name_of ss));
-    eleventh = subst (AreOfCell 11 (name_of ss) 0) (sym e11) (celled_none 11 (name_of ss));
-    twelfth = subst (AreOfCell 12 (name_of ss) 0) (sym e12) (celled_none 12 (name_of ss));
-    thirteenth = subst (AreOfCell 13 (name_of ss) 0) (sym e13) (celled_none 13 (name_of ss));
-    fourteenth = subst (AreOfCell 14 (name_of ss) 0) (sym e14) (celled_none 14 (name_of ss));
-    fifteenth = subst (AreOfCell 15 (name_of ss) 0) (sym e15) (celled_none 15 (name_of ss));
+    zeroth = row_none 0 1 2 3 (name_of ss) d.row0 e0;
+    first = row_none 4 5 6 7 (name_of ss) d.row1 e1;
+    second = row_none 8 9 10 11 (name_of ss) d.row2 e2;
+    third = row_none 12 13 14 15 (name_of ss) d.row3 e3;
   }
 
-  cell_more : (cell : ℕ) (ss new : List NodeSeal) (t : NodeSeal) (p : Place) (places more : List Place) (count : ℕ) → cell < CELLS → count ≡ length ss → new ≡ ss ++ t ∷ [] → more ≡ with_place cell count p places
+  cell_more : (cell : ℕ) (ss new : List NodeSeal) (t : NodeSeal) (p : Place) (places more : List Place) (count : ℕ) → cell < CELLS → count ≡ length ss → new ≡ ss ++ t ∷ [] → more ≡ cell_with cell count p places
       → AreOfCell cell (name_of ss) count places → IsPlaceOf t.seal.name count (suc count) p → AreOfCell cell (name_of new) (suc count) more
   cell_more cell ss new t p places more count small many is same C P =
       subst (AreOfCell cell (name_of new) (suc count)) (sym same)
-      (subst (λ xs. AreOfCell cell (name_of xs) (suc count) (with_place cell count p places)) (sym is)
-      (subst (λ n. AreOfCell cell (name_of (ss ++ t ∷ [])) (suc n) (with_place cell n p places)) (sym many)
+      (subst (λ xs. AreOfCell cell (name_of xs) (suc count) (cell_with cell count p places)) (sym is)
+      (subst (λ n. AreOfCell cell (name_of (ss ++ t ∷ [])) (suc n) (cell_with cell n p places)) (sym many)
       (celled_more cell ss t places p small (subst (λ n. AreOfCell cell (name_of ss) n places) many C) (subst (λ n. IsPlaceOf t.seal.name n (suc n) p) many P))))
 
+  row_more : (row : ℕ) (ss new : List NodeSeal) (t : NodeSeal) (p : Place) (hand more : Hand) (count : ℕ) → row < ROW → count ≡ length ss → new ≡ ss ++ t ∷ [] → IsRowWith row count p hand more
+      → AreOfRow (ROW * row + 0) (ROW * row + 1) (ROW * row + 2) (ROW * row + 3) (name_of ss) count hand → IsPlaceOf t.seal.name count (suc count) p
+      → AreOfRow (ROW * row + 0) (ROW * row + 1) (ROW * row + 2) (ROW * row + 3) (name_of new) (suc count) more
+  row_more row ss new t p hand more count small many is W R P = record {
+    zeroth = cell_more (ROW * row + 0) ss new t p hand.places0.items more.places0.items count (omega (arith, small)) many is (grown0 row count p hand more W) R.zeroth P;
+    first = cell_more (ROW * row + 1) ss new t p hand.places1.items more.places1.items count (omega (arith, small)) many is (grown1 row count p hand more W) R.first P;
+    second = cell_more (ROW * row + 2) ss new t p hand.places2.items more.places2.items count (omega (arith, small)) many is (grown2 row count p hand more W) R.second P;
+    third = cell_more (ROW * row + 3) ss new t p hand.places3.items more.places3.items count (omega (arith, small)) many is (grown3 row count p hand more W) R.third P;
+  }
+
   pub dealt_more : (ss new : List NodeSeal) (d e : Dealt) (t : NodeSeal) (p : Place) (count index : ℕ) → IsDealt b ss d count → new ≡ ss ++ t ∷ [] → index ≡ count
-      → e.p0.items ≡ with_place 0 index p d.p0.items → e.p1.items ≡ with_place 1 index p d.p1.items → e.p2.items ≡ with_place 2 index p d.p2.items → e.p3.items ≡ with_place 3 index p d.p3.items
-      → e.p4.items ≡ with_place 4 index p d.p4.items → e.p5.items ≡ with_place 5 index p d.p5.items → e.p6.items ≡ with_place 6 index p d.p6.items → e.p7.items ≡ with_place 7 index p d.p7.items
-      → e.p8.items ≡ with_place 8 index p d.p8.items → e.p9.items ≡ with_place 9 index p d.p9.items → e.p10.items ≡ with_place 10 index p d.p10.items → e.p11.items ≡ with_place 11 index p d.p11.items
-      → e.p12.items ≡ with_place 12 index p d.p12.items → e.p13.items ≡ with_place 13 index p d.p13.items → e.p14.items ≡ with_place 14 index p d.p14.items → e.p15.items ≡ with_place 15 index p d.p15.items
+      → IsRowWith 0 index p d.row0 e.row0 → IsRowWith 1 index p d.row1 e.row1 → IsRowWith 2 index p d.row2 e.row2 → IsRowWith 3 index p d.row3 e.row3
       → IsSealOf t.seal.name t.seal.value.state t.frozen t.seal.name b count → IsPlaceOf t.seal.name count (suc count) p → IsDealt b new e (suc count)
-  dealt_more ss new d e t p count index D is at e0 e1 e2 e3 e4 e5 e6 e7 e8 e9 e10 e11 e12 e13 e14 e15 S P = record {
+  dealt_more ss new d e t p count index D is at e0 e1 e2 e3 S P = record {
     many = let l = ap length is ∙ length-append ss (t ∷ []) in let m = D.many in omega (arith, l, m);
     sealed = subst (λ xs. Sealed (name_of xs) xs b) (sym is) (sealed_more ss t b D.sealed (subst (IsSealOf t.seal.name t.seal.value.state t.frozen t.seal.name b) (sym D.many) S));
-    zeroth = cell_more 0 ss new t p d.p0.items e.p0.items count (omega arith) (sym D.many) is (subst (λ i. e.p0.items ≡ with_place 0 i p d.p0.items) at e0) D.zeroth P;
-    first = cell_more 1 ss new t p d.p1.items e.p1.items count (omega arith) (sym D.many) is (subst (λ i. e.p1.items ≡ with_place 1 i p d.p1.items) at e1) D.first P;
-    second = cell_more 2 ss new t p d.p2.items e.p2.items count (omega arith) (sym D.many) is (subst (λ i. e.p2.items ≡ with_place 2 i p d.p2.items) at e2) D.second P;
-    third = cell_more 3 ss new t p d.p3.items e.p3.items count (omega arith) (sym D.many) is (subst (λ i. e.p3.items ≡ with_place 3 i p d.p3.items) at e3) D.third P;
-    fourth = cell_more 4 ss new t p d.p4.items e.p4.items count (omega arith) (sym D.many) is (subst (λ i. e.p4.items ≡ with_place 4 i p d.p4.items) at e4) D.fourth P;
-    fifth = cell_more 5 ss new t p d.p5.items e.p5.items count (omega arith) (sym D.many) is (subst (λ i. e.p5.items ≡ with_place 5 i p d.p5.items) at e5) D.fifth P;
-    sixth = cell_more 6 ss new t p d.p6.items e.p6.items count (omega arith) (sym D.many) is (subst (λ i. e.p6.items ≡ with_place 6 i p d.p6.items) at e6) D.sixth P;
-    seventh = cell_more 7 ss new t p d.p7.items e.p7.items count (omega arith) (sym D.many) is (subst (λ i. e.p7.items ≡ with_place 7 i p d.p7.items) at e7) D.seventh P;
-    eighth = cell_more 8 ss new t p d.p8.items e.p8.items count (omega arith) (sym D.many) is (subst (λ i. e.p8.items ≡ with_place 8 i p d.p8.items) at e8) D.eighth P;
-    ninth = cell_more 9 ss new t p d.p9.items e.p9.items count (omega arith) (sym D.many) is (subst (λ i. e.p9.items ≡ with_place 9 i p d.p9.items) at e9) D.ninth P;
-    tenth = cell_more 10 ss new t p d.p10.items e.p10.items count (omega arith) (sym D.many) is (subst (λ i. e.p10.items ≡ with_place 10 i p d.p10.items) at e10) D.tenth P;
-    eleventh = cell_more 11 ss new t p d.p11.items e.p11.items count (omega arith) (sym D.many) is (subst (λ i. e.p11.items ≡ with_place 11 i p d.p11.items) at e11) D.eleventh P;
-    twelfth = cell_more 12 ss new t p d.p12.items e.p12.items count (omega arith) (sym D.many) is (subst (λ i. e.p12.items ≡ with_place 12 i p d.p12.items) at e12) D.twelfth P;
-    thirteenth = cell_more 13 ss new t p d.p13.items e.p13.items count (omega arith) (sym D.many) is (subst (λ i. e.p13.items ≡ with_place 13 i p d.p13.items) at e13) D.thirteenth P;
-    fourteenth = cell_more 14 ss new t p d.p14.items e.p14.items count (omega arith) (sym D.many) is (subst (λ i. e.p14.items ≡ with_place 14 i p d.p14.items) at e14) D.fourteenth P;
-    fifteenth = cell_more 15 ss new t p d.p15.items e.p15.items count (omega arith) (sym D.many) is (subst (λ i. e.p15.items ≡ with_place 15 i p d.p15.items) at e15) D.fifteenth P;
+    zeroth = row_more 0 ss new t p d.row0 e.row0 count (omega arith) (sym D.many) is (subst (λ i. IsRowWith 0 i p d.row0 e.row0) at e0) D.zeroth P;
+    first = row_more 1 ss new t p d.row1 e.row1 count (omega arith) (sym D.many) is (subst (λ i. IsRowWith 1 i p d.row1 e.row1) at e1) D.first P;
+    second = row_more 2 ss new t p d.row2 e.row2 count (omega arith) (sym D.many) is (subst (λ i. IsRowWith 2 i p d.row2 e.row2) at e2) D.second P;
+    third = row_more 3 ss new t p d.row3 e.row3 count (omega arith) (sym D.many) is (subst (λ i. IsRowWith 3 i p d.row3 e.row3) at e3) D.third P;
   }

@@ -1,5 +1,5 @@
 -- What lies under a node's lock.
-use Rattle.std.specs.Prelude.{◌≡◌, ◌<◌, ℕ, ◌+◌, ◌*◌, ◌%◌, ◌==◌, if◌then◌else◌, List, [], ◌∷◌, ◌++◌, length, Some, slice_get}
+use Rattle.std.specs.Prelude.{◌≡◌, ◌<◌, ℕ, ◌+◌, ◌*◌, List, length, Some, slice_get}
 use Rattle.tp_shared.specs.declared.place.Place.{Place}
 use Rattle.tp_shared.specs.Seals.{KeyShows}
 use Rattle.tp_shared.specs.declared.cells.TheConstants.{CELLS}
@@ -14,7 +14,3 @@ pub record IsPlaceOf (name i count : ℕ) (p : Place) : Type 0 where
 pub record AreOfCell (first : ℕ) (names : ℕ → ℕ) (count : ℕ) (places : List Place) : Type 0 where
   pub each : (k : ℕ) (p : Place) → slice_get places k ≡ Some p → IsPlaceOf (names (CELLS * k + first)) (CELLS * k + first) count p
   pub all : (k : ℕ) → CELLS * k + first < count → k < length places
-
--- the places of a cell, and behind them one more where it belongs there
-abbrev pub with_place : ℕ → ℕ → Place → List Place → List Place
-with_place cell index place places = if index % CELLS == cell then places ++ place ∷ [] else places

@@ -10,6 +10,8 @@ pub mod SlipCount
 pub mod Gains
 pub mod Below
 pub mod Cells
+pub mod Rows
+pub mod Hands
 pub mod Holds
 pub mod NodeTurned
 pub mod TurnsMade

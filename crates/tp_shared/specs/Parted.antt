@@ -6,7 +6,7 @@ use Rattle.tp_node.specs.NodeContents.{NodeContents}
 use Rattle.tp_book.specs.declared.state.NetState.{NetState}
 use Rattle.tp_book.specs.Book.{BookValue}
 use Rattle.tp_book.specs.Opened.{IsWellOpen, now_of, opened_book}
-use Rattle.tp_shared.specs.Cells.{AreOfCell}
+use Rattle.tp_shared.specs.Hands.{AreOfRow}
 use Rattle.tp_shared.specs.Seals.{Sealed, IsTied}
 use Rattle.tp_shared.specs.declared.dealt.Dealt.{Dealt}
 use Rattle.tp_shared.specs.declared.seal.NodeSeal.{NodeSeal}
@@ -28,22 +28,10 @@ name_of (s ∷ ss) (suc i) = name_of ss i
 pub record IsDealt (b : BookValue) (seals : List NodeSeal) (dealt : Dealt) (count : ℕ) : Type 0 where
   pub many : length seals ≡ count
   pub sealed : Sealed (name_of seals) seals b
-  pub zeroth : AreOfCell 0 (name_of seals) count dealt.p0.items
-  pub first : AreOfCell 1 (name_of seals) count dealt.p1.items
-  pub second : AreOfCell 2 (name_of seals) count dealt.p2.items
-  pub third : AreOfCell 3 (name_of seals) count dealt.p3.items
-  pub fourth : AreOfCell 4 (name_of seals) count dealt.p4.items
-  pub fifth : AreOfCell 5 (name_of seals) count dealt.p5.items
-  pub sixth : AreOfCell 6 (name_of seals) count dealt.p6.items
-  pub seventh : AreOfCell 7 (name_of seals) count dealt.p7.items
-  pub eighth : AreOfCell 8 (name_of seals) count dealt.p8.items
-  pub ninth : AreOfCell 9 (name_of seals) count dealt.p9.items
-  pub tenth : AreOfCell 10 (name_of seals) count dealt.p10.items
-  pub eleventh : AreOfCell 11 (name_of seals) count dealt.p11.items
-  pub twelfth : AreOfCell 12 (name_of seals) count dealt.p12.items
-  pub thirteenth : AreOfCell 13 (name_of seals) count dealt.p13.items
-  pub fourteenth : AreOfCell 14 (name_of seals) count dealt.p14.items
-  pub fifteenth : AreOfCell 15 (name_of seals) count dealt.p15.items
+  pub zeroth : AreOfRow 0 1 2 3 (name_of seals) count dealt.row0
+  pub first : AreOfRow 4 5 6 7 (name_of seals) count dealt.row1
+  pub second : AreOfRow 8 9 10 11 (name_of seals) count dealt.row2
+  pub third : AreOfRow 12 13 14 15 (name_of seals) count dealt.row3
 
 -- The parts belong together: no take is made ready, there is a seal and a place for each node, and there is no entry yet that
 -- the roll would have. Both halves of what the flusher is told are of one name, and nothing of the book was seen.

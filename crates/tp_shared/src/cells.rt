@@ -3,72 +3,52 @@
 /// How many locks there are: the node `i` lies under that of cell `i` mod this.
 pub(crate) const CELLS: usize = 16;
 
-// Does `$then`, where `$lock` is the lock that the node `$number` lies under.
-macro_rules! in_cell {
-    ($shared:ident, $number:ident, $lock:ident => $then:expr) => {
-        match $number as usize % CELLS {
+/// How many of them lie in a row: the cell `c` lies in row `c` / this. What a function costs to prove grows with the square of its arms, so
+/// one picks a row, and the next one a cell of it.
+pub(crate) const ROW: usize = 4;
+
+// Does `$then`, where `$row` has the lock that the node `$number` lies under.
+macro_rules! in_row {
+    ($shared:ident, $number:ident, $row:ident => $then:expr) => {
+        match $number as usize % CELLS / ROW {
             0 => {
-                let $lock = &$shared.c0;
+                let $row = &$shared.row0;
                 $then
             }
             1 => {
-                let $lock = &$shared.c1;
+                let $row = &$shared.row1;
                 $then
             }
             2 => {
-                let $lock = &$shared.c2;
-                $then
-            }
-            3 => {
-                let $lock = &$shared.c3;
-                $then
-            }
-            4 => {
-                let $lock = &$shared.c4;
-                $then
-            }
-            5 => {
-                let $lock = &$shared.c5;
-                $then
-            }
-            6 => {
-                let $lock = &$shared.c6;
-                $then
-            }
-            7 => {
-                let $lock = &$shared.c7;
-                $then
-            }
-            8 => {
-                let $lock = &$shared.c8;
-                $then
-            }
-            9 => {
-                let $lock = &$shared.c9;
-                $then
-            }
-            10 => {
-                let $lock = &$shared.c10;
-                $then
-            }
-            11 => {
-                let $lock = &$shared.c11;
-                $then
-            }
-            12 => {
-                let $lock = &$shared.c12;
-                $then
-            }
-            13 => {
-                let $lock = &$shared.c13;
-                $then
-            }
-            14 => {
-                let $lock = &$shared.c14;
+                let $row = &$shared.row2;
                 $then
             }
             _ => {
-                let $lock = &$shared.c15;
+                let $row = &$shared.row3;
+                $then
+            }
+        }
+    };
+}
+
+// Does `$then`, where `$lock` is the lock of the row `$row` that its node `$number` lies under.
+macro_rules! in_cell {
+    ($row:ident, $number:ident, $lock:ident => $then:expr) => {
+        match $number as usize % ROW {
+            0 => {
+                let $lock = &$row.cell0;
+                $then
+            }
+            1 => {
+                let $lock = &$row.cell1;
+                $then
+            }
+            2 => {
+                let $lock = &$row.cell2;
+                $then
+            }
+            _ => {
+                let $lock = &$row.cell3;
                 $then
             }
         }
@@ -76,3 +56,4 @@ macro_rules! in_cell {
 }
 
 pub(crate) use in_cell;
+pub(crate) use in_row;

@@ -12,14 +12,14 @@ ghost use Rattle.tp_shared.specs.Told.{told_of};
 ghost use Rattle.tp_shared.specs.NodeTurned.{NodeTurned};
 ghost use Rattle.tp_shared.specs.TurnsMade.{TurnBrokenOff, HostTurnMade, TurnMade};
 
-use crate::cell::Cell;
-use crate::cells::{CELLS, in_cell};
+use crate::cells::{CELLS, ROW, in_row};
 use crate::gate::{COMMITTED, Gate};
 use crate::locked::Locked;
 use crate::naming::Naming;
 use crate::node_turn::NodeTurn;
 use crate::parts::Parts;
 use crate::recorded::Recorded;
+use crate::row::Row;
 use crate::seat::Seat;
 use crate::sights::{SightRoll, Sights};
 use crate::soon::lock_soon;
@@ -49,22 +49,10 @@ fn host_hold<J: Naming, R: Wait>(
 #[derive(Drop)]
 pub struct Shared<J: Naming> {
     book: Mutex<Locked<J>>,
-    pub(crate) c0: Mutex<Cell<0, J>>,
-    pub(crate) c1: Mutex<Cell<1, J>>,
-    pub(crate) c2: Mutex<Cell<2, J>>,
-    pub(crate) c3: Mutex<Cell<3, J>>,
-    pub(crate) c4: Mutex<Cell<4, J>>,
-    pub(crate) c5: Mutex<Cell<5, J>>,
-    pub(crate) c6: Mutex<Cell<6, J>>,
-    pub(crate) c7: Mutex<Cell<7, J>>,
-    pub(crate) c8: Mutex<Cell<8, J>>,
-    pub(crate) c9: Mutex<Cell<9, J>>,
-    pub(crate) c10: Mutex<Cell<10, J>>,
-    pub(crate) c11: Mutex<Cell<11, J>>,
-    pub(crate) c12: Mutex<Cell<12, J>>,
-    pub(crate) c13: Mutex<Cell<13, J>>,
-    pub(crate) c14: Mutex<Cell<14, J>>,
-    pub(crate) c15: Mutex<Cell<15, J>>,
+    pub(crate) row0: Row<0, 1, 2, 3, J>,
+    pub(crate) row1: Row<4, 5, 6, 7, J>,
+    pub(crate) row2: Row<8, 9, 10, 11, J>,
+    pub(crate) row3: Row<12, 13, 14, 15, J>,
     mark: Mark,
     nodes: u8,
     ports: u8,
@@ -98,22 +86,10 @@ impl<J: Naming> Shared<J> {
         turn(&mut told, &mut key, &now);
         let shared = Shared {
             book: Mutex::new(Locked::new(book, seals, roll, told, SightRoll::over(sights))),
-            c0: Mutex::new(Cell::new(dealt.p0)),
-            c1: Mutex::new(Cell::new(dealt.p1)),
-            c2: Mutex::new(Cell::new(dealt.p2)),
-            c3: Mutex::new(Cell::new(dealt.p3)),
-            c4: Mutex::new(Cell::new(dealt.p4)),
-            c5: Mutex::new(Cell::new(dealt.p5)),
-            c6: Mutex::new(Cell::new(dealt.p6)),
-            c7: Mutex::new(Cell::new(dealt.p7)),
-            c8: Mutex::new(Cell::new(dealt.p8)),
-            c9: Mutex::new(Cell::new(dealt.p9)),
-            c10: Mutex::new(Cell::new(dealt.p10)),
-            c11: Mutex::new(Cell::new(dealt.p11)),
-            c12: Mutex::new(Cell::new(dealt.p12)),
-            c13: Mutex::new(Cell::new(dealt.p13)),
-            c14: Mutex::new(Cell::new(dealt.p14)),
-            c15: Mutex::new(Cell::new(dealt.p15)),
+            row0: Row::new(dealt.row0),
+            row1: Row::new(dealt.row1),
+            row2: Row::new(dealt.row2),
+            row3: Row::new(dealt.row3),
             mark,
             nodes,
             ports,
@@ -177,7 +153,7 @@ impl<J: Naming> Shared<J> {
         ensures went { MatchResult result (λ turn. TurnMade J.start number quantum turn (in_hand seen.old seat.old) (in_hand seen.new seat.new)) (λ e. TurnBrokenOff J.start number e (in_hand seen.old seat.old) (in_hand seen.new seat.new)) }
         ensures refused { IfErr result IsTurnRefusal }
     {
-        in_cell!(self, number, cell => lock_soon(rt, cell).turn(rt, gate, &self.book, seat, seen, number, quantum))
+        in_row!(self, number, row => row.turn(rt, gate, &self.book, seat, seen, number, quantum))
     }
 
     /// The node `number` records where a snapshot asks it to. It takes nothing, and nothing runs. Answers whether it recorded, with the
@@ -186,7 +162,7 @@ impl<J: Naming> Shared<J> {
         requires { number < length J.start.nodes }
         ensures recorded { RecordedIn J.start number result.seen result.done }
     {
-        in_cell!(self, number, cell => cell.lock(rt).record(rt, &self.book, number))
+        in_row!(self, number, row => row.record(rt, &self.book, number))
     }
 
     /// The host's turn: each of its ports in order takes at most three tokens of the line that comes to it, a Marker among them.

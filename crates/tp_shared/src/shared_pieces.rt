@@ -5,10 +5,9 @@ ghost use Rattle.tp_shared.specs.Frozen.{has_page, keeps_pages};
 ghost use Rattle.tp_shared.specs.Pieces.{AreFrozenPages, IsFrozenHead};
 ghost use Rattle.tp_shared.specs.Told.{ToldSince};
 
-use crate::cells::{CELLS, in_cell};
+use crate::cells::{CELLS, ROW, in_row};
 use crate::naming::Naming;
 use crate::shared::Shared;
-use crate::soon::lock_soon;
 use crate::told::Told;
 use std::sync::Wait;
 use tp_model::limits::{IMAGE_HEAD_BYTES, PAGE_BYTES};
@@ -32,7 +31,7 @@ impl<J: Naming> Shared<J> {
         ensures head { result ≡ true → IsFrozenHead key.new.value.net number out.new }
     {
         let book = self.book();
-        in_cell!(self, number, cell => lock_soon(rt, cell).frozen_head(rt, book, key, number, out))
+        in_row!(self, number, row => row.frozen_head(rt, book, key, number, out))
     }
 
     /// Pages of its memory as it recorded, from the page `first` on: as many as it has and as find room in `out`. Answers how many: none
@@ -55,7 +54,7 @@ impl<J: Naming> Shared<J> {
         ensures pages { AreFrozenPages key.new.value.net number first result out.new }
     {
         let book = self.book();
-        in_cell!(self, number, cell => lock_soon(rt, cell).frozen_pages(rt, book, key, number, first, out))
+        in_row!(self, number, row => row.frozen_pages(rt, book, key, number, first, out))
     }
 
     /// Lets the frozen pages of node `number` go, once all are out. `key` shows then what is told of the book: no page of the node is
@@ -68,6 +67,6 @@ impl<J: Naming> Shared<J> {
         ensures gone { keeps_pages key.new.value.frozen number ≡ false }
     {
         let book = self.book();
-        in_cell!(self, number, cell => lock_soon(rt, cell).drop_frozen(rt, book, key, number))
+        in_row!(self, number, row => row.drop_frozen(rt, book, key, number))
     }
 }

@@ -3,10 +3,12 @@
 ghost use Rattle.std.specs.Prelude.{◌≡◌, ◌<◌, ◌%◌, ◌/◌, IfSome, length, slice_get};
 ghost use Rattle.tp_node.specs.Standing.{standing};
 ghost use Rattle.tp_shared.specs.declared.cells.TheConstants.{CELLS};
+ghost use Rattle.tp_shared.specs.Rows.{IsInRow};
 
 use crate::cell::Cell;
-use crate::cells::{CELLS, in_cell};
+use crate::cells::{CELLS, ROW, in_cell, in_row};
 use crate::naming::Naming;
+use crate::row::Row;
 use crate::shared::Shared;
 use std::sync::Wait;
 use tp_node::Standing;
@@ -22,11 +24,21 @@ impl<const I: usize, J: Naming> Cell<I, J> {
     }
 }
 
+impl<const A: usize, const B: usize, const C: usize, const D: usize, J: Naming> Row<A, B, C, D, J> {
+    /// Where the node `number`, which is one of the row's, stands.
+    pub(crate) fn standing<R: Wait>(&self, rt: &R, number: u8) -> Standing
+        requires there { number < length J.start.nodes }
+        requires here { IsInRow A B C D number }
+    {
+        in_cell!(self, number, cell => cell.lock(rt).standing(number))
+    }
+}
+
 impl<J: Naming> Shared<J> {
     /// Where the node `number` stands between its turns.
     pub fn standing<R: Wait>(&self, rt: &R, number: u8) -> Standing
         requires there { number < length J.start.nodes }
     {
-        in_cell!(self, number, cell => cell.lock(rt).standing(number))
+        in_row!(self, number, row => row.standing(rt, number))
     }
 }

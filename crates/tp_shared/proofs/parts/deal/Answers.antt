@@ -4,8 +4,13 @@ use Rattle.std.proofs.lemmas.Iterator.Consumers.{YieldsList-turn}
 use Rattle.std.specs.Prelude.{IsSome, is_some}
 use Rattle.tp_shared.specs.Agreement.{Agreement}
 use Rattle.tp_shared.specs.Parted.{IsDealt}
-use Rattle.tp_shared.proofs.Dealing.{get_at, dealt_more}
+use Rattle.tp_shared.proofs.Dealing.{get_at, dealt_none, dealt_more}
 use Rattle.tp_shared.proofs.parts.deal.Goals as goal
+
+pub loop-node-init : goal.loop-node-init
+loop-node-init c =
+    let none = c.new-dealt.ensures in
+    dealt_none c.args.book.now c.new-seals.result.items c.new-dealt.result c.new-seals.ensures.items none.zeroth none.first none.second none.third
 
 pub loop-node-preserved : goal.loop-node-preserved
 loop-node-preserved c =
@@ -22,9 +27,6 @@ loop-node-preserved c =
     (record { node = c.in-Some.node; key = c.ends_of-seal.result.1 }) count c.len-index.result c.loop-node.invariant c.in_ok-push.ensures.items
     (let l = c.len-index.ensures in let k = c.loop-node.seals.ok.0 in let m = c.loop-node.invariant.many in omega (arith, l, k, m))
     c.in_ok-push-2.ensures.zeroth c.in_ok-push-2.ensures.first c.in_ok-push-2.ensures.second c.in_ok-push-2.ensures.third
-    c.in_ok-push-2.ensures.fourth c.in_ok-push-2.ensures.fifth c.in_ok-push-2.ensures.sixth c.in_ok-push-2.ensures.seventh
-    c.in_ok-push-2.ensures.eighth c.in_ok-push-2.ensures.ninth c.in_ok-push-2.ensures.tenth c.in_ok-push-2.ensures.eleventh
-    c.in_ok-push-2.ensures.twelfth c.in_ok-push-2.ensures.thirteenth c.in_ok-push-2.ensures.fourteenth c.in_ok-push-2.ensures.fifteenth
     (record {
       named = refl;
       node = agrees.there ∙ ap (λ (a : Agreement). Some a.node) (sym shows);
