@@ -3,12 +3,16 @@
 #   byte      one byte in and out of an idle network: a node that echoes, on a device in FOLDER. Beside it a raw program answers each byte once it
 #             has written one group, as the store writes it: the bytes behind the gate, a sync, the gate, a sync. Both are asked by one program,
 #             byte after byte, 3 milliseconds apart
+#   hop       the same raw program with a thread that reads and hands each byte on, as a program without leave to ask the system for input needs one,
+#             beside that without
 #   streams   four nodes that compute, a port each: entries a second of `run --stream` by four workers beside one, in memory; and of `run` by four
 #             beside one, which says what the machine gives
 #   hands     four pairs of nodes that hand a byte back and forth: entries a second of `run` by four workers beside one, in memory
 #   works     of four such pairs whose nodes compute for some 1,000 steps between two bytes
 #   disk      such a stream of four nodes on a device in FOLDER: its seconds beside the longer of two, those of that stream in memory, and those of
 #             its groups written and synced alone in FOLDER
+#   floor     what the machine gives of that: four threads that loop for as long as that stream took in memory, one of which writes and syncs these
+#             groups between its loops: their seconds in FOLDER beside those in memory
 # usage: bench/waits.sh TPNET [ROUNDS [FOLDER]]      5 rounds, and /tmp, which should be on a disk, by default
 # Times are those of a run less a run without turns. Best and median of the rounds
 set -e
@@ -19,10 +23,11 @@ folder=${3:-/tmp}
 work=$(mktemp -d /tmp/bench-waits-XXXX)
 trap 'rm -rf "$work"' EXIT
 
-# with `echo`: answers each byte of standard input once a group of five entries is written; else writes the groups whose numbers of entries
+# with `echo`: answers each byte of standard input once a group of five entries is written, with `echo thread` by a thread that reads; else writes the groups whose numbers of entries
 # stand on standard input, and prints the seconds that this took
 cat > "$work/raw.c" <<'C'
 #include <fcntl.h>
+#include <pthread.h>
 #include <stdio.h>
 #include <stdlib.h>
 #include <string.h>
@@ -50,15 +55,47 @@ static off_t group(int file, int entries, off_t gate) {
     return gate + (off_t)length;
 }
 
+static pthread_mutex_t lock = PTHREAD_MUTEX_INITIALIZER;
+static pthread_cond_t changed = PTHREAD_COND_INITIALIZER;
+static int handed = -1, is_over;
+
+static void *reads(void *unused) {
+    unsigned char byte;
+    while (read(0, &byte, 1) == 1) {
+        pthread_mutex_lock(&lock);
+        handed = byte;
+        pthread_cond_signal(&changed);
+        pthread_mutex_unlock(&lock);
+    }
+    pthread_mutex_lock(&lock);
+    is_over = 1;
+    pthread_cond_signal(&changed);
+    pthread_mutex_unlock(&lock);
+    return unused;
+}
+
+static int take(char *byte) {
+    int was;
+    pthread_mutex_lock(&lock);
+    while (handed < 0 && !is_over) pthread_cond_wait(&changed, &lock);
+    was = handed;
+    handed = -1;
+    pthread_mutex_unlock(&lock);
+    *byte = (char)was;
+    return was >= 0;
+}
+
 int main(int count, char **words) {
+    pthread_t reader;
     int file = open(words[1], O_RDWR), groups = 0;
     off_t gate = 4096;
     double begun;
     char byte;
     if (count < 2 || file < 0) return 1;
     memset(body, 1, sizeof body);
-    if (count == 3) {
-        while (read(0, &byte, 1) == 1) {
+    if (count == 4) pthread_create(&reader, NULL, reads, NULL);
+    if (count > 2) {
+        while (count == 4 ? take(&byte) : read(0, &byte, 1) == 1) {
             gate = group(file, 5, gate);
             if (write(1, &byte, 1) != 1) return 1;
         }
@@ -71,7 +108,49 @@ int main(int count, char **words) {
     return 0;
 }
 C
-cc -O2 -o "$work/raw" "$work/raw.c"
+cc -O2 -pthread -o "$work/raw" "$work/raw.c"
+
+# floor FILE LOOPS: four threads make LOOPS loops together, each of some two microseconds, and one of them writes the groups whose numbers of
+# entries stand on standard input, as evenly, between its own; prints the seconds that this took
+sed '/^static pthread_mutex_t/,$d' "$work/raw.c" > "$work/floor.c"
+cat >> "$work/floor.c" <<'C'
+#include <stdatomic.h>
+
+static atomic_long taken;
+static long loops, groups;
+static int file = -1;
+
+static void *go(void *writes) {
+    unsigned long x = 1;
+    long written = 0;
+    off_t gate = 4096;
+    for (long at; (at = atomic_fetch_add(&taken, 1)) < loops;) {
+        for (; writes && written < groups && written * loops <= at * groups; written++) gate = group(file, counts[written], gate);
+        for (int i = 0; i < 1000; i++) {
+            x ^= x << 13;
+            x ^= x >> 7;
+            x ^= x << 17;
+        }
+    }
+    for (; writes && written < groups; written++) gate = group(file, counts[written], gate);
+    return (void *)x;
+}
+
+int main(int count, char **words) {
+    pthread_t threads[4];
+    double begun;
+    if (count != 3 || (file = open(words[1], O_RDWR)) < 0) return 1;
+    loops = atol(words[2]);
+    memset(body, 1, sizeof body);
+    while (groups < 1 << 22 && scanf("%d", &counts[groups]) == 1) groups++;
+    begun = seconds();
+    for (long at = 0; at < 4; at++) pthread_create(&threads[at], NULL, go, at == 0 ? body : NULL);
+    for (int at = 0; at < 4; at++) pthread_join(threads[at], NULL);
+    printf("%.9f\n", seconds() - begun);
+    return 0;
+}
+C
+cc -O2 -pthread -o "$work/floor" "$work/floor.c"
 
 # takes a byte from link 0 and sends it on link 0 (echo), or on link 3 (hands), or there once it has computed for some 1,000 steps (works), for
 # ever; `_first` sends first
@@ -170,6 +249,11 @@ def ran(place, which, words, turns, workers, stream):
     took, _ = timed(command(file, turns))
     return took - idle, counts_of(file)
 
+def floor(place, loops, counts):
+    """The seconds of loops in four threads, one of which writes these groups there."""
+    done = subprocess.run([os.path.join(work, "floor"), fresh("four", place), str(loops)], input=" ".join(map(str, counts)).encode(), capture_output=True, check=True)
+    return float(done.stdout)
+
 def an_entry(*run):
     """The seconds of an entry of a run."""
     took, counts = ran(*run)
@@ -178,18 +262,20 @@ def an_entry(*run):
 kind = subprocess.run(["stat", "-f", "-c", "%T", folder], capture_output=True, text=True, check=True).stdout.strip()
 print("best and median of %d, on %s (%s) and in memory:" % (len(rounds), folder, kind))
 with tempfile.TemporaryDirectory(prefix="bench-waits-", dir=folder) as disk, tempfile.TemporaryDirectory(prefix="bench-waits-", dir="/dev/shm") as memory:
-    ours, raw = [], []
+    ours, raw, hops = [], [], []
     for _ in rounds:
+        hops.append(statistics.median(waits([os.path.join(work, "raw"), fresh("echo", disk), "echo", "thread"])))
         raw.append(statistics.median(waits([os.path.join(work, "raw"), fresh("echo", disk), "echo"])))
         ours.append(statistics.median(waits([tpnet, "run", fresh("echo", disk), "--stream", "--until-quiet", "--in", "0=-", "--out", "0=-"])))
     said("byte", ours, raw, "there and back %.0f, raw %.0f microseconds" % (1e6 * statistics.median(ours), 1e6 * statistics.median(raw)))
+    said("hop", hops, raw, "raw by two threads %.0f, by one %.0f microseconds" % (1e6 * statistics.median(hops), 1e6 * statistics.median(raw)))
     for name, which, words, turns, stream in (("streams", "four", ["--quantum", "4096"], TURNS, True), ("run", "four", ["--quantum", "4096"], TURNS, False), ("hands", "hands", [], PAIR_TURNS, False), ("works", "works", [], TURNS, False)):
         one, four = [], []
         for _ in rounds:
             one.append(an_entry(memory, which, words, turns, 1, stream))
             four.append(an_entry(memory, which, words, turns, 4, stream))
         said(name, one, four, "1 worker %.0f, 4 workers %.0f entries a second" % (1 / statistics.median(one), 1 / statistics.median(four)))
-    ours, longer, ways = [], [], []
+    ours, longer, ways, beside, without = [], [], [], [], []
     for _ in rounds:
         turns, _ = ran(memory, "four", ["--quantum", "4096"], TURNS, 4, True)
         took, counts = ran(disk, "four", ["--quantum", "4096"], TURNS, 4, True)
@@ -197,6 +283,10 @@ with tempfile.TemporaryDirectory(prefix="bench-waits-", dir=folder) as disk, tem
         ours.append(took)
         longer.append(max(turns, float(alone.stdout)))
         ways.append((turns, float(alone.stdout), len(counts)))
+        loops = int(turns * 1000000 / floor(memory, 1000000, []))
+        without.append(floor(memory, loops, counts))
+        beside.append(floor(disk, loops, counts))
     turns, alone, groups = (statistics.median(way[at] for way in ways) for at in range(3))
     said("disk", ours, longer, "stream %.2f, its turns in memory %.2f, its %d groups alone %.2f seconds" % (statistics.median(ours), turns, groups, alone))
+    said("floor", beside, without, "loops that write these groups meanwhile %.2f, in memory %.2f seconds" % (statistics.median(beside), statistics.median(without)))
 PY
