@@ -79,7 +79,10 @@ where
 /// Where something is there at the first look, no turn is made.
 #[test]
 fn a_stream_that_is_asked_at_once_makes_no_turn(rt: HostRuntime) -> Result<(), Fail> {
-    let step = Step { next: 0, ..STOPPED };
+    let step = Step {
+        next: [0, 0],
+        ..STOPPED
+    };
     assert!(rt; are_steps_on(&rt, fresh(LETTERS), &[step])?);
     Ok(())
 }
@@ -166,7 +169,7 @@ fn a_stream_that_waits_for_input_stops(rt: HostRuntime) -> Result<(), Fail> {
                 ..ASKED
             },
             generations: [1, 1],
-            next: 9,
+            next: [0, 9],
             ..STOPPED
         };
         assert!(rt; are_steps_on(&rt, fresh(code), &[step])?);

@@ -77,9 +77,9 @@ pub(crate) struct Step {
     /// How often it is told at least how far the stream has come, and how many turns may be made between two times at most.
     pub(crate) told: u32,
     pub(crate) turns: [u64; 2],
-    /// Which generations the device may open with, and which number its next entry has at most.
+    /// Which generations the device may open with, and which number its next entry has at least and at most.
     pub(crate) generations: [u64; 2],
-    pub(crate) next: u64,
+    pub(crate) next: [u64; 2],
 }
 
 /// An empty sink, and no input, until nothing is left to do; nothing is looked at but that it is done, and stops no node.
@@ -94,7 +94,7 @@ pub(crate) const PLAIN: Step = Step {
     told: 0,
     turns: [0, u64::MAX],
     generations: [1, u64::MAX],
-    next: u64::MAX,
+    next: [0, u64::MAX],
 };
 
 impl Step {
@@ -120,8 +120,10 @@ impl Step {
             Some(next) => next == left.next,
             None => true,
         };
+        let [first, last] = self.next;
         let [least, most] = self.generations;
-        is_next && left.next <= self.next && least <= left.generation && left.generation <= most
+        let are_entries = first <= left.next && left.next <= last;
+        is_next && are_entries && least <= left.generation && left.generation <= most
     }
 
     /// Whether it left a sink that has these bytes.
