@@ -3,7 +3,7 @@
 #   byte      one byte in and out of an idle network: a node that echoes, on a device in FOLDER. Beside it a raw program answers each byte once it
 #             has written one group, as the store writes it: the bytes behind the gate, a sync, the gate, a sync. Both are asked by one program,
 #             byte after byte, 3 milliseconds apart
-#   hop       the same raw program with a thread that reads and hands each byte on, as a program without leave to ask the system for input needs one,
+#   hop       that raw program with a thread that reads and hands each byte on, as a program without leave to ask the system for input needs one,
 #             beside that without
 #   streams   four nodes that compute, a port each: entries a second of `run --stream` by four workers beside one, in memory; and of `run` by four
 #             beside one, which says what the machine gives
@@ -11,8 +11,8 @@
 #   works     of four such pairs whose nodes compute for some 1,000 steps between two bytes
 #   disk      such a stream of four nodes on a device in FOLDER: its seconds beside the longer of two, those of that stream in memory, and those of
 #             its groups written and synced alone in FOLDER
-#   floor     what the machine gives of that: four threads that loop for as long as that stream took in memory, one of which writes and syncs these
-#             groups between its loops: their seconds in FOLDER beside those in memory
+#   floor     what the machine gives of that: four threads that loop for as long as that stream took in memory, while the first also writes and syncs
+#             these groups between its loops: their seconds in FOLDER beside those in memory
 # usage: bench/waits.sh TPNET [ROUNDS [FOLDER]]      5 rounds, and /tmp, which should be on a disk, by default
 # Times are those of a run less a run without turns. Best and median of the rounds
 set -e
@@ -250,7 +250,7 @@ def ran(place, which, words, turns, workers, stream):
     return took - idle, counts_of(file)
 
 def floor(place, loops, counts):
-    """The seconds of loops in four threads, one of which writes these groups there."""
+    """The seconds of loops in four threads, while the first also writes these groups there."""
     done = subprocess.run([os.path.join(work, "floor"), fresh("four", place), str(loops)], input=" ".join(map(str, counts)).encode(), capture_output=True, check=True)
     return float(done.stdout)
 
