@@ -166,7 +166,6 @@ fn step_held<J: Naming, I: Source>(
     held: &mut Locked<J>,
     seat: &mut Seat<J>,
     pace: Pace,
-    piece: &mut [u8],
     may_wait: bool,
     input: &mut Input<I>,
 ) -> Result<bool, StreamFault>
@@ -183,7 +182,8 @@ fn step_held<J: Naming, I: Source>(
     }
     let free = pace.rooms.free(held.book());
     let most = free.saturating_sub(u64::from(pace.need));
-    crate::input::step(input, held, seat, piece, most)
+    let mut piece = [0u8; MAX_HELD];
+    crate::input::step(input, held, seat, &mut piece, most)
 }
 
 /// Takes the book's lock, and makes a step of a port's input under it. Whether the port took more.
@@ -192,7 +192,6 @@ fn step_input<J: Naming, I: Source, R: Wait>(
     shared: &Shared<J>,
     pace: Pace,
     seat: &mut Seat<J>,
-    piece: &mut [u8],
     may_wait: bool,
     input: &mut Input<I>,
 ) -> Result<bool, StreamFault>
@@ -204,7 +203,7 @@ fn step_input<J: Naming, I: Source, R: Wait>(
     if input.port() >= shared.ports() {
         return Err(StreamFault::InputFailed(input.port()));
     }
-    step_held(&mut held, seat, pace, piece, may_wait, input)
+    step_held(&mut held, seat, pace, may_wait, input)
 }
 
 /// The first input whose bytes haven't come yet for which the journal has room: its port, and how many that has accepted.
@@ -232,27 +231,39 @@ fn find_awaited<J: Naming, I: Source, R: Wait>(
     None
 }
 
+/// What a rest came to.
+#[derive(Clone, Copy)]
+pub(crate) enum Rested {
+    /// There was none: no input is awaited for which the journal has room.
+    None,
+    /// No byte came.
+    InVain,
+    /// Bytes came, or the input's end.
+    Came,
+}
+
 /// Waits for bytes of an input that haven't come yet, for [`REST`] milliseconds or less, where the journal has room for them: they end the
-/// wait as they come. Whether there is such an input. The book's lock is let go meanwhile.
+/// wait as they come. The book's lock is let go meanwhile.
 pub(crate) fn rest<J: Naming, I: Source, R: Wait>(
     rt: &R,
     shared: &Shared<J>,
     pace: Pace,
     inputs: &mut [Input<I>],
-) -> bool {
+) -> Rested {
     let Some((port, at)) = find_awaited(rt, shared, pace, inputs) else {
-        return false;
+        return Rested::None;
     };
+    let mut rest = Rested::InVain;
     for next in inputs.iter_mut() {
-        if next.port() == port {
-            next.would_wait(at, REST);
+        if next.port() == port && !next.would_wait(at, REST) {
+            rest = Rested::Came;
         }
     }
-    true
+    rest
 }
 
-/// A step of each input.
-fn step_inputs<J: Naming, I: Source, R: Wait>(
+/// A step of each input. Where it may not wait, a port takes none whose bytes haven't come yet.
+pub(crate) fn step_inputs<J: Naming, I: Source, R: Wait>(
     rt: &R,
     shared: &Shared<J>,
     pace: Pace,
@@ -263,10 +274,9 @@ fn step_inputs<J: Naming, I: Source, R: Wait>(
     ensures begun { IfErr result CameBetween }
     ensures ends { (outputs : List OutputValue) → IfErr result (NamesEnd outputs (map (λ i. i.port) inputs.new)) }
 {
-    let mut piece = [0u8; MAX_HELD];
     let mut has_moved = false;
     for input in inputs.iter_mut() {
-        if step_input(rt, shared, pace, seat, &mut piece, may_wait, input)? {
+        if step_input(rt, shared, pace, seat, may_wait, input)? {
             has_moved = true;
         }
     }

@@ -19,7 +19,7 @@ use crate::fault::StreamFault;
 use crate::flushing::{finish, flush};
 use crate::ground::Ground;
 use crate::leading::lead;
-use crate::pumping::{Pumped, can_confirm, pump, rest};
+use crate::pumping::{Pumped, Rested, can_confirm, pump, rest, step_inputs};
 use crate::rounds::round;
 use crate::settling::settle;
 use crate::shift::Shift;
@@ -57,13 +57,46 @@ impl<J: Naming> Going<J> {
     }
 }
 
-/// Turns; or, where the journal has no room for one, or nothing is left to do but an input for which it has no room, a snapshot is brought
-/// to its end. Where something else is to be done meanwhile, and nothing is left to do but an input whose bytes haven't come yet, it
-/// rests.
-fn make_turns<J: Naming, I: Source, R: Wait>(
+/// Whether nothing is left to do but an input, behind steps of the streams that came to `pumped`; `over` says whether none is left that its
+/// port may take.
+fn lacks_input(turns: &Turns, nodes: u8, pumped: Pumped, over: bool) -> bool {
+    pumped == Pumped::Nothing && turns.is_quiet(nodes) && !over
+}
+
+/// Rests where something else is to be done meanwhile, and nothing is left to do but an input whose bytes haven't come yet: those that come
+/// end the rest, and ports take them at once. Answers what steps of the streams have come to with that; none where it rested in vain.
+fn take_awaited<J: Naming, I: Source, R: Wait>(
     ground: Ground<'_, J, R>,
     going: &mut Going<J>,
     inputs: &mut [Input<I>],
+    pumped: Pumped,
+    over: bool,
+) -> Result<Option<Pumped>, StreamFault>
+    ensures steps { going.new ≡ record going.old { steps = going.new.steps } }
+    ensures begun { IfErr result CameBetween }
+{
+    let Ground { rt, net, pace, .. } = ground;
+    let shared = net.shared();
+    if !pace.task.rests() || !lacks_input(&going.turns, shared.nodes(), pumped, over) {
+        return Ok(Some(pumped));
+    }
+    let came = match rest(rt, shared, pace, inputs) {
+        Rested::None => return Ok(Some(pumped)),
+        Rested::InVain => return Ok(None),
+        Rested::Came => step_inputs(rt, shared, pace, &mut going.steps, false, inputs)?,
+    };
+    Ok(if came == Pumped::Nothing {
+        None
+    } else {
+        Some(came)
+    })
+}
+
+/// Turns; or, where the journal has no room for one, or nothing is left to do but an input for which it has no room, a snapshot is brought
+/// to its end.
+fn make_turns<J: Naming, R: Wait>(
+    ground: Ground<'_, J, R>,
+    going: &mut Going<J>,
     pumped: Pumped,
     over: bool,
 ) -> Result<(), StreamFault>
@@ -79,21 +112,17 @@ fn make_turns<J: Naming, I: Source, R: Wait>(
     } = ground;
     let shared = net.shared();
     let Going { turns, seat, .. } = going;
-    let lacks_input = pumped == Pumped::Nothing && turns.is_quiet(shared.nodes()) && !over;
     if pumped == Pumped::Moved {
         turns.moved();
     }
-    if lacks_input && pace.task.rests() && rest(rt, shared, pace, inputs) {
-        return Ok(());
-    }
-    if turns.is_full || lacks_input {
+    if turns.is_full || lacks_input(turns, shared.nodes(), pumped, over) {
         settle(rt, alloc, shared, seat, turns)?;
         return Ok(());
     }
     round(rt, alloc, shared, pace, seat, turns)
 }
 
-/// A look whether it is asked to stop, a step of each stream, which waits for input where nothing else is left to do, and then turns. Where
+/// A step of each stream, a look whether it is asked to stop, and then turns. Where nothing else is left to do it waits for input. Where
 /// the journal has no room for the confirms, a snapshot is brought to its end before all that. Answers why it is over, where it is: then no
 /// turn was made.
 #[tactic(auto, using(crate::proofs::Stepping::all_still))]
@@ -126,7 +155,6 @@ fn go_on<J: Naming, D: Disk, S: Sink, I: Source, P: Stop, R: Wait>(
         settle(rt, alloc, shared, &mut going.seat, &mut going.turns)?;
         return Ok(None);
     }
-    let asked = is_asked(pace.task, stop);
     let may_wait = may_wait(pace.task, &going.turns, shared.nodes());
     let pumped = pump(
         rt,
@@ -137,11 +165,15 @@ fn go_on<J: Naming, D: Disk, S: Sink, I: Source, P: Stop, R: Wait>(
         may_wait,
         streams,
     )?;
+    let asked = is_asked(pace.task, stop);
     let over = are_over(&streams.inputs);
     if let Some(why) = ending(pace.task, &going.turns, shared.nodes(), asked, pumped, over) {
         return Ok(Some(why));
     }
-    make_turns(ground, going, &mut streams.inputs, pumped, over)?;
+    let Some(pumped) = take_awaited(ground, going, &mut streams.inputs, pumped, over)? else {
+        return Ok(None);
+    };
+    make_turns(ground, going, pumped, over)?;
     Ok(None)
 }
 

@@ -26,10 +26,7 @@ pub trait Feed {
 }
 
 /// The next bytes of a reader. A read that was interrupted is made again.
-pub(crate) fn read_some<I: Read>(
-    reader: &mut I,
-    out: &mut [u8; MAX_HELD],
-) -> Result<usize, SourceFailed>
+pub(crate) fn read_some<I: Read>(reader: &mut I, out: &mut [u8]) -> Result<usize, SourceFailed>
     ensures few { IfOk result (λ count. count ≤ length out.new) }
     ensures bytes { ReadConsumes (I.remaining reader.old) (I.remaining reader.new) result out.new }
 {

@@ -13,6 +13,8 @@ use tp_model::limits::MAX_HELD;
 pub struct Pipe<'a, I> {
     feed: &'a mut I,
     held: Held,
+    /// Where the feed puts the next bytes, which are kept behind that.
+    piece: [u8; MAX_HELD],
 }
 
 impl<'a, I: Feed> Pipe<'a, I> {
@@ -23,6 +25,7 @@ impl<'a, I: Feed> Pipe<'a, I> {
         Pipe {
             feed,
             held: Held::new(),
+            piece: [0u8; MAX_HELD],
         }
     }
 
@@ -34,9 +37,8 @@ impl<'a, I: Feed> Pipe<'a, I> {
             self.held.stop();
             return;
         };
-        let mut kept = [0u8; MAX_HELD];
-        let done = self.feed.next(&mut kept);
-        self.held.take_piece(behind, done, &kept);
+        let done = self.feed.next(&mut self.piece);
+        self.held.take_piece(behind, done, &self.piece);
     }
 
     /// Takes bytes until one at a position is kept, or none comes any more.

@@ -1,8 +1,9 @@
 //! Bytes that a thread of its own reads, so that nobody else waits for them.
 
-ghost use Rattle.std.specs.Prelude.{◌≡◌, ◌≤◌, true, length, is_err, IfNone, IfOk, IfSome};
+ghost use Rattle.std.specs.Prelude.{◌≡◌, ◌<◌, ◌≤◌, true, length, is_err, IfNone, IfOk, IfSome};
 ghost use Rattle.std.specs.Io.KnownBytes.{ReadConsumes};
-ghost use Rattle.tp_stream_files.specs.Trace.{count_answered};
+ghost use Rattle.tp_stream_files.specs.Trace.{count_answered, gave};
+ghost use Rattle.tp_model.specs.declared.limits.TheConstants.{MAX_HELD};
 
 use crate::SourceFailed;
 use crate::feeds::{Feed, read_some};
@@ -19,32 +20,44 @@ use tp_model::limits::MAX_HELD;
 /// How many pieces are read before the first one is taken.
 const PIECES: usize = 4;
 
-/// What one read gave: how many bytes, none at the end, or that it failed; and the bytes.
+/// What one read gave: how many bytes, none at the end, or that it failed; and the bytes, which lie in memory of their own, so that nobody
+/// who hands a piece on copies them.
 #[derive(Drop)]
 struct Piece {
     came: Result<usize, SourceFailed>,
-    bytes: [u8; MAX_HELD],
-    ghost few: { count_answered came ≤ length bytes },
+    bytes: Vec<u8>,
+    ghost few: { count_answered came ≤ length bytes.items },
+    ghost fit: { length bytes.items ≤ MAX_HELD },
 }
 
-/// Reads the next piece.
-fn read_piece<I: Read>(reader: &mut I) -> Piece
-    ensures { ReadConsumes (I.remaining reader.old) (I.remaining reader.new) result.came result.bytes }
+/// Reads the next piece. It fails where there is no memory for one: then nothing is read.
+fn read_piece<I: Read>(alloc: Global, reader: &mut I) -> Piece
+    ensures bytes { ReadConsumes (I.remaining reader.old) (I.remaining reader.new) result.came result.bytes.items }
+    ensures room { IfOk result.came (λ count. 0 < length result.bytes.items) }
 {
-    let mut bytes = [0u8; MAX_HELD];
+    let Ok(mut bytes) = Vec::from_elem(alloc, 0, MAX_HELD) else {
+        return Piece {
+            came: Err(SourceFailed),
+            bytes: Vec::new(alloc),
+        };
+    };
     let came = read_some(reader, &mut bytes);
     Piece { came, bytes }
 }
 
 /// Sends the next piece of a reader. Whether there may be another one that somebody takes.
-fn send_piece<R: Wait, I: Read>(rt: &R, reader: &mut I, pieces: &Sender<Piece>) -> bool {
-    let piece = read_piece(reader);
+fn send_piece<R: Wait + AllocGlobal, I: Read>(
+    rt: &R,
+    reader: &mut I,
+    pieces: &Sender<Piece>,
+) -> bool {
+    let piece = read_piece(rt.alloc(), reader);
     let is_last = matches!(piece.came, Ok(0) | Err(_));
     pieces.send(rt, piece).is_ok() && !is_last
 }
 
 /// Sends each piece of a reader, until its end, until a read fails, or until nobody takes them.
-fn send_pieces<R: Wait, I: Read + Drop>(rt: &R, reader: I, pieces: Sender<Piece>) {
+fn send_pieces<R: Wait + AllocGlobal, I: Read + Drop>(rt: &R, reader: I, pieces: Sender<Piece>) {
     let mut reader = reader;
     for _ in rt.forever() {
         if !send_piece(rt, &mut reader, &pieces) {
@@ -56,14 +69,15 @@ fn send_pieces<R: Wait, I: Read + Drop>(rt: &R, reader: I, pieces: Sender<Piece>
 /// Gives what a piece has. No piece is a failure: its reader has gone without a word.
 fn give(piece: Option<Piece>, out: &mut [u8; MAX_HELD]) -> Result<usize, SourceFailed>
     ensures few { IfOk result (λ count. count ≤ length out.new) }
-    ensures piece { IfSome piece (λ piece. (result ≡ piece.came) × (out.new ≡ piece.bytes)) }
+    ensures piece { IfSome piece (λ piece. (result ≡ piece.came) × (gave result out.new ≡ gave piece.came piece.bytes.items)) }
     ensures none { IfNone piece (is_err result ≡ true) }
 {
     let Some(piece) = piece else {
         return Err(SourceFailed);
     };
-    out.copy_from_slice(&piece.bytes);
-    piece.came
+    let count = piece.came?;
+    out[..count].copy_from_slice(&piece.bytes[..count]);
+    Ok(count)
 }
 
 /// The next piece, where it comes within `millis` milliseconds; else whether one may come later.
