@@ -63,9 +63,26 @@ fn lacks_input(turns: &Turns, nodes: u8, pumped: Pumped, over: bool) -> bool {
     pumped == Pumped::Nothing && turns.is_quiet(nodes) && !over
 }
 
+/// Ports take bytes that ended a rest. Answers what that came to; none where none was taken.
+fn take_awaited<J: Naming, I: Source, R: Wait>(
+    ground: Ground<'_, J, R>,
+    going: &mut Going<J>,
+    inputs: &mut [Input<I>],
+) -> Result<Option<Pumped>, StreamFault>
+    ensures steps { going.new ≡ record going.old { steps = going.new.steps } }
+    ensures begun { IfErr result CameBetween }
+{
+    let Ground { rt, net, pace, .. } = ground;
+    match step_inputs(rt, net.shared(), pace, &mut going.steps, false, inputs) {
+        Ok(Pumped::Nothing) => Ok(None),
+        Ok(came) => Ok(Some(came)),
+        Err(fault) => Err(fault),
+    }
+}
+
 /// Rests where something else is to be done meanwhile, and nothing is left to do but an input whose bytes haven't come yet: those that come
 /// end the rest, and ports take them at once. Answers what steps of the streams have come to with that; none where it rested in vain.
-fn take_awaited<J: Naming, I: Source, R: Wait>(
+fn rest_where_late<J: Naming, I: Source, R: Wait>(
     ground: Ground<'_, J, R>,
     going: &mut Going<J>,
     inputs: &mut [Input<I>],
@@ -80,16 +97,11 @@ fn take_awaited<J: Naming, I: Source, R: Wait>(
     if !pace.task.rests() || !lacks_input(&going.turns, shared.nodes(), pumped, over) {
         return Ok(Some(pumped));
     }
-    let came = match rest(rt, shared, pace, inputs) {
-        Rested::None => return Ok(Some(pumped)),
-        Rested::InVain => return Ok(None),
-        Rested::Came => step_inputs(rt, shared, pace, &mut going.steps, false, inputs)?,
-    };
-    Ok(if came == Pumped::Nothing {
-        None
-    } else {
-        Some(came)
-    })
+    match rest(rt, shared, pace, inputs) {
+        Rested::None => Ok(Some(pumped)),
+        Rested::InVain => Ok(None),
+        Rested::Came => take_awaited(ground, going, inputs),
+    }
 }
 
 /// Turns; or, where the journal has no room for one, or nothing is left to do but an input for which it has no room, a snapshot is brought
@@ -120,6 +132,25 @@ fn make_turns<J: Naming, R: Wait>(
         return Ok(());
     }
     round(rt, alloc, shared, pace, seat, turns)
+}
+
+/// Turns, behind steps of the streams that came to `pumped`, once it has rested where an input is late; none where it rested in vain.
+fn rest_or_turn<J: Naming, I: Source, R: Wait>(
+    ground: Ground<'_, J, R>,
+    going: &mut Going<J>,
+    inputs: &mut [Input<I>],
+    pumped: Pumped,
+    over: bool,
+) -> Result<(), StreamFault>
+    requires { HaveRested J.start going.old.turns.whose going.old.turns.idle }
+    ensures rested { OnOk result (HaveRested J.start going.new.turns.whose going.new.turns.idle) }
+    ensures begun { IfErr result CameBetween }
+{
+    match rest_where_late(ground, going, inputs, pumped, over) {
+        Ok(Some(pumped)) => make_turns(ground, going, pumped, over),
+        Ok(None) => Ok(()),
+        Err(fault) => Err(fault),
+    }
 }
 
 /// A step of each stream, a look whether it is asked to stop, and then turns. Where nothing else is left to do it waits for input. Where
@@ -170,10 +201,7 @@ fn go_on<J: Naming, D: Disk, S: Sink, I: Source, P: Stop, R: Wait>(
     if let Some(why) = ending(pace.task, &going.turns, shared.nodes(), asked, pumped, over) {
         return Ok(Some(why));
     }
-    let Some(pumped) = take_awaited(ground, going, &mut streams.inputs, pumped, over)? else {
-        return Ok(None);
-    };
-    make_turns(ground, going, pumped, over)?;
+    rest_or_turn(ground, going, &mut streams.inputs, pumped, over)?;
     Ok(None)
 }
 

@@ -24,9 +24,3 @@ returns-in_err-settle-clause-begun g c =
     let fault = c.in_err-settle.field-0.0 in
     let is : c.from_residual.result ≡ Err fault = search rules in
     if_err c.from_residual.result fault CameBetween is (turns_between fault c.in_err-settle.ensures.begun)
-
-pub returns-in_err-make_turns-clause-begun : goal.returns-in_err-make_turns-clause-begun
-returns-in_err-make_turns-clause-begun g c =
-    let fault = c.in_err-make_turns.field-0.0 in
-    let is : c.from_residual-in_err-make_turns.result ≡ Err fault = search rules in
-    if_err c.from_residual-in_err-make_turns.result fault CameBetween is (turns_between fault c.in_err-make_turns.ensures.begun)
