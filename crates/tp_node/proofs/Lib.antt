@@ -1,4 +1,5 @@
 pub mod Answered
+pub mod Asked
 pub mod CanTake
 pub mod EndsAsBytes
 pub mod FirstStored
