@@ -11,3 +11,4 @@ pub mod Pieces
 pub mod Room
 pub mod Runs
 pub mod Taken
+pub mod Woken
