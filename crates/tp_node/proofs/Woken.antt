@@ -18,6 +18,22 @@ none_of : (o : Option (List ℕ)) → is_some o ≡ false → o ≡ None
 none_of None is = refl
 none_of (Some m) is = absurd (true≢false is)
 
+-- what has its place behind what the token puts
+some_alone : (o : Option (List ℕ)) → is_some o ≡ true → is_some (option_and_then (λ m. stored m []) o) ≡ true
+some_alone None is = absurd (true≢false (sym is))
+some_alone (Some m) is = refl
+
+pub is_some-stored_alone : (first : First) (memory : List ℕ) → is_some (first_stored first memory) ≡ true → is_some (stored_behind first [] memory) ≡ true
+is_some-stored_alone first memory is = some_alone (first_stored first memory) is
+
+some_behind : (o : Option (List ℕ)) (writes : List (ℕ × ℕ)) → is_some o ≡ true → ((m : List ℕ) → o ≡ Some m → is_some (stored m writes) ≡ true) → is_some (option_and_then (λ m. stored m writes) o) ≡ true
+some_behind None writes is found = absurd (true≢false (sym is))
+some_behind (Some m) writes is found = found m refl
+
+pub is_some-stored_behind : (first : First) (memory : List ℕ) (link : ℕ × ℕ) → length memory % 4 ≡ 0 → is_some (first_stored first memory) ≡ true → is_some (word_at memory link.0) ≡ true → is_some (stored_behind first (link ∷ []) memory) ≡ true
+is_some-stored_behind first memory link whole is found =
+    some_behind (first_stored first memory) (link ∷ []) is (λ m there. word_behind first memory m link.0 link.1 whole there ∙ found)
+
 module _ (first : First) (memory : List ℕ) (descriptor : ℕ) (cpu : Cpu) (writes : List (ℕ × ℕ)) (queued_is : writes ≡ queue_writes descriptor cpu) where
   -- its words have their places
   pub wake-stored : (now : List ℕ) (after : Cpu) → stored_behind first writes memory ≡ Some now → after ≡ queued descriptor cpu
@@ -31,8 +47,8 @@ module _ (first : First) (memory : List ℕ) (descriptor : ℕ) (cpu : Cpu) (wri
   put_behind (Some m) is =
       ap (λ (ws : List (ℕ × ℕ)). put_ranges first ++ (if is_some (stored m ws) then word_ranges ws else [])) (sym queued_is) ∙ ap (λ b. put_ranges first ++ (if b then word_ranges writes else [])) is
 
-  pub then_put-stored : (now : List ℕ) → stored_behind first writes memory ≡ Some now → then_put first memory (wake_ranges descriptor cpu) ≡ put_ranges first ++ word_ranges writes
-  then_put-stored now is = put_behind (first_stored first memory) (ap is_some is)
+  pub then_put-stored : is_some (stored_behind first writes memory) ≡ true → then_put first memory (wake_ranges descriptor cpu) ≡ put_ranges first ++ word_ranges writes
+  then_put-stored is = put_behind (first_stored first memory) is
 
 module _ (first : First) (memory : List ℕ) (descriptor : ℕ) (cpu : Cpu) (link : ℕ × ℕ) (queued_is : link ∷ [] ≡ queue_writes descriptor cpu) (whole : length memory % 4 ≡ 0) (lost : is_some (word_at memory link.0) ≡ false) where
   lost_behind : (m : List ℕ) → first_stored first memory ≡ Some m → is_some (stored m (link ∷ [])) ≡ false
@@ -53,5 +69,5 @@ module _ (first : First) (memory : List ℕ) (descriptor : ℕ) (cpu : Cpu) (lin
   put_alone (Some m) is none =
       ap (λ (ws : List (ℕ × ℕ)). put_ranges first ++ (if is_some (stored m ws) then word_ranges ws else [])) (sym queued_is) ∙ ap (λ b. put_ranges first ++ (if b then word_ranges (link ∷ []) else [])) (none m refl)
 
-  pub then_put-lost : (now : List ℕ) → stored_behind first [] memory ≡ Some now → then_put first memory (wake_ranges descriptor cpu) ≡ put_ranges first ++ word_ranges []
-  then_put-lost now is = put_alone (first_stored first memory) (ap is_some is) lost_behind
+  pub then_put-lost : is_some (stored_behind first [] memory) ≡ true → then_put first memory (wake_ranges descriptor cpu) ≡ put_ranges first ++ word_ranges []
+  then_put-lost is = put_alone (first_stored first memory) is lost_behind
