@@ -1,5 +1,5 @@
 -- The process of a descriptor is queued, behind what a token puts into memory.
-use Rattle.std.proofs.Common.{◌≡◌, ℕ, ◌%◌, Bool, true, false, List, [], ◌∷◌, ◌++◌, length, Option, Some, None, is_some, IsSome, refl, sym, ap, ◌∙◌, true≢false}
+use Rattle.std.proofs.Common.{◌≡◌, ℕ, ◌%◌, true, false, List, [], ◌∷◌, ◌++◌, length, Option, Some, None, is_some, refl, sym, ap, ◌∙◌, true≢false}
 use Rattle.std.specs.Prelude.{option_and_then, if◌then◌else◌}
 use Rattle.tp_model.specs.Memory.{word_at, stored}
 use Rattle.tp_model.specs.Node.{bad_address, with_memory, wake}
