@@ -22,6 +22,7 @@ pub mod Processors
 pub mod ReplayedRows
 pub mod Requests
 pub mod Rows
+pub mod Steps
 pub mod Taking
 pub mod Words
 pub mod Writes

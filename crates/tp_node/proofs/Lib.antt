@@ -1,4 +1,5 @@
 pub mod Answered
+pub mod Asked
 pub mod CanTake
 pub mod EndsAsBytes
 pub mod FirstStored
@@ -10,3 +11,4 @@ pub mod Pieces
 pub mod Room
 pub mod Runs
 pub mod Taken
+pub mod Woken
