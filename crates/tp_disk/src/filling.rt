@@ -23,7 +23,6 @@ pub(crate) enum Making {
 }
 
 /// Writes `count` bytes 00 from `at` on, and syncs the file with its length. What is before `at` stays, also where that fails.
-#[tactic(auto, using(crate::proofs::Pieces::keeps_more))]
 fn fill<F: SystemFile>(file: &mut F, at: u64, count: u64) -> io::Result<()>
     requires { at + count < 2 ^ 64 }
     ensures filled { OnOk result (F.calls file.new ≡ F.calls file.old ++ filling at count) }

@@ -1,12 +1,9 @@
-use Rattle.std.proofs.Common.{◌+◌, ◌≤◌, length, Result, Ok, Err, OnErr, arith}
+use Rattle.std.proofs.Common.{◌+◌, ◌≤◌, length, arith}
 use Rattle.std.proofs.lemmas.Result.{on_err_weaker}
 use Rattle.tp_model.specs.Disk.{Write}
 use Rattle.tp_disk.proofs.Calls.{call_leaves, write_broke, sync_broke, through_leaves}
+use Rattle.tp_disk.proofs.Pieces.{on_err}
 use Rattle.tp_disk.proofs.through.write_through.Goals as goal
-
-on_err : {T E : Type 0} (r : Result T E) (P : Type 0) → P → OnErr r P
-on_err (Ok x) P has = tt
-on_err (Err e) P has = has
 
 pub returns-in_err-write_at-clause-broke : goal.returns-in_err-write_at-clause-broke
 returns-in_err-write_at-clause-broke g c k =
