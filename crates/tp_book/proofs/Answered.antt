@@ -1,0 +1,69 @@
+-- How the host's calls are answered, by what their tests say.
+use Rattle.std.proofs.Common.{◌≡◌, ℕ, ◌+◌, ◌<◌, ◌≤◌, Bool, true, false, cond, List, [], ◌∷◌, length, refl, sym, ap, subst, ◌∙◌, Option, Some, None}
+use Rattle.std.specs.Prelude.{◌==◌, Result, Ok, Err}
+use Rattle.std.proofs.lemmas.Bool.{le-leb, lt-leb}
+use Rattle.tp_model.specs.declared.entry.Entry.TheVariants.{Confirm}
+use Rattle.tp_book.specs.declared.refusal.Refusal.{Refusal}
+use Rattle.tp_book.specs.declared.refusal.Refusal.TheVariants.{StoreBroken, JournalFull, Memory}
+use Rattle.tp_book.specs.Book.{BookValue, next_in_book}
+use Rattle.tp_book.specs.Covered.{ReceiptValue}
+use Rattle.tp_book.specs.Host.{port_in, input_refusal, some_input_refusal, confirm_refusal}
+use Rattle.tp_book.specs.Inputs.{answer_to}
+use Rattle.tp_book.specs.Receipts.{confirm_receipt}
+use Rattle.tp_book.specs.Refusals.{else_if, is_journal_full, IsAnswer}
+
+-- ## By a test
+
+-- what it refuses
+pub answered_err : {A : Type 0} (why : Option Refusal) (r : Result A Refusal) (e : Refusal) → r ≡ Err e → answer_to why ≡ Err e → IsAnswer why r
+answered_err None r e is h = cc
+answered_err (Some reason) r e is h =
+    let this : e ≡ reason = cc in
+    subst (λ r. IsAnswer (Some reason) r) (sym is) this
+
+-- what it doesn't refuse may want memory,
+pub answered_memory : (A : Type 0) (why : Option Refusal) → answer_to why ≡ Ok tt → IsAnswer {A = A} why (Err Memory)
+answered_memory A None h = refl
+answered_memory A (Some reason) h = cc
+
+-- or is done
+pub answered_ok : {A : Type 0} (why : Option Refusal) (x : A) → answer_to why ≡ Ok tt → IsAnswer why (Ok x)
+answered_ok None x h = tt
+answered_ok (Some reason) x h = cc
+
+-- ## Bytes handed in
+
+-- where there are some, their test answers
+pub input_answered : {A : Type 0} (b : BookValue) (p : ℕ) (bytes : List ℕ) (r : Result A Refusal) → (length bytes == 0) ≡ false → IsAnswer (some_input_refusal b p (length bytes)) r
+    → IsAnswer (input_refusal b p (length bytes)) r
+input_answered b p bytes r some answer = subst (λ none. IsAnswer (cond none None (some_input_refusal b p (length bytes))) r) (sym some) answer
+
+-- where there are none, nothing is refused
+pub empty_answered : {A : Type 0} (b : BookValue) (p : ℕ) (bytes : List ℕ) (x : A) → (length bytes == 0) ≡ true → IsAnswer (input_refusal b p (length bytes)) (Ok x)
+empty_answered b p bytes x none = subst (λ none. IsAnswer (cond none None (some_input_refusal b p (length bytes))) (Ok x)) (sym none) tt
+
+-- ## Outputs confirmed
+
+module _ (b : BookValue) (p upto : ℕ) where
+  -- up to a position that was confirmed before nothing is refused, and nothing journalled
+  pub confirmed_answered : {A : Type 0} (x : A) → upto ≤ (port_in b p).out_base → IsAnswer (confirm_refusal b p upto) (Ok x)
+  confirmed_answered x before =
+      subst (λ before. IsAnswer (cond before None (else_if (else_if None b.broken StoreBroken) (is_journal_full b 1) JournalFull)) (Ok x)) (sym (le-leb upto (port_in b p).out_base before)) tt
+
+  pub confirmed_shown : (n : ℕ) → n ≡ next_in_book b → upto ≤ (port_in b p).out_base → ◌≡◌ {A = ReceiptValue} (record { number = n; entries = []; position = None }) (confirm_receipt b p upto)
+  confirmed_shown n is before =
+      ap {B = ReceiptValue} (λ n. record { number = n; entries = []; position = None }) is
+      ∙ sym (ap {B = ReceiptValue} (λ before. cond before (record { number = next_in_book b; entries = []; position = None }) (record { number = next_in_book b + 1; entries = Confirm p upto ∷ []; position = None })) (le-leb upto (port_in b p).out_base before))
+
+  -- past it the store may be broken, or the journal full
+  pub confirm_answered : {A : Type 0} (r : Result A Refusal) (broken full : Bool) → (port_in b p).out_base < upto → b.broken ≡ broken → is_journal_full b 1 ≡ full
+      → IsAnswer (else_if (else_if None broken StoreBroken) full JournalFull) r → IsAnswer (confirm_refusal b p upto) r
+  confirm_answered r broken full past is_broken is_full answer =
+      subst (λ before. IsAnswer (cond before None (else_if (else_if None b.broken StoreBroken) (is_journal_full b 1) JournalFull)) r) (sym (lt-leb upto (port_in b p).out_base past))
+      (subst (λ broken. IsAnswer (else_if (else_if None broken StoreBroken) (is_journal_full b 1) JournalFull) r) (sym is_broken)
+      (subst (λ full. IsAnswer (else_if (else_if None broken StoreBroken) full JournalFull) r) (sym is_full) answer))
+
+  pub confirm_shown : (n : ℕ) → n ≡ next_in_book b → (port_in b p).out_base < upto → ◌≡◌ {A = ReceiptValue} (record { number = n + 1; entries = Confirm p upto ∷ []; position = None }) (confirm_receipt b p upto)
+  confirm_shown n is past =
+      ap {B = ReceiptValue} (λ n. record { number = n + 1; entries = Confirm p upto ∷ []; position = None }) is
+      ∙ sym (ap {B = ReceiptValue} (λ before. cond before (record { number = next_in_book b; entries = []; position = None }) (record { number = next_in_book b + 1; entries = Confirm p upto ∷ []; position = None })) (lt-leb upto (port_in b p).out_base past))
