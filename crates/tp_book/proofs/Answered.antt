@@ -31,6 +31,17 @@ pub answered_ok : {A : Type 0} (why : Option Refusal) (x : A) → answer_to why 
 answered_ok None x h = tt
 answered_ok (Some reason) x h = cc
 
+-- whatever it gives
+pub answered_with : {A B : Type 0} (why : Option Refusal) (x : A) (y : B) → IsAnswer why (Ok x) → IsAnswer why (Ok y)
+answered_with None x y h = tt
+answered_with (Some reason) x y h = absurd h
+
+-- for an entry: the store may be broken, or the journal full
+pub entry_answered : {A : Type 0} (r : Result A Refusal) (x y broken full : Bool) → x ≡ broken → y ≡ full → IsAnswer (else_if (else_if None broken StoreBroken) full JournalFull) r
+    → IsAnswer (else_if (else_if None x StoreBroken) y JournalFull) r
+entry_answered r x y broken full is_broken is_full answer =
+    subst (λ x. IsAnswer (else_if (else_if None x StoreBroken) y JournalFull) r) (sym is_broken) (subst (λ y. IsAnswer (else_if (else_if None broken StoreBroken) y JournalFull) r) (sym is_full) answer)
+
 -- ## Bytes handed in
 
 -- where there are some, their test answers
@@ -60,8 +71,7 @@ module _ (b : BookValue) (p upto : ℕ) where
       → IsAnswer (else_if (else_if None broken StoreBroken) full JournalFull) r → IsAnswer (confirm_refusal b p upto) r
   confirm_answered r broken full past is_broken is_full answer =
       subst (λ before. IsAnswer (cond before None (else_if (else_if None b.broken StoreBroken) (is_journal_full b 1) JournalFull)) r) (sym (lt-leb upto (port_in b p).out_base past))
-      (subst (λ broken. IsAnswer (else_if (else_if None broken StoreBroken) (is_journal_full b 1) JournalFull) r) (sym is_broken)
-      (subst (λ full. IsAnswer (else_if (else_if None broken StoreBroken) full JournalFull) r) (sym is_full) answer))
+      (entry_answered r b.broken (is_journal_full b 1) broken full is_broken is_full answer)
 
   pub confirm_shown : (n : ℕ) → n ≡ next_in_book b → (port_in b p).out_base < upto → ◌≡◌ {A = ReceiptValue} (record { number = n + 1; entries = Confirm p upto ∷ []; position = None }) (confirm_receipt b p upto)
   confirm_shown n is past =
