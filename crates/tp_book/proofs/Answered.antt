@@ -1,12 +1,14 @@
 -- How the host's calls are answered, by what their tests say.
 use Rattle.std.proofs.Common.{◌≡◌, ℕ, ◌+◌, ◌<◌, ◌≤◌, Bool, true, false, cond, List, [], ◌∷◌, length, refl, sym, ap, subst, ◌∙◌, Option, Some, None}
-use Rattle.std.specs.Prelude.{◌==◌, Result, Ok, Err}
+use Rattle.std.specs.Prelude.{◌==◌, is_some, Result, Ok, Err}
 use Rattle.std.proofs.lemmas.Bool.{le-leb, lt-leb}
 use Rattle.tp_model.specs.declared.entry.Entry.TheVariants.{Confirm}
 use Rattle.tp_book.specs.declared.refusal.Refusal.{Refusal}
-use Rattle.tp_book.specs.declared.refusal.Refusal.TheVariants.{StoreBroken, JournalFull, Memory}
+use Rattle.tp_book.specs.declared.refusal.Refusal.TheVariants.{SnapshotRunning, StoreBroken, JournalFull, Memory}
 use Rattle.tp_book.specs.Book.{BookValue, next_in_book}
 use Rattle.tp_book.specs.Covered.{ReceiptValue}
+use Rattle.tp_model.specs.Journal.{is_full_for_snapshot}
+use Rattle.tp_book.specs.Marked.{begin_refusal}
 use Rattle.tp_book.specs.Host.{port_in, input_refusal, some_input_refusal, confirm_refusal}
 use Rattle.tp_book.specs.Inputs.{answer_to}
 use Rattle.tp_book.specs.Receipts.{confirm_receipt}
@@ -41,6 +43,14 @@ pub entry_answered : {A : Type 0} (r : Result A Refusal) (x y broken full : Bool
     → IsAnswer (else_if (else_if None x StoreBroken) y JournalFull) r
 entry_answered r x y broken full is_broken is_full answer =
     subst (λ x. IsAnswer (else_if (else_if None x StoreBroken) y JournalFull) r) (sym is_broken) (subst (λ y. IsAnswer (else_if (else_if None broken StoreBroken) y JournalFull) r) (sym is_full) answer)
+
+-- for a snapshot: one may run, too
+pub begin_answered : {A : Type 0} (b : BookValue) (r : Result A Refusal) (running broken full : Bool) → is_some b.state.snapshot ≡ running → b.broken ≡ broken → is_full_for_snapshot b.generation ≡ full
+    → IsAnswer (else_if (else_if (else_if None running SnapshotRunning) broken StoreBroken) full JournalFull) r → IsAnswer (begin_refusal b) r
+begin_answered b r running broken full is_running is_broken is_full answer =
+    subst (λ x. IsAnswer (else_if (else_if (else_if None x SnapshotRunning) b.broken StoreBroken) (is_full_for_snapshot b.generation) JournalFull) r) (sym is_running)
+    (subst (λ x. IsAnswer (else_if (else_if (else_if None running SnapshotRunning) x StoreBroken) (is_full_for_snapshot b.generation) JournalFull) r) (sym is_broken)
+    (subst (λ x. IsAnswer (else_if (else_if (else_if None running SnapshotRunning) broken StoreBroken) x JournalFull) r) (sym is_full) answer))
 
 -- ## Bytes handed in
 
