@@ -12,7 +12,7 @@ use Rattle.tp_book.specs.Marked.{begin_refusal}
 use Rattle.tp_book.specs.Host.{port_in, input_refusal, some_input_refusal, confirm_refusal}
 use Rattle.tp_book.specs.Inputs.{answer_to}
 use Rattle.tp_book.specs.Receipts.{confirm_receipt}
-use Rattle.tp_book.specs.Refusals.{else_if, is_journal_full, IsAnswer}
+use Rattle.tp_book.specs.Refusals.{else_if, is_journal_full, is_full_for_take, take_refusal, IsAnswer}
 
 -- ## By a test
 
@@ -43,6 +43,10 @@ pub entry_answered : {A : Type 0} (r : Result A Refusal) (x y broken full : Bool
     → IsAnswer (else_if (else_if None x StoreBroken) y JournalFull) r
 entry_answered r x y broken full is_broken is_full answer =
     subst (λ x. IsAnswer (else_if (else_if None x StoreBroken) y JournalFull) r) (sym is_broken) (subst (λ y. IsAnswer (else_if (else_if None broken StoreBroken) y JournalFull) r) (sym is_full) answer)
+
+-- for a take, of which the journal alone decides
+pub take_answered : {A : Type 0} (b : BookValue) (needed : Bool) (r : Result A Refusal) (full : Bool) → is_full_for_take b needed ≡ full → IsAnswer (else_if None full JournalFull) r → IsAnswer (take_refusal b needed None) r
+take_answered b needed r full is answer = subst (λ full. IsAnswer (else_if None full JournalFull) r) (sym is) answer
 
 -- for a snapshot: one may run, too
 pub begin_answered : {A : Type 0} (b : BookValue) (r : Result A Refusal) (running broken full : Bool) → is_some b.state.snapshot ≡ running → b.broken ≡ broken → is_full_for_snapshot b.generation ≡ full
