@@ -1,3 +1,4 @@
+pub mod Answered
 pub mod Before
 pub mod Changes
 pub mod Collected

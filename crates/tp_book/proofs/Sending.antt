@@ -1,5 +1,5 @@
 -- Room for what is sent.
-use Rattle.std.proofs.Common.{◌≡◌, ℕ, ◌+◌, ◌<◌, ◌≤◌, Bool, true, false, cond, List, [], ◌∷◌, ◌++◌, length, set, drop, get_or, refl, sym, ap, subst, ◌∙◌, arith, add-one, drop-cons, Option, Some, None}
+use Rattle.std.proofs.Common.{◌≡◌, ℕ, zero, suc, ◌+◌, ◌<◌, ◌≤◌, Bool, true, false, cond, List, [], ◌∷◌, ◌++◌, length, set, drop, get_or, refl, sym, ap, subst, ◌∙◌, arith, add-one, drop-cons, Option, Some, None}
 use Rattle.std.specs.Prelude.{is_some, ◌*◌, map, option_to_list}
 use Rattle.std.specs.List.{AllByRecursion}
 use Rattle.std.proofs.lemmas.List.{length-append}
@@ -74,6 +74,11 @@ sends_on-tokens line (Some token) = refl
 pub answer_on : (node link : ℕ) (answer : Option Token) → sends_on (4 * node + link) answer ≡ on_lines node (on_link link answer)
 answer_on node link None = refl
 answer_on node link (Some token) = refl
+
+pub known_at : {A : Type 0} (P : A → Type 0) (xs : List A) (i : ℕ) (d : A) → i < length xs → AllByRecursion P xs → P (get_or xs i d)
+known_at P [] i d there all = absurd (omega arith)
+known_at P (x ∷ xs) zero d there all = all.0
+known_at P (x ∷ xs) (suc i) d there all = known_at P xs i d (omega arith) all.1
 
 -- the lines of a node's links are there
 pub all_known : (first n : ℕ) (ms : List (ℕ × Token)) → first + 4 ≤ n → AllByRecursion (λ m. m.0 < 4) ms → AllByRecursion (λ m. first + m.0 < n) ms

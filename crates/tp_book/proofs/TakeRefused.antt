@@ -21,6 +21,12 @@ host_refused b line p needed token front whole goes =
     ∙ ap (λ end. take_refusal b needed (else_if None (is_full_for (port_behind b end) (get_or (on_line b.state.lines line) 0 Marker)) PortFull)) goes
     ∙ ap (λ t. take_refusal b needed (else_if None (is_full_for (slice_get b.state.ports p) t) PortFull)) (takeable_first (on_line b.state.lines line) token front).1
 
+-- the store is broken
+pub broken_refused : (b : BookValue) (line : ℕ) (needed : Bool) (token : Token) → takeable_of (on_line b.state.lines line) ≡ Some token → b.broken ≡ true → port_refusal b line needed ≡ Some StoreBroken
+broken_refused b line needed token front broken =
+    ap (λ o. take_refusal b needed (else_if (else_if (else_if None (is_none o) NothingToTake) b.broken StoreBroken) (is_full_for (port_behind b (receiver b.state.start.wires line)) (get_or (on_line b.state.lines line) 0 Marker)) PortFull)) front
+    ∙ ap (λ broken. take_refusal b needed (else_if (else_if None broken StoreBroken) (is_full_for (port_behind b (receiver b.state.start.wires line)) (get_or (on_line b.state.lines line) 0 Marker)) PortFull)) broken
+
 -- the port is full
 pub full_refused : (b : BookValue) (line p : ℕ) (needed : Bool) (token : Token) → takeable_of (on_line b.state.lines line) ≡ Some token → b.broken ≡ false
     → receiver b.state.start.wires line ≡ Some (AtPort p) → is_full_for (slice_get b.state.ports p) token ≡ true → port_refusal b line needed ≡ Some PortFull

@@ -2,6 +2,7 @@ pub mod Numerals
 pub mod Names
 pub mod Cuts
 pub mod Kept
+pub mod Declared
 pub mod Reading
 pub mod Wired
 pub mod Shapes

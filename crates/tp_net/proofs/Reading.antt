@@ -13,7 +13,7 @@ use Rattle.tp_model.specs.Topology.{end_of}
 use Rattle.tp_model.specs.TopologyWords.{words, has_space_around, is_skipped}
 use Rattle.tp_model.specs.TopologyText.{Said, after_words, after_line, read_lines, nothing_said, read_text, finished, other_end}
 use Rattle.tp_net.specs.NodeNames.{names_said, node_names}
-use Rattle.tp_net.specs.Steps.{IsRead}
+use Rattle.tp_net.specs.Steps.{IsRead, IsStep}
 
 -- a line of any other number of words is malformed
 pub after_words-else : (said : Said) (number : ℕ) (words : List (Bor (List ℕ))) → (length words ≡ 2 → ⊥) → (length words ≡ 3 → ⊥)
@@ -89,6 +89,9 @@ receivers_more nodes line wires end ends after so_far is pushed =
 
 pub IsRead-fault : {T : Type 0} (want r : Result T NetFault) (fault : NetFault) → r ≡ Err fault → IsRead want (Err fault) → IsRead want r
 IsRead-fault want r fault e h = subst (IsRead want) (sym e) h
+
+pub IsStep-fault : (want : Result Said NetFault) (after : Said) (r : Result (Unit {0}) NetFault) (fault : NetFault) → r ≡ Err fault → IsStep want after (Err fault) → IsStep want after r
+IsStep-fault want after r fault e h = subst (IsStep want after) (sym e) h
 
 -- ## Names
 

@@ -1,12 +1,12 @@
 //! A network's shape.
 
-ghost use Rattle.std.specs.Prelude.{◌≡◌, ◌≤◌, true, Ok, IfOk, MatchResult, length, map};
+ghost use Rattle.std.specs.Prelude.{◌≡◌, ◌≤◌, true, Ok, IfOk, OnOk, MatchResult, length, map};
 ghost use Rattle.std.specs.Str.Lines.{lines};
 ghost use Rattle.tp_model.specs.Topology.{is_topology, line_count};
 ghost use Rattle.tp_model.specs.TopologyText.{nothing_said, read_lines, read_text};
 ghost use Rattle.tp_net.specs.NodeNames.{node_names};
 ghost use Rattle.tp_net.specs.Parts.{if_topology, parts};
-ghost use Rattle.tp_net.specs.Steps.{IsFaultOf, IsRead};
+ghost use Rattle.tp_net.specs.Steps.{IsFaultOf, IsRead, IsStep};
 
 use crate::declarations::Declarations;
 use crate::ends::{MAX_LINES, port_line};
@@ -74,7 +74,8 @@ impl Topology {
     pub fn read(alloc: Global, text: &[u8]) -> Result<Topology, NetFault>
         ensures { IsRead (read_text text.now) result }
     {
-        declarations_in(alloc, text)?.finish()
+        let mut declared = Declarations::new(alloc);
+        topology_in(&mut declared, alloc, text)
     }
 
     /// Reads a text as `read` does, and keeps its nodes' names.
@@ -82,12 +83,8 @@ impl Topology {
         ensures topology { MatchResult result (λ found. read_text text.now ≡ Ok found.topology) (λ fault. IsFaultOf (read_text text.now) fault) }
         ensures names { IfOk result (λ found. map (λ name. name.now) found.names.items ≡ node_names text.now) }
     {
-        let declared = declarations_in(alloc, text)?;
-        let topology = declared.finish()?;
-        let Ok(names) = declared.names(alloc) else {
-            return Err(NetFault::Memory);
-        };
-        Ok(Named { topology, names })
+        let mut declared = Declarations::new(alloc);
+        named_in(&mut declared, alloc, text)
     }
 
     /// The pages of each node.
@@ -133,11 +130,14 @@ pub struct Named<'a> {
     pub names: Vec<&'a str>,
 }
 
-/// Reads what all lines of a text declare.
-fn declarations_in(alloc: Global, text: &[u8]) -> Result<Declarations<'_>, NetFault>
-    ensures { IsRead (read_lines nothing_said 1 (lines text.now)) result }
+/// Reads what all lines of a text declare, behind what was declared before.
+fn declare<'a>(
+    declared: &mut Declarations<'a>,
+    alloc: Global,
+    text: &'a [u8],
+) -> Result<(), NetFault>
+    ensures { IsStep (read_lines declared.old 1 (lines text.now)) declared.new result }
 {
-    let mut declared = Declarations::new(alloc);
     let mut number = 1;
     let mut rest = text;
     while let Some((line, behind)) = next_line(rest) {
@@ -145,5 +145,36 @@ fn declarations_in(alloc: Global, text: &[u8]) -> Result<Declarations<'_>, NetFa
         number += 1;
         rest = behind;
     }
-    Ok(declared)
+    Ok(())
+}
+
+/// The topology that a text declares, where nothing was declared before.
+fn topology_in<'a>(
+    declared: &mut Declarations<'a>,
+    alloc: Global,
+    text: &'a [u8],
+) -> Result<Topology, NetFault>
+    requires { declared.old ≡ nothing_said }
+    ensures topology { IsRead (read_text text.now) result }
+    ensures declared { OnOk result (read_lines nothing_said 1 (lines text.now) ≡ Ok declared.new) }
+{
+    declare(declared, alloc, text)?;
+    declared.finish()
+}
+
+/// That topology, and its nodes' names.
+fn named_in<'a>(
+    declared: &mut Declarations<'a>,
+    alloc: Global,
+    text: &'a [u8],
+) -> Result<Named<'a>, NetFault>
+    requires { declared.old ≡ nothing_said }
+    ensures topology { MatchResult result (λ found. read_text text.now ≡ Ok found.topology) (λ fault. IsFaultOf (read_text text.now) fault) }
+    ensures names { IfOk result (λ found. map (λ name. name.now) found.names.items ≡ node_names text.now) }
+{
+    let topology = topology_in(declared, alloc, text)?;
+    let Ok(names) = declared.names(alloc) else {
+        return Err(NetFault::Memory);
+    };
+    Ok(Named { topology, names })
 }

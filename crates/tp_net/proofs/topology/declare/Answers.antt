@@ -1,11 +1,11 @@
 use Rattle.std.proofs.Common.{sym, ◌∙◌, inl, inr, arith, rules}
 use Rattle.std.specs.Str.Lines.{lines}
-use Rattle.tp_net.proofs.Reading.{IsRead-fault, read_lines-end, read_lines-fault, read_lines-more}
-use Rattle.tp_net.proofs.topology.declarations_in.Goals as goal
+use Rattle.tp_net.proofs.Reading.{IsStep-fault, read_lines-end, read_lines-fault, read_lines-more}
+use Rattle.tp_net.proofs.topology.declare.Goals as goal
 
 pub returns-in_err-add_line : goal.returns-in_err-add_line
 returns-in_err-add_line c =
-    IsRead-fault _ c.from_residual.result c.in_err-add_line.field-0.0 (search rules)
+    IsStep-fault _ _ c.from_residual.result c.in_err-add_line.field-0.0 (search rules)
     (elim c.in_err-add_line.ensures [
       | inl memory ↦ inl memory
       | inr fault ↦ inr (sym c.loop-line.invariant.left
