@@ -12,8 +12,8 @@ loop-number-preserved c =
     let here = at_drop_more (λ xs. xs) all n c.index-nodes-number.result c.loop-number-test.true ∙ ap (λ x. x ∷ drop (n + 1) all) (sym c.index-nodes-number.is) in
     record {
       text = c.in_ok-before.ensures.more rest
-      ∙ ap (λ how. string_bytes c.loop-number.text ++ json_items c.loop-number.before (halted_items n how ++ rest)) c.standing.ensures
-      ∙ ap (λ xs. string_bytes c.loop-number.text ++ json_items c.loop-number.before (all_halted_items n (map (λ x. x.live) xs))) (sym here)
-      ∙ c.loop-number.invariant.text;
+          ∙ ap (λ how. string_bytes c.loop-number.text ++ json_items c.loop-number.before (halted_items n how ++ rest)) c.standing.ensures
+          ∙ ap (λ xs. string_bytes c.loop-number.text ++ json_items c.loop-number.before (all_halted_items n (map (λ x. x.live) xs))) (sym here)
+          ∙ c.loop-number.invariant.text;
       few = omega (arith, c.in_ok-before.ensures.few, c.loop-number.invariant.few);
     }
