@@ -50,9 +50,8 @@ fn open_once_by<D: Disk, R: Threads + Sync>(
     ensures kept { D.keeps → OfSteady (λ answer. LeavesAlone answer (done Sync (D.state disk.old).now) (D.state disk.new).now) result }
     ensures is { D.keeps → OfSteady (ReadAnswer (λ opened. opened) (verdict (D.state disk.old).now.bytes)) result }
 {
-    let before = match look(disk) {
-        Ok(before) => before,
-        Err(unopened) => return Tried::Steady(Err(unopened)),
+    let Ok(before) = look(disk) else {
+        return Tried::Steady(Err(Unopened::ReadFailed));
     };
     let answer = match open_by(rt, alloc, disk, workers) {
         Err(Unopened::ReadFailed) => return Tried::Steady(Err(Unopened::ReadFailed)),
@@ -61,7 +60,7 @@ fn open_once_by<D: Disk, R: Threads + Sync>(
     match look(disk) {
         Ok(after) if is_still(before, after) => Tried::Steady(answer),
         Ok(_) => Tried::Changed,
-        Err(unopened) => Tried::Steady(Err(unopened)),
+        Err(_) => Tried::Steady(Err(Unopened::ReadFailed)),
     }
 }
 

@@ -64,10 +64,15 @@ fn push_generation(text: &mut String, generation: u64) -> Result<(), AllocError>
 fn push_next(text: &mut String, form: Form, next: u64) -> Result<(), AllocError>
     ensures { OnOk result (string_bytes text.new ≡ string_bytes text.old ++ next_part form next) }
 {
-    let form = form_name(form);
-    write!(
+    push_parts(
         text,
-        ",\"form\":\"{form}\",\"next\":{next},\"next_per_second\":"
+        &[
+            Text(",\"form\":\""),
+            Text(form_name(form)),
+            Text("\",\"next\":"),
+            Number(next),
+            Text(",\"next_per_second\":"),
+        ],
     )
 }
 
@@ -97,7 +102,10 @@ fn push_percent(text: &mut String, entries: usize, room: u64) -> Result<(), Allo
     ensures { OnOk result (string_bytes text.new ≡ string_bytes text.old ++ percent_part entries room) }
 {
     let used = percent(entries, room);
-    write!(text, ",\"percent\":{used},\"ports\":[")
+    push_parts(
+        text,
+        &[Text(",\"percent\":"), Large(used), Text(",\"ports\":[")],
+    )
 }
 
 /// Appends how many entries the journal has, and how many it has room for.

@@ -112,9 +112,15 @@ fn read_fronts<D: Disk>(disk: &mut D, areas: TwoAreas) -> Result<Fronts, Unopene
     ensures is { D.keeps → IfOk result (λ fronts. fronts ≡ fronts_in areas (D.state disk.old).now.bytes) }
 {
     let start = area_start(areas, false);
-    let first = read_front(disk, start)?;
-    let second = read_front(disk, area_start(areas, true))?;
-    let again = read_front(disk, start)?;
+    let Ok(first) = read_front(disk, start) else {
+        return Err(Unopened::ReadFailed);
+    };
+    let Ok(second) = read_front(disk, area_start(areas, true)) else {
+        return Err(Unopened::ReadFailed);
+    };
+    let Ok(again) = read_front(disk, start) else {
+        return Err(Unopened::ReadFailed);
+    };
     Ok(Fronts {
         areas,
         first,
@@ -132,11 +138,10 @@ pub(crate) fn look<D: Disk>(disk: &mut D) -> Result<Option<Fronts>, Unopened>
     ensures is { D.keeps → IfOk result (λ found. found ≡ look_finds (head_of (D.state disk.old).now.bytes) (D.state disk.old).now.bytes) }
 {
     match read_head(disk) {
-        Ok(head) => {
-            let areas = head.areas();
-            let fronts = read_fronts(disk, areas)?;
-            Ok(Some(fronts))
-        }
+        Ok(head) => match read_fronts(disk, head.areas()) {
+            Ok(fronts) => Ok(Some(fronts)),
+            Err(_) => Err(Unopened::ReadFailed),
+        },
         Err(Unopened::Fault(_)) => Ok(None),
         Err(_) => Err(Unopened::ReadFailed),
     }
@@ -179,9 +184,8 @@ fn open_once<D: Disk>(alloc: Global, disk: &mut D) -> Tried
     ensures kept { D.keeps → OfSteady (λ answer. LeavesAlone answer (done Sync (D.state disk.old).now) (D.state disk.new).now) result }
     ensures is { D.keeps → OfSteady (ReadAnswer (λ opened. opened) (verdict (D.state disk.old).now.bytes)) result }
 {
-    let before = match look(disk) {
-        Ok(before) => before,
-        Err(unopened) => return Tried::Steady(Err(unopened)),
+    let Ok(before) = look(disk) else {
+        return Tried::Steady(Err(Unopened::ReadFailed));
     };
     let answer = match open(alloc, disk) {
         Err(Unopened::ReadFailed) => return Tried::Steady(Err(Unopened::ReadFailed)),
@@ -190,7 +194,7 @@ fn open_once<D: Disk>(alloc: Global, disk: &mut D) -> Tried
     match look(disk) {
         Ok(after) if is_still(before, after) => Tried::Steady(answer),
         Ok(_) => Tried::Changed,
-        Err(unopened) => Tried::Steady(Err(unopened)),
+        Err(_) => Tried::Steady(Err(Unopened::ReadFailed)),
     }
 }
 
