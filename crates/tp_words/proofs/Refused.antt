@@ -1,5 +1,5 @@
 -- Why words name no ends.
-use Rattle.std.proofs.Common.{◌≡◌, ◌≢◌, ◌⊎◌, ℕ, Bool, List, Any, sym, subst, inl, inr, bytes_eq, Result, Ok, Err, IfErr}
+use Rattle.std.proofs.Common.{◌≡◌, ◌≢◌, ◌⊎◌, ℕ, Bool, List, Any, sym, subst, inl, inr, bytes_eq}
 use Rattle.std.proofs.lemmas.Slice.Eq.{bytes_eq-Decides, slice_eq-Decides}
 use Rattle.std.specs.Bool.{Decides}
 use Rattle.std.specs.Cmp.Lexicographic.{pointwise}
@@ -35,8 +35,3 @@ told found words IsNone own clap typed fault (inr (inl missing)) other unfit =
     subst (λ (f : EndsFault). IsRefused found words f) (sym missing.0) (other missing.1)
 told found words IsNone own clap typed fault (inr (inr is)) other unfit =
     subst (λ (f : EndsFault). IsRefused found words f) (sym is.0) (unfit is.1)
-
--- what `?` hands on
-pub on_fault : {T : Type 0} (r : Result T EndsFault) (fault : EndsFault) (P : EndsFault → Type 0) → r ≡ Err fault → P fault → IfErr r P
-on_fault (Ok x) fault P is holds = tt
-on_fault (Err e) fault P is holds = let same : fault ≡ e = cc in subst P same holds

@@ -4,6 +4,7 @@ pub mod Size
 pub mod Args
 pub mod Numbers
 pub mod Parsing
+pub mod RunNumbers
 pub mod Ends
 pub mod Standard
 pub mod StreamArgs

@@ -99,11 +99,13 @@ fn command_in(alloc: Global, words: &[String], matches: &ArgMatches) -> Result<C
     ensures range { IfOk result IsCommandInRange }
     ensures typed { IfOk result (WasCommandTyped words.now) }
 {
-    match matches.subcommand() {
-        Some(("stop", found)) => Ok(Command::Stop(request_of(alloc, words, found)?)),
-        Some(("backup", found)) => Ok(Command::Backup(backup_of(alloc, words, found)?)),
-        Some((name, found)) => Ok(Command::Other(asked_by(alloc, words, name, found)?)),
-        None => Err(ArgFault::Missing),
+    let Some((name, found)) = matches.subcommand() else {
+        return Err(ArgFault::Missing);
+    };
+    match name {
+        "stop" => Ok(Command::Stop(request_of(alloc, words, found)?)),
+        "backup" => Ok(Command::Backup(backup_of(alloc, words, found)?)),
+        _ => Ok(Command::Other(asked_by(alloc, words, name, found)?)),
     }
 }
 

@@ -5,7 +5,8 @@ ghost use Rattle.std.specs.Fmt.{decimal};
 ghost use Rattle.std.specs.Option.{option_map};
 ghost use Rattle.tp_words.specs.Args.{IsEvery, IsInRange, WasTyped};
 ghost use Rattle.tp_words.specs.Given.{given, IsGivenOr};
-ghost use Rattle.tp_words.specs.Numbers.{Fits, IsNumberFault, every_option, wait_option};
+ghost use Rattle.tp_words.specs.Numbers.{AllFit, Fits, IsFirstNumberFault, IsNumberFault, every_option, wait_option};
+ghost use Rattle.tp_words.specs.RunNumbers.{AreRunNumbers, AreTypedRunNumbers, IsPace, IsTypedPace, pace_options};
 
 use crate::arg_fault::ArgFault;
 use crate::args::{Asked, MAX_WAIT, MAX_WORKERS, NewDevice, QUANTUM, Run};
@@ -53,21 +54,72 @@ pub fn wait_of(alloc: Global, words: &[String], found: &ArgMatches) -> Result<u3
     Ok(option_or(alloc, words, found, "wait-lock", 0, MAX_WAIT, 0)? as u32)
 }
 
+/// The numbers that say how turns are made, of a run and of a stream, as they are in `Run`.
+#[derive(Clone, Copy)]
+pub struct Pace {
+    pub quantum: u16,
+    pub spare: u64,
+    pub every: Option<u32>,
+}
+
+/// How turns are made.
+pub fn pace_of(alloc: Global, words: &[String], found: &ArgMatches) -> Result<Pace, ArgFault>
+    ensures range { IfOk result IsPace }
+    ensures typed { IfOk result (IsTypedPace words.now) }
+    ensures fit { OnOk result (AllFit words.now pace_options) }
+    ensures refused { IfErr result (IsFirstNumberFault found.now words.now pace_options) }
+{
+    let steps = MAX_STEPS as u64;
+    let quantum = option_or(alloc, words, found, "quantum", 1, steps, QUANTUM as u64)?;
+    let spare = option_or(alloc, words, found, "spare", 0, u64::MAX, 4)?;
+    let every = every_of(alloc, words, found)?;
+    Ok(Pace {
+        quantum: quantum as u16,
+        spare,
+        every,
+    })
+}
+
+/// The numbers of a run, as they are in `Run`.
+#[derive(Clone, Copy)]
+struct RunNumbers {
+    turns: u32,
+    workers: u8,
+    pace: Pace,
+    port: u64,
+    wait_lock: u32,
+}
+
+/// The numbers of a run that were found among the words.
+fn run_numbers(alloc: Global, words: &[String], found: &ArgMatches) -> Result<RunNumbers, ArgFault>
+    ensures range { IfOk result AreRunNumbers }
+    ensures typed { IfOk result (AreTypedRunNumbers words.now) }
+{
+    let workers = MAX_WORKERS as u64;
+    Ok(RunNumbers {
+        turns: turns_of(alloc, words, found)?,
+        workers: option_or(alloc, words, found, "workers", 1, workers, 2)? as u8,
+        pace: pace_of(alloc, words, found)?,
+        port: option_or(alloc, words, found, "port", 0, u64::MAX, 0)?,
+        wait_lock: wait_of(alloc, words, found)?,
+    })
+}
+
 /// A run of a device's network.
 #[tactic(auto, unfolding(crate::specs::Args::IsRun))]
 pub fn asked_run(alloc: Global, words: &[String], found: &ArgMatches) -> Result<Asked, ArgFault>
     ensures range { IfOk result IsInRange }
     ensures typed { IfOk result (WasTyped words.now) }
 {
-    let (workers, steps) = (MAX_WORKERS as u64, MAX_STEPS as u64);
+    let numbers = run_numbers(alloc, words, found)?;
     Ok(Asked::Run(Run {
-        turns: turns_of(alloc, words, found)?,
-        workers: option_or(alloc, words, found, "workers", 1, workers, 2)? as u8,
-        quantum: option_or(alloc, words, found, "quantum", 1, steps, QUANTUM as u64)? as u16,
-        spare: option_or(alloc, words, found, "spare", 0, u64::MAX, 4)?,
-        every: every_of(alloc, words, found)?,
-        port: option_or(alloc, words, found, "port", 0, u64::MAX, 0)?,
-        wait_lock: wait_of(alloc, words, found)?,
+        turns: numbers.turns,
+        workers: numbers.workers,
+        quantum: numbers.pace.quantum,
+        spare: numbers.pace.spare,
+        every: numbers.pace.every,
+        port: numbers.port,
+        wait_lock: numbers.wait_lock,
         input: option_string(alloc, words, found, "in")?,
         device: text_of(alloc, words, found, "DEVICE")?,
     }))

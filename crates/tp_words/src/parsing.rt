@@ -1,7 +1,8 @@
 //! What `clap` makes of words.
 
-ghost use Rattle.std.specs.Prelude.{◌≤◌, IfErr, OnOk, length};
-ghost use Rattle.tp_words.specs.Parsing.{IsUnparsed};
+ghost use Rattle.std.specs.Prelude.{◌≡◌, ◌⊎◌, ◌≤◌, IfErr, OnOk, length};
+ghost use Rattle.tp_words.specs.Parsing.{IsMistake, IsUnparsed};
+ghost use Rattle.tp_words.specs.declared.arg_fault.ArgFault.TheVariants.{Words, Memory};
 ghost use Rattle.tp_words.specs.declared.args.TheConstants.{MAX_WORDS};
 
 use crate::arg_fault::ArgFault;
@@ -19,6 +20,16 @@ pub enum Parsed<'a> {
     Found(ArgMatches<'a>),
 }
 
+/// What is told where `clap` finds nothing: its text, which is no fault where help or the version was asked for.
+fn unfound<'a>(alloc: Global, error: clap::Error) -> Result<Parsed<'a>, ArgFault>
+    ensures { IfErr result (λ fault. (fault ≡ Memory) ⊎ ((fault ≡ Words error) × IsMistake error)) }
+{
+    if error.use_stderr() {
+        return Err(ArgFault::Words(error));
+    }
+    Ok(Parsed::Help(format!(in alloc; "{error}")?))
+}
+
 /// Reads the words of a command line by `clap`, as those of a command of these names. Asking for help is no fault.
 pub fn parse<'a>(alloc: Global, words: &'a [String], names: &[Name]) -> Result<Parsed<'a>, ArgFault>
     ensures few { OnOk result (length words.now ≤ MAX_WORDS) }
@@ -29,7 +40,6 @@ pub fn parse<'a>(alloc: Global, words: &'a [String], names: &[Name]) -> Result<P
     }
     match command(alloc, names)?.try_get_matches_from(words) {
         Ok(matches) => Ok(Parsed::Found(matches)),
-        Err(error) if error.use_stderr() => Err(ArgFault::Words(error)),
-        Err(error) => Ok(Parsed::Help(format!(in alloc; "{error}")?)),
+        Err(error) => unfound(alloc, error),
     }
 }

@@ -6,16 +6,15 @@ ghost use Rattle.tp_words.specs.StreamArgs.{AreInRange, AreTyped, IsStreamInRang
 ghost use Rattle.tp_words.specs.StreamRefused.{IsMatchRefused, IsRunRefused, IsStreamRefused, number_options};
 
 use crate::arg_fault::ArgFault;
-use crate::args::{MAX_TURNS, MAX_WORKERS, QUANTUM};
+use crate::args::{MAX_TURNS, MAX_WORKERS};
 use crate::command::CommandFault;
-use crate::device_args::{every_of, wait_of};
-use crate::found::{option_or, option_short, option_string, text_of};
+use crate::device_args::{pace_of, wait_of};
+use crate::found::{option_short, option_string, text_of};
 use crate::parsing::{Parsed, parse};
 use crate::stream_ends::ends_of;
 use crate::words::STREAM_COMMANDS;
 use clap::ArgMatches;
 use std::alloc::Global;
-use tp_model::limits::MAX_STEPS;
 use tp_stream_files::Ends;
 
 /// The most seconds after which it is said again how far a stream has come.
@@ -82,21 +81,18 @@ fn numbers_of(
     ensures fit { OnOk result (AllFit words.now number_options) }
     ensures refused { IfErr result (IsFirstNumberFault found.now words.now number_options) }
 {
-    let steps = MAX_STEPS as u64;
     let turns = option_short(alloc, words, found, "turns", 0, MAX_TURNS)?;
     let seconds = option_short(alloc, words, found, "progress-every", 1, MAX_PROGRESS)?;
     let workers = option_short(alloc, words, found, "workers", 1, MAX_WORKERS as u64)?;
-    let quantum = option_or(alloc, words, found, "quantum", 1, steps, QUANTUM as u64)?;
-    let spare = option_or(alloc, words, found, "spare", 0, u64::MAX, 4)?;
-    let every = every_of(alloc, words, found)?;
+    let pace = pace_of(alloc, words, found)?;
     let wait_lock = wait_of(alloc, words, found)?;
     Ok(StreamNumbers {
         turns,
         progress_every: seconds,
         workers,
-        quantum: quantum as u16,
-        spare,
-        every,
+        quantum: pace.quantum,
+        spare: pace.spare,
+        every: pace.every,
         wait_lock,
     })
 }

@@ -187,7 +187,13 @@ fn command_of<'a>(
         .about(form.about)
         .after_help(refusals);
     for word in form.words {
-        command = command.arg(arg_of(alloc, word)?)?;
+        let Ok(arg) = arg_of(alloc, word) else {
+            return Err(AllocError);
+        };
+        let Ok(with_arg) = command.arg(arg) else {
+            return Err(AllocError);
+        };
+        command = with_arg;
     }
     Ok(command)
 }
@@ -205,8 +211,13 @@ pub fn command<'a>(alloc: Global, names: &[Name]) -> Result<Command<'a>, AllocEr
         "A network of transputers whose computations survive any crash",
     );
     for name in names {
-        let added = command_of(alloc, &form_of(*name), refusals_of(*name))?;
-        command = command.subcommand(added)?;
+        let Ok(added) = command_of(alloc, &form_of(*name), refusals_of(*name)) else {
+            return Err(AllocError);
+        };
+        let Ok(with_added) = command.subcommand(added) else {
+            return Err(AllocError);
+        };
+        command = with_added;
     }
     Ok(command)
 }

@@ -1,4 +1,4 @@
-use Rattle.std.proofs.Common.{◌≡◌, Err, arith, refl, rules, codes}
+use Rattle.std.proofs.Common.{arith, refl, codes}
 use Rattle.tp_words.specs.Ends.{IsNoFile, IsNoHave, IsNoPort, IsRefused}
 use Rattle.tp_words.specs.declared.stream_ends.EndsFault.{EndsFault}
 use Rattle.tp_words.specs.declared.stream_ends.EndsFault.TheVariants.{File, Have, Discard}
@@ -6,7 +6,8 @@ use Rattle.tp_words.specs.declared.stream_ends.FileOption.TheVariants.{In}
 use Rattle.tp_words.proofs.OfEnds.{of_ends}
 use Rattle.tp_words.proofs.Standard.{standard_is}
 use Rattle.tp_words.specs.Given.{all_given}
-use Rattle.tp_words.proofs.Refused.{on_fault, told}
+use Rattle.tp_words.proofs.Refused.{told}
+use Rattle.tp_words.proofs.StreamFaults.{on_told}
 use Rattle.tp_words.proofs.stream_ends.ends_of.Goals as goal
 
 pub returns-in_err-haves_of-clause-refused : goal.returns-in_err-haves_of-clause-refused
@@ -14,9 +15,8 @@ returns-in_err-haves_of-clause-refused c =
     let found = c.args.found.now in
     let words = c.args.words.now in
     let fault = c.in_err-haves_of.field-0.0 in
-    let is : c.from_residual-in_err-haves_of.result ≡ Err fault = search rules in
     let outs = c.in_ok-files_of in
-    on_fault c.from_residual-in_err-haves_of.result fault (λ (fault : EndsFault). IsRefused found words fault) is
+    on_told c.from_residual-in_err-haves_of.result fault (λ (fault : EndsFault). IsRefused found words fault) c.from_residual-in_err-haves_of.ensures.1
     (told found words IsNoHave Have _ _ fault c.in_err-haves_of.ensures.refused (λ other. (1, codes "have", omega arith, refl, other))
     (λ any. ((outs.field-0.items, outs.ensures.files, outs.ensures.typed), any)))
 
@@ -25,10 +25,9 @@ returns-in_err-discards_of-clause-refused c =
     let found = c.args.found.now in
     let words = c.args.words.now in
     let fault = c.in_err-discards_of.field-0.0 in
-    let is : c.from_residual-in_err-discards_of.result ≡ Err fault = search rules in
     let outs = c.in_ok-files_of in
     let haves = c.in_ok-haves_of in
-    on_fault c.from_residual-in_err-discards_of.result fault (λ (fault : EndsFault). IsRefused found words fault) is
+    on_told c.from_residual-in_err-discards_of.result fault (λ (fault : EndsFault). IsRefused found words fault) c.from_residual-in_err-discards_of.ensures.1
     (told found words IsNoPort Discard _ _ fault c.in_err-discards_of.ensures.refused (λ other. (2, codes "discard", omega arith, refl, other))
     (λ any. ((outs.field-0.items, outs.ensures.files, outs.ensures.typed), (haves.field-0.items, haves.ensures.haves, haves.ensures.typed), any)))
 
@@ -37,11 +36,10 @@ returns-in_err-files_of-2-clause-refused c =
     let found = c.args.found.now in
     let words = c.args.words.now in
     let fault = c.in_err-files_of-2.field-0.0 in
-    let is : c.from_residual-in_err-files_of-2.result ≡ Err fault = search rules in
     let outs = c.in_ok-files_of in
     let haves = c.in_ok-haves_of in
     let ports = c.in_ok-discards_of in
-    on_fault c.from_residual-in_err-files_of-2.result fault (λ (fault : EndsFault). IsRefused found words fault) is
+    on_told c.from_residual-in_err-files_of-2.result fault (λ (fault : EndsFault). IsRefused found words fault) c.from_residual-in_err-files_of-2.ensures.1
     (told found words IsNoFile (File In) _ _ fault c.in_err-files_of-2.ensures.refused (λ other. (3, codes "in", omega arith, refl, other))
     (λ any. (
       (outs.field-0.items, outs.ensures.files, outs.ensures.typed),

@@ -1,20 +1,18 @@
-use Rattle.std.proofs.Common.{◌≡◌, ◌⊎◌, ℕ, List, All, Any, Bor, Err, map, subst, sym, rules}
+use Rattle.std.proofs.Common.{◌≡◌, ◌⊎◌, ℕ, List, All, Any, Bor, map, subst, sym}
 use Rattle.std.proofs.lemmas.List.Elements.{All-push}
 use Rattle.tp_stream_files.specs.declared.ends.PortFile.{PortFile}
 use Rattle.tp_words.specs.Ends.{IsFile, IsNoFile, file_text}
 use Rattle.tp_words.specs.declared.stream_ends.EndsFault.{EndsFault}
 use Rattle.tp_words.specs.declared.stream_ends.EndsFault.TheVariants.{File, Memory}
-use Rattle.tp_words.proofs.Refused.{on_fault}
 use Rattle.tp_words.proofs.Texts.{one_more, some_refused}
+use Rattle.tp_words.proofs.StreamFaults.{on_told}
 use Rattle.tp_words.proofs.stream_ends.files_in.Goals as goal
 
 pub returns-in_err-file_of-clause-refused : goal.returns-in_err-file_of-clause-refused
 returns-in_err-file_of-clause-refused c =
     let texts = c.args.texts.now in
     let fault = c.in_err-file_of.field-0.0 in
-    let is : c.from_residual.result ≡ Err fault = search rules in
-    on_fault c.from_residual.result fault
-    (λ (fault : EndsFault). (fault ≡ Memory) ⊎ ((fault ≡ (File c.args.option)) × Any IsNoFile (map (λ (text : Bor (List ℕ)). text.now) texts))) is
+    on_told c.from_residual.result fault (λ (fault : EndsFault). (fault ≡ Memory) ⊎ ((fault ≡ (File c.args.option)) × Any IsNoFile (map (λ (text : Bor (List ℕ)). text.now) texts))) c.from_residual.ensures.1
     (some_refused (File c.args.option) IsNoFile (λ (text : Bor (List ℕ)). text.now) texts c.loop-text.text-index _ fault c.loop-text-test.true c.in_err-file_of.ensures.refused)
 
 pub loop-text-preserved : goal.loop-text-preserved

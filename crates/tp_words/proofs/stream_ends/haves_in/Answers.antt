@@ -1,16 +1,14 @@
-use Rattle.std.proofs.Common.{◌≡◌, ◌⊎◌, ℕ, List, Any, Bor, Err, map, rules}
+use Rattle.std.proofs.Common.{◌≡◌, ◌⊎◌, ℕ, List, Any, Bor, map}
 use Rattle.tp_words.specs.Ends.{IsNoHave}
 use Rattle.tp_words.specs.declared.stream_ends.EndsFault.{EndsFault}
 use Rattle.tp_words.specs.declared.stream_ends.EndsFault.TheVariants.{Have, Memory}
-use Rattle.tp_words.proofs.Refused.{on_fault}
 use Rattle.tp_words.proofs.Texts.{some_refused}
+use Rattle.tp_words.proofs.StreamFaults.{on_told}
 use Rattle.tp_words.proofs.stream_ends.haves_in.Goals as goal
 
 pub returns-in_err-have_of-clause-refused : goal.returns-in_err-have_of-clause-refused
 returns-in_err-have_of-clause-refused c =
     let texts = c.args.texts.now in
     let fault = c.in_err-have_of.field-0.0 in
-    let is : c.from_residual.result ≡ Err fault = search rules in
-    on_fault c.from_residual.result fault
-    (λ (fault : EndsFault). (fault ≡ Memory) ⊎ ((fault ≡ Have) × Any IsNoHave (map (λ (text : Bor (List ℕ)). text.now) texts))) is
+    on_told c.from_residual.result fault (λ (fault : EndsFault). (fault ≡ Memory) ⊎ ((fault ≡ Have) × Any IsNoHave (map (λ (text : Bor (List ℕ)). text.now) texts))) c.from_residual.ensures.1
     (some_refused Have IsNoHave (λ (text : Bor (List ℕ)). text.now) texts c.loop-text.text-index _ fault c.loop-text-test.true c.in_err-have_of.ensures.refused)
