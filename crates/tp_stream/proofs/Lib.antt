@@ -13,3 +13,4 @@ pub mod Shown
 pub mod Standings
 pub mod Started
 pub mod Stepping
+pub mod Tests

@@ -196,6 +196,8 @@ pub(crate) fn begin_all<S: Sink, I: Source, L: Listener>(
     ensures told { OnOk result (Noticed (map (output_begins (port_standing book.now mark)) (map given_of streams.old.outputs.items)
         ++ map (input_begins (accepted_at book.now)) (map (λ i. given_input i.port (I.input i.source)) streams.old.inputs.items)) (L.told listener.old) (L.told listener.new)) }
 {
-    begin_outputs(book, mark, &mut streams.outputs, listener)?;
-    begin_inputs(book, &streams.inputs, listener)
+    match begin_outputs(book, mark, &mut streams.outputs, listener) {
+        Ok(()) => begin_inputs(book, &streams.inputs, listener),
+        Err(fault) => Err(fault),
+    }
 }

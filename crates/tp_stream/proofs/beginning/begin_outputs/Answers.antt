@@ -30,6 +30,17 @@ begin-requires-clause-few g c =
     let there : x.port < length c.args.book.now.state.ports = omega arith in
     put_out_few c.args.book.now c.args.mark x.port c.requires there
 
+pub begin-requires-clause-there : goal.begin-requires-clause-there
+begin-requires-clause-there g c = omega arith
+
+pub returns-then-from-ports-clause-same : goal.returns-then-from-ports-clause-same
+returns-then-from-ports-clause-same g c =
+    let x = slice_index_or c.loop-output.outputs c.loop-output.output-index c.output-item.result in
+    given_set c.loop-output.outputs c.loop-output.output-index c.output-item.result x refl ∙ c.loop-output.invariant.same
+
+pub returns-clause-same : goal.returns-clause-same
+returns-clause-same g c = c.loop-output.invariant.same
+
 pub returns-in-Err-clause-refused : goal.returns-in-Err-clause-refused
 returns-in-Err-clause-refused g c =
     let xs = c.loop-output.outputs in
