@@ -56,59 +56,34 @@ fn write_port<W: fmt::Write>(f: &mut fmt::Formatter<W>, word: &str, port: u8) ->
     write!(f, "{word} {port}")
 }
 
-/// The word that a fault is told by, where it isn't one of the opening.
-fn word_of(fault: StreamFault) -> &'static str {
-    match fault {
-        StreamFault::Opening(_) => "",
-        StreamFault::Spare => "Spare",
-        StreamFault::Port(_) => "Port",
-        StreamFault::Unnamed(_) => "Unnamed",
-        StreamFault::Short { .. } => "Short",
-        StreamFault::Long { .. } => "Long",
-        StreamFault::Gone { .. } => "Gone",
-        StreamFault::NotShown { .. } => "NotShown",
-        StreamFault::ShortInput { .. } => "ShortInput",
-        StreamFault::InputFailed(_) => "ReadFailed",
-        StreamFault::OutputFailed(_) | StreamFault::FlushFailed | StreamFault::NotStored => {
-            "DeviceFailed"
-        }
-        StreamFault::JournalFull => "JournalFull",
-        StreamFault::Memory => "Memory",
-    }
-}
-
 impl fmt::Display for StreamFault {
     fn fmt<W: fmt::Write>(&self, f: &mut fmt::Formatter<W>) -> fmt::Result {
-        let word = word_of(*self);
         match *self {
             StreamFault::Opening(unopened) => fmt::Display::fmt(&unopened, f),
-            StreamFault::Port(port) | StreamFault::Unnamed(port) => write_port(f, word, port),
-            StreamFault::Short {
+            StreamFault::Spare => f.write_str("Spare"),
+            StreamFault::Port(port) => write_port(f, "Port", port),
+            StreamFault::Unnamed(port) => write_port(f, "Unnamed", port),
+            StreamFault::Short { port, has, from } => write_numbers(f, "Short", port, has, from),
+            StreamFault::Long { port, has, upto } => write_numbers(f, "Long", port, has, upto),
+            StreamFault::Gone {
                 port,
-                has: first,
-                from: second,
+                have,
+                confirmed,
+            } => write_numbers(f, "Gone", port, have, confirmed),
+            StreamFault::NotShown { port, have, shown } => {
+                write_numbers(f, "NotShown", port, have, shown)
             }
-            | StreamFault::Long {
+            StreamFault::ShortInput {
                 port,
-                has: first,
-                upto: second,
+                has,
+                accepted,
+            } => write_numbers(f, "ShortInput", port, has, accepted),
+            StreamFault::InputFailed(_) => f.write_str("ReadFailed"),
+            StreamFault::OutputFailed(_) | StreamFault::FlushFailed | StreamFault::NotStored => {
+                f.write_str("DeviceFailed")
             }
-            | StreamFault::Gone {
-                port,
-                have: first,
-                confirmed: second,
-            }
-            | StreamFault::NotShown {
-                port,
-                have: first,
-                shown: second,
-            }
-            | StreamFault::ShortInput {
-                port,
-                has: first,
-                accepted: second,
-            } => { write_numbers(f, word, port, first, second) }
-            _ => f.write_str(word),
+            StreamFault::JournalFull => f.write_str("JournalFull"),
+            StreamFault::Memory => f.write_str("Memory"),
         }
     }
 }
