@@ -124,14 +124,15 @@ fn first_line(copy: &TailCopy) -> usize {
     copy.lines.len(0)
 }
 
-/// Node 0 makes a turn, and a snapshot begins. Each node records, and makes turns until the cut is whole. Answers their images.
+/// Node 0 makes a turn, and a snapshot begins. Each node records, and makes turns until the cut is whole. Answers their images; none
+/// without memory.
 fn record_both<J: Naming, R: Wait>(
     rt: &R,
     alloc: Global,
     shared: &Shared<J>,
     key: &mut Key<Told>,
     seat: &mut Seat<J>,
-) -> Result<(Vec<u8>, Vec<u8>), AllocError>
+) -> Option<(Vec<u8>, Vec<u8>)>
     requires name { key.old.name ≡ J.flusher }
     requires there { 1 < length J.start.nodes }
     ensures { key.new.name ≡ key.old.name }
@@ -140,33 +141,55 @@ fn record_both<J: Naming, R: Wait>(
     begin(rt, alloc, shared);
     make_turn(rt, shared, seat, 0);
     make_turn(rt, shared, seat, 1);
-    let first = image_of(rt, alloc, shared, key, 0)?;
+    let Ok(first) = image_of(rt, alloc, shared, key, 0) else {
+        return None;
+    };
     make_turn(rt, shared, seat, 0);
     make_turn(rt, shared, seat, 1);
-    let second = image_of(rt, alloc, shared, key, 1)?;
-    Ok((first, second))
+    match image_of(rt, alloc, shared, key, 1) {
+        Ok(second) => Some((first, second)),
+        Err(_) => None,
+    }
 }
 
-/// What comes of the snapshot then. None where there is no copy.
-fn end<J: Naming, R: Wait>(
+// Lets the pages go. Answers whether the snapshot runs before, whether there is a copy, and whether there are pages then. Both are so without
+// memory.
+fn let_go<J: Naming, R: Wait>(
     rt: &R,
     alloc: Global,
     shared: &Shared<J>,
     key: &mut Key<Told>,
-) -> Result<Option<Ended>, AllocError>
+) -> (bool, bool, bool)
     requires name { key.old.name ≡ J.flusher }
     requires there { 1 < length J.start.nodes }
+    ensures { key.new.name ≡ key.old.name }
 {
     let running = is_running(rt, shared);
-    let early = copy(rt, alloc, shared, key)?.is_some();
+    let early = !matches!(copy(rt, alloc, shared, key), Ok(None));
     shared.drop_frozen(rt, key, 0);
     shared.drop_frozen(rt, key, 1);
-    let kept = !image_of(rt, alloc, shared, key, 1)?.is_empty();
-    let Some(copy) = copy(rt, alloc, shared, key)? else {
-        return Ok(None);
+    let kept = match image_of(rt, alloc, shared, key, 1) {
+        Ok(image) => !image.is_empty(),
+        Err(_) => true,
     };
+    (running, early, kept)
+}
+
+// Trims the book to a copy of the cut. Answers what came of the snapshot.
+fn trimmed<J: Naming, R: Wait>(
+    rt: &R,
+    alloc: Global,
+    shared: &Shared<J>,
+    key: &mut Key<Told>,
+    copy: &TailCopy,
+    told: (bool, bool, bool),
+) -> Ended
+    requires name { key.old.name ≡ J.flusher }
+    requires thawed { key.old.value.thawed ≡ true }
+{
+    let (running, early, kept) = told;
     trim(rt, shared, key);
-    Ok(Some(Ended {
+    Ended {
         running,
         early,
         kept,
@@ -174,34 +197,53 @@ fn end<J: Naming, R: Wait>(
         base: copy.base,
         outside: copy.tail.entries().len(),
         upto: copy.tail.upto(),
-        on_line: first_line(&copy),
+        on_line: first_line(copy),
         again: begin(rt, alloc, shared),
-    }))
+    }
 }
 
-/// A snapshot to its end.
+/// What comes of the snapshot then. None where there is no copy, or without memory.
+fn end<J: Naming, R: Wait>(
+    rt: &R,
+    alloc: Global,
+    shared: &Shared<J>,
+    key: &mut Key<Told>,
+) -> Option<Ended>
+    requires name { key.old.name ≡ J.flusher }
+    requires there { 1 < length J.start.nodes }
+{
+    let told = let_go(rt, alloc, shared, key);
+    match copy(rt, alloc, shared, key) {
+        Ok(Some(copy)) => Some(trimmed(rt, alloc, shared, key, &copy, told)),
+        _ => None,
+    }
+}
+
+/// A snapshot to its end. None where there is no copy, or without memory.
 fn checkpoint<J: Naming, R: Wait>(
     rt: &R,
     alloc: Global,
     shared: &Shared<J>,
     key: &mut Key<Told>,
     seat: &mut Seat<J>,
-) -> Result<Option<Checkpointed>, AllocError>
+) -> Option<Checkpointed>
     requires name { key.old.name ≡ J.flusher }
     requires there { 1 < length J.start.nodes }
 {
-    let (first, second) = record_both(rt, alloc, shared, key, seat)?;
-    let Some(end) = end(rt, alloc, shared, key)? else {
-        return Ok(None);
+    let Some((first, second)) = record_both(rt, alloc, shared, key, seat) else {
+        return None;
     };
-    Ok(Some(Checkpointed { first, second, end }))
+    match end(rt, alloc, shared, key) {
+        Some(end) => Some(Checkpointed { first, second, end }),
+        None => None,
+    }
 }
 
 fn checkpoint_of_parts<J: Naming, R: Wait>(
     rt: &R,
     alloc: Global,
     parts: Parts,
-) -> Result<Option<Checkpointed>, AllocError>
+) -> Option<Checkpointed>
     requires there { 1 < length J.start.nodes }
     requires names { Names J.roll J.first J.start J.node J.mark J.flusher J.sights J.room parts }
 {
@@ -211,11 +253,7 @@ fn checkpoint_of_parts<J: Naming, R: Wait>(
 }
 
 /// A snapshot of two nodes under locks, to the trim.
-pub fn checkpoint_of_pair<R: Wait>(
-    rt: &R,
-    alloc: Global,
-    parts: Parts,
-) -> Result<Option<Checkpointed>, AllocError>
+pub fn checkpoint_of_pair<R: Wait>(rt: &R, alloc: Global, parts: Parts) -> Option<Checkpointed>
     requires there { 1 < length parts.book.state.start.nodes }
 {
     checkpoint_of_parts::<Brand, R>(rt, alloc, parts)

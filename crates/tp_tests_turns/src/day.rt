@@ -121,7 +121,9 @@ pub fn sum_of<J: Naming + Send + Sync, R: Threads + Wait + Sync>(
     requires seal { (twin.0.name ≡ J.twin) × (twin.0.value ≡ 0) }
     requires key { (twin.1.name ≡ J.twin) × (twin.1.value ≡ 0) }
 {
-    let day: Day<J> = day_of(rt, alloc, roll, twin, first, second)?;
+    let Some(day) = day_of::<J, R>(rt, alloc, roll, twin, first, second) else {
+        return None;
+    };
     Some((day.journal.into_entries(), day.left.count))
 }
 

@@ -1,5 +1,7 @@
 //! Devices in memory, from which a network begins.
 
+ghost use Rattle.std.specs.Prelude.{◌<◌, ◌≤◌};
+
 use crate::machines::{Chance, Task, image};
 use arrayvec::ArrayVec;
 use std::alloc::Global;
@@ -52,23 +54,39 @@ fn end(nodes: u8, number: u8) -> WireEnd {
     }
 }
 
+/// Draws two ends of `ends`, and wires them where one is a node's and neither is wired.
+fn draw_wire(chance: &mut Chance, nodes: u8, ends: u8, drawn: &mut [Option<WireEnd>; MAX_LINES])
+    requires some { 1 < ends }
+    requires most { ends ≤ 35 }
+{
+    let one = chance.below(ends - 1);
+    let other = one + 1 + chance.below(ends - 1 - one);
+    if one / 4 < nodes && drawn[one as usize].is_none() && drawn[other as usize].is_none() {
+        drawn[one as usize] = Some(end(nodes, other));
+        drawn[other as usize] = Some(end(nodes, one));
+    }
+}
+
+/// A network of nodes of these pages, with these wires.
+fn topology_of(of_nodes: &[u16], ports: u8, ends: &[Option<WireEnd>]) -> Option<Topology> {
+    let mut pages = ArrayVec::new();
+    let mut wires = ArrayVec::new();
+    if pages.try_extend_from_slice(of_nodes).is_err()
+        || wires.try_extend_from_slice(ends).is_err()
+    {
+        return None;
+    }
+    Topology::of_parts(pages, ports, wires)
+}
+
 /// A network of nodes of four pages, with wires between ends that are drawn.
 pub(crate) fn drawn_topology(chance: &mut Chance, nodes: u8, ports: u8) -> Option<Topology> {
     let (nodes, ports) = (nodes.clamp(1, 8), ports.clamp(1, 3));
     let ends = 4 * nodes + ports;
     let mut drawn = [None; MAX_LINES];
     for _tried in 0..2 * ends {
-        let one = chance.below(ends - 1);
-        let other = one + 1 + chance.below(ends - 1 - one);
-        if one / 4 < nodes && drawn[one as usize].is_none() && drawn[other as usize].is_none() {
-            drawn[one as usize] = Some(end(nodes, other));
-            drawn[other as usize] = Some(end(nodes, one));
-        }
+        draw_wire(chance, nodes, ends, &mut drawn);
     }
-    let mut pages = ArrayVec::new();
-    let mut wires = ArrayVec::new();
     let four = [4; 8];
-    pages.try_extend_from_slice(&four[..nodes as usize]).ok()?;
-    wires.try_extend_from_slice(&drawn[..ends as usize]).ok()?;
-    Topology::of_parts(pages, ports, wires)
+    topology_of(&four[..nodes as usize], ports, &drawn[..ends as usize])
 }

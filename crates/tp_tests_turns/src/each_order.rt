@@ -67,8 +67,10 @@ pub(crate) fn is_cut(alloc: Global, play: &Play, images: &Images) -> Result<bool
     let Some(cut) = play.net.book().whole() else {
         return Ok(true);
     };
-    let gathered = play.plain.is_gathered(alloc, play.net.book())?;
-    Ok(gathered && was_recorded(alloc, &play.plain, cut, &play.images, images)?)
+    if !play.plain.is_gathered(alloc, play.net.book())? {
+        return Ok(false);
+    }
+    was_recorded(alloc, &play.plain, cut, &play.images, images)
 }
 
 /// Whether all entries, and the trim, led where they were to lead.

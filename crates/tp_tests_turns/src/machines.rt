@@ -108,22 +108,32 @@ fn address(offset: u16) -> [u8; 4] {
     [low, high, 0, 0x80]
 }
 
+/// Puts a process into an image, as the last one of the low queue.
+fn place_process(image: &mut [u8], task: Task, (first, workspace, next): (u16, u16, u16)) {
+    let at = HEAD + usize::from(workspace);
+    place(image, HEAD + usize::from(first), &code(task));
+    place(image, at - 4, &address(first));
+    place(image, at - 8, &address(next));
+    place(image, 36, &address(workspace));
+}
+
+/// Puts processes into an image, as its low queue.
+fn place_processes(image: &mut [u8], tasks: &[Task]) {
+    for (task, places) in tasks.iter().zip(&PLACES) {
+        place_process(image, *task, *places);
+    }
+    if !tasks.is_empty() {
+        place(image, 32, &address(0x200));
+    }
+}
+
 /// The image of a node of four pages whose low queue has a process for each of `tasks`, four at most.
 pub(crate) fn image(alloc: Global, tasks: &[Task]) -> Result<Vec<u8>, AllocError> {
     if matches!(tasks, [Task::Letters]) {
         return letter(alloc);
     }
     let mut image = idle(alloc)?;
-    for (task, (first, workspace, next)) in tasks.iter().zip(PLACES) {
-        let at = HEAD + usize::from(workspace);
-        place(&mut image, HEAD + usize::from(first), &code(*task));
-        place(&mut image, at - 4, &address(first));
-        place(&mut image, at - 8, &address(next));
-        place(&mut image, 36, &address(workspace));
-    }
-    if !tasks.is_empty() {
-        place(&mut image, 32, &address(0x200));
-    }
+    place_processes(&mut image, tasks);
     Ok(image)
 }
 

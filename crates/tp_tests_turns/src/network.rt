@@ -1,8 +1,11 @@
 //! A whole network in memory, in one thread: its nodes, each with its turn where one is open, and its book.
 
-ghost use Rattle.std.specs.Prelude.{◌≡◌, Ok, IfOk, IsSome, is_none, map, None, true};
+ghost use Rattle.std.specs.Prelude.{◌≡◌, ℕ, Ok, IfOk, IsSome, is_none, map, None, Some, slice_get, true};
 ghost use Rattle.std.specs.List.{list_all};
+ghost use Rattle.tp_law_machine.specs.NodeOfBytes.{IsNodeOfBytes};
 ghost use Rattle.tp_model.specs.declared.form.Form.TheVariants.{Turns};
+ghost use Rattle.tp_model.specs.NodeState.{NodeState};
+ghost use Rattle.tp_book.specs.Opened.{IsWellOpen, now_of};
 ghost use Rattle.tp_turn.specs.Tried.{ReadsFresh};
 ghost use Rattle.tp_tests_turns.specs.Nets.{seen, spelt};
 
@@ -12,7 +15,7 @@ use crate::seat::{Away, Seat};
 use std::alloc::{AllocError, Global};
 use std::marker::Model;
 use std::test::Fail;
-use tp_book::{Book, Refusal};
+use tp_book::{Book, NetState, Refusal};
 use tp_disk::MemDisk;
 use tp_model::limits::{IMAGE_HEAD_BYTES, MAX_STEPS, PAGE_BYTES};
 use tp_model::{Form, WireEnd};
@@ -122,18 +125,27 @@ impl Net {
         Ok(Net { book, seats })
     }
 
+    /// The network of what a device leaves, where groups may fill `room` bytes.
+    fn of_state(alloc: Global, state: &NetState, room: u64, spare: usize) -> Result<Net, Fail>
+        requires opened { IsWellOpen state.now }
+        requires nodes { (i : ℕ) (node : NodeState) → slice_get (now_of state.now).nodes i ≡ Some node → IsNodeOfBytes node }
+    {
+        let seats = seats_of(alloc, &state.net.images, spare)?;
+        let book = Book::open(alloc, state, Some(room))?;
+        if !holds_turns(&book) {
+            return Err(Fail::from("it holds no turns"));
+        }
+        Ok(Net { book, seats })
+    }
+
     /// The network of a device.
     pub(crate) fn of_device(alloc: Global, disk: &mut MemDisk, spare: usize) -> Result<Net, Fail> {
         let opened = open(alloc, disk)?;
         opened.known();
         let room = opened.journal_room();
         let state = opened.into_state(alloc)?;
-        let seats = seats_of(alloc, &state.net.images, spare)?;
-        let book = Book::open(alloc, &state, Some(room))?;
-        if !holds_turns(&book) {
-            return Err(Fail::from("it holds no turns"));
-        }
-        Ok(Net { book, seats })
+        let net = Net::of_state(alloc, &state, room, spare);
+        net
     }
 
     pub(crate) fn book(&self) -> &Book {

@@ -129,10 +129,18 @@ fn all_come<R: Wait + Abort>(rt: &R, queue: &ReadyQueue, hand: &mut Hand) -> [bo
 fn four_in_order<R: Wait + Abort>(rt: &R, queue: &ReadyQueue, hands: &mut Vec<Hand>) -> Option<bool>
     requires { All (λ hand. hand.of ≡ Some queue.now) hands.old.items }
 {
-    let mut spare = next_hand(queue, hands)?;
-    let mut third = next_hand(queue, hands)?;
-    let mut second = next_hand(queue, hands)?;
-    let mut first = next_hand(queue, hands)?;
+    let Some(mut spare) = next_hand(queue, hands) else {
+        return None;
+    };
+    let Some(mut third) = next_hand(queue, hands) else {
+        return None;
+    };
+    let Some(mut second) = next_hand(queue, hands) else {
+        return None;
+    };
+    let Some(mut first) = next_hand(queue, hands) else {
+        return None;
+    };
     let order = all_in_order(rt, queue, &mut first, &mut second, &mut third, &mut spare);
     let again = come_in_order(rt, queue, &mut spare, &[1, 0, 2, 1, 0, 2]);
     Some(hands.is_empty() && order == [0, 1, 2] && again)
@@ -203,8 +211,12 @@ fn two_are_alone<R: Threads + Wait + Sync + Abort>(
     requires hands { All (λ hand. hand.of ≡ Some queue.now) hands.old.items }
     requires five { queue.now.count ≡ 5 }
 {
-    let second = next_hand(queue, hands)?;
-    let first = next_hand(queue, hands)?;
+    let Some(second) = next_hand(queue, hands) else {
+        return None;
+    };
+    let Some(first) = next_hand(queue, hands) else {
+        return None;
+    };
     Some(are_alone(rt, queue, first, second))
 }
 

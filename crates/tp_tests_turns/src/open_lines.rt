@@ -23,10 +23,10 @@ pub(crate) fn line_to(node: u8, link: u8) -> Option<u16> {
 
 /// The process that receives a line.
 pub(crate) fn taker(line: u16) -> Option<usize> {
-    match WIRES.get(usize::from(line))? {
-        Some(WireEnd::Link(node, _)) => Some(usize::from(*node)),
-        Some(WireEnd::Port(_)) => Some(HOST),
-        None => None,
+    match WIRES.get(usize::from(line)) {
+        Some(Some(WireEnd::Link(node, _))) => Some(usize::from(*node)),
+        Some(Some(WireEnd::Port(_))) => Some(HOST),
+        _ => None,
     }
 }
 
@@ -66,7 +66,10 @@ impl PlainLines {
 
     /// What stands in front of a line.
     pub(crate) fn front(&self, line: u16) -> Option<Token> {
-        self.lines.get(usize::from(line))?.first().copied()
+        let Some(tokens) = self.lines.get(usize::from(line)) else {
+            return None;
+        };
+        tokens.first().copied()
     }
 
     /// Takes a token off the front of a line. Answers whether it stood there.
@@ -83,7 +86,10 @@ impl PlainLines {
 
     /// Where the Marker stands on a line.
     pub(crate) fn marker(&self, line: u16) -> Option<usize> {
-        for (at, token) in self.lines.get(usize::from(line))?.iter().enumerate() {
+        let Some(tokens) = self.lines.get(usize::from(line)) else {
+            return None;
+        };
+        for (at, token) in tokens.iter().enumerate() {
             if *token == Token::Marker {
                 return Some(at);
             }
@@ -93,14 +99,14 @@ impl PlainLines {
 
     /// Takes the Marker off a line, wherever it stands. Answers what stood in front of it.
     pub(crate) fn close(&mut self, alloc: Global, line: u16) -> Result<Vec<Token>, AllocError> {
-        let mut front = Vec::new(alloc);
         let at = self.marker(line).unwrap_or(usize::MAX);
         if let Some(tokens) = self.lines.get_mut(usize::from(line)) {
             if at < tokens.len() {
-                front.extend_from_slice(&tokens[..at])?;
+                let front = Vec::from_slice(alloc, &tokens[..at]);
                 let _marker = tokens.remove(at);
+                return front;
             }
         }
-        Ok(front)
+        Ok(Vec::new(alloc))
     }
 }

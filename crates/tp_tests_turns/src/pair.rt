@@ -1,8 +1,9 @@
 //! Two nodes and a port, before the first entry.
 
-ghost use Rattle.std.specs.Prelude.{◌≡◌, IfOk};
+ghost use Rattle.std.specs.Prelude.{◌≡◌, IfOk, None};
 ghost use Rattle.tp_model.specs.Image.{node_at};
 ghost use Rattle.tp_book.specs.Parts.{network_made};
+ghost use Rattle.tp_replay.specs.Flat.{IsFlat};
 ghost use Rattle.tp_tests_turns.specs.Nets.{pair_network};
 
 use std::alloc::{AllocError, Global};
@@ -10,6 +11,7 @@ use std::test::Fail;
 use tp_book::{NetParts, PortParts, fresh_ports};
 use tp_model::WireEnd;
 use tp_net::Lines;
+use tp_node::Node;
 use tp_replay::FlatNetwork;
 use tp_turn::lone_node;
 
@@ -35,6 +37,17 @@ pub(crate) const WIRES: [Option<WireEnd>; LINES] = [
 pub(crate) fn pair_parts(alloc: Global, first: &[u8], second: &[u8]) -> Result<NetParts, AllocError>
     ensures { IfOk result (λ net. network_made net ≡ pair_network (node_at first.now) (node_at second.now)) }
 {
+    let first = Vec::from_slice(alloc, first)?;
+    let second = Vec::from_slice(alloc, second)?;
+    let images = Vec::from_array(alloc, [first, second])?;
+    let wires = Vec::from_slice(alloc, &WIRES)?;
+    let port = PortParts {
+        pending: Vec::new(alloc),
+        in_base: 0,
+        outputs: Vec::new(alloc),
+        out_base: 0,
+    };
+    let ports = Vec::from_array(alloc, [port])?;
     let lines = Vec::from_array(
         alloc,
         [
@@ -49,17 +62,6 @@ pub(crate) fn pair_parts(alloc: Global, first: &[u8], second: &[u8]) -> Result<N
             Vec::new(alloc),
         ],
     )?;
-    let first = Vec::from_slice(alloc, first)?;
-    let second = Vec::from_slice(alloc, second)?;
-    let images = Vec::from_array(alloc, [first, second])?;
-    let wires = Vec::from_slice(alloc, &WIRES)?;
-    let port = PortParts {
-        pending: Vec::new(alloc),
-        in_base: 0,
-        outputs: Vec::new(alloc),
-        out_base: 0,
-    };
-    let ports = Vec::from_array(alloc, [port])?;
     Ok(NetParts {
         wires,
         images,
@@ -68,13 +70,22 @@ pub(crate) fn pair_parts(alloc: Global, first: &[u8], second: &[u8]) -> Result<N
     })
 }
 
-/// That network in one thread.
-pub(crate) fn flat_of(alloc: Global, first: &[u8], second: &[u8]) -> Result<FlatNetwork, Fail> {
+/// The network of two nodes in one thread, before the first entry.
+fn flat_with(alloc: Global, one: Node, other: Node) -> Result<FlatNetwork, Fail>
+    requires flat { IsFlat (pair_network one.live other.live) }
+    requires one { one.frozen ≡ None }
+    requires other { other.frozen ≡ None }
+{
+    let nodes = Vec::from_array(alloc, [one, other])?;
     let wires = Vec::from_slice(alloc, &WIRES)?;
     let lines = Lines::new(alloc, LINES)?;
     let ports = fresh_ports(alloc, 1)?;
+    Ok(FlatNetwork::new(wires, nodes, lines, ports))
+}
+
+/// The network of two images in one thread, before the first entry.
+pub(crate) fn flat_of(alloc: Global, first: &[u8], second: &[u8]) -> Result<FlatNetwork, Fail> {
     let one = lone_node(alloc, first)?;
     let other = lone_node(alloc, second)?;
-    let nodes = Vec::from_array(alloc, [one, other])?;
-    Ok(FlatNetwork::new(wires, nodes, lines, ports))
+    flat_with(alloc, one, other)
 }

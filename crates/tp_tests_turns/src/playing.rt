@@ -6,7 +6,7 @@ use crate::network::Net;
 use crate::open_lines::{PlainLines, line_to, taker};
 use crate::pair::{LINES, WIRES};
 use crate::plain::{HOST, Plain};
-use crate::seat::Seat;
+use crate::seat::{Away, Seat};
 use std::alloc::{AllocError, Global};
 use std::test::Fail;
 use tp_book::tokens_of;
@@ -88,14 +88,20 @@ fn is_closable(play: &Play, line: u16) -> bool {
     }
 }
 
+/// Puts tokens of a line into the cut.
+fn gather_all(plain: &mut Plain, line: u16, tokens: &[Token]) -> Result<(), AllocError> {
+    for token in tokens {
+        plain.gather(line, *token)?;
+    }
+    Ok(())
+}
+
 /// Closes a line: what stands in front of its Marker belongs to the cut, and stays.
 fn close(alloc: Global, play: &mut Play, line: u16) -> Result<(), AllocError> {
     let front = play.lines.close(alloc, line)?;
-    for token in front.iter() {
-        play.plain.gather(line, *token)?;
-    }
+    let gathered = gather_all(&mut play.plain, line, &front);
     play.plain.close(line);
-    Ok(())
+    gathered
 }
 
 /// Closes the line that comes in on a link of a node, where its Marker stands in front.
@@ -121,25 +127,36 @@ fn note_recorded(alloc: Global, play: &mut Play, number: u8) -> Result<bool, Fai
     Ok(true)
 }
 
+/// Counts a turn that a node opened, which is asked to record.
+fn note_opened(play: &mut Play, number: u8, asked: bool) {
+    let behind = asked || play.plain.has_recorded(usize::from(number));
+    if let Some(opened) = play.opened.get_mut(usize::from(number)) {
+        let at = usize::from(behind);
+        opened[at] = opened[at].saturating_add(1);
+    }
+}
+
+/// Closes each line that comes in on a link of a node, where its Marker stands in front.
+fn close_fronts(alloc: Global, play: &mut Play, number: u8) -> Result<(), AllocError> {
+    for link in 0..4u8 {
+        if let Some(line) = line_to(number, link) {
+            close_front(alloc, play, line)?;
+        }
+    }
+    Ok(())
+}
+
 /// A node's turn is opened. Nothing of it is in the book yet.
 fn open(alloc: Global, play: &mut Play, number: u8) -> Result<bool, Fail> {
     let asked = is_asked(play, number);
     if !play.net.open(number, u16::from(QUANTUM)) {
         return Ok(false);
     }
-    let behind = asked || play.plain.has_recorded(usize::from(number));
-    if let Some(opened) = play.opened.get_mut(usize::from(number)) {
-        let at = usize::from(behind);
-        opened[at] = opened[at].saturating_add(1);
-    }
+    note_opened(play, number, asked);
     if asked && !note_recorded(alloc, play, number)? {
         return Err(Fail::from("it didn't record"));
     }
-    for link in 0..4u8 {
-        if let Some(line) = line_to(number, link) {
-            close_front(alloc, play, line)?;
-        }
-    }
+    close_fronts(alloc, play, number)?;
     Ok(true)
 }
 
@@ -147,7 +164,9 @@ fn open(alloc: Global, play: &mut Play, number: u8) -> Result<bool, Fail> {
 fn note_takes(play: &mut Play, number: u8, takes: &[Received; 4]) -> Result<bool, Fail> {
     let recorded = play.plain.has_recorded(usize::from(number));
     for (link, token) in tokens_of(takes).iter() {
-        let line = line_to(number, *link).ok_or("no such line")?;
+        let Some(line) = line_to(number, *link) else {
+            return Err(Fail::from("no such line"));
+        };
         if !play.lines.pop(line, *token) {
             return Ok(false);
         }
@@ -158,9 +177,10 @@ fn note_takes(play: &mut Play, number: u8, takes: &[Received; 4]) -> Result<bool
     Ok(true)
 }
 
-/// Puts tokens, each with its link, behind others.
-fn add_all(all: &mut Vec<(u8, Token)>, tokens: &[(u8, Token)]) -> Result<(), AllocError> {
-    all.extend_from_slice(tokens)
+/// Puts what a node sent for its open turn behind others.
+fn add_sent(all: &mut Vec<(u8, Token)>, away: &Away) -> Result<(), AllocError> {
+    all.extend_from_slice(away.taken.sent.as_slice())?;
+    all.extend_from_slice(away.stretch.sent.as_slice())
 }
 
 /// What a node sent for its open turn, each token with its link.
@@ -173,8 +193,7 @@ fn sent_by(alloc: Global, seats: &[Seat], number: usize) -> Result<Vec<(u8, Toke
         },
     ) = seats.get(number)
     {
-        add_all(&mut all, away.taken.sent.as_slice())?;
-        add_all(&mut all, away.stretch.sent.as_slice())?;
+        add_sent(&mut all, away)?;
     }
     Ok(all)
 }
@@ -193,9 +212,12 @@ fn new_entry(play: &mut Play) -> Result<Option<Entry>, Fail> {
     if play.net.book().next() == play.plain.made.len() as u64 {
         return Ok(None);
     }
-    let last = play.net.book().entries().last().ok_or("no entry")?.entry;
-    play.plain.add(last)?;
-    Ok(Some(last))
+    let Some(last) = play.net.book().entries().last() else {
+        return Err(Fail::from("no entry"));
+    };
+    let entry = last.entry;
+    play.plain.add(entry)?;
+    Ok(Some(entry))
 }
 
 /// Writes down the entry of a turn, where there is one. Answers whether its takes stood in front.
@@ -207,17 +229,23 @@ fn note_turn(play: &mut Play, number: u8) -> Result<bool, Fail> {
     }
 }
 
-/// A node's open turn is committed: one entry, or none.
-fn commit(alloc: Global, play: &mut Play, number: u8) -> Result<bool, Fail> {
-    let sent = sent_by(alloc, play.net.seats(), usize::from(number))?;
+/// A node's open turn is committed, which sent these tokens.
+fn commit_sent(play: &mut Play, number: u8, sent: &[(u8, Token)]) -> Result<bool, Fail> {
     if !play.net.commit(number) {
         return Ok(false);
     }
     if !note_turn(play, number)? {
         return Err(Fail::from("a turn isn't what stood there"));
     }
-    note_sends(play, number, &sent)?;
+    note_sends(play, number, sent)?;
     Ok(true)
+}
+
+/// A node's open turn is committed: one entry, or none.
+fn commit(alloc: Global, play: &mut Play, number: u8) -> Result<bool, Fail> {
+    let sent = sent_by(alloc, play.net.seats(), usize::from(number))?;
+    let committed = commit_sent(play, number, &sent);
+    committed
 }
 
 /// The host takes a byte of its line, and answers it.

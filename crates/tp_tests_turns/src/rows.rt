@@ -108,20 +108,41 @@ fn goes_on(alloc: Global, play: &mut Play, next: u64) -> Result<bool, Fail> {
     Ok(done && matches!(last, Some(last) if last.number == next))
 }
 
-/// Plays a story on a network. Whether all is as it was told: its acts, the cut and the tail, the plain lists, the replays, the trim, and the
-/// entry behind it.
+/// Plays a story on a network, up to the trim. Whether all is as it was told: its acts, the cut and the tail, and the plain lists.
+fn cuts(alloc: Global, play: &mut Play, story: &Story, images: &Images) -> Result<bool, Fail> {
+    let acts = do_all(alloc, play, story.acts)?;
+    if !acts || !is_whole(alloc, play.net.book(), &story.cut) {
+        return Ok(false);
+    }
+    if !is_cut(alloc, play, images)? {
+        return Ok(false);
+    }
+    does(alloc, play, TakeIn)
+}
+
+/// Plays a story on a network. Whether all is as it was told: what comes before the trim, the trim, the replays, and the entry behind it.
 fn tell(alloc: Global, play: &mut Play, story: &Story, images: &Images) -> Result<bool, Fail> {
-    let acts = do_all(alloc, play, story.acts)? && is_whole(alloc, play.net.book(), &story.cut);
-    let cut = is_cut(alloc, play, images)? && does(alloc, play, TakeIn)?;
-    let trimmed = is_trimmed(play.net.book(), &story.cut) && is_led(alloc, play, images)?;
-    Ok(acts && cut && trimmed && goes_on(alloc, play, story.cut.next)?)
+    let cut = cuts(alloc, play, story, images)?;
+    if !cut || !is_trimmed(play.net.book(), &story.cut) {
+        return Ok(false);
+    }
+    if !is_led(alloc, play, images)? {
+        return Ok(false);
+    }
+    goes_on(alloc, play, story.cut.next)
+}
+
+/// Plays a story on the network of these images.
+fn play_with(alloc: Global, story: &Story, images: &Images) -> Result<bool, Fail> {
+    let mut play = start(alloc, images)?;
+    let told = tell(alloc, &mut play, story, images);
+    told
 }
 
 /// Plays a story from the images of its nodes on.
 fn play(alloc: Global, story: &Story) -> Result<bool, Fail> {
     let images = images_of(alloc, story.first, story.second)?;
-    let mut play = start(alloc, &images)?;
-    let told = tell(alloc, &mut play, story, &images);
+    let told = play_with(alloc, story, &images);
     told
 }
 

@@ -31,7 +31,9 @@ fn drawn_images(
 
 /// A device with a network that is drawn.
 fn drawn(alloc: Global, chance: &mut Chance, nodes: u8, ports: u8) -> Result<MemDisk, Fail> {
-    let topology = drawn_topology(chance, nodes, ports).ok_or("no network")?;
+    let Some(topology) = drawn_topology(chance, nodes, ports) else {
+        return Err(Fail::from("no network"));
+    };
     let images = drawn_images(alloc, chance, topology.pages().len())?;
     let disk = formatted(alloc, &topology, &images);
     disk

@@ -29,6 +29,10 @@ const WIRES: [Option<WireEnd>; 8] = [
 fn network(alloc: Global, image: &[u8]) -> Result<NetParts, AllocError>
     ensures { IfOk result (λ net. network_made net ≡ pair_network (node_at image.now)) }
 {
+    let first = Vec::from_slice(alloc, image)?;
+    let second = Vec::from_slice(alloc, image)?;
+    let images = Vec::from_array(alloc, [first, second])?;
+    let wires = Vec::from_slice(alloc, &WIRES)?;
     let lines = Vec::from_array(
         alloc,
         [
@@ -42,10 +46,6 @@ fn network(alloc: Global, image: &[u8]) -> Result<NetParts, AllocError>
             Vec::new(alloc),
         ],
     )?;
-    let first = Vec::from_slice(alloc, image)?;
-    let second = Vec::from_slice(alloc, image)?;
-    let images = Vec::from_array(alloc, [first, second])?;
-    let wires = Vec::from_slice(alloc, &WIRES)?;
     Ok(NetParts {
         wires,
         images,

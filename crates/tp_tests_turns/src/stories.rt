@@ -40,16 +40,19 @@ pub(crate) struct Story<'a> {
 /// Makes a step. Answers how many tokens it took; a snapshot that begins takes nothing.
 fn does(alloc: Global, net: &mut Net, step: Step) -> Option<u64> {
     let done = match step {
-        Step::Node(number, quantum) => net.does(number, Deed::Turn(quantum))?,
-        Step::Whole(number, quantum) => net.does(number, Deed::Whole(quantum))?,
-        Step::Host => net.host_turn(),
+        Step::Node(number, quantum) => net.does(number, Deed::Turn(quantum)),
+        Step::Whole(number, quantum) => net.does(number, Deed::Whole(quantum)),
+        Step::Host => Some(net.host_turn()),
         Step::Begin => return if net.begin(alloc).is_ok() {
             Some(0)
         } else {
             None
         },
     };
-    done.ok()
+    match done {
+        Some(Ok(takes)) => Some(takes),
+        _ => None,
+    }
 }
 
 /// Whether Markers are in front of these lines, and of no other.

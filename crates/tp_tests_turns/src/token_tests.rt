@@ -35,8 +35,10 @@ fn entry(node: u8, count: u16) -> Entry {
 fn write_and_count<R: Threads + Wait + Sync>(rt: &R, alloc: Global) -> Option<bool> {
     let first = [entry(1, 2), entry(1, 3), entry(1, 2)];
     let second = [entry(5, 6), entry(5, 2)];
-    let (entries, count) = sum(rt, alloc, 7, &first, &second)?;
-    Some(is_day(&entries, count))
+    match sum(rt, alloc, 7, &first, &second) {
+        Some((entries, count)) => Some(is_day(&entries, count)),
+        None => None,
+    }
 }
 
 #[test]

@@ -25,7 +25,9 @@ fn work<R: Threads + Wait + Sync>(
     requires { quantum ≤ MAX_STEPS }
 {
     let image = letter(alloc)?;
-    let parts = parts_of_pair(alloc, &image, 0).ok_or("parts")?;
+    let Some(parts) = parts_of_pair(alloc, &image, 0) else {
+        return Err(Fail::from("no parts"));
+    };
     Ok(work_of_pair(rt, parts, count, quantum))
 }
 
@@ -52,8 +54,13 @@ fn is_so(done: &Checkpointed, image: &[u8]) -> bool {
 
 /// What comes of a snapshot.
 fn checkpoint<R: Wait>(rt: &R, alloc: Global, image: &[u8]) -> Result<Checkpointed, Fail> {
-    let parts = parts_of_pair(alloc, image, 4).ok_or("parts")?;
-    Ok(checkpoint_of_pair(rt, alloc, parts)?.ok_or("no copy")?)
+    let Some(parts) = parts_of_pair(alloc, image, 4) else {
+        return Err(Fail::from("no parts"));
+    };
+    match checkpoint_of_pair(rt, alloc, parts) {
+        Some(done) => Ok(done),
+        None => Err(Fail::from("no copy")),
+    }
 }
 
 /// Whether that is as it ought to be.
