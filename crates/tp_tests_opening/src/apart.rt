@@ -1,6 +1,6 @@
 //! Devices that are opened each node by itself, by several workers, and in one thread: both calls agree.
 
-use crate::devices::{disk_of, formatted, held_after, is_same};
+use crate::devices::{Held, disk_of, formatted, held_after, is_same};
 use crate::opened_books::grown;
 use crate::watched::Watch;
 use std::alloc::Global;
@@ -193,35 +193,73 @@ fn are_alike(one: &Opened, other: &Opened) -> bool {
         && one.kept() == other.kept()
 }
 
-/// Whether two devices, each opened by one of both calls, hold equal things, and have this next number.
-fn hold_same(alloc: Global, one: Opened, other: Opened, next: u64) -> bool {
-    let same = one.next() == next && are_alike(&one, &other);
-    let one = held_after(alloc, one, b"");
-    let other = held_after(alloc, other, b"");
-    match (&one, &other) {
-        (Some(one), Some(other)) => same && is_same(one, other),
+/// Whether both hold something, and their numbers, nodes, lines and ports are equal.
+fn are_same(one: &Option<Held>, other: &Option<Held>) -> bool {
+    match (one, other) {
+        (Some(one), Some(other)) => is_same(one, other),
         _ => false,
     }
 }
 
-/// Whether both calls open the device, and it has this next number.
-fn are_open(
+/// Whether an opened device has the number of the next entry that it ought to.
+pub(crate) fn has_next(opened: &Opened, says: Result<u64, OpenFault>) -> bool {
+    match says {
+        Ok(next) => opened.next() == next,
+        Err(_) => false,
+    }
+}
+
+/// Whether a device doesn't open for the fault that it ought to have.
+pub(crate) fn is_fault(found: Unopened, says: Result<u64, OpenFault>) -> bool {
+    match says {
+        Ok(_) => false,
+        Err(fault) => found == Unopened::Fault(fault),
+    }
+}
+
+/// Whether two devices, each opened by one of both calls, hold equal things, and have the next number that they ought to.
+fn hold_same(alloc: Global, one: Opened, other: Opened, says: Result<u64, OpenFault>) -> bool {
+    let same = has_next(&one, says) && are_alike(&one, &other);
+    let one = held_after(alloc, one, b"");
+    let other = held_after(alloc, other, b"");
+    same && are_same(&one, &other)
+}
+
+/// Whether the other call opens the device, too, and both say this of it.
+fn both_open(
+    alloc: Global,
+    one: Opened,
+    other: Result<Opened, Unopened>,
+    says: Result<u64, OpenFault>,
+) -> bool {
+    match other {
+        Ok(other) => hold_same(alloc, one, other, says),
+        Err(_) => false,
+    }
+}
+
+/// Whether the other call doesn't open the device either, and both answer the fault that it ought to have.
+fn neither_opens(
+    found: Unopened,
+    other: Result<Opened, Unopened>,
+    says: Result<u64, OpenFault>,
+) -> bool {
+    match other {
+        Ok(_) => false,
+        Err(other) => is_fault(found, says) && is_fault(other, says),
+    }
+}
+
+/// Whether both calls answer this.
+fn both_say(
     alloc: Global,
     one: Result<Opened, Unopened>,
     other: Result<Opened, Unopened>,
-    next: u64,
+    says: Result<u64, OpenFault>,
 ) -> bool {
-    match (one, other) {
-        (Ok(one), Ok(other)) => hold_same(alloc, one, other, next),
-        _ => false,
-    }
-}
-
-/// Whether a call answers this fault.
-fn is_fault(answer: &Result<Opened, Unopened>, fault: OpenFault) -> bool {
-    match answer {
-        Ok(_) => false,
-        Err(found) => *found == Unopened::Fault(fault),
+    match one {
+        Ok(one) => both_open(alloc, one, other, says),
+        Err(found) => neither_opens(found, other, says),
     }
 }
 
@@ -238,10 +276,7 @@ fn is_said_by<R: Threads + Sync>(
     };
     let apart = open_parallel(alloc, &mut disk, workers.clamp(1, 64), &NoGate, rt);
     let whole = open(alloc, &mut disk);
-    match says {
-        Ok(next) => are_open(alloc, whole, apart, next),
-        Err(fault) => is_fault(&whole, fault) && is_fault(&apart, fault),
-    }
+    both_say(alloc, whole, apart, says)
 }
 
 /// Whether a device says this, opened in one thread and by any number of workers.

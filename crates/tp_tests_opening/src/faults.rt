@@ -19,7 +19,7 @@ pub(crate) enum Ending {
 }
 
 /// Each ending, with what is torn: where the run stops before a call, what was written last stands.
-pub(crate) const ENDINGS: [(Ending, Torn); 13] = [
+pub(crate) const ENDINGS: &[(Ending, Torn)] = &[
     (Ending::Before, Torn::New),
     (Ending::Within, Torn::Filled(0x00)),
     (Ending::Within, Torn::Filled(0xA5)),

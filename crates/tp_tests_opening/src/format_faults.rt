@@ -1,14 +1,14 @@
 //! Formatting a device whose calls fail, or on which the run stops: what the device then opens as.
 
+use crate::apart::{has_next, is_fault};
 use crate::devices::{
-    CALLS_OF_FORMAT, LETTER, Letter, disk_of, formatted, fresh, grown_by, leads_from, left,
+    CALLS_OF_FORMAT, LETTER, Letter, formatted, fresh, grown_by, leads_from, left, opened_of,
 };
 use crate::faults::Ending;
 use crate::wide::{LEAST, SEVENTEEN};
 use std::alloc::Global;
 use tp_disk::{MemDisk, PlannedFault};
 use tp_model::OpenFault;
-use tp_recover::{Unopened, open};
 use tp_tests_fixtures::{AREA, ONE_NODE, SIZE, place};
 
 /// What is formatted: its network, the bytes of its head, of its device and of an area; how many calls that makes; what the device says
@@ -26,7 +26,7 @@ struct Made {
 
 /// The first five bytes are a name, which two zeros and the version follow. From the low byte of the page count on it is a head, at first
 /// of a network whose wire isn't written.
-const ONE: Made = Made {
+const ONE: &Made = &Made {
     text: ONE_NODE,
     nodes: 1,
     head: 512,
@@ -42,7 +42,7 @@ const ONE: Made = Made {
 };
 
 /// From the last page count on it is a head, up to the first link, which is wired to the last one. Once both say so it is a head again.
-const WIDE: Made = Made {
+const WIDE: &Made = &Made {
     text: SEVENTEEN,
     nodes: 17,
     head: 1_024,
@@ -60,7 +60,7 @@ const WIDE: Made = Made {
 };
 
 /// Each way in which a call ends, with the byte that is then everywhere in what isn't synced.
-const WAYS: [(Ending, u8); 9] = [
+const WAYS: &[(Ending, u8)] = &[
     (Ending::Before, 0x00),
     (Ending::Before, 0xA5),
     (Ending::Before, 0xFF),
@@ -74,12 +74,9 @@ const WAYS: [(Ending, u8); 9] = [
 
 /// Whether a device has this number of the next entry, or doesn't open for this fault.
 fn opens_as(alloc: Global, bytes: &[u8], says: Result<u64, OpenFault>) -> bool {
-    let Some(mut disk) = disk_of(alloc, bytes) else {
-        return false;
-    };
-    match open(alloc, &mut disk) {
-        Ok(opened) => matches!(says, Ok(next) if next == opened.next()),
-        Err(found) => matches!(says, Err(fault) if found == Unopened::Fault(fault)),
+    match opened_of(alloc, bytes) {
+        Ok(opened) => has_next(&opened, says),
+        Err(found) => is_fault(found, says),
     }
 }
 
@@ -147,7 +144,7 @@ impl Made {
     /// Whether the device isn't formatted however a call ends.
     fn is_none_however(&self, alloc: Global, call: u64, whole: &[u8]) -> bool {
         for way in WAYS {
-            if !self.is_none(alloc, call, way, whole) {
+            if !self.is_none(alloc, call, *way, whole) {
                 return false;
             }
         }

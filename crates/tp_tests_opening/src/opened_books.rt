@@ -5,7 +5,7 @@ ghost use Rattle.tp_book.specs.Opened.{IsWellOpen};
 ghost use Rattle.tp_tests_opening.specs.Lone.{IsUsable};
 
 use crate::calls::{hand_in, is_shown};
-use crate::devices::{disk_of, fresh};
+use crate::devices::{fresh, opened_of};
 use std::alloc::Global;
 use tp_book::{Book, NetState, Refusal};
 use tp_disk::MemDisk;
@@ -170,10 +170,7 @@ pub(crate) fn fills(alloc: Global, bytes: Option<Vec<u8>>, filling: &Filling) ->
 
 /// Whether groups may fill `room` bytes in an area of the device with `bytes`.
 pub(crate) fn has_room(alloc: Global, bytes: &[u8], room: u64) -> bool {
-    let Some(mut disk) = disk_of(alloc, bytes) else {
-        return false;
-    };
-    match open(alloc, &mut disk) {
+    match opened_of(alloc, bytes) {
         Ok(opened) => opened.journal_room() == room,
         Err(_) => false,
     }

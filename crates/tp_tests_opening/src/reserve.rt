@@ -17,6 +17,9 @@ use tp_tests_fixtures::{AREA, GROUPS, place};
 /// The place of the first area's generation on the device.
 const GENERATION: usize = 513;
 
+/// The bytes of the last generation.
+const LAST_GENERATION: &[u8] = &[0xFF, 0xFF, 0xFF, 0xFF, 0xFF, 0xFF, 0, 0];
+
 /// A call on the book. A take that was made ready is given back.
 #[derive(Clone, Copy)]
 enum Call {
@@ -300,30 +303,30 @@ fn are_rows(alloc: Global, book: &mut Book, rows: &[Row]) -> bool
     true
 }
 
-/// Whether they do so on the book of a story's device.
-fn is_so(alloc: Global, story: &Story<'_>) -> bool {
-    let (entries, took, rows) = *story;
-    let Some(bytes) = device(alloc, entries, took) else {
-        return false;
-    };
+/// Whether they do so on the book of a device of `bytes`.
+fn are_so(alloc: Global, bytes: Vec<u8>, rows: &[Row]) -> bool {
     match book_of(alloc, bytes, ROOM) {
         Some(mut book) => are_rows(alloc, &mut book, rows),
         None => false,
     }
 }
 
+/// Whether they do so on the book of a story's device.
+fn is_so(alloc: Global, story: &Story<'_>) -> bool {
+    let (entries, took, rows) = *story;
+    match device(alloc, entries, took) {
+        Some(bytes) => are_so(alloc, bytes, rows),
+        None => false,
+    }
+}
+
 /// Whether they do so on the book of a device whose open area has the last generation.
 fn is_last(alloc: Global) -> bool {
-    let Some(mut bytes) = device(alloc, 104, false) else {
-        return false;
-    };
-    place(
-        &mut bytes,
-        GENERATION,
-        &[0xFF, 0xFF, 0xFF, 0xFF, 0xFF, 0xFF, 0, 0],
-    );
-    match book_of(alloc, bytes, ROOM) {
-        Some(mut book) => are_rows(alloc, &mut book, LAST),
+    match device(alloc, 104, false) {
+        Some(mut bytes) => {
+            place(&mut bytes, GENERATION, LAST_GENERATION);
+            are_so(alloc, bytes, LAST)
+        }
         None => false,
     }
 }

@@ -6,7 +6,7 @@ use tp_model::Form::{Plain, Turns};
 use tp_model::Token;
 
 /// Two groups are appended.
-pub(crate) const TWO_GROUPS: Story = Story {
+pub(crate) const TWO_GROUPS: &Story = &Story {
     first: None,
     before: &[],
     steps: &[Step::Group(LETTER), Step::Group(MORE)],
@@ -37,7 +37,7 @@ pub(crate) const TWO_GROUPS: Story = Story {
 };
 
 /// The tail has the entry that was made after the node recorded, which stood in the open area.
-pub(crate) const AFTER_A_GROUP: Story = Story {
+pub(crate) const AFTER_A_GROUP: &Story = &Story {
     first: None,
     before: &[Step::Group(LETTER), Step::Group(b"o")],
     steps: &[Step::Switch(Cut {
@@ -68,7 +68,7 @@ pub(crate) const AFTER_A_GROUP: Story = Story {
 
 /// A snapshot begins once the port was handed a first byte. The node goes on twice before it records, when the next number is 9; the cut
 /// is whole at 12, and the tail reaches 12.
-pub(crate) const BEYOND_THE_GROUPS: Story = Story {
+pub(crate) const BEYOND_THE_GROUPS: &Story = &Story {
     first: None,
     before: &[Step::Group(LETTER), Step::Group(b"hhghg")],
     steps: &[Step::Switch(Cut {
@@ -108,7 +108,7 @@ const MADE: &[u8] = b"rakoggggggggggggggggggggggggggggggggggggggggg";
 
 /// The second area has forty groups of its own when the first one is opened again, and then the second one once more: the
 /// tail's only group is written over the first of them, and the others stand behind its closed gate.
-pub(crate) const OVER_OLD_GROUPS: Story = Story {
+pub(crate) const OVER_OLD_GROUPS: &Story = &Story {
     first: None,
     before: &[
         Step::Group(LETTER),
@@ -153,7 +153,7 @@ pub(crate) const OVER_OLD_GROUPS: Story = Story {
 
 /// A device that was kept from before areas had forms, behind the node's first turns. A group more is appended, and stands outside
 /// the cut. What the checkpoint leaves has turns.
-pub(crate) const BEHIND_KEPT: Story = Story {
+pub(crate) const BEHIND_KEPT: &Story = &Story {
     first: Some(1),
     before: &[Step::Group(b"o")],
     steps: &[Step::Switch(Cut {
@@ -183,7 +183,7 @@ pub(crate) const BEHIND_KEPT: Story = Story {
 };
 
 /// A device that was kept in the middle of its first checkpoint, and a group more: that is made anew over the second area's bytes.
-pub(crate) const BEHIND_A_STOP: Story = Story {
+pub(crate) const BEHIND_A_STOP: &Story = &Story {
     first: Some(3),
     before: &[Step::Group(b"o")],
     steps: &[Step::Switch(Cut {
@@ -214,7 +214,7 @@ pub(crate) const BEHIND_A_STOP: Story = Story {
 
 /// What the node takes and the steps that it then makes are one entry, in the first area and outside the cut: when the next number is 8
 /// the node records, and then it takes the letter that is on its line in the cut.
-pub(crate) const WITH_TURNS: Story = Story {
+pub(crate) const WITH_TURNS: &Story = &Story {
     first: None,
     before: &[Step::Group(b"raT"), Step::Group(b"hhghg")],
     steps: &[Step::Switch(Cut {

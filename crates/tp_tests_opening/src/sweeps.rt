@@ -4,8 +4,8 @@ use crate::apart::is_said;
 use crate::checkpoints::{Look, Put, Stage, Step, Story};
 use crate::copies::take_step;
 use crate::devices::{
-    CALLS_OF_OPEN, Held, LETTER, MORE, append, disk_of, faulty_store, fresh, held_after, is_same,
-    left, replayed, store_of,
+    CALLS_OF_OPEN, Held, LETTER, MORE, append, faulty_store, fresh, held_after, is_same, left,
+    opened_of, replayed, store_of,
 };
 use crate::faults::{Case, ENDINGS, Ending, Torn};
 use crate::kept::kept_bytes;
@@ -17,7 +17,7 @@ use std::alloc::{AllocError, Global};
 use std::thread::Threads;
 use tp_area::{Store, StoreFault};
 use tp_disk::{Disk, MemDisk};
-use tp_recover::{Opened, open, open_store};
+use tp_recover::{Opened, open_store};
 use tp_tests_fixtures::{AREA, SECOND, place};
 
 /// A story's device at first; and before each step whose calls have faults, and behind the last, with what a plain replay of the entries
@@ -156,20 +156,22 @@ fn look_of(opened: &Opened) -> Look {
     )
 }
 
+/// Whether opening said this of a device.
+fn has_look(opened: &Opened, look: Look) -> bool {
+    look_of(opened) == look
+}
+
 /// Whether opening says this of a device with `bytes`.
 pub(crate) fn is_look(alloc: Global, bytes: &[u8], look: Look) -> bool {
-    let Some(mut disk) = disk_of(alloc, bytes) else {
-        return false;
-    };
-    match open(alloc, &mut disk) {
-        Ok(opened) => look_of(&opened) == look,
+    match opened_of(alloc, bytes) {
+        Ok(opened) => has_look(&opened, look),
         Err(_) => false,
     }
 }
 
 /// Whether an opened device says what it ought to, and holds it.
 fn is_opened_as(alloc: Global, opened: Opened, stage: &Stage, wanted: &Held) -> bool {
-    let is_so = look_of(&opened) == stage.look;
+    let is_so = has_look(&opened, stage.look);
     match held_after(alloc, opened, b"") {
         Some(held) => is_so && is_same(&held, wanted) && outputs(&held) == stage.outputs,
         None => false,
@@ -184,17 +186,19 @@ fn outputs(held: &Held) -> &[u8] {
     }
 }
 
-/// Whether a device of `bytes` opens as it ought to at a stage.
-fn is_at(alloc: Global, known: &Known, story: &Story, bytes: &[u8], stage: usize) -> bool {
-    let (Some(stage), Some(wanted)) = (story.stages.get(stage), known.held.get(stage)) else {
-        return false;
-    };
-    let Some(mut disk) = disk_of(alloc, bytes) else {
-        return false;
-    };
-    match open(alloc, &mut disk) {
+/// Whether a device of `bytes` says what it ought to, and holds it.
+fn opens_as(alloc: Global, bytes: &[u8], stage: &Stage, wanted: &Held) -> bool {
+    match opened_of(alloc, bytes) {
         Ok(opened) => is_opened_as(alloc, opened, stage, wanted),
         Err(_) => false,
+    }
+}
+
+/// Whether a device of `bytes` opens as it ought to at a stage.
+fn is_at(alloc: Global, known: &Known, story: &Story, bytes: &[u8], stage: usize) -> bool {
+    match (story.stages.get(stage), known.held.get(stage)) {
+        (Some(stage), Some(wanted)) => opens_as(alloc, bytes, stage, wanted),
+        _ => false,
     }
 }
 
@@ -302,6 +306,7 @@ fn is_whole(alloc: Global, known: &Known, story: &Story, case: Case) -> bool {
 /// Whether that is so however a call ends.
 fn is_whole_at(alloc: Global, known: &Known, story: &Story, call: usize) -> bool {
     for (ending, torn) in ENDINGS {
+        let (ending, torn) = (*ending, *torn);
         if !is_whole(alloc, known, story, Case { call, ending, torn }) {
             return false;
         }
@@ -343,37 +348,37 @@ fn is_so<R: Threads + Sync>(rt: &R, alloc: Global, story: &Story) -> bool {
 
 #[test]
 fn a_group_is_there_or_it_is_not(rt: HostRuntime) {
-    assert!(rt; is_so(&rt, rt.alloc(), &TWO_GROUPS));
+    assert!(rt; is_so(&rt, rt.alloc(), TWO_GROUPS));
 }
 
 #[test]
 fn a_checkpoint_is_there_or_it_is_not(rt: HostRuntime) {
-    assert!(rt; is_so(&rt, rt.alloc(), &AFTER_A_GROUP));
+    assert!(rt; is_so(&rt, rt.alloc(), AFTER_A_GROUP));
 }
 
 #[test]
 fn a_tail_reaches_the_next_number(rt: HostRuntime) {
-    assert!(rt; is_so(&rt, rt.alloc(), &BEYOND_THE_GROUPS));
+    assert!(rt; is_so(&rt, rt.alloc(), BEYOND_THE_GROUPS));
 }
 
 #[test]
 fn old_groups_are_not_read(rt: HostRuntime) {
-    assert!(rt; is_so(&rt, rt.alloc(), &OVER_OLD_GROUPS));
+    assert!(rt; is_so(&rt, rt.alloc(), OVER_OLD_GROUPS));
 }
 
 #[test]
 fn a_checkpoint_changes_the_form(rt: HostRuntime) {
-    assert!(rt; is_so(&rt, rt.alloc(), &BEHIND_KEPT));
+    assert!(rt; is_so(&rt, rt.alloc(), BEHIND_KEPT));
 }
 
 #[test]
 fn a_checkpoint_that_stopped_is_made_anew(rt: HostRuntime) {
-    assert!(rt; is_so(&rt, rt.alloc(), &BEHIND_A_STOP));
+    assert!(rt; is_so(&rt, rt.alloc(), BEHIND_A_STOP));
 }
 
 #[test]
 fn turns_are_outside_a_cut(rt: HostRuntime) {
-    assert!(rt; is_so(&rt, rt.alloc(), &WITH_TURNS));
+    assert!(rt; is_so(&rt, rt.alloc(), WITH_TURNS));
 }
 
 /// Appends both groups, as far as they aren't there. Answers whether no other call failed, and both are there then.
@@ -413,6 +418,7 @@ fn is_mended(alloc: Global, known: &Known, story: &Story, case: Case) -> bool {
 /// Whether that is so however a call fails.
 fn is_mended_at(alloc: Global, known: &Known, story: &Story, call: usize) -> bool {
     for (ending, torn) in ENDINGS {
+        let (ending, torn) = (*ending, *torn);
         let case = Case { call, ending, torn };
         if matches!(ending, Ending::Fails) && !is_mended(alloc, known, story, case) {
             return false;
@@ -436,5 +442,5 @@ fn is_mended_at_each(alloc: Global, story: &Story) -> bool {
 
 #[test]
 fn a_broken_store_goes_on_once_it_is_opened(rt: HostRuntime) {
-    assert!(rt; is_mended_at_each(rt.alloc(), &TWO_GROUPS));
+    assert!(rt; is_mended_at_each(rt.alloc(), TWO_GROUPS));
 }

@@ -133,16 +133,27 @@ fn is_played(played: &[Played<Watched<'_>>], row: &Row) -> bool {
     }
 }
 
-/// Whether the parts of a row are played as it says.
-fn is_row<R: Threads + Sync>(rt: &R, alloc: Global, row: &Row) -> bool {
-    let watch = Watch::new(row.gate, row.begun);
-    let Ok(parts) = parts_of(alloc, row.nodes, &watch) else {
-        return false;
-    };
+/// Whether parts are played as a row says.
+fn plays<R: Threads + Sync>(
+    rt: &R,
+    alloc: Global,
+    parts: Vec<Watched<'_>>,
+    row: &Row,
+    watch: &Watch,
+) -> bool {
     let all = ENTRIES;
     let entries = all.as_slice().get(..row.entries).unwrap_or(&[]);
-    match play_whole(rt, alloc, parts, entries, &watch) {
-        Ok((played, _)) => is_played(&played, row) && watch.counts() == row.counts,
+    match play_whole(rt, alloc, parts, entries, watch) {
+        Ok((played, _)) => is_played(&played, row),
+        Err(_) => false,
+    }
+}
+
+/// Whether the parts of a row are played as it says, and counted so.
+fn is_row<R: Threads + Sync>(rt: &R, alloc: Global, row: &Row) -> bool {
+    let watch = Watch::new(row.gate, row.begun);
+    match parts_of(alloc, row.nodes, &watch) {
+        Ok(parts) => plays(rt, alloc, parts, row, &watch) && watch.counts() == row.counts,
         Err(_) => false,
     }
 }
