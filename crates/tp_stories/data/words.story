@@ -106,7 +106,7 @@ tpnet --version >out
 has out tpnet 0.1.0\nproved in Rattle's logic 
 
 story with_stream
-# Options that go with --stream alone, a number that is none, and a device that is no regular file, run and looked at.
+# Options that go with --stream alone, a number that is none, and a device that is no regular file, run and looked at: it isn't opened.
 text net.txt node a 4\nport h\nwire a.0 h\n
 image a.img 11 24 F2 54 41 F7 11 24 F2 41 FB 60 03
 tpnet format device net.txt . 16384
@@ -115,6 +115,9 @@ tpnet run device --stop-on-halt
 tpnet compact device --wait-lock=-1
 tpnet run /dev/null --turns=4
 tpnet show /dev/null
+symlink /dev/null null_device
+tpnet run null_device --turns=4
+asked write
 
 story many
 # 256 words are read, the program's name among them, and 257 are not. (Here neither are words that ask for something.)

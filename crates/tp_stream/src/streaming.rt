@@ -172,7 +172,8 @@ fn stream_parts<
 }
 
 /// Opens a device, and lets its network run: flushes, steps of each stream, and turns of all processes in order, in this one thread; and
-/// between two cycles of these, where more than one worker is asked for and there is much to do, turns and flushes in threads of their own.
+/// between two cycles of these, where more than one worker is asked for and there is much to do, workers make turns in threads of their own,
+/// beside flushes and turns in this one.
 /// Answers the device, and the number that the next entry gets.
 ///
 /// Whatever a crash leaves at any moment of the call is what one just before might have left, or opens to where a prefix of the journal

@@ -1,7 +1,6 @@
 -- Calls that leave the bytes that are there.
-use Rattle.std.proofs.Common.{◌≡◌, ◌<◌, ℕ, Bool, true, ◌⊎◌, inl, inr, List, [], ◌∷◌, ◌++◌, All, Result, Ok, Err, OnOk, refl, sym, ap, ◌∙◌, append_assoc, append-nil}
+use Rattle.std.proofs.Common.{◌≡◌, ℕ, Bool, inl, inr, List, [], ◌∷◌, ◌++◌, All, refl, sym, ap, ◌∙◌, append_assoc, append-nil}
 use Rattle.std.proofs.lemmas.List.Elements.{All-append, All-cons, All-nil}
-use Rattle.std.specs.declared.fs.options.OpenOptions.{OpenOptions}
 use Rattle.tp_stream_files.specs.Told.{EndTold, Opened, SyncedFolder}
 use Rattle.tp_stream_files.specs.Opening.{KeepsBytesThere, KeepsFiles, to_read, to_write}
 

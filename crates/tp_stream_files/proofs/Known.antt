@@ -1,5 +1,5 @@
 -- What is known of a reader that is read again where a read was interrupted.
-use Rattle.std.proofs.Common.{◌≡◌, ℕ, List, Option, Some, None, Result, Ok, Err, refl, sym, ap, ◌∙◌, subst}
+use Rattle.std.proofs.Common.{ℕ, List, Option, Some, None, Result, Ok, Err, refl, sym, ◌∙◌}
 use Rattle.std.specs.Io.KnownBytes.{Keeps, ReadConsumes}
 
 pub keeps_refl : (known : Option (List ℕ)) → Keeps known known

@@ -85,13 +85,14 @@ where
     Ok((done, told))
 }
 
-/// Whether a stream that is told waits in no read, is told each time that it looks for input, and at last what the device then opens to;
-/// and one that isn't told is told nothing, and waits in a read.
+/// Whether a stream that is told waits in no read, is told each time that it looks for input, and at last what the device then opens to,
+/// which no checkpoint was needed for; and one that isn't told is told nothing, and waits in a read.
 fn is_told<R: Threads + Wait + Abort + Sync>(rt: &R, device: &mut Vec<u8>) -> Result<bool, Fail>
 where
     R: AllocGlobal,
 {
     let (failed, nothing) = ended(rt, false, device)?;
+    let begun = look(rt.alloc(), device)?;
     let (done, told) = ended(rt, true, device)?;
     let left = look(rt.alloc(), device)?;
     let is_last = match told.last {
@@ -99,6 +100,7 @@ where
             last.next == left.next
                 && last.mark == left.next
                 && last.generation == left.generation
+                && left.generation == begun.generation
                 && last.put[0] == Some(1)
                 && last.put[1] == None
         }

@@ -152,8 +152,8 @@ fn record_both<J: Naming, R: Wait>(
     }
 }
 
-// Lets the pages go. Answers whether the snapshot runs before, whether there is a copy, and whether there are pages then. Both are so without
-// memory.
+/// Lets the pages go. Answers whether the snapshot runs before, whether there is a copy, and whether there are pages then. Both are so without
+/// memory.
 fn let_go<J: Naming, R: Wait>(
     rt: &R,
     alloc: Global,
@@ -175,7 +175,7 @@ fn let_go<J: Naming, R: Wait>(
     (running, early, kept)
 }
 
-// Trims the book to a copy of the cut. Answers what came of the snapshot.
+/// Trims the book to a copy of the cut. Answers what came of the snapshot.
 fn trimmed<J: Naming, R: Wait>(
     rt: &R,
     alloc: Global,

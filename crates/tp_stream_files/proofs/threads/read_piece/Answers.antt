@@ -1,4 +1,4 @@
-use Rattle.std.proofs.Common.{◌≡◌, ◌<◌, ◌≤◌, ◌∙◌, ap, length, ℕ, Result, Ok, Err, IfOk, arith}
+use Rattle.std.proofs.Common.{◌<◌, ◌≤◌, ◌∙◌, ap, length, ℕ, Result, Ok, Err, IfOk, arith}
 use Rattle.std.proofs.lemmas.List.{with_items_is}
 use Rattle.tp_stream_files.specs.Trace.{count_answered}
 use Rattle.tp_stream_files.proofs.threads.read_piece.Goals as goal

@@ -1,7 +1,7 @@
-use Rattle.std.proofs.Common.{◌+◌, sym, refl, ◌∙◌, ap, take, true, arith, rules}
+use Rattle.std.proofs.Common.{◌+◌, sym, ◌∙◌, ap, take, true}
 use Rattle.std.proofs.lemmas.Bool.{eqb-true}
 use Rattle.std.proofs.lemmas.List.{length-take-le}
-use Rattle.tp_stream_files.specs.Trace.{bytes_given, says_end, says_failed}
+use Rattle.tp_stream_files.specs.Trace.{says_end, says_failed}
 use Rattle.tp_stream_files.proofs.Traces.{behind_bytes, behind_length, end_before, end_now, says_failed_gave}
 use Rattle.tp_stream_files.proofs.held.Held.take_bytes.Goals as goal
 use Rattle.tp_stream_files.proofs.held.Held.take_bytes.Goals.{then-self, else-self}
