@@ -4,7 +4,7 @@ use crate::typed::{malformed, parted};
 use std::alloc::Global;
 use std::fs::Files;
 use std::{fs, io};
-use tp_program::{Held, InUse, Locks, NoLock};
+use tp_program::{Held, InUse, Locks};
 
 /// How often another process is asked for a device in vain, before it lets it go; and the file that it removes behind each of the asks up
 /// to one.
@@ -67,18 +67,29 @@ pub(crate) struct Other<'a, R> {
     file: &'a str,
 }
 
-impl<'a, R: Files> Locks for Other<'a, R> {
-    type Lock = NoLock;
+/// Whether something stood at a device's path as it was asked for.
+#[derive(Drop)]
+pub(crate) struct Stood {
+    was_there: bool,
+}
 
-    fn take(&mut self, path: &str, _seconds: u32) -> Result<Held<NoLock>, InUse> {
+impl<'a, R: Files> Locks for Other<'a, R> {
+    type Lock = Stood;
+
+    fn take(&mut self, path: &str, _seconds: u32) -> Result<Held<Stood>, InUse> {
+        let was_there = fs::metadata(self.rt, path).is_ok();
         if self.takes > 0 {
             self.takes = self.takes.saturating_sub(1);
             let _missing = fs::remove_file(self.rt, self.file);
         }
         if self.vain == 0 {
-            return Ok(Held::new(path, NoLock));
+            return Ok(Held::new(path, Stood { was_there }));
         }
         self.vain = self.vain.saturating_sub(1);
         Err(InUse)
+    }
+
+    fn is_kept(&self, lock: &Stood, path: &str) -> bool {
+        lock.was_there == fs::metadata(self.rt, path).is_ok()
     }
 }
