@@ -112,10 +112,8 @@ fn numbers_of<F: OpenFile>(file: &F) -> Option<FileNumbers> {
 
 /// Whether a path names the copy's file still, as far as the system says: somebody may have removed it, and made another there.
 fn is_named<R: Files>(rt: &R, path: &str, numbers: Option<FileNumbers>) -> bool {
-    match fs::symlink_metadata(rt, path) {
-        Ok(kept) => numbers_in(&kept) == numbers,
-        Err(_) => false,
-    }
+    let kept = fs::symlink_metadata(rt, path);
+    matches!(kept, Ok(kept) if numbers_in(&kept) == numbers)
 }
 
 /// Takes a name from the copy's file, where it has that still.
