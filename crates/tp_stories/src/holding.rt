@@ -2,12 +2,12 @@
 
 use crate::typed::{malformed, parted};
 use std::alloc::Global;
-use std::fs::Files;
+use std::fs::{Files, OpenOptions};
 use std::{fs, io};
 use tp_program::{Held, InUse, Locks};
 
 /// How often another process is asked for a device in vain, before it lets it go; and the file that it removes behind each of the asks up
-/// to one.
+/// to one, or makes, where a `+` stands in front of it.
 #[derive(Drop)]
 pub(crate) struct Holding {
     vain: u32,
@@ -67,6 +67,20 @@ pub(crate) struct Other<'a, R> {
     file: &'a str,
 }
 
+/// Removes a file, or makes it, empty, where a `+` stands in front of it.
+fn change<R: Files>(rt: &R, file: &str) -> io::Result<()> {
+    match file.strip_prefix('+') {
+        Some(made) => {
+            OpenOptions::new()
+                .write(true)
+                .create_new(true)
+                .open(rt, made)?;
+            Ok(())
+        }
+        None => fs::remove_file(rt, file),
+    }
+}
+
 /// Whether something stood at a device's path as it was asked for.
 #[derive(Drop)]
 pub(crate) struct Stood {
@@ -80,7 +94,7 @@ impl<'a, R: Files> Locks for Other<'a, R> {
         let was_there = fs::metadata(self.rt, path).is_ok();
         if self.takes > 0 {
             self.takes = self.takes.saturating_sub(1);
-            let _missing = fs::remove_file(self.rt, self.file);
+            let _done = change(self.rt, self.file);
         }
         if self.vain == 0 {
             return Ok(Held::new(path, Stood { was_there }));
