@@ -27,6 +27,10 @@ tpnet journal device --explain 2>err
 starts err tpnet: NotFormatted\n
 has err doesn't begin with TPNET
 copy grown device
+set device 6 01
+tpnet recover device --explain 2>err
+starts err tpnet: NotFormatted\n  it doesn't begin with TPNET and two bytes 00\n
+copy grown device
 set device 7 09
 tpnet recover device
 tpnet recover device --explain 2>err
@@ -218,6 +222,15 @@ tpnet format --new scratch net.txt . 16384
 tpnet format --new scratch net.txt . 16384 --explain 2>err
 starts err tpnet: DeviceExists\n
 has err no regular file\n  Name another path.\n
+tpnet format scratch net.txt . 16384 --explain 2>err
+starts err tpnet: DeviceFailed\n  scratch: something is there already that is no regular file\n
+ends err   Name another path.\n
+tpnet format scratch net.txt . 0 --explain 2>err
+starts err tpnet: DeviceFailed\n  scratch: something is there already that is no regular file\n
+has err   Name another path.\n  AREA is 0, and this network needs at least 13034\n
+tpnet format scratch absent . 16384 --explain 2>err
+starts err tpnet: ReadFailed\n  scratch: something is there already that is no regular file\n
+has err   Name another path.\n  absent: 
 tpnet format nowhere/device net.txt . 16384
 tpnet format nowhere/device net.txt . 16384 --explain 2>err
 starts err tpnet: DeviceFailed\n
