@@ -295,3 +295,13 @@ tpnet journal device
 tpnet node device 0 >node
 has node halt 1 BadAddress
 has node in 0 idle held 61
+
+story shut
+# A standard output that takes nothing, as on a full disk, is a fault, and the letter isn't confirmed: the next run prints it.
+text net.txt node a 4\nport h\nwire a.0 h\n
+image a.img
+tpnet format device net.txt . 16384
+shut full
+tpnet run device --turns 4 --workers 1 --quantum 16
+shut
+tpnet run device --turns=0

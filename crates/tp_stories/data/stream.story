@@ -220,7 +220,8 @@ ends err  quiet\n
 equal out wanted
 
 story no_room
-# A journal that has room for one turn and no byte more takes no input, however often it is settled: the stream says so, and ends.
+# A journal that has room for one turn and no byte more takes no input, however often it is settled: the stream says so, and ends. With an area of 31
+# bytes more it does so, too; with 32, which an entry takes, all bytes are handed in: the node takes one of them, and six stay pending.
 text net.txt node a 8\nport h\nwire a.0 h\n
 fill a.img 8364 00
 set a.img 0 01 00 08 00 00 01 00 80 00 02 00 80
@@ -230,6 +231,13 @@ set a.img 428 11 24 F2 54 41 F7
 text in abcdefg
 tpnet format device net.txt . 17546
 tpnet run device --stream --until-quiet --spare 8 --quantum 1 --every 2 --discard 0 --in 0=in
+tpnet format device net.txt . 17577
+tpnet run device --stream --until-quiet --spare 8 --quantum 1 --every 2 --discard 0 --in 0=in
+tpnet format device net.txt . 17578
+tpnet run device --stream --until-quiet --spare 8 --quantum 1 --every 2 --discard 0 --in 0=in 2>err
+ends err  quiet\n
+tpnet show device >shown
+ends shown port 0 in 1 pending 6 out 0 unconfirmed 0\n
 
 story two_inputs
 # A node hands on what port 0 gets to port 2, and takes nothing of port 1. A stream of both inputs ends once both have come to their end:
