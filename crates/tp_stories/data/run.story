@@ -111,7 +111,7 @@ there nowhere
 tpnet run nowhere --turns 0
 
 story full
-# An area with room for one entry, one with room for four, and one with room for five, where no checkpoint frees it.
+# An area with room for one entry, one with room for four, one with room for five, where no checkpoint frees it, and one with room for 105.
 text net.txt node a 4\nport h\nwire a.0 h\n
 image a.img
 tpnet format device net.txt . 13034
@@ -131,6 +131,19 @@ tpnet format device net.txt . 13162
 text input ab
 tpnet run device --turns 6 --workers 1 --quantum 16 --every 4294967295
 tpnet show device
+# Input that has more bytes than there is room for is refused, whole.
+tpnet format device net.txt . 16384
+fill over 106 6D
+fill more 102 6D
+fill most 101 6D
+tpnet run device --turns=0 --in over
+tpnet recover device
+tpnet run device --turns 4 --workers 1 --quantum 16
+tpnet run device --turns=0 --in more
+tpnet recover device
+tpnet run device --turns=0 --in most
+tpnet run device --turns=0 --in more
+tpnet run device --turns=0 --in most
 
 story steps
 # Turns that end within a round, and runs of one step, of 1024 and of 4096: each run that is opened begins with node 0. No turn makes no
