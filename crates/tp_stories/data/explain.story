@@ -466,6 +466,11 @@ tpnet recover device --explain 2>err
 starts err tpnet: Damaged 0\n
 has err byte 8, the nodes, is 17 and must be 1 to 16
 copy fresh device
+set device 9 00
+tpnet recover device --explain 2>err
+starts err tpnet: Damaged 0\n
+has err byte 9, the ports, is 0 and must be 1 to 8
+copy fresh device
 set device 9 09
 tpnet recover device --explain 2>err
 starts err tpnet: Damaged 0\n

@@ -32,6 +32,10 @@ equal device old
 sweep alone device 5
 tpnet recover device
 end
+equal device old
+# A device whose second area is the open one, with groups.
+bring kept/turned.dev device
+copy device old
 sweep alone device 5
 tpnet show device
 end

@@ -67,6 +67,10 @@ there device
 text net.txt node a 4\nnode none 4\nport h\n
 tpnet format device net.txt . 16384
 there device
+# The topology is refused before its images are read.
+text net.txt node none 4\n
+tpnet format device net.txt . 16384
+there device
 # A folder that is not there.
 text net.txt node a 4\nport h\n
 tpnet format nowhere/device net.txt . 16384
@@ -105,6 +109,20 @@ equal device before
 # With --new a file that is there is refused; another path is taken, and the device there is the same.
 tpnet format --new device net.txt . 16384
 equal device before
+# Of two faults the file that is there comes first, then what can't be opened as a device, then an image, then the area.
+text a.img no image
+tpnet format --new device net.txt . 100
+tpnet format device net.txt . 100
+equal device before
+folder there
+symlink /dev/null null
+tpnet format --new there net.txt . 100
+tpnet format --new null net.txt . 100
+tpnet format there net.txt . 100
+tpnet format null net.txt . 100
+image a.img
+tpnet format there net.txt . 16384
+tpnet format null net.txt . 16384
 tpnet format --new other net.txt . 16384
 equal other before
 

@@ -156,6 +156,49 @@ tpnet recover device
 copy fresh device
 set device 4840 11
 tpnet recover device
+# Up to 4,096 bytes may be pending at a port, of which the first is in flight: here none is. Behind them, and behind the outputs, all is 00.
+copy fresh device
+set device 4837 00 10
+tpnet recover device
+copy fresh device
+set device 4837 01 10
+tpnet recover device
+copy fresh device
+set device 4841 01
+tpnet recover device
+copy fresh device
+set device 8936 01
+tpnet recover device
+copy fresh device
+set device 8937 01
+tpnet recover device
+copy fresh device
+set device 13032 01
+tpnet recover device
+# A port has accepted no more bytes, and put out no more, than there are entries in front of the area: here none, then five, then 8,192. Of its
+# outputs 4,096 at most are unconfirmed.
+copy fresh device
+set device 4829 01
+tpnet recover device
+copy fresh device
+set device 525 05
+set device 4821 05
+tpnet recover device
+set device 4821 06
+tpnet recover device
+copy fresh device
+set device 525 05
+set device 4829 04
+set device 4839 01
+tpnet recover device
+set device 4839 02
+tpnet recover device
+copy fresh device
+set device 525 00 20
+set device 4839 00 10
+tpnet recover device
+set device 4839 01 10
+tpnet recover device
 copy fresh device
 set device 13033 A5
 tpnet recover device

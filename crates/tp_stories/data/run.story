@@ -32,17 +32,22 @@ tpnet show device >shown
 ends shown port 0 in 4 pending 0 out 4 unconfirmed 0\n
 
 story room
-# More input than a port has room for is handed in by further runs.
+# More input than a port has room for is handed in by further runs, once the node takes what is pending: in nine turns four bytes, which it sends
+# back.
 text net.txt node a 4\nport h\nwire a.0 h\n
-image a.img
+image a.img 11 24 F2 54 41 F7 11 24 F2 41 FB 60 03
 tpnet format device net.txt . 262144
 fill input 5000 78
 tpnet run device --turns 0 --in input
 tpnet show device >shown
 ends shown port 0 in 0 pending 4096 out 0 unconfirmed 0\n
 tpnet run device --turns 0 --in input
+tpnet run device --turns 9 --workers 1 --in input
 tpnet show device >shown
-ends shown port 0 in 0 pending 4096 out 0 unconfirmed 0\n
+ends shown port 0 in 4 pending 4092 out 4 unconfirmed 0\n
+tpnet run device --turns 0 --in input
+tpnet show device >shown
+ends shown port 0 in 4 pending 4096 out 4 unconfirmed 0\n
 
 story refused
 # A byte over a place of the device, and a command line: what comes first is said, and the device stays as it is.
@@ -106,7 +111,7 @@ there nowhere
 tpnet run nowhere --turns 0
 
 story full
-# An area with room for one entry, one with room for four, and one with room for five, where no checkpoint frees it.
+# An area with room for one entry, one with room for four, one with room for five, where no checkpoint frees it, and one with room for 105.
 text net.txt node a 4\nport h\nwire a.0 h\n
 image a.img
 tpnet format device net.txt . 13034
@@ -124,7 +129,21 @@ text net.txt node a 4\nport h\nwire a.0 h\n
 image a.img
 tpnet format device net.txt . 13162
 text input ab
-tpnet run device --turns 6 --workers 1 --quantum 16
+tpnet run device --turns 6 --workers 1 --quantum 16 --every 4294967295
+tpnet show device
+# Input that has more bytes than there is room for is refused, whole.
+tpnet format device net.txt . 16384
+fill over 106 6D
+fill more 102 6D
+fill most 101 6D
+tpnet run device --turns=0 --in over
+tpnet recover device
+tpnet run device --turns 4 --workers 1 --quantum 16
+tpnet run device --turns=0 --in more
+tpnet recover device
+tpnet run device --turns=0 --in most
+tpnet run device --turns=0 --in more
+tpnet run device --turns=0 --in most
 
 story steps
 # Turns that end within a round, and runs of one step, of 1024 and of 4096: each run that is opened begins with node 0. No turn makes no
@@ -312,3 +331,13 @@ tpnet journal device
 tpnet node device 0 >node
 has node halt 1 BadAddress
 has node in 0 idle held 61
+
+story shut
+# A standard output that takes nothing, as on a full disk, is a fault, and the letter isn't confirmed: the next run prints it.
+text net.txt node a 4\nport h\nwire a.0 h\n
+image a.img
+tpnet format device net.txt . 16384
+shut full
+tpnet run device --turns 4 --workers 1 --quantum 16
+shut
+tpnet run device --turns=0

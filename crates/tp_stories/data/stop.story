@@ -98,6 +98,8 @@ tpnet run device --stream --quantum=64 --out 0=- --in 0=given >rest 2>err
 ends err  written 10000 confirmed 10000 gone\n
 begins given rest
 equal given rest
+join both front rest
+equal both given
 
 story asked_before
 # A request from before the stream had the device was for another process: it is taken away, and the stream runs as without. So it is where the

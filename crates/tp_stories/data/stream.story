@@ -30,6 +30,10 @@ text given abcd
 tpnet run device --stream --quantum=64 --until-quiet --out 0=out --in 0=- <given
 asked stdin
 tpnet run device --stream --quantum=64 --until-quiet --out 0=short
+text short xy
+keep short
+tpnet run device --stream --quantum=64 --until-quiet --out 0=short
+stay
 tpnet run device --stream --quantum=64 --until-quiet --out 0=- --have 0=3
 tpnet run device --stream --quantum=64 --until-quiet --out 0=- --have 0=5
 show out 0 4
@@ -130,23 +134,32 @@ tpnet run device --stream --quantum=64 --until-quiet --out 0=out --in 0=in >prin
 equal out in
 
 story full
-# A port puts out more than it holds, beside a node that never rests: it runs on, over at least two checkpoints. The output of a port
-# that is let go is confirmed, too.
+# A port puts out more than it holds, beside a node that never rests: it runs on, over at least two checkpoints. Each three turns put a letter out,
+# by one worker and by three. The output of a port that is let go is confirmed, too.
 text net.txt node a 4\nnode busy 4\nport h\nwire a.0 h\n
 image a.img
 set a.img 439 60 03
 copy a.img busy.img
+fill letters 10000 41
 tpnet format device net.txt . 32768
-tpnet run device --stream --quantum=64 --turns 16000 --out 0=out >printed 2>err
-tpnet run device --stream --quantum=64 --turns 16000 --discard 0 >printed 2>err
-fill all 100000 41
-fill some 1001 41
-begins out some
-begins all out
+copy device other
+tpnet run device --stream --quantum=64 --turns 30000 --workers 1 --out 0=out >printed 2>err
+ends err  turns\n
+equal out letters
 tpnet show device >shown
-ends shown  unconfirmed 0\n
+ends shown port 0 in 0 pending 0 out 10000 unconfirmed 0\n
 has shown generation 1 
 has shown generation 2 
+tpnet run other --stream --quantum=64 --turns 30000 --workers 3 --out 0=more >printed 2>err
+ends err  turns\n
+equal more letters
+tpnet show other >shown
+ends shown port 0 in 0 pending 0 out 10000 unconfirmed 0\n
+has shown generation 1 
+has shown generation 2 
+tpnet run device --stream --quantum=64 --turns 16000 --discard 0 >printed 2>err
+tpnet show device >shown
+ends shown  unconfirmed 0\n
 
 story endings
 # Why streams end, on a device whose node sends back each byte; and inputs of one byte less than the port has accepted, of
@@ -162,6 +175,11 @@ text given abc
 tpnet run device --stream --quantum=64 --out 0=- --in 0=- <given
 tpnet run device --stream --quantum=64 --turns=0 --out 0=-
 tpnet run device --stream --quantum=64 --until-quiet --discard 0 --in 0=two
+# An output that is refused comes first.
+text five vwxyz
+keep five
+tpnet run device --stream --quantum=64 --until-quiet --out 0=five --in 0=two
+stay
 tpnet run device --stream --quantum=64 --until-quiet --out 0=- --in 0=three
 tpnet run device --stream --quantum=64 --until-quiet --stop-on-halt --out 0=- --in 0=four
 tpnet run device --stream --quantum=64 --discard 0 --in 0=two --explain 2>err
@@ -218,9 +236,26 @@ text out
 tpnet run device --stream --quantum=64 --until-quiet --spare 16 --out 0=out 2>err
 ends err  quiet\n
 equal out wanted
+# Where each entry begins a snapshot: with no spare frame, with one fewer than the pages that it writes, and with as many.
+tpnet format device net.txt . 65536
+text out 
+tpnet run device --stream --quantum=64 --until-quiet --spare 0 --every 1 --out 0=out 2>err
+ends err  quiet\n
+equal out wanted
+tpnet format device net.txt . 65536
+text out 
+tpnet run device --stream --quantum=64 --until-quiet --spare 11 --every 1 --out 0=out 2>err
+ends err  quiet\n
+equal out wanted
+tpnet format device net.txt . 65536
+text out 
+tpnet run device --stream --quantum=64 --until-quiet --spare 12 --every 1 --out 0=out 2>err
+ends err  quiet\n
+equal out wanted
 
 story no_room
-# A journal that has room for one turn and no byte more takes no input, however often it is settled: the stream says so, and ends.
+# A journal that has room for one turn and no byte more takes no input, however often it is settled: the stream says so, and ends. With an area of 31
+# bytes more it does so, too; with 32, which an entry takes, all bytes are handed in: the node takes one of them, and six stay pending.
 text net.txt node a 8\nport h\nwire a.0 h\n
 fill a.img 8364 00
 set a.img 0 01 00 08 00 00 01 00 80 00 02 00 80
@@ -230,6 +265,13 @@ set a.img 428 11 24 F2 54 41 F7
 text in abcdefg
 tpnet format device net.txt . 17546
 tpnet run device --stream --until-quiet --spare 8 --quantum 1 --every 2 --discard 0 --in 0=in
+tpnet format device net.txt . 17577
+tpnet run device --stream --until-quiet --spare 8 --quantum 1 --every 2 --discard 0 --in 0=in
+tpnet format device net.txt . 17578
+tpnet run device --stream --until-quiet --spare 8 --quantum 1 --every 2 --discard 0 --in 0=in 2>err
+ends err  quiet\n
+tpnet show device >shown
+ends shown port 0 in 1 pending 6 out 0 unconfirmed 0\n
 
 story two_inputs
 # A node hands on what port 0 gets to port 2, and takes nothing of port 1. A stream of both inputs ends once both have come to their end:
@@ -379,6 +421,8 @@ tpnet run device --stream --quantum=64 --out 0=- --in 0=given --stop-file stop >
 ends err  written 10000 confirmed 10000 gone\n
 begins given rest
 equal given rest
+join both front rest
+equal both given
 there stop
 
 story unseen_stop

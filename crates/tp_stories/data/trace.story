@@ -103,6 +103,12 @@ tpnet trace long.img
 image page.img
 set page.img 2 05
 tpnet trace page.img
+# A slice count is at most 1,024.
+image s.img
+set s.img 42 01 04
+tpnet trace s.img
+set s.img 42 00 04
+tpnet trace s.img --steps 1
 # A file that is not there can not be read.
 tpnet trace a.img
 # A number of steps that is none, or out of its range.

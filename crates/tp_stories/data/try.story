@@ -12,6 +12,14 @@ tpnet try b.img --turns 4
 tpnet try a.img --turns 0
 # It goes round for as many turns as there are.
 tpnet try a.img --turns=100001
+# A node that sends the letter again and again puts one out in each two turns, up to 4,096.
+image c.img 27 2F 2F 2F 2F 2F 6F 40 24 41 FE 60 03
+tpnet try c.img --turns 8190 >out
+length out
+tpnet try c.img --turns 8192 >out
+length out
+tpnet try c.img --turns 8194 >out
+length out
 
 story others
 # What is no image: a file without a byte, a text, an image with a link at work, one of a later version.

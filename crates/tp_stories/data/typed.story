@@ -17,8 +17,7 @@ copy d --workers
 tpnet run --turns=0 d
 tpnet run d --turns=7 --workers=1 --quantum 1
 tpnet run d --quantum=4096 --spare=0 --port=7 --turns=3
-tpnet run --spare 256 --turns 16 d --port 300 2>err
-has err ; see tpnet 
+tpnet run --spare 256 --turns 16 d --port 300
 tpnet recover d
 text f ab
 tpnet run d --every 4294967295 --in f --turns 4 >out 2>err
@@ -36,12 +35,6 @@ tpnet try b.img --turns 4294967295
 tpnet format new t i 1099511627776
 there new
 stay
-
-story named
-# What is said of words names the program as it is called by itself.
-tpnet run 2>err
-has err Usage: tpnet run 
-has err other
 
 story of_a_backup
 # The device comes first and the copy behind it, wherever --explain stands, and behind the dashes.

@@ -1,63 +1,14 @@
-//! What parts of steps answer: requests of links, kinds of channel words, the places in a workspace.
+//! What parts of steps answer: kinds of channel words, the places in a workspace.
 
 use crate::desk::Desk;
-use crate::image::Fact;
-use crate::image::Fact::Stack;
-use crate::part_calls::{Call, make};
 use crate::story::check;
-use std::alloc::Global;
 use std::test::Fail;
 use tp_cpu::{
     ENABLING, KEPT_AT, NONE_CHOSEN, NOT_PROCESS, READY, Undone, WAITING, channel_at, descriptor_of,
     has_low_priority, is_alternative, is_low, link_at, load, must_slice, queue_write, saved_at,
     state_at, workspace,
 };
-use tp_model::{ChannelWord, Fault, Wish};
-
-/// A channel instruction, what is given, and the link and the pointer for which it asks that link for 4 bytes.
-type Request<'a> = (Call, &'a [Fact<'a>], u8, u32);
-
-const REQUESTS: &[Request<'static>] = &[
-    (
-        Call::Out,
-        &[Stack(4, 0x8000_0004, 0x8000_0310)],
-        1,
-        0x8000_0310,
-    ),
-    (
-        Call::In,
-        &[Stack(4, 0x8000_001C, 0x8000_0320)],
-        3,
-        0x8000_0320,
-    ),
-];
-
-/// Whether a call on a desk asks for that.
-fn asks(desk: &mut Desk, row: &Request<'_>) -> bool {
-    let pointer = row.3;
-    match make(&row.0, desk) {
-        Err(Undone::Asks(request)) => request.link == row.2 && request.pointer == pointer,
-        Err(Undone::Wants(request)) => {
-            request.link == row.2 && request.wish == Wish::Message { pointer, count: 4 }
-        }
-        _ => false,
-    }
-}
-
-fn is_request(alloc: Global, row: &Request<'_>) -> bool {
-    let Ok(mut desk) = Desk::new(alloc, row.1) else {
-        return false;
-    };
-    let told = asks(&mut desk, row);
-    told
-}
-
-#[test]
-fn requests(rt: HostRuntime) {
-    for (i, row) in REQUESTS.iter().enumerate() {
-        check(&rt, "requests", i, is_request(rt.alloc(), row));
-    }
-}
+use tp_model::{ChannelWord, Fault};
 
 const CHANNELS: &[(u32, ChannelWord)] = &[
     (0x8000_0000, ChannelWord::Output(0)),

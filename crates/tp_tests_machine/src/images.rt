@@ -7,11 +7,12 @@ use std::alloc::Global;
 use tp_model::Fault;
 use tp_node::{ImageFault, Node};
 
-/// Whether the bytes are an image.
-fn is_image(alloc: Global, bytes: &[u8]) -> bool {
+/// Whether the bytes are an image; none without memory.
+fn is_image(alloc: Global, bytes: &[u8]) -> Option<bool> {
     match Node::from_image(alloc, bytes, 0) {
-        Ok(_) => true,
-        Err(fault) => fault != ImageFault::BadImage,
+        Ok(_) => Some(true),
+        Err(ImageFault::BadImage) => Some(false),
+        Err(_) => None,
     }
 }
 
@@ -96,7 +97,12 @@ fn is_with(alloc: Global, at: usize, bytes: &[u8], len: usize) -> Option<bool> {
     };
     image.put(at, bytes);
     let is_long = image.bytes.resize(len, 0).is_ok();
-    is_long.then_some(is_image(alloc, &image.bytes))
+    let seen = if is_long {
+        is_image(alloc, &image.bytes)
+    } else {
+        None
+    };
+    seen
 }
 
 /// Whether an image is one still where this is so; none without memory.
@@ -105,7 +111,8 @@ fn is_where(alloc: Global, fact: &Fact<'_>) -> Option<bool> {
         return None;
     };
     image.put_fact(fact);
-    Some(is_image(alloc, &image.bytes))
+    let seen = is_image(alloc, &image.bytes);
+    seen
 }
 
 #[test]

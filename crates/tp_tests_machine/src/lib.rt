@@ -19,8 +19,6 @@ mod desk;
 #[cfg(test)]
 mod ends;
 #[cfg(test)]
-mod frames;
-#[cfg(test)]
 mod guards;
 #[cfg(test)]
 mod image;

@@ -1,11 +1,11 @@
-//! What formatting a device in memory refuses that no command line asks for; calls that fail as one is formatted, and as one is opened.
+//! What formatting a device in memory refuses that no command line asks for.
 
 use std::alloc::{AllocError, Global};
 use std::test::Fail;
-use tp_disk::{Disk, MemDisk, PlannedFault};
+use tp_disk::{Disk, MemDisk};
 use tp_net::Topology;
-use tp_program::{format_on, show_on};
-use tp_tests_fixtures::{AREA, ONE_NODE, SIZE, WITH_TURNS, letter};
+use tp_program::format_on;
+use tp_tests_fixtures::{AREA, ONE_NODE, SIZE, letter};
 
 /// The least area for one node of four pages and one port.
 const LEAST: u64 = 13_034;
@@ -85,61 +85,6 @@ fn is_refused(
 fn what_no_words_ask_for(rt: HostRuntime) -> Result<(), Fail> {
     for (size, area, count, said) in REFUSED {
         assert!(rt; is_refused(rt.alloc(), *size, *area, *count, *said)?);
-    }
-    Ok(())
-}
-
-/// A device to format, or one to show: its groups have a run, the letter, and a turn.
-fn bytes_for(alloc: Global, shows: bool) -> Result<Vec<u8>, AllocError> {
-    if shows {
-        WITH_TURNS[0].bytes(alloc)
-    } else {
-        Vec::from_elem(alloc, 0u8, SIZE)
-    }
-}
-
-/// Shows a device, or formats it. Answers whether that was done, and whether it is said that a call has failed.
-fn ended<D: Disk>(alloc: Global, disk: &mut D, shows: bool) -> (bool, bool) {
-    let (mut out, mut err) = (Vec::new(alloc), Vec::new(alloc));
-    let (status, said) = if shows {
-        let status = show_on(alloc, disk, false, &mut out, &mut err);
-        (status, b"tpnet: ReadFailed\n".as_slice())
-    } else {
-        let status = format_one(alloc, disk, 1, AREA, &mut out, &mut err);
-        (status, b"tpnet: DeviceFailed\n".as_slice())
-    };
-    (status == 0, out.is_empty() && err.as_slice() == said)
-}
-
-/// What becomes of that where the call of that number fails.
-fn fails_at(alloc: Global, shows: bool, call: u64) -> Result<(bool, bool), AllocError> {
-    let bytes = bytes_for(alloc, shows)?;
-    let fault = PlannedFault::Fails {
-        torn: Vec::new(alloc),
-    };
-    let mut disk = MemDisk::of_bytes(bytes).with_fault(call, fault);
-    let came = ended(alloc, &mut disk, shows);
-    Ok(came)
-}
-
-/// How many calls of a device are made as it is formatted, or shown; each one may fail alone, and that is said then.
-fn calls_of(alloc: Global, shows: bool) -> Result<u64, Fail> {
-    for call in 0..100 {
-        let (is_done, is_said) = fails_at(alloc, shows, call)?;
-        if is_done {
-            return Ok(call);
-        }
-        if !is_said {
-            return Err(Fail::new("a call that failed isn't said"));
-        }
-    }
-    Err(Fail::new("no end of the calls"))
-}
-
-#[test]
-fn each_call_of_the_device_may_fail(rt: HostRuntime) -> Result<(), Fail> {
-    for shows in [false, true] {
-        assert!(rt; calls_of(rt.alloc(), shows)? > 5);
     }
     Ok(())
 }

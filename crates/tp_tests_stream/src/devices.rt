@@ -11,9 +11,6 @@ use tp_tests_fixtures::place;
 /// One node, whose link 0 goes to a port.
 pub(crate) const ONE: &[u8] = b"node a 4\nport h\nwire a.0 h\n";
 
-/// That node beside one without a wire.
-pub(crate) const BESIDE: &[u8] = b"node a 4\nnode busy 4\nport h\nwire a.0 h\n";
-
 /// Three nodes in a chain: link 0 of each goes to link 1 of the next, and that of the last one to a port.
 pub(crate) const CHAIN: &[u8] =
     b"node a 4\nnode b 4\nnode c 4\nport h\nwire a.0 b.1\nwire b.0 c.1\nwire c.0 h\n";
@@ -49,13 +46,6 @@ pub(crate) const LETTERS: &[u8] = &[
 /// A process inputs a byte from link 1, sends it on link 0, and again.
 pub(crate) const PASSES: &[u8] = &[
     0x11, 0x24, 0xF2, 0x55, 0x41, 0xF7, 0x11, 0x24, 0xF2, 0x41, 0xFB, 0x60, 0x03,
-];
-
-/// A process writes a word into each of pages 4 to 15, twenty times over, sends the letter A on link 0, and stops.
-pub(crate) const WRITES: &[u8] = &[
-    0x21, 0x44, 0xD0, 0x4C, 0xD2, 0x24, 0xF2, 0x24, 0x20, 0x50, 0xD1, 0x70, 0x71, 0xE0, 0x71, 0x21,
-    0x20, 0x50, 0xD1, 0x72, 0x60, 0x8F, 0xD2, 0x72, 0xA2, 0x60, 0x00, 0x70, 0x60, 0x8F, 0xD0, 0x70,
-    0xA2, 0x61, 0x00, 0x24, 0xF2, 0x24, 0x41, 0xFE, 0x21, 0xF5,
 ];
 
 /// A process takes a byte from link 0, writes a word into each of pages 4 to 15, sends the byte on link 0, and again.

@@ -1,103 +1,15 @@
-//! Ends of streams that aren't what they were: inputs that are too short, and takers of outputs that have gone.
+//! Takers of outputs that have gone.
 
 ghost use Rattle.std.specs.Prelude.{None};
 
-use crate::devices::{ECHO, LETTERS, ONE, TWO, formatted};
-use crate::players::{Asked, Asks, NO_INPUT, Pieces, QUIET, nobody, play};
-use crate::steps::{Bytes, EMPTY, Fresh, PLAIN, Step, are_steps_on};
+use crate::devices::{LETTERS, TWO, formatted};
+use crate::players::{Asks, Pieces, QUIET, nobody, play};
 use std::alloc::{AllocError, Global};
 use std::process::Abort;
 use std::sync::Wait;
 use std::test::Fail;
 use std::thread::Threads;
-use tp_stream::{Ending, MemSink, Output, Sink, SinkFault, Source, StreamFault, Streams, Task};
-
-/// Nine numbered bytes, and ten.
-const BYTES_9: Bytes = Bytes {
-    all: None,
-    least: 9,
-    most: 9,
-};
-
-const BYTES_10: Bytes = Bytes {
-    all: None,
-    least: 10,
-    most: 10,
-};
-
-/// Nine numbered bytes. The source says that they are nine.
-const ASKED: Asked = Asked {
-    input: 9,
-    most: 9,
-    length: Some(9),
-    ..NO_INPUT
-};
-
-/// The sink has them, and no more is put.
-const NINE: Step = Step {
-    asked: ASKED,
-    front: Some(BYTES_9),
-    then: Some(BYTES_9),
-    ..PLAIN
-};
-
-/// A source that says that it has eight.
-const EIGHT: Step = Step {
-    asked: Asked {
-        length: Some(8),
-        ..ASKED
-    },
-    ..NINE
-};
-
-/// Sources that say that they have nine bytes, eight, and ten.
-const LENGTHS: &[Step] = &[
-    Step {
-        front: Some(EMPTY),
-        ..NINE
-    },
-    Step {
-        fault: Some(StreamFault::ShortInput {
-            port: 0,
-            has: 8,
-            accepted: 9,
-        }),
-        ..EIGHT
-    },
-    Step {
-        front: Some(BYTES_10),
-        fault: Some(StreamFault::Long {
-            port: 0,
-            has: 10,
-            upto: 9,
-        }),
-        then: Some(BYTES_10),
-        ..EIGHT
-    },
-    NINE,
-    Step {
-        asked: Asked {
-            length: Some(10),
-            ..ASKED
-        },
-        ..NINE
-    },
-];
-
-/// A device of a node that gives back what it takes.
-const ECHOES: Fresh = Fresh {
-    text: ONE,
-    code: ECHO,
-    begin: 0,
-    area: 16_384,
-};
-
-/// An input of fewer bytes than its port has accepted is refused, behind all outputs.
-#[test]
-fn an_input_has_all_that_its_port_accepted(rt: HostRuntime) -> Result<(), Fail> {
-    assert!(rt; are_steps_on(&rt, ECHOES, LENGTHS)?);
-    Ok(())
-}
+use tp_stream::{Ending, MemSink, Output, Sink, SinkFault, Source, Streams, Task};
 
 /// A sink that takes a number of pieces, and then its taker has gone.
 #[derive(Drop)]

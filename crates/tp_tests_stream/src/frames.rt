@@ -1,8 +1,7 @@
 //! Nodes that write more pages than they have spare frames for.
 
-use crate::devices::{ECHO_WRITES, LARGE, WRITES, formatted};
-use crate::players::{Asked, Asks, NO_INPUT, QUIET, nobody, numbered, play, source_of};
-use crate::steps::{Bytes, Fresh, PLAIN, Step, are_steps_on};
+use crate::devices::{ECHO_WRITES, LARGE, formatted};
+use crate::players::{Asks, QUIET, nobody, numbered, play, source_of};
 use crate::waiting::{Answered, Asking};
 use std::alloc::{AllocError, Global};
 use std::cell::Cell;
@@ -11,47 +10,6 @@ use std::sync::Wait;
 use std::test::Fail;
 use std::thread::Threads;
 use tp_stream::{Ending, Input, Output, Streams, Task};
-
-/// How many spare frames there are, where twelve pages are written.
-const SPARES: &[u16] = &[0, 1, 4, 11, 12, 16];
-
-/// The device of a node that writes pages, and sends a letter behind that.
-const FRESH: Fresh = Fresh {
-    text: LARGE,
-    code: WRITES,
-    begin: 0,
-    area: 65_536,
-};
-
-/// The letter comes, and the stream is quiet then.
-const IS_SENT: Step = Step {
-    why: Some(Ending::Quiet),
-    then: Some(Bytes {
-        all: Some(b'A'),
-        least: 1,
-        most: 1,
-    }),
-    ..PLAIN
-};
-
-/// The letter comes behind the writes with however many spare frames, where each entry begins a snapshot that may.
-#[test]
-fn a_node_that_wants_frames_is_not_quiet(rt: HostRuntime) -> Result<(), Fail> {
-    for spare in SPARES {
-        let task = Task {
-            turns: None,
-            spare: *spare,
-            every: Some(1),
-            ..QUIET
-        };
-        let step = Step {
-            asked: Asked { task, ..NO_INPUT },
-            ..IS_SENT
-        };
-        assert!(rt; are_steps_on(&rt, FRESH, &[step])?);
-    }
-    Ok(())
-}
 
 /// The streams of a host that waits for each of its forty answers.
 fn asking<'a>(

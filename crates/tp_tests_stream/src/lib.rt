@@ -24,8 +24,6 @@ mod frames;
 #[cfg(test)]
 mod full;
 #[cfg(test)]
-mod long;
-#[cfg(test)]
 mod outputs;
 #[cfg(test)]
 mod players;

@@ -1,4 +1,4 @@
-//! Devices and outputs that fail, and outlets that take little.
+//! Devices that fail, and outlets that take little and fail.
 
 ghost use Rattle.std.specs.Prelude.{None};
 ghost use Rattle.tp_run.specs.Outlet.{unnoted};
@@ -6,8 +6,6 @@ ghost use Rattle.tp_run.specs.Outlet.{unnoted};
 use crate::devices::{ECHO, ONE, formatted};
 use crate::runs::{FOUR, left, letter, run_on};
 use std::alloc::{AllocError, Global};
-use std::io;
-use std::io::{ErrorKind, Write};
 use std::process::Abort;
 use std::sync::Wait;
 use std::test::Fail;
@@ -126,53 +124,6 @@ fn any_call_of_the_device_may_fail(rt: HostRuntime) -> Result<(), Fail> {
             matches!(failed, Some(failed) if 16 < failed && failed < CALLS),
             "kind {kind}"
         );
-    }
-    Ok(())
-}
-
-/// An output that takes a number of bytes, and then fails or takes none.
-#[derive(Drop)]
-struct Narrow {
-    room: usize,
-    fails: bool,
-}
-
-impl Write for Narrow {
-    fn write(&mut self, bytes: &[u8]) -> io::Result<usize> {
-        if self.room == 0 && self.fails {
-            return Err(io::Error::from(ErrorKind::StorageFull));
-        }
-        let count = bytes.len().min(self.room);
-        self.room -= count;
-        Ok(count)
-    }
-
-    fn flush(&mut self) -> io::Result<()> {
-        Ok(())
-    }
-}
-
-/// Whether an output fails, and a run behind that prints the letter.
-fn is_not_confirmed<R: Threads + Wait + Abort + Sync>(
-    rt: &R,
-    alloc: Global,
-    disk: MemDisk,
-    fails: bool,
-) -> bool {
-    let mut disk = disk;
-    let mut narrow = Narrow { room: 0, fails };
-    let failed = run_on(rt, alloc, FOUR, &mut disk, b"", &mut narrow);
-    let mut out = Vec::new(alloc);
-    let done = run_on(rt, alloc, FOUR, &mut disk, b"", &mut out);
-    failed == Err(RunFault::OutputFailed) && done.is_ok() && out.as_slice() == b"A".as_slice()
-}
-
-#[test]
-fn an_output_that_fails_confirms_nothing(rt: HostRuntime) -> Result<(), Fail> {
-    let alloc = rt.alloc();
-    for fails in [false, true] {
-        let told = is_not_confirmed(&rt, alloc, letter(alloc)?, fails);
-        assert!(rt; told);
     }
     Ok(())
 }

@@ -7,12 +7,12 @@ use std::sync::Wait;
 use std::test::Fail;
 use std::thread::Threads;
 use tp_disk::MemDisk;
-use tp_model::{Entry, OpenFault, Received, Token};
+use tp_model::{Entry, Received, Token};
 use tp_recover::{Unopened, open};
-use tp_run::{Job, RunFault};
+use tp_run::Job;
 
-/// What is run, with this input; what it prints, and what it answers.
-type Row = (Job, &'static [u8], &'static [u8], Result<u64, RunFault>);
+/// What is run, with this input; what it prints, and which number it answers.
+type Row = (Job, &'static [u8], &'static [u8], u64);
 
 const NONE: Job = Job { turns: 0, ..FOUR };
 
@@ -20,54 +20,19 @@ const NONE: Job = Job { turns: 0, ..FOUR };
 const THREE: Job = Job { turns: 3, ..FOUR };
 
 /// The node sends a letter, which is printed, confirmed, and not printed again.
-const PRINTS: &[Row] = &[(THREE, b"", b"A", Ok(4)), (NONE, b"", b"", Ok(4))];
+const PRINTS: &[Row] = &[(THREE, b"", b"A", 4), (NONE, b"", b"", 4)];
 
 /// One input is given again and again, and grows.
 const OFFERS: &[Row] = &[
-    (NONE, b"ab", b"", Ok(2)),
-    (NONE, b"ab", b"", Ok(2)),
-    (NONE, b"a", b"", Ok(2)),
-    (NONE, b"", b"", Ok(2)),
-    (NONE, b"abc", b"", Ok(3)),
+    (NONE, b"ab", b"", 2),
+    (NONE, b"ab", b"", 2),
+    (NONE, b"a", b"", 2),
+    (NONE, b"", b"", 2),
+    (NONE, b"abc", b"", 3),
 ];
 
 /// Input and output in one run; then more of the input.
-const TAKES: &[Row] = &[(FOUR, b"ab", b"A", Ok(6)), (NONE, b"abc", b"", Ok(7))];
-
-/// A port and spare frames that aren't there; the spare frames are told first.
-const REFUSED: &[Row] = &[
-    (Job { port: 1, ..FOUR }, b"", b"", Err(RunFault::Port)),
-    (Job { spare: 5, ..FOUR }, b"", b"", Err(RunFault::Spare)),
-    (
-        Job {
-            spare: 5,
-            port: 1,
-            ..FOUR
-        },
-        b"",
-        b"",
-        Err(RunFault::Spare),
-    ),
-    (FOUR, b"", b"A", Ok(4)),
-];
-
-/// A device that isn't formatted.
-const BLANK: &[Row] = &[(
-    FOUR,
-    b"",
-    b"",
-    Err(RunFault::Opening(Unopened::Fault(OpenFault::NotFormatted))),
-)];
-
-/// The journal has room for 105 entries: input of more is refused, whole. What is printed can't be confirmed where it is full.
-const FULL: &[Row] = &[
-    (NONE, &[7; 106], b"", Err(RunFault::OfferRefused)),
-    (FOUR, &[], b"A", Ok(4)),
-    (NONE, &[7; 102], b"", Err(RunFault::OfferRefused)),
-    (NONE, &[7; 101], b"", Ok(105)),
-    (NONE, &[7; 102], b"", Err(RunFault::OfferRefused)),
-    (NONE, &[7; 101], b"", Ok(105)),
-];
+const TAKES: &[Row] = &[(FOUR, b"ab", b"A", 6), (NONE, b"abc", b"", 7)];
 
 /// Whether a run prints and answers what its row says.
 fn is_row<R: Threads + Wait + Abort + Sync>(
@@ -79,7 +44,7 @@ fn is_row<R: Threads + Wait + Abort + Sync>(
     let (job, input, prints, answer) = *row;
     let mut out = Vec::new(alloc);
     let done = run_on(rt, alloc, job, disk, input, &mut out);
-    done == answer && out.as_slice() == prints
+    done == Ok(answer) && out.as_slice() == prints
 }
 
 /// Whether all of them do, one after another.
@@ -187,26 +152,5 @@ fn runs_keep_what_was_worked_out(rt: HostRuntime) -> Result<(), Fail> {
         let told = go(&rt, rt.alloc(), rows, entries)?;
         assert!(rt; told);
     }
-    Ok(())
-}
-
-/// Whether runs on a device go as their rows say.
-fn are_refused<R: Threads + Wait + Abort + Sync>(
-    rt: &R,
-    alloc: Global,
-    rows: &[Row],
-    disk: MemDisk,
-) -> bool {
-    let mut disk = disk;
-    are_rows(rt, alloc, &mut disk, rows)
-}
-
-#[test]
-fn what_may_not_be_is_refused(rt: HostRuntime) -> Result<(), Fail> {
-    let alloc = rt.alloc();
-    let refused = are_refused(&rt, alloc, REFUSED, letter(alloc)?);
-    let full = are_refused(&rt, alloc, FULL, letter(alloc)?);
-    let blank = are_refused(&rt, alloc, BLANK, MemDisk::zeroed(alloc, 600)?);
-    assert!(rt; refused && full && blank);
     Ok(())
 }

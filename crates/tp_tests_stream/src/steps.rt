@@ -154,7 +154,7 @@ where
 }
 
 /// Whether all go so, one after another.
-pub(crate) fn are_steps<R: Threads + Wait + Abort + Sync>(
+fn are_steps<R: Threads + Wait + Abort + Sync>(
     rt: &R,
     steps: &[Step],
     desk: &mut Desk,
