@@ -6,6 +6,7 @@ ghost use Rattle.tp_program.specs.Devices.{DeviceCall, Holds, Opens, Closes, pat
 
 use crate::device_calls::DeviceCalls;
 use crate::files::read_refusal;
+use crate::in_use::{changed, is_busy};
 use crate::locks::{Held, InUse, Locks};
 use std::fs::{Files, OpenFile};
 use std::io;
@@ -103,7 +104,7 @@ impl<
     fn open(&mut self, path: &str) -> io::Result<Counted<RawFile<NotedFile<F>>>> {
         let device = Counted::open(self.rt, path)?;
         if !self.is_kept(path) {
-            return Err(io::Error::from(io::ErrorKind::ResourceBusy));
+            return Err(changed());
         }
         self.noted = self.noted.opened(path, &device);
         Ok(device)
@@ -125,9 +126,10 @@ fn said_again(error: &io::Error) -> io::Error {
 
 /// Why a device wasn't opened: another process has it where another file stands there by now.
 pub(crate) fn opening_refusal(error: &io::Error) -> Refusal {
-    match error.kind() {
-        io::ErrorKind::ResourceBusy => Refusal::InUse,
-        _ => read_refusal(error),
+    if is_busy(error) {
+        Refusal::InUse
+    } else {
+        read_refusal(error)
     }
 }
 

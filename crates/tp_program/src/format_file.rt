@@ -9,6 +9,7 @@ ghost use Rattle.tp_words.specs.declared.args.TheConstants.{MAX_AREA};
 use crate::devices::Devices;
 use crate::files::{image_path, read_file, read_network};
 use crate::formatting::format_on;
+use crate::in_use::changed;
 use std::fs::{Files, OpenFile};
 use std::io;
 use std::io::Write;
@@ -129,6 +130,7 @@ fn format_network<
         return refuse(err, Refusal::DeviceFailed);
     }
     if !devices.is_kept(new.device.as_str()) {
+        *system = Some(changed());
         return refuse(err, Refusal::InUse);
     }
     match new_disk(rt, devices, new, topology) {

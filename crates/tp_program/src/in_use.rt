@@ -2,6 +2,7 @@
 
 ghost use Rattle.std.specs.Prelude.{◌≡◌};
 
+use std::io;
 use std::io::Write;
 use tp_views::{Refusal, refuse};
 
@@ -18,4 +19,22 @@ pub fn refuse_in_use<E: Write>(explains: bool, err: &mut E) -> u8
         );
     }
     status
+}
+
+/// That another file stands at the device's path than the one that stood there as the device was asked for.
+pub(crate) fn changed() -> io::Error {
+    io::Error::from(io::ErrorKind::ResourceBusy)
+}
+
+/// Whether the system, or [`changed`], says that something is in use.
+pub(crate) fn is_busy(error: &io::Error) -> bool {
+    error.kind() == io::ErrorKind::ResourceBusy
+}
+
+/// Says more of a refusal since another file stands at the device's path. A failed write is let go.
+pub(crate) fn explain_changed<E: Write>(err: &mut E) {
+    let _ = write!(
+        err,
+        "  While this command asked for the device another process made, moved or removed what stands at its path. Nothing was read or changed.\n  Give the same command again.\n"
+    );
 }

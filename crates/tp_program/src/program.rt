@@ -15,7 +15,7 @@ use crate::files::{
     check_file, recover_file, show_file, status_file, trace_file, try_file, view_file,
 };
 use crate::format_file::format_file;
-use crate::in_use::refuse_in_use;
+use crate::in_use::{explain_changed, is_busy, refuse_in_use};
 use crate::locks::{InUse, Locks};
 use crate::run_file::run_file;
 use crate::stream_program::hold_and_stream;
@@ -132,7 +132,10 @@ fn say_more<R: Files<File = F> + AllocGlobal, F: FileExt + OpenFile + Drop, E: W
 ) {
     match status {
         0 => tell_halted(rt, asked, err),
-        1 => explain(rt, asked, system, err),
+        1 => match system {
+            Some(error) if is_busy(error) => explain_changed(err),
+            _ => explain(rt, asked, system, err),
+        },
         _ => {}
     }
 }

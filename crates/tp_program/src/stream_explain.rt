@@ -86,6 +86,7 @@ fn push_sink<R: Files<File = F>, F: FileExt + OpenFile + Drop>(
         "  port {port}, {path}: it can't be opened, made or synced\n"
     )?;
     let error = match FileSink::open(rt, path) {
+        Ok(_) if is_special(rt, path) => return push_standard(text, path, port, false),
         Ok(_) => return write!(text, "  It can be now: give the same command again.\n"),
         Err(error) => error,
     };

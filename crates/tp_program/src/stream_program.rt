@@ -7,7 +7,7 @@ ghost use Rattle.tp_program.specs.Answers.{StreamedHeld};
 ghost use Rattle.tp_program.specs.StreamFile.{StreamedFile};
 
 use crate::devices::{Devices, opening_refusal};
-use crate::in_use::refuse_in_use;
+use crate::in_use::{explain_changed, is_busy, refuse_in_use};
 use crate::locks::InUse;
 use crate::stream_explain::explain_stream;
 use crate::streaming::{FilesFault, Streamed, stream_on};
@@ -88,6 +88,20 @@ fn stream_file<
     outcome_of(streamed, devices.close(disk))
 }
 
+/// Says more of a stream that was refused, or that ended early.
+fn say_why<R: Files<File = F> + AllocGlobal, F: FileExt + OpenFile + Drop, E: Write>(
+    rt: &R,
+    asked: &StreamRun,
+    fault: Option<FilesFault>,
+    system: Option<&io::Error>,
+    err: &mut E,
+) {
+    match system {
+        Some(error) if is_busy(error) => explain_changed(err),
+        _ => explain_stream(rt, asked, fault, system, err),
+    }
+}
+
 /// Streams as it is asked for, and says more of a refusal where `explains`. Answers the status.
 fn stream_and_explain<
     R: Files<File = F> + AllocGlobal + Threads + Wait + Sync,
@@ -116,7 +130,7 @@ fn stream_and_explain<
 {
     let ended = stream_file(rt, devices, asked, feed, out, err, onlooker);
     if ended.status == 1 && explains {
-        explain_stream(rt, asked, ended.fault, ended.system.as_ref(), err);
+        say_why(rt, asked, ended.fault, ended.system.as_ref(), err);
     }
     ended.status
 }

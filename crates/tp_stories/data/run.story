@@ -301,16 +301,16 @@ story changed
 text net.txt node a 4\nport h\nwire a.0 h\n
 image a.img 11 24 F2 54 41 F7 11 24 F2 41 FB 60 03
 held 0 1 +device
-tpnet run device --turns 4
+tpnet run device --turns 4 --explain
 length device
 remove device
-tpnet run device --stream --turns 4
+tpnet run device --stream --turns 4 --explain
 length device
 remove device
 tpnet compact device
 length device
 remove device
-tpnet format device net.txt . 16384
+tpnet format device net.txt . 16384 --explain
 length device
 held
 tpnet format device net.txt . 16384
