@@ -52,7 +52,7 @@ fn push_unmade(
 fn push_not_running(text: &mut String, device: &str) -> Result<(), AllocError> {
     write!(
         text,
-        "  No other tpnet has {device}, as far as the system says: there is nobody to ask. Nothing was changed.\n"
+        "  No other tpnet has {device}, as far as the system says: there is nobody to ask, and nothing was written to it.\n  Where an empty {device}.stop was left there, it is removed, as far as the system allows that.\n"
     )
 }
 

@@ -19,6 +19,12 @@ fn push_there<R: Files + AllocGlobal>(
     backup: &Backup,
 ) -> Result<(), AllocError> {
     let (device, copy) = (backup.device.as_str(), backup.copy.as_str());
+    if is_one_file(rt, device, copy) {
+        return write!(
+            text,
+            "  {copy} is the file of the device itself\n  Name another path.\n"
+        );
+    }
     let part = format!(in rt.alloc(); "{copy}.part")?;
     if is_one_file(rt, device, part.as_str()) {
         write!(

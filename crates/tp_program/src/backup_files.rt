@@ -11,7 +11,7 @@ use std::io::Write;
 use std::os::unix::fs::FileExt;
 use std::{fs, io};
 use tp_disk::{Counted, Disk, NewDisk, NewFile, NotedFile};
-use tp_stream_files::is_one_file;
+use tp_stream_files::{FileNumbers, is_one_file, numbers_in};
 use tp_views::{Refusal, put, refuse};
 use tp_words::Backup;
 
@@ -88,19 +88,40 @@ fn ask_names<R: Files>(rt: &R, device: &str, names: &Names<'_>) -> Result<(), Un
     }
 }
 
-/// Makes the copy's file, which gets `size` bytes with the first call of it as a device.
+/// Makes the copy's file.
 fn make_part<R: Files<File = F>, F: FileExt + OpenFile + Drop>(
     rt: &R,
     names: &Names<'_>,
-    size: u64,
-) -> Result<NewDisk<F>, Undone> {
+) -> Result<F, Undone> {
     let mut how = OpenOptions::new();
     let how = how.read(true).write(true).create_new(true);
     match how.open(rt, names.part) {
-        Ok(file) => Ok(Counted::new(NewFile::over(NotedFile::new(file), size))),
+        Ok(file) => Ok(file),
         Err(error) if error.kind() == io::ErrorKind::AlreadyExists => Err(Undone::PartExists),
         Err(error) => Err(Undone::CopyFailed(error)),
     }
+}
+
+/// The numbers by which the system tells the copy's file from all others. None where it says none.
+fn numbers_of<F: OpenFile>(file: &F) -> Option<FileNumbers> {
+    match file.metadata() {
+        Ok(kept) => numbers_in(&kept),
+        Err(_) => None,
+    }
+}
+
+/// Whether a path names the copy's file still, as far as the system says: somebody may have removed it, and made another there.
+fn is_named<R: Files>(rt: &R, path: &str, numbers: Option<FileNumbers>) -> bool {
+    let kept = fs::symlink_metadata(rt, path);
+    matches!(kept, Ok(kept) if numbers_in(&kept) == numbers)
+}
+
+/// Takes a name from the copy's file, where it has that still.
+fn remove_name<R: Files>(rt: &R, path: &str, numbers: Option<FileNumbers>) -> io::Result<()> {
+    if !is_named(rt, path, numbers) {
+        return Err(io::Error::from(io::ErrorKind::NotFound));
+    }
+    fs::remove_file(rt, path)
 }
 
 /// Copies the device into the copy's file, which is closed then. Answers what is to be printed.
@@ -123,7 +144,15 @@ fn fill_part<D: Disk, F: FileExt + OpenFile + Drop, E: Write>(
 }
 
 /// Gives the copy its name, which nothing else may have.
-fn link_copy<R: Files>(rt: &R, names: &Names<'_>) -> Result<(), Undone> {
+fn link_copy<R: Files>(
+    rt: &R,
+    names: &Names<'_>,
+    numbers: Option<FileNumbers>,
+) -> Result<(), Undone> {
+    if !is_named(rt, names.part, numbers) {
+        let error = io::Error::from(io::ErrorKind::NotFound);
+        return Err(Undone::CopyFailed(error));
+    }
     match fs::hard_link(rt, names.part, names.copy) {
         Ok(()) => Ok(()),
         Err(error) if error.kind() == io::ErrorKind::AlreadyExists => Err(Undone::CopyExists),
@@ -142,18 +171,26 @@ fn sync_folder<R: Files>(rt: &R, path: &str) -> io::Result<()> {
 }
 
 /// Takes the other name from the copy, and syncs the folder.
-fn settle_names<R: Files>(rt: &R, names: &Names<'_>) -> io::Result<()> {
-    fs::remove_file(rt, names.part)?;
+fn settle_names<R: Files>(
+    rt: &R,
+    names: &Names<'_>,
+    numbers: Option<FileNumbers>,
+) -> io::Result<()> {
+    remove_name(rt, names.part, numbers)?;
     sync_folder(rt, names.copy)
 }
 
 /// Gives a copy that is whole and synced its name, which lasts. Where it doesn't, the copy has no such name.
-fn name_copy<R: Files>(rt: &R, names: &Names<'_>) -> Result<(), Undone> {
-    link_copy(rt, names)?;
-    match settle_names(rt, names) {
+fn name_copy<R: Files>(
+    rt: &R,
+    names: &Names<'_>,
+    numbers: Option<FileNumbers>,
+) -> Result<(), Undone> {
+    link_copy(rt, names, numbers)?;
+    match settle_names(rt, names, numbers) {
         Ok(()) => Ok(()),
         Err(error) => {
-            let _left = fs::remove_file(rt, names.copy);
+            let _left = remove_name(rt, names.copy, numbers);
             Err(Undone::CopyFailed(error))
         }
     }
@@ -164,17 +201,19 @@ fn fill_and_name<R: Files + AllocGlobal, D: Disk, F: FileExt + OpenFile + Drop, 
     rt: &R,
     source: &mut D,
     names: &Names<'_>,
+    numbers: Option<FileNumbers>,
     copy: NewDisk<F>,
     err: &mut E,
 ) -> Result<String, Undone>
     ensures { IfOk result (λ text. IsCopiedLine (string_bytes text)) }
 {
     let text = fill_part(rt.alloc(), source, copy, err)?;
-    name_copy(rt, names)?;
+    name_copy(rt, names, numbers)?;
     Ok(text)
 }
 
-/// Makes the copy of a device. Answers what is to be printed. Where it isn't made, the file that was made for it is removed.
+/// Makes the copy of a device. Answers what is to be printed. Where it isn't made, the file that was made for it is removed: it gets the length of
+/// the device with its first call as one.
 fn make_copy<R: Files<File = F> + AllocGlobal, F: FileExt + OpenFile + Drop, D: Disk, E: Write>(
     rt: &R,
     source: &mut D,
@@ -183,10 +222,12 @@ fn make_copy<R: Files<File = F> + AllocGlobal, F: FileExt + OpenFile + Drop, D: 
 ) -> Result<String, Undone>
     ensures { IfOk result (λ text. IsCopiedLine (string_bytes text)) }
 {
-    let copy = make_part(rt, names, source.size())?;
-    let made = fill_and_name(rt, source, names, copy, err);
+    let file = make_part(rt, names)?;
+    let numbers = numbers_of(&file);
+    let copy = Counted::new(NewFile::over(NotedFile::new(file), source.size()));
+    let made = fill_and_name(rt, source, names, numbers, copy, err);
     if made.is_err() {
-        let _left = fs::remove_file(rt, names.part);
+        let _left = remove_name(rt, names.part, numbers);
     }
     made
 }

@@ -12,7 +12,7 @@ use std::io;
 use std::io::Write;
 use std::os::unix::fs::FileExt;
 use tp_disk::{Counted, Disk, NotedFile, RawFile};
-use tp_views::refuse;
+use tp_views::{Refusal, refuse};
 
 /// Holds devices, opens them to be written, and takes them back.
 pub trait Devices {
@@ -29,7 +29,11 @@ pub trait Devices {
         ensures noted { calls self.new ≡ calls self.old ++ Holds path.now seconds (is_ok result) ∷ [] }
         ensures got { OnOk result (held self.new ≡ Some path.now) };
 
-    /// Opens the device at a path, which is held, as it is.
+    /// Whether what stands at a path is what stood there as the device was asked for: the file that is held, or nothing. It is asked anew each
+    /// time.
+    fn is_kept(&self, path: &str) -> bool;
+
+    /// Opens the device at a path, which is held, as it is. Another file that stands there by now isn't opened.
     fn open(&mut self, path: &str) -> io::Result<Self::Device>
         requires { held self.old ≡ Some path.now }
         ensures opened { IfOk result (λ device. calls self.new ≡ calls self.old ++ Opens path.now (Self.Device.state device) ∷ []) }
@@ -89,8 +93,18 @@ impl<
         Ok(())
     }
 
+    fn is_kept(&self, path: &str) -> bool {
+        match &self.held {
+            Some(held) => self.locks.is_kept(&held.lock, path),
+            None => false,
+        }
+    }
+
     fn open(&mut self, path: &str) -> io::Result<Counted<RawFile<NotedFile<F>>>> {
         let device = Counted::open(self.rt, path)?;
+        if !self.is_kept(path) {
+            return Err(io::Error::from(io::ErrorKind::ResourceBusy));
+        }
         self.noted = self.noted.opened(path, &device);
         Ok(device)
     }
@@ -109,6 +123,14 @@ fn said_again(error: &io::Error) -> io::Error {
     }
 }
 
+/// Why a device wasn't opened: another process has it where another file stands there by now.
+pub(crate) fn opening_refusal(error: &io::Error) -> Refusal {
+    match error.kind() {
+        io::ErrorKind::ResourceBusy => Refusal::InUse,
+        _ => read_refusal(error),
+    }
+}
+
 /// Says why a device wasn't opened, and puts what the system said into `system`. Answers the status.
 pub(crate) fn refuse_opening<E: Write>(
     error: io::Error,
@@ -117,7 +139,7 @@ pub(crate) fn refuse_opening<E: Write>(
 ) -> u8
     ensures { result ≡ 1 }
 {
-    let refusal = read_refusal(&error);
+    let refusal = opening_refusal(&error);
     *system = Some(error);
     refuse(err, refusal)
 }

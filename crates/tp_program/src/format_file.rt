@@ -102,7 +102,8 @@ fn new_disk<R: Files<File = F>, F: FileExt + OpenFile + Drop, S: Devices>(
     }
 }
 
-/// Formats the device of this network, which is held. What the system said of a call that failed is put into `system`.
+/// Formats the device of this network, which is held: where another file stands at its path by now, or one where there was none, that is
+/// another's. What the system said of a call that failed is put into `system`.
 fn format_network<
     R: Files<File = F> + AllocGlobal,
     F: FileExt + OpenFile + Drop,
@@ -126,6 +127,9 @@ fn format_network<
 {
     if !new.only_new && !is_device_file(rt, new.device.as_str()) {
         return refuse(err, Refusal::DeviceFailed);
+    }
+    if !devices.is_kept(new.device.as_str()) {
+        return refuse(err, Refusal::InUse);
     }
     match new_disk(rt, devices, new, topology) {
         Ok(mut disk) => {

@@ -12,7 +12,7 @@ pub struct InUse;
 /// The lock of a device's file, which is had for as long as this lives, and the path at which it was taken.
 #[derive(Drop)]
 pub struct Held<K: Drop> {
-    lock: K,
+    pub(crate) lock: K,
     noted: DeviceCalls,
 }
 
@@ -35,6 +35,9 @@ pub trait Locks {
     /// Takes the lock of the device's file at a path, and tries again for `seconds` while another process has it.
     fn take(&mut self, path: &str, seconds: u32) -> Result<Held<Self::Lock>, InUse>
         ensures { IfOk result (λ held. path_held held.noted.told ≡ path.now) };
+
+    /// Whether what stands at a path is what stood there as this lock was taken: the very file that is locked, or nothing.
+    fn is_kept(&self, lock: &Self::Lock, path: &str) -> bool;
 }
 
 /// There are no locks: nobody else has a device.
@@ -50,5 +53,9 @@ impl Locks for NoLocks {
 
     fn take(&mut self, path: &str, _seconds: u32) -> Result<Held<NoLock>, InUse> {
         Ok(Held::new(path, NoLock))
+    }
+
+    fn is_kept(&self, _lock: &NoLock, _path: &str) -> bool {
+        true
     }
 }

@@ -6,7 +6,7 @@ ghost use Rattle.tp_words.specs.StreamArgs.{IsStreamRun};
 ghost use Rattle.tp_program.specs.Answers.{StreamedHeld};
 ghost use Rattle.tp_program.specs.StreamFile.{StreamedFile};
 
-use crate::devices::Devices;
+use crate::devices::{Devices, opening_refusal};
 use crate::in_use::refuse_in_use;
 use crate::locks::InUse;
 use crate::stream_explain::explain_stream;
@@ -42,11 +42,11 @@ fn outcome_of(streamed: Streamed, system: Option<io::Error>) -> Outcome
 }
 
 /// The device's file isn't opened.
-fn unopened<E: Write>(err: &mut E, system: Option<io::Error>) -> Outcome
+fn unopened<E: Write>(err: &mut E, refusal: Refusal, system: Option<io::Error>) -> Outcome
     ensures { result.status ≡ 1 }
 {
     Outcome {
-        status: refuse(err, Refusal::ReadFailed),
+        status: refuse(err, refusal),
         fault: None,
         system,
     }
@@ -78,11 +78,11 @@ fn stream_file<
     ensures streamed { StreamedFile D.keeps history asked.now (S.calls devices.old) (S.calls devices.new) (O.contents out.old) (O.contents out.new) result.status }
 {
     if !is_device_file(rt, asked.device.as_str()) {
-        return unopened(err, None);
+        return unopened(err, Refusal::ReadFailed, None);
     }
     let disk = match devices.open(asked.device.as_str()) {
         Ok(disk) => disk,
-        Err(error) => return unopened(err, Some(error)),
+        Err(error) => return unopened(err, opening_refusal(&error), Some(error)),
     };
     let (disk, streamed) = stream_on(rt, asked, disk, feed, out, err, onlooker);
     outcome_of(streamed, devices.close(disk))

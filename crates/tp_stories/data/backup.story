@@ -83,6 +83,12 @@ there copy.part
 tpnet backup device copy --explain 2>err
 starts err tpnet: CopyExists\n  copy: it is there already\n
 has err remove what is there
+tpnet backup device device --explain 2>err
+starts err tpnet: CopyExists\n  device is the file of the device itself\n
+ends err   Name another path.\n
+tpnet backup device other --explain 2>err
+starts err tpnet: CopyExists\n  other is the file of the device itself\n
+ends err   Name another path.\n
 # So is what stands where the copy is made.
 remove copy
 text copy.part precious

@@ -27,6 +27,10 @@ tpnet journal device --explain 2>err
 starts err tpnet: NotFormatted\n
 has err doesn't begin with TPNET
 copy grown device
+set device 6 01
+tpnet recover device --explain 2>err
+starts err tpnet: NotFormatted\n  device:\n  it doesn't begin with TPNET and two bytes 00\n
+copy grown device
 set device 7 09
 tpnet recover device
 tpnet recover device --explain 2>err
@@ -218,6 +222,15 @@ tpnet format --new scratch net.txt . 16384
 tpnet format --new scratch net.txt . 16384 --explain 2>err
 starts err tpnet: DeviceExists\n
 has err no regular file\n  Name another path.\n
+tpnet format scratch net.txt . 16384 --explain 2>err
+starts err tpnet: DeviceFailed\n  scratch: something is there already that is no regular file\n
+ends err   Name another path.\n
+tpnet format scratch net.txt . 0 --explain 2>err
+starts err tpnet: DeviceFailed\n  scratch: something is there already that is no regular file\n
+has err   Name another path.\n  AREA is 0, and this network needs at least 13034\n
+tpnet format scratch absent . 16384 --explain 2>err
+starts err tpnet: ReadFailed\n  scratch: something is there already that is no regular file\n
+has err   Name another path.\n  absent: 
 tpnet format nowhere/device net.txt . 16384
 tpnet format nowhere/device net.txt . 16384 --explain 2>err
 starts err tpnet: DeviceFailed\n
@@ -408,6 +421,18 @@ has err It is a folder: name a file.
 tpnet run device --stream --quantum=64 --turns=9 --explain --in 0=nowhere --discard 0 >out 2>err
 starts err tpnet: ReadFailed\n
 has err nowhere: 
+
+story old_device
+# What is said of a device that was there, whichever call of its file fails as another one is formatted over it: it may be gone, and when.
+text net.txt node a 4\nport h\nwire a.0 h\n
+image a.img
+tpnet format device net.txt . 16384
+copy device old
+sweep alone device 5
+copy old device
+tpnet format device net.txt . 20000 --explain 2>err
+has err   A device that was in device before may be gone: format asks for the room that it lacks behind its end, and then writes over it.\n
+end
 
 story no_devices
 # What is no device: a folder, and what is no regular file.

@@ -296,6 +296,29 @@ tpnet run device --stream --in 0=-
 asked stdin
 stay
 
+story changed
+# A device that another process makes, or removes, while a command asks for it isn't that command's: it is neither read, written nor made.
+text net.txt node a 4\nport h\nwire a.0 h\n
+image a.img 11 24 F2 54 41 F7 11 24 F2 41 FB 60 03
+held 0 1 +device
+tpnet run device --turns 4
+length device
+remove device
+tpnet run device --stream --turns 4
+length device
+remove device
+tpnet compact device
+length device
+remove device
+tpnet format device net.txt . 16384
+length device
+held
+tpnet format device net.txt . 16384
+held 0 1 device
+tpnet format device net.txt . 16384
+there device
+held
+
 story halted
 # A node that has halted has its turns as before: its link takes a byte, and it makes no step. A turn that takes nothing makes no entry.
 text net.txt node a 4\nport h\nwire a.0 h\n

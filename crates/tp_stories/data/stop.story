@@ -47,6 +47,9 @@ text net.txt node a 4\nport h\nwire a.0 h\n
 image a.img 11 24 F2 54 41 F7 11 24 F2 41 FB 60 03
 tpnet format device net.txt . 16384
 tpnet stop device --explain
+text device.stop
+tpnet stop device --explain
+there device.stop
 tpnet stop --explain fresh 2>err
 starts err tpnet: ReadFailed\n  fresh:
 folder folder

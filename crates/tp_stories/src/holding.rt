@@ -2,12 +2,12 @@
 
 use crate::typed::{malformed, parted};
 use std::alloc::Global;
-use std::fs::Files;
+use std::fs::{Files, OpenOptions};
 use std::{fs, io};
-use tp_program::{Held, InUse, Locks, NoLock};
+use tp_program::{Held, InUse, Locks};
 
 /// How often another process is asked for a device in vain, before it lets it go; and the file that it removes behind each of the asks up
-/// to one.
+/// to one, or makes, where a `+` stands in front of it.
 #[derive(Drop)]
 pub(crate) struct Holding {
     vain: u32,
@@ -67,18 +67,43 @@ pub(crate) struct Other<'a, R> {
     file: &'a str,
 }
 
-impl<'a, R: Files> Locks for Other<'a, R> {
-    type Lock = NoLock;
+/// Removes a file, or makes it, empty, where a `+` stands in front of it.
+fn change<R: Files>(rt: &R, file: &str) -> io::Result<()> {
+    match file.strip_prefix('+') {
+        Some(made) => {
+            OpenOptions::new()
+                .write(true)
+                .create_new(true)
+                .open(rt, made)?;
+            Ok(())
+        }
+        None => fs::remove_file(rt, file),
+    }
+}
 
-    fn take(&mut self, path: &str, _seconds: u32) -> Result<Held<NoLock>, InUse> {
+/// Whether something stood at a device's path as it was asked for.
+#[derive(Drop)]
+pub(crate) struct Stood {
+    was_there: bool,
+}
+
+impl<'a, R: Files> Locks for Other<'a, R> {
+    type Lock = Stood;
+
+    fn take(&mut self, path: &str, _seconds: u32) -> Result<Held<Stood>, InUse> {
+        let was_there = fs::metadata(self.rt, path).is_ok();
         if self.takes > 0 {
             self.takes = self.takes.saturating_sub(1);
-            let _missing = fs::remove_file(self.rt, self.file);
+            let _done = change(self.rt, self.file);
         }
         if self.vain == 0 {
-            return Ok(Held::new(path, NoLock));
+            return Ok(Held::new(path, Stood { was_there }));
         }
         self.vain = self.vain.saturating_sub(1);
         Err(InUse)
+    }
+
+    fn is_kept(&self, lock: &Stood, path: &str) -> bool {
+        lock.was_there == fs::metadata(self.rt, path).is_ok()
     }
 }

@@ -161,7 +161,8 @@ fn step_outputs<J: Naming, D: Disk, S: Sink, R: Wait>(
 }
 
 /// A step of a port's input, under the book's lock. Whether the port took more: no more than leaves the journal the room that a turn and
-/// the confirms behind it need. Where it may not wait for bytes that haven't come yet, the port then takes none.
+/// the confirms behind it need. Where it may not wait for bytes that haven't come yet, the port then takes none. Whether the port has room is
+/// noted either way.
 fn step_held<J: Naming, I: Source>(
     held: &mut Locked<J>,
     seat: &mut Seat<J>,
@@ -175,8 +176,10 @@ fn step_held<J: Naming, I: Source>(
     ensures err { OnErr result ((held.new ≡ held.old) × (seat.new ≡ seat.old)) }
     ensures begun { IfErr result CameBetween }
     ensures names { IfErr result (NamesInput input.new.port) }
+    ensures blocked { input.new.is_blocked ≡ (room_of (port_in held.old.book input.old.port) == 0) }
 {
     let at = held.book().accepted(input.port());
+    input.block(held.book().room(input.port()) == 0);
     if !may_wait && input.would_wait(at, 0) {
         return Ok(false);
     }
@@ -206,7 +209,7 @@ fn step_input<J: Naming, I: Source, R: Wait>(
     step_held(&mut held, seat, pace, may_wait, input)
 }
 
-/// The first input whose bytes haven't come yet for which the journal has room: its port, and how many that has accepted.
+/// The first input whose bytes haven't come yet for which the journal and its port have room: its port, and how many that has accepted.
 fn find_awaited<J: Naming, I: Source, R: Wait>(
     rt: &R,
     shared: &Shared<J>,
@@ -224,7 +227,7 @@ fn find_awaited<J: Naming, I: Source, R: Wait>(
             continue;
         }
         let at = held.book().accepted(port);
-        if next.would_wait(at, 0) {
+        if held.book().room(port) > 0 && next.would_wait(at, 0) {
             return Some((port, at));
         }
     }
@@ -234,7 +237,7 @@ fn find_awaited<J: Naming, I: Source, R: Wait>(
 /// What a rest came to.
 #[derive(Clone, Copy)]
 pub(crate) enum Rested {
-    /// There was none: no input is awaited for which the journal has room.
+    /// There was none: no input is awaited for which the journal and its port have room, or its bytes have come meanwhile.
     None,
     /// No byte came.
     InVain,
@@ -242,8 +245,8 @@ pub(crate) enum Rested {
     Came,
 }
 
-/// Waits for bytes of an input that haven't come yet, for [`REST`] milliseconds or less, where the journal has room for them: they end the
-/// wait as they come. The book's lock is let go meanwhile.
+/// Waits for bytes of an input that haven't come yet, for [`REST`] milliseconds or less, where the journal and its port have room for them: they
+/// end the wait as they come. The book's lock is let go meanwhile.
 pub(crate) fn rest<J: Naming, I: Source, R: Wait>(
     rt: &R,
     shared: &Shared<J>,

@@ -63,7 +63,7 @@ fn lacks_input(turns: &Turns, nodes: u8, pumped: Pumped, over: bool) -> bool {
     pumped == Pumped::Nothing && turns.is_quiet(nodes) && !over
 }
 
-/// Ports take bytes that ended a rest. Answers what that came to; none where none was taken.
+/// Ports take bytes that came behind their last steps. Answers what that came to; none where none was taken.
 fn take_awaited<J: Naming, I: Source, R: Wait>(
     ground: Ground<'_, J, R>,
     going: &mut Going<J>,
@@ -80,8 +80,26 @@ fn take_awaited<J: Naming, I: Source, R: Wait>(
     }
 }
 
+/// Ports take such bytes. Answers what that came to; `pumped` where none was taken, and none where ends of inputs came in place of bytes.
+fn take_or<J: Naming, I: Source, R: Wait>(
+    ground: Ground<'_, J, R>,
+    going: &mut Going<J>,
+    inputs: &mut [Input<I>],
+    pumped: Pumped,
+) -> Result<Option<Pumped>, StreamFault>
+    ensures steps { going.new ≡ record going.old { steps = going.new.steps } }
+    ensures begun { IfErr result CameBetween }
+{
+    match take_awaited(ground, going, inputs) {
+        Ok(None) if are_over(inputs) => Ok(None),
+        Ok(None) => Ok(Some(pumped)),
+        taken => taken,
+    }
+}
+
 /// Rests where something else is to be done meanwhile, and nothing is left to do but an input whose bytes haven't come yet: those that come
-/// end the rest, and ports take them at once. Answers what steps of the streams have come to with that; none where it rested in vain.
+/// end the rest, and ports take them at once, as they do those that came before it. Answers what steps of the streams have come to with that;
+/// none where it rested in vain.
 fn rest_where_late<J: Naming, I: Source, R: Wait>(
     ground: Ground<'_, J, R>,
     going: &mut Going<J>,
@@ -98,7 +116,7 @@ fn rest_where_late<J: Naming, I: Source, R: Wait>(
         return Ok(Some(pumped));
     }
     match rest(rt, shared, pace, inputs) {
-        Rested::None => Ok(Some(pumped)),
+        Rested::None => take_or(ground, going, inputs, pumped),
         Rested::InVain => Ok(None),
         Rested::Came => take_awaited(ground, going, inputs),
     }

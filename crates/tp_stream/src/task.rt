@@ -10,7 +10,7 @@ pub struct Task {
     pub until_quiet: bool,
     /// Whether it ends once a node has halted.
     pub stop_on_halt: bool,
-    /// Whether it ends once it is asked to stop. It is looked for that behind each flush, and while input is waited for.
+    /// Whether it ends once it is asked to stop: it is looked behind the flush of each cycle, and while input is waited for.
     pub until_asked: bool,
     /// How many threads make turns at most, 1 to 16, and no more than there are processes. With 1 all is done in the thread that calls; with
     /// more it is one of them, and makes the flusher's turns between its own.
@@ -22,7 +22,7 @@ pub struct Task {
     /// At how many entries since the kept cut a snapshot begins: at least 1, and at most as many as fill half of the journal, which `None`
     /// stands for.
     pub every: Option<u32>,
-    /// Whether it is told how far it has come: behind each flush, and while input is waited for.
+    /// Whether it is told how far it has come: behind the flush of each cycle, and while input is waited for.
     pub tells: bool,
 }
 

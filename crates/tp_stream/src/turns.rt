@@ -35,7 +35,7 @@ impl Did {
 /// How far turns have come: how many were made, whose turn is next, how many of the last ones in a row had nothing to do while no
 /// snapshot ran, how many of this round were made while one ran, how many it had, and with how many steps, whether a node has halted, whether the journal
 /// had no room for one more, whether there is more to do than the last round did, for which threads are worth it, and how often the journal was settled
-/// since a turn did something.
+/// since a turn did something, or a stream moved.
 #[derive(Drop)]
 pub(crate) struct Turns {
     pub(crate) made: u64,

@@ -38,7 +38,7 @@ pub use opening::{open_ends, open_ends_over};
 pub use output::Output;
 pub use outside::{Outside, OutsideFile};
 pub use pipes::Pipe;
-pub use same::{FileNumbers, is_one_file};
+pub use same::{FileNumbers, is_one_file, numbers_in};
 pub use sink::{Sink, SinkFault};
 pub use sinks::{AnySink, FileSink};
 pub use source::{Source, SourceFailed};

@@ -36,7 +36,7 @@ pub trait Listener {
     fn input(&mut self, port: u8, accepted: u64)
         ensures { Noticed (InputBegins port accepted ∷ []) (told self.old) (told self.new) };
 
-    /// How far it has come. Where that is to be told at all, it is told behind each flush, and so while input is waited for, too.
+    /// How far it has come. Where that is to be told at all, it is told behind the flush of each cycle, also while input is waited for.
     fn progress(&mut self, progress: Progress)
         ensures told { Noticed (HasCome progress ∷ []) (told self.old) (told self.new) };
 

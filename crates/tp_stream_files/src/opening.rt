@@ -65,7 +65,8 @@ fn sink_over<S: EndFiles<File = F>, F: EndFile + Drop>(
     }
 }
 
-/// Opens a file that takes an output, or makes it. One that has a part already, or is what standard error goes to, is refused as it is.
+/// Opens a file that takes an output, or makes it. One that has a part already, or is what standard error goes to, is refused as it is, and so
+/// is what is no regular file: of a disk the system says no length, so nothing would tell what is in it.
 fn file_sink<S: EndFiles<File = F> + Looks, F: EndFile + Drop>(
     files: &mut S,
     end: &PortFile,
@@ -75,6 +76,9 @@ fn file_sink<S: EndFiles<File = F> + Looks, F: EndFile + Drop>(
 {
     let file = open_to_write(files, end)?;
     take_sink(files, end.port, &file, taken)?;
+    if file.regular_length().is_none() {
+        return Err(EndFault::DeviceFailed(end.port));
+    }
     sink_over(files, end, file)
 }
 

@@ -54,18 +54,20 @@ impl<'a, I: Feed> Pipe<'a, I> {
     }
 
     /// Whether it would wait for the byte at a position, once it has waited `millis` milliseconds for the next piece, or less. Bytes in front
-    /// of it are passed over.
+    /// of it are passed over: behind the first piece of these no other is waited for.
     pub(crate) fn would_wait_at(&mut self, at: u64, millis: u64) -> bool
         ensures { GrewAlike (I.given self.old.feed.now) (I.given self.new.feed.now) self.old.held.trace.told self.new.held.trace.told }
     {
+        let mut left = millis;
         for _ in 0..u64::MAX {
             if self.held.is_ready(at) {
                 return false;
             }
-            if self.feed.would_wait(millis) {
+            if self.feed.would_wait(left) {
                 return true;
             }
             self.advance();
+            left = 0;
         }
         false
     }

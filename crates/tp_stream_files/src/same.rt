@@ -26,7 +26,7 @@ pub struct FileNumbers {
 }
 
 /// The numbers of a file. None where the system says none.
-pub(crate) fn numbers_in(kept: &Metadata) -> Option<FileNumbers> {
+pub fn numbers_in(kept: &Metadata) -> Option<FileNumbers> {
     if kept.ino() == 0 {
         return None;
     }

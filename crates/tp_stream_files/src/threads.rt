@@ -17,7 +17,7 @@ use std::thread::Threads;
 use std::time::{Clock, Duration};
 use tp_model::limits::MAX_HELD;
 
-/// How many pieces are read before the first one is taken.
+/// How many pieces wait to be taken, at most. The thread has read one more, and waits with it.
 const PIECES: usize = 4;
 
 /// What one read gave: how many bytes, none at the end, or that it failed; and the bytes, which lie in memory of their own, so that nobody

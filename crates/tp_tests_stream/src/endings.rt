@@ -1,11 +1,17 @@
 //! Why streams end, and which nodes have stopped then.
 
-use crate::devices::{DEAF, ECHO, HALTS, LETTERS, ONE};
-use crate::players::{Asked, NO_INPUT, QUIET};
+ghost use Rattle.std.specs.Prelude.{None};
+
+use crate::devices::{DEAF, ECHO, HALTS, LETTERS, ONE, formatted};
+use crate::players::{Asked, Asks, NO_INPUT, QUIET, nobody, play};
 use crate::steps::{Fresh, PLAIN, Step, are_steps_on};
+use std::alloc::{AllocError, Global};
+use std::process::Abort;
+use std::sync::Wait;
 use std::test::Fail;
+use std::thread::Threads;
 use tp_model::Fault;
-use tp_stream::{Ending, Stopped, Task};
+use tp_stream::{Ending, Input, MemSink, Output, Source, SourceFailed, Stopped, Streams, Task};
 
 /// A node's code, how many bytes its port is handed, how the stream is asked to end, why it ends, and how the node has stopped.
 #[derive(Clone, Copy)]
@@ -183,5 +189,92 @@ fn a_node_that_halted_before_ends_a_stream(rt: HostRuntime) -> Result<(), Fail> 
         step_of(&HALTS_OR_RESTS),
     ];
     assert!(rt; are_steps_on(&rt, fresh(HALTS), &steps)?);
+    Ok(())
+}
+
+/// An input of `has` bytes, behind which nothing comes and nothing ends. A read there, which would wait for ever, fails.
+#[derive(Drop)]
+struct Silent {
+    has: u64,
+}
+
+impl Source for Silent {
+    ghost input = { λ _. None };
+
+    fn length(&self) -> Option<u64> {
+        None
+    }
+
+    fn would_wait(&mut self, at: u64, _millis: u64) -> bool {
+        at >= self.has
+    }
+
+    fn read(&mut self, at: u64, out: &mut [u8]) -> Result<usize, SourceFailed> {
+        if at >= self.has {
+            return Err(SourceFailed);
+        }
+        let count = out.len().min((self.has - at) as usize);
+        out[..count].fill(65);
+        Ok(count)
+    }
+}
+
+/// The streams of a port whose input falls silent.
+fn silent_streams(alloc: Global, has: u64) -> Result<Streams<MemSink, Silent>, AllocError> {
+    let (mut outputs, mut inputs) = (Vec::new(alloc), Vec::new(alloc));
+    outputs.push(Output::new(0, None, MemSink::empty(alloc)))?;
+    inputs.push(Input::new(0, Silent { has }))?;
+    Ok(Streams { outputs, inputs })
+}
+
+/// Whether a stream of a node that takes nothing ends for this reason, where its input falls silent and it is asked to stop in the end.
+fn ends_silently<R: Threads + Wait + Abort + Sync>(
+    rt: &R,
+    has: u64,
+    until_quiet: bool,
+    why: Ending,
+) -> Result<bool, Fail>
+where
+    R: AllocGlobal,
+{
+    let alloc = rt.alloc();
+    let task = Task {
+        turns: None,
+        until_quiet,
+        until_asked: true,
+        ..QUIET
+    };
+    let mut device = formatted(alloc, ONE, DEAF, 262_144)?;
+    let mut streams = silent_streams(alloc, has)?;
+    let mut asks = Asks::behind(Some(LOOKS));
+    let done = play(
+        rt,
+        alloc,
+        task,
+        &mut device,
+        &mut streams,
+        &mut nobody(),
+        &mut asks,
+    );
+    Ok(matches!(done, Ok(ended) if ended.why == why))
+}
+
+/// Behind how many looks it is asked to stop: more than a stream makes before it rests.
+const LOOKS: u32 = 200;
+
+/// How many bytes an input has before it falls silent, whether the stream ends where all is quiet, and why it does.
+const SILENT: &[(u64, bool, Ending)] = &[
+    (4_095, true, Ending::Stopped),
+    (4_096, true, Ending::Quiet),
+    (4_096, false, Ending::Gone),
+    (4_097, true, Ending::Quiet),
+];
+
+/// A port that is full has nothing left to wait for, also where nothing says whether its input goes on.
+#[test]
+fn a_full_port_waits_for_no_input(rt: HostRuntime) -> Result<(), Fail> {
+    for (has, until_quiet, why) in SILENT {
+        assert!(rt; ends_silently(&rt, *has, *until_quiet, *why)?);
+    }
     Ok(())
 }

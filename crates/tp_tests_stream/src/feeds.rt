@@ -3,7 +3,8 @@
 use crate::files::Lent;
 use std::io;
 use std::io::{ErrorKind, Read};
-use tp_stream_files::{AnySource, Feed, Pipe, Plain, Source, Threaded};
+use tp_model::limits::MAX_HELD;
+use tp_stream_files::{AnySource, Feed, Pipe, Plain, Source, SourceFailed, Threaded};
 
 /// How many bytes come.
 const TOTAL: u32 = 10_000;
@@ -169,4 +170,46 @@ fn bytes_that_are_gone_are_not_given(rt: HostRuntime) {
     assert!(rt; source.read(7_000, &mut out).is_err());
     assert!(rt; matches!(source.read(7_995, &mut out), Ok(3)) && are_from(7_995, &out));
     assert!(rt; matches!(source.read(TOTAL as u64, &mut out), Ok(0)));
+}
+
+/// A feed of such a reader: its pieces come while they are waited for, and not before. It adds up for how many milliseconds they were.
+#[derive(Drop)]
+struct Slow {
+    below: Plain<Numbered>,
+    waited: u64,
+}
+
+impl Feed for Slow {
+    ghost given = { λ slow. slow.below.trace.told };
+
+    fn would_wait(&mut self, millis: u64) -> bool {
+        self.waited = self.waited.saturating_add(millis);
+        millis == 0
+    }
+
+    fn next(&mut self, out: &mut [u8; MAX_HELD]) -> Result<usize, SourceFailed> {
+        self.below.next(out)
+    }
+}
+
+/// Whether a byte behind six pieces is there once each of seven was waited for by itself, and no longer than it was asked to.
+fn waits_once_a_piece(feed: &mut Slow) -> bool {
+    let mut source: AnySource<'_, Lent<'_>, Slow> = AnySource::In(Pipe::new(feed));
+    for _ in 0..6 {
+        if !source.would_wait(42, 20) {
+            return false;
+        }
+    }
+    !source.would_wait(42, 20)
+}
+
+/// Where bytes are passed over each call waits for one piece alone: so what else is to be done meanwhile isn't kept waiting.
+#[test]
+fn bytes_that_are_passed_over_are_waited_for_by_pieces(rt: HostRuntime) {
+    let mut feed = Slow {
+        below: Plain::new(Numbered::new(7, false)),
+        waited: 0,
+    };
+    let is_there = waits_once_a_piece(&mut feed);
+    assert!(rt; is_there && feed.waited == 140);
 }

@@ -37,7 +37,7 @@ const CHANGED: &str = "  its head was changed since it was opened: try again\n";
 
 /// What is said of a file that doesn't begin as a device does.
 const NO_DEVICE: &str =
-    "  it doesn't begin with TPNET\n  It is no device, or its format was stopped: make one with tpnet format.\n";
+    "  it doesn't begin with TPNET and two bytes 00\n  It is no device, or its format was stopped: make one with tpnet format.\n";
 
 /// Whether the bytes of a device from a place on are there and can be read. They are put into `bytes` then.
 fn is_read<D: Disk>(disk: &mut D, at: u64, bytes: &mut [u8]) -> bool {

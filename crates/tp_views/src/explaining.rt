@@ -46,7 +46,7 @@ fn push_there<R: Files>(rt: &R, text: &mut String, device: &str) -> Result<(), A
 fn push_old(text: &mut String, device: &str) -> Result<(), AllocError> {
     write!(
         text,
-        "  A device that was in {device} before may be gone: format empties a file before it writes it.\n  Mend that, and format it again, or name a new path: an old device that has to stay needs one.\n"
+        "  A device that was in {device} before may be gone: format asks for the room that it lacks behind its end, and then writes over it.\n  Where there was no such room, all that was in it is there still.\n  Mend that, and format it again, or name a new path: an old device that has to stay needs one.\n"
     )
 }
 
@@ -65,27 +65,25 @@ fn push_unmade<R: Files>(
     }
 }
 
-/// Says which file of a new device, or which number, is wrong.
+/// Says which file of a new device, or which number, is wrong: what can't be a device, and then what is wrong with the network.
 fn push_new<R: Files + AllocGlobal>(
     rt: &R,
     text: &mut String,
     new: &NewDevice,
 ) -> Result<(), AllocError> {
     let device = new.device.as_str();
-    if push_network(
+    let can_be_made = is_device_file(rt, device);
+    if !can_be_made {
+        push_there(rt, text, device)?;
+    }
+    let is_said = push_network(
         rt,
         text,
         new.topology.as_str(),
         new.images.as_str(),
         new.area,
-    )? {
-        return Ok(());
-    }
-    if is_device_file(rt, device) {
-        push_rest(text)
-    } else {
-        push_there(rt, text, device)
-    }
+    )?;
+    push_unless(text, is_said || !can_be_made)
 }
 
 /// Says why a device wasn't made.

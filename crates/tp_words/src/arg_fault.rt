@@ -30,7 +30,8 @@ pub enum ArgFault {
     Many,
     /// This option goes with `--stream`.
     Stream(&'static str),
-    /// A word is missing, which `clap` says itself; or the words are those of a command that is read by a function of its own.
+    /// `clap` found other words than those that were typed, or none where one has to be; or the words are those of a command that is read
+    /// by a function of its own.
     Missing,
     Memory,
 }

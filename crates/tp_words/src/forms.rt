@@ -8,6 +8,12 @@ pub const EXPLAIN: Word = Word::Flag(
     "after a refusal, say which file, why, and what to do",
 );
 
+/// Says more of a refusal, and, where all was done, of nodes that have halted.
+const EXPLAIN_HALTED: Word = Word::Flag(
+    "explain",
+    "after a refusal, say which file, why, and what to do; else which nodes have halted",
+);
+
 /// Prints for scripts.
 const JSON: Word = Word::Flag("json", "print it as one line of JSON, for scripts");
 
@@ -37,7 +43,7 @@ pub const TRY: Form = Form {
     name: "try",
     about: "Runs one node without a device, its link 0 wired to port 0, and prints what port 0 puts out",
     words: &[
-        EXPLAIN,
+        EXPLAIN_HALTED,
         Word::Place("IMAGE", "the node's image: 172 bytes and its memory"),
         Word::Needed("turns", "N", "how many turns: node, host, node, host .."),
     ],
@@ -93,7 +99,7 @@ pub const RUN: Form = Form {
     name: "run",
     about: "Opens a device, runs its network, keeps the journal on it, prints what the port puts out, and says next M on standard error",
     words: &[
-        EXPLAIN,
+        EXPLAIN_HALTED,
         WRITTEN,
         Word::Needed(
             "turns",

@@ -94,7 +94,7 @@ pub const COMPACT_REFUSALS: &str =
     "Nothing runs, and nothing is lost: all output that isn't confirmed stays.
 Refusals (status 1):
   InUse         another tpnet runs, formats or compacts DEVICE: wait for it (--wait-lock), or end it
-  ReadFailed    DEVICE can't be opened to read and write, or be read: look at its path and its rights
+  ReadFailed    DEVICE can't be opened to read and write, or be read, or is no regular file: look at its path and its rights
   NotFormatted  DEVICE is none: make one with tpnet format
   BadVersion    DEVICE is of another version of tpnet
   NoOpenArea    neither area is open: format was stopped, or the device was written over
@@ -108,7 +108,8 @@ pub const BACKUP_REFUSALS: &str =
     "DEVICE may be run meanwhile: the copy is of one moment, and has all that was durable when the command began.
 It is made as COPY.part, which gets the name COPY once it is whole and synced: that takes a file system with hard links. Then its
 folder is synced, and only then copied next M is printed. Nothing that is there is written over or removed.
-Refusals (status 1); nothing is written to DEVICE, and there is no COPY but where standard output alone can't be written:
+Refusals (status 1); nothing is written to DEVICE, and a copy that was made is removed, as far as the system lets it be, but where
+standard output alone can't be written:
   CopyExists    COPY is there already, or COPY.part is the file of DEVICE: name another COPY
   PartExists    COPY.part is there already: a backup that was stopped left it; remove it, unless another backup makes it now
   ReadFailed    DEVICE can't be opened or read, or is no regular file: look at its path and its rights
@@ -126,7 +127,8 @@ pub const RUN_REFUSALS: &str =
     "Where FILE can't be read, or DEVICE isn't opened, nothing is written to DEVICE.
 Refusals (status 1):
   InUse         another tpnet runs, formats or compacts DEVICE: wait for it (--wait-lock), or end it
-  ReadFailed    FILE can't be read, or DEVICE can't be opened to read and write, or be read: look at paths and rights
+  ReadFailed    FILE can't be read, or DEVICE can't be opened to read and write, or be read, or is no regular file: look
+                at paths and rights
   NotFormatted  DEVICE is none: make one with tpnet format
   BadVersion    DEVICE is of another version of tpnet
   NoOpenArea    neither area is open: format was stopped, or the device was written over
@@ -139,8 +141,9 @@ A --spare above a node's pages and a --port that isn't there end with status 2, 
 
 /// How `tpnet stop` asks, and what it refuses.
 pub const STOP_REFUSALS: &str =
-    "It makes the empty file DEVICE.stop, which a stream looks for behind each flush. The stream then makes no further turn, confirms what is
-shown, takes the file away and ends with status 0; its last line is next M stopped. Where the file is there already the stream was asked before.
+    "It makes the empty file DEVICE.stop, which a stream looks for behind each flush but those beside workers. The stream then makes no
+further turn, confirms what is shown, takes the file away and ends with status 0; its last line is next M stopped. Where the file is
+there already the stream was asked before.
 Only tpnet run --stream can be asked. While run without --stream, compact or format has DEVICE, nobody takes the file: --wait says whether it ended.
 Refusals (status 1); nothing is written to DEVICE:
   ReadFailed    DEVICE can't be opened to read and write, or is no regular file: look at its path and its rights

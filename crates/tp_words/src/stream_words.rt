@@ -7,13 +7,14 @@ use crate::words::{Form, Word};
 pub const STREAM_REFUSALS: &str =
     "P is a port's number, as in tpnet show. Byte number q of port P stands at offset q of its FILE.
 Each port with a wire needs an --out or a --discard.
-Without --turns and --until-quiet it runs until its ends are gone: whoever reads standard output has ended, or all input has come
-and nothing is left to do. The last line on standard error is next M, and why it ended: quiet, turns, gone, stopped or halted (status 3).
+Without --turns and --until-quiet it runs until its ends are gone: whoever reads standard output has ended, or nothing is left to do
+and each input has come to its end, or its port is full of bytes that no node takes.
+The last line on standard error is next M, and why it ended: quiet, turns, gone, stopped or halted (status 3).
 Before it stands each node that has halted, as halted 1 BadAddress at 80000107, or that waits though there is input, as waits 2.
 Refusals (status 1):
   InUse         another tpnet runs, formats or compacts DEVICE: wait for it (--wait-lock), or end it
   ReadFailed    an input can't be read (a FIFO: take --in P=- < FIFO), or DEVICE can't be opened to read and write, or be
-                read: look at paths and rights
+                read, or is no regular file: look at paths and rights
   NotFormatted  DEVICE is none: make one with tpnet format
   BadVersion    DEVICE is of another version of tpnet
   NoOpenArea    neither area is open: format was stopped, or the device was written over
@@ -27,9 +28,10 @@ Refusals (status 1):
                 is no regular file can't be synced: take --out P=- > FILE, or --discard P
   JournalFull   DEVICE has no room for further entries: tpnet compact DEVICE, then the same command again
   Memory        there is no memory left
-A fault of the words ends with status 2; so do, once DEVICE is open, an output that goes into the file of DEVICE, an input, another
+A fault of the words ends with status 2; so do, once DEVICE is held, an output that goes into the file of DEVICE, an input, another
 output or standard error, a --spare above a node's pages, a port that isn't there, a port with a wire for whose output nothing was said,
-and a --stop-file at whose PATH something is already, or can't be looked for, or which is a file of the stream.";
+a --stop-file at whose PATH something is already, or can't be looked for, or which is a file of the stream, an end of a port or a
+standard stream that is DEVICE.stop, and a DEVICE.stop that was left by tpnet stop and can't be removed.";
 
 /// The options that `run` has with `--stream` alone.
 const STREAM_OPTIONS: &[&str] = &[
@@ -121,7 +123,7 @@ pub const STREAM: Form = Form {
         Word::Value(
             "stop-file",
             "PATH",
-            "end once something is at PATH, which has to be free at first: looked behind each flush; what was shown is confirmed",
+            "end once something is at PATH, free at first: looked behind each flush but those beside workers; what was shown is confirmed",
         ),
         Word::Flag(
             "progress",

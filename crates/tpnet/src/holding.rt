@@ -1,8 +1,10 @@
 //! A device that is written is held: one process at a time has it.
 
-use std::fs::{File, Files, OpenOptions, TryLockError};
+use std::fs::{File, Files, OpenFile, OpenOptions, TryLockError};
+use std::os::unix::fs::MetadataExt;
 use std::thread::sleep;
 use std::time::{Clock, Duration};
+use std::{fs, io};
 use tp_program::{Held, InUse, Locks, is_device_file};
 
 /// How many times a second a device is tried again that another process holds.
@@ -26,22 +28,50 @@ fn lock_file<R: Clock>(rt: &R, file: &File, seconds: u32) -> Result<(), InUse> {
     Err(InUse)
 }
 
-/// Holds a device's file for as long as the file that is answered lives. One that can't be opened to be written is nobody's, as is what is
-/// no device's file, and a file of a system that knows no locks.
+/// What stood at a device's path as it was asked for.
+#[derive(Drop)]
+pub(crate) enum Found {
+    /// A file, which is locked for as long as this lives, where its system knows locks.
+    Locked(File),
+    Nothing,
+    /// What can't be opened to be written, or is no device's file: it is nobody's.
+    Other,
+}
+
+/// Holds a device's file for as long as what is answered lives.
 fn hold_file<R: Files<File = File> + Clock>(
     rt: &R,
     device: &str,
     seconds: u32,
-) -> Result<Option<File>, InUse> {
+) -> Result<Found, InUse> {
     if !is_device_file(rt, device) {
-        return Ok(None);
+        return Ok(Found::Other);
     }
     let mut how = OpenOptions::new();
-    let Ok(file) = how.read(true).write(true).open(rt, device) else {
-        return Ok(None);
-    };
-    lock_file(rt, &file, seconds)?;
-    Ok(Some(file))
+    match how.read(true).write(true).open(rt, device) {
+        Ok(file) => {
+            lock_file(rt, &file, seconds)?;
+            Ok(Found::Locked(file))
+        }
+        Err(error) if error.kind() == io::ErrorKind::NotFound => Ok(Found::Nothing),
+        Err(_) => Ok(Found::Other),
+    }
+}
+
+/// Whether a path names this very file, as far as the system says.
+fn is_named<R: Files>(rt: &R, path: &str, file: &File) -> bool {
+    match (file.metadata(), fs::metadata(rt, path)) {
+        (Ok(one), Ok(other)) => one.dev() == other.dev() && one.ino() == other.ino(),
+        _ => false,
+    }
+}
+
+/// Whether nothing stands at a path, as far as the system says.
+fn is_free<R: Files>(rt: &R, path: &str) -> bool {
+    match fs::metadata(rt, path) {
+        Ok(_) => false,
+        Err(error) => error.kind() == io::ErrorKind::NotFound,
+    }
 }
 
 /// Takes the system's locks.
@@ -57,10 +87,18 @@ impl<'a, R> SystemLocks<'a, R> {
 }
 
 impl<'a, R: Files<File = File> + Clock> Locks for SystemLocks<'a, R> {
-    type Lock = Option<File>;
+    type Lock = Found;
 
-    fn take(&mut self, path: &str, seconds: u32) -> Result<Held<Option<File>>, InUse> {
+    fn take(&mut self, path: &str, seconds: u32) -> Result<Held<Found>, InUse> {
         let lock = hold_file(self.rt, path, seconds)?;
         Ok(Held::new(path, lock))
+    }
+
+    fn is_kept(&self, lock: &Found, path: &str) -> bool {
+        match lock {
+            Found::Locked(file) => is_named(self.rt, path, file),
+            Found::Nothing => is_free(self.rt, path),
+            Found::Other => true,
+        }
     }
 }

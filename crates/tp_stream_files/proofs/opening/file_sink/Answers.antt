@@ -7,5 +7,8 @@ returns-in_err-file g c = keeps_written _ _ _ _ c.open_to_write.ensures
 pub returns-in_err-take_sink : goal.returns-in_err-take_sink
 returns-in_err-take_sink g c = keeps_written _ _ _ _ c.open_to_write.ensures
 
+pub returns-then-is_none : goal.returns-then-is_none
+returns-then-is_none g c = keeps_written _ _ _ _ c.open_to_write.ensures
+
 pub returns : goal.returns
 returns g c = keeps_then _ _ _ (keeps_written _ _ _ _ c.open_to_write.ensures) c.sink_over.ensures
