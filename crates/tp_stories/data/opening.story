@@ -156,7 +156,7 @@ tpnet recover device
 copy fresh device
 set device 4840 11
 tpnet recover device
-# Up to 4,096 bytes may be pending at a port, of which the first is in flight: here none is. Behind them, and behind the outputs, all is 00.
+# Up to 4,096 bytes may be pending at a port, and then the first one is in flight: here none is. Behind them, and behind the outputs, all is 00.
 copy fresh device
 set device 4837 00 10
 tpnet recover device
