@@ -102,11 +102,18 @@ fn make_part<R: Files<File = F>, F: FileExt + OpenFile + Drop>(
     }
 }
 
-/// The numbers by which the system tells the copy's file from all others. None where it says none.
-fn numbers_of<F: OpenFile>(file: &F) -> Option<FileNumbers> {
+/// The numbers by which the system tells the copy's file from all others, none where it has none; the file is removed where it can't be asked.
+fn numbers_of<R: Files, F: OpenFile>(
+    rt: &R,
+    names: &Names<'_>,
+    file: &F,
+) -> Result<Option<FileNumbers>, Undone> {
     match file.metadata() {
-        Ok(kept) => numbers_in(&kept),
-        Err(_) => None,
+        Ok(kept) => Ok(numbers_in(&kept)),
+        Err(error) => {
+            let _left = fs::remove_file(rt, names.part);
+            Err(Undone::CopyFailed(error))
+        }
     }
 }
 
@@ -223,7 +230,7 @@ fn make_copy<R: Files<File = F> + AllocGlobal, F: FileExt + OpenFile + Drop, D: 
     ensures { IfOk result (λ text. IsCopiedLine (string_bytes text)) }
 {
     let file = make_part(rt, names)?;
-    let numbers = numbers_of(&file);
+    let numbers = numbers_of(rt, names, &file)?;
     let copy = Counted::new(NewFile::over(NotedFile::new(file), source.size()));
     let made = fill_and_name(rt, source, names, numbers, copy, err);
     if made.is_err() {
