@@ -119,7 +119,7 @@ fn numbers_of<R: Files, F: OpenFile>(
 
 /// Whether a path names the copy's file still, as far as the system says: somebody may have removed it, and made another there.
 fn is_named<R: Files>(rt: &R, path: &str, numbers: Option<FileNumbers>) -> bool {
-    let kept = fs::symlink_metadata(rt, path);
+    let kept = fs::metadata(rt, path);
     matches!(kept, Ok(kept) if numbers_in(&kept) == numbers)
 }
 
