@@ -1,7 +1,8 @@
 //! Steps of all streams of a network.
 
-ghost use Rattle.std.specs.Prelude.{◌≡◌, ◌<◌, ◌-◌, ℕ, List, length, map, true, false, Ok, IfErr, OnErr};
+ghost use Rattle.std.specs.Prelude.{◌≡◌, ◌<◌, ◌==◌, ◌-◌, ℕ, List, length, map, true, false, Ok, IfErr, OnErr};
 ghost use Rattle.tp_area.specs.declared.journal.JournalRoom.{JournalRoom};
+ghost use Rattle.tp_book.specs.Host.{port_in, room_of};
 ghost use Rattle.tp_book.specs.Refusals.{is_journal_full};
 ghost use Rattle.tp_flush.specs.Known.{Began};
 ghost use Rattle.tp_stream.specs.FailedEnds.{NamesEnd, NamesInput, NamesOutput};
