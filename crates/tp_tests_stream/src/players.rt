@@ -31,14 +31,12 @@ pub(crate) const QUIET: Task = Task {
     tells: false,
 };
 
-/// A source whose bytes come a few at a time, and which may say how many they are. Before each of the first `late` reads nothing has
-/// come yet.
+/// A source whose bytes come a few at a time. Before each of the first `late` reads nothing has come yet.
 #[derive(Drop)]
 pub(crate) struct Pieces {
     pub(crate) bytes: Vec<u8>,
     pub(crate) most: usize,
     pub(crate) late: u32,
-    pub(crate) length: Option<u64>,
 }
 
 /// What stands from a position on.
@@ -54,7 +52,7 @@ impl Source for Pieces {
     ghost input = { λ _. None };
 
     fn length(&self) -> Option<u64> {
-        self.length
+        None
     }
 
     fn would_wait(&mut self, _at: u64, _millis: u64) -> bool {
@@ -190,19 +188,17 @@ pub(crate) fn source_of(bytes: Vec<u8>, most: usize) -> Pieces {
         bytes,
         most,
         late: 1,
-        length: None,
     }
 }
 
 /// The streams of a port: a sink, and this source as input.
 fn streams(
     alloc: Global,
-    have: Option<u64>,
     sink: MemSink,
     source: Pieces,
 ) -> Result<Streams<MemSink, Pieces>, AllocError> {
     let (mut outputs, mut inputs) = (Vec::new(alloc), Vec::new(alloc));
-    outputs.push(Output::new(0, have, sink))?;
+    outputs.push(Output::new(0, None, sink))?;
     inputs.push(Input::new(0, source))?;
     Ok(Streams { outputs, inputs })
 }
@@ -298,30 +294,25 @@ impl Desk {
     }
 }
 
-/// What a stream on a desk is asked: its task, what its sink's reader has, behind how many calls of the sink one fails, how many numbered
-/// bytes its source has and how many come at a time, how many reads come before they do, and what the source says of how many they are; and
-/// behind how many looks it is asked to stop.
+/// What a stream on a desk is asked: its task, behind how many calls of the sink one fails, how many numbered bytes its source has, how many
+/// come at a time, and how many reads come before they do; and behind how many looks it is asked to stop.
 #[derive(Clone, Copy)]
 pub(crate) struct Asked {
     pub(crate) task: Task,
-    pub(crate) have: Option<u64>,
     pub(crate) fails: Option<u32>,
     pub(crate) input: usize,
     pub(crate) most: usize,
     pub(crate) late: u32,
-    pub(crate) length: Option<u64>,
     pub(crate) looks: Option<u32>,
 }
 
 /// No input, until nothing is left to do.
 pub(crate) const NO_INPUT: Asked = Asked {
     task: QUIET,
-    have: None,
     fails: None,
     input: 0,
     most: 1,
     late: 1,
-    length: None,
     looks: None,
 };
 
@@ -381,10 +372,9 @@ where
     let alloc = rt.alloc();
     let mut source = source_of(numbered(alloc, asked.input)?, asked.most);
     source.late = asked.late;
-    source.length = asked.length;
     let sink = mem::replace(&mut desk.sink, MemSink::empty(alloc));
     let sink = failing(sink, asked.fails);
-    let mut streams = streams(alloc, asked.have, sink, source)?;
+    let mut streams = streams(alloc, sink, source)?;
     let mut told = nobody();
     let done = play(
         rt,
