@@ -11,7 +11,7 @@ const TOTAL: u32 = 10_000;
 
 /// A reader of `TOTAL` numbered bytes, which come in pieces of at most `piece`.
 #[derive(Clone, Copy)]
-struct Numbered {
+pub(crate) struct Numbered {
     at: u32,
     piece: usize,
     /// Whether a read fails behind the bytes, in place of the end.
@@ -26,7 +26,7 @@ fn byte_of(number: u64) -> u8 {
 }
 
 impl Numbered {
-    fn new(piece: usize, fails: bool) -> Numbered {
+    pub(crate) fn new(piece: usize, fails: bool) -> Numbered {
         Numbered {
             at: 0,
             piece,

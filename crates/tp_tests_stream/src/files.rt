@@ -5,7 +5,7 @@ ghost use Rattle.std.specs.Prelude.{◌≡◌, ◌≤◌, [], ◌∷◌, ◌++�
 use std::fs::OpenOptions;
 use std::io;
 use std::io::ErrorKind;
-use tp_stream_files::{EndFile, EndFiles, FileNumbers, Trace};
+use tp_stream_files::{EndFile, EndFiles, FileNumbers, Looks, Trace};
 
 /// How many calls are done before one fails; none: no call fails.
 #[derive(Clone, Copy)]
@@ -33,16 +33,19 @@ pub(crate) struct FakeFile {
     pub(crate) syncs: Left,
     /// How many bytes were there when it was last synced.
     pub(crate) synced: usize,
+    /// Whether it is a regular file, and no disk.
+    pub(crate) is_regular: bool,
 }
 
 impl FakeFile {
-    /// A file of these bytes. No call fails.
+    /// A regular file of these bytes. No call fails.
     pub(crate) fn new(bytes: Vec<u8>) -> FakeFile {
         FakeFile {
             bytes,
             writes: Left(None),
             syncs: Left(None),
             synced: 0,
+            is_regular: true,
         }
     }
 
@@ -122,7 +125,11 @@ impl<'a> EndFile for Lent<'a> {
     }
 
     fn regular_length(&self) -> Option<u64> {
-        Some(self.file.bytes.len() as u64)
+        if self.file.is_regular {
+            Some(self.file.bytes.len() as u64)
+        } else {
+            None
+        }
     }
 
     fn numbers(&self) -> io::Result<Option<FileNumbers>> {
@@ -178,5 +185,16 @@ impl<'a> EndFiles for FakeFiles<'a> {
         } else {
             Err(io::Error::from(ErrorKind::StorageFull))
         }
+    }
+}
+
+/// No two names stand for one file.
+impl<'a> Looks for FakeFiles<'a> {
+    fn numbers_at(&self, _path: &str) -> Option<FileNumbers> {
+        None
+    }
+
+    fn numbers_behind(&self, _stream: &str) -> Option<FileNumbers> {
+        None
     }
 }

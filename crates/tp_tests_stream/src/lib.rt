@@ -24,6 +24,8 @@ mod frames;
 #[cfg(test)]
 mod full;
 #[cfg(test)]
+mod opened;
+#[cfg(test)]
 mod outputs;
 #[cfg(test)]
 mod players;
