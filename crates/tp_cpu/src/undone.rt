@@ -9,7 +9,7 @@ pub enum Undone {
     /// The node is to halt.
     #[error(transparent)]
     Faulty(Fault),
-    /// Memory is frozen and has no free frame.
+    /// Memory is frozen, and the shared pages that the part would write outnumber the free frames.
     #[error("NoFrame")]
     NoFrame,
     /// An output end of a link is asked for something.

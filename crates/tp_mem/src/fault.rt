@@ -8,11 +8,11 @@ pub enum WriteFault {
     /// An address lies outside memory. This is answered wherever it is so.
     #[error("Outside")]
     Outside,
-    /// A frame was wanted for a page that is shared with the frozen bytes, and none was free.
+    /// Memory is frozen, and the shared pages that the call would write outnumber the free frames.
     #[error("NoFrame")]
     NoFrame,
 }
 
-/// More shared pages were to be parted than frames are free. Nothing has changed.
+/// The shared pages that were to be parted outnumber the free frames. Nothing has changed.
 #[derive(Clone, Copy)]
 pub struct NoFrame;

@@ -127,7 +127,8 @@ impl CowMemory {
         self.separate_shared(first, block, words)
     }
 
-    /// Parts the shared pages that `words` have bytes in, where memory is frozen. Never inlined: of loops only `call`'s uses it.
+    /// Parts the shared pages that `words` have bytes in. It is called where memory is frozen alone, and never inlined, so that all who
+    /// write words stay short.
     #[inline(never)]
     fn separate_frozen_words(&mut self, words: &[(u32, u32)]) -> Result<(), NoFrame>
         ensures ok { IfOk result (λ _. self.new ≡ record self.old { shared = shared_from 0 self.old.shared ((0, 0) ∷ (0, 0) ∷ word_ranges words.now) }) }

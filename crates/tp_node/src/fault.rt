@@ -13,7 +13,7 @@ pub enum ImageFault {
     Memory,
 }
 
-/// Memory is frozen and has no free frame. Nothing has changed.
+/// Memory is frozen, and the shared pages that a step or a token would write outnumber the free frames. Nothing has changed.
 #[derive(Clone, Copy, Debug, Error)]
 #[error("NoFrame")]
 pub struct NoFrame;

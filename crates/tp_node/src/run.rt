@@ -23,7 +23,7 @@ pub enum Why {
     Full,
     /// There is no step.
     Idle,
-    /// Memory is frozen and has no free frame.
+    /// Memory is frozen, and the shared pages that the next step would write outnumber the free frames.
     NoFrame,
     /// The node has halted.
     Halted,

@@ -21,7 +21,7 @@ pub(crate) enum StepOutcome {
     Step(Option<(u8, Token)>),
     /// There is no step.
     Idle,
-    /// Memory is frozen and has no free frame. Nothing has changed.
+    /// Memory is frozen, and the shared pages that the step would write outnumber the free frames. Nothing has changed.
     NoFrame,
 }
 

@@ -52,7 +52,8 @@ answer_failed (Err fault) = fault_failed fault
 abbrev pub calls_failed : Bool → ℕ → ℕ
 calls_failed failed before = before + (if failed then 1 else 0)
 
--- One call of the flusher's device has failed where that is said, and none was made since; else none has failed, and the flusher rests.
+-- One more call of the flusher's device has failed than before where that is said, and the flusher is broken; else as many as before have, and it
+-- rests.
 pub record FailedWhere (failed : Bool) (old new : Flushing) : Type 0 where
   pub at : new.world.at ≡ position failed
   pub calls : new.failures ≡ calls_failed failed old.failures

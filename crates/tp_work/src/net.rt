@@ -32,7 +32,8 @@ impl<J: Naming, G: Gate> Net<J, G> {
         &self.shared
     }
 
-    /// A seat without a slip, for what the host hands in and confirms. Threads that share the network can't ask for one.
+    /// A seat without a slip, for what is journalled at no worker's seat: what the host hands in and confirms, and turns that no worker
+    /// makes. Threads that share the network can't ask for one.
     pub fn seat(&mut self) -> tp_shared::Seat<J>
         ensures same { (self.new.shared ≡ self.old.shared) × (self.new.queue ≡ self.old.queue) × (self.new.quantum ≡ self.old.quantum) × (self.new.gate ≡ self.old.gate) }
         ensures empty { result ≡ [] }
