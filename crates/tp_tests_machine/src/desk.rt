@@ -5,11 +5,12 @@ use std::alloc::{AllocError, Global};
 use tp_mem::{FlatMemory, Mem};
 use tp_model::{Cpu, Fault, Queue, Regs, State};
 
-/// A processor and its memory.
+/// A processor and its memory, and whether each fact that was put is there.
 #[derive(Drop)]
 pub struct Desk {
     pub cpu: Cpu,
     pub mem: FlatMemory,
+    is_put: bool,
 }
 
 /// Four pages of zeros.
@@ -46,6 +47,7 @@ impl Desk {
         let mut desk = Desk {
             cpu: BEGUN,
             mem: four_pages(alloc)?,
+            is_put: true,
         };
         desk.put(&Fact::Word(0x8000_002C, 0x8000_0000));
         desk.put_all(given);
@@ -65,7 +67,7 @@ impl Desk {
         self.stack(0, 0, 0);
     }
 
-    /// Puts a fact about the processor or a word. Others aren't told of a desk.
+    /// Puts a fact about the processor or a word. Others aren't told of a desk, nor is a word outside memory.
     fn put(&mut self, fact: &Fact<'_>) {
         match *fact {
             Fact::Iptr(word) => self.cpu.iptr = word,
@@ -83,9 +85,10 @@ impl Desk {
             Fact::Runs(iptr, wptr) => self.run(iptr, wptr, State::Low),
             Fact::Gone => self.run(0, 0, State::Idle),
             Fact::Word(address, word) => {
-                let _ = self.mem.write_word(address, word);
+                let is_written = self.mem.write_word(address, word).is_ok();
+                self.is_put = self.is_put && is_written;
             }
-            _ => (),
+            _ => self.is_put = false,
         }
     }
 
@@ -95,9 +98,9 @@ impl Desk {
         }
     }
 
-    /// Whether it is another, word for word.
+    /// Whether it is another, word for word, and each fact that was put on one of them is there.
     pub fn is(&self, other: &Desk) -> bool {
-        self.cpu == other.cpu && self.has_words_of(other)
+        self.is_put && other.is_put && self.cpu == other.cpu && self.has_words_of(other)
     }
 
     fn has_words_of(&self, other: &Desk) -> bool {

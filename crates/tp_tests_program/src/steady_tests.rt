@@ -89,7 +89,7 @@ fn is_of_a_moment(said: &[Said], from: usize, upto: usize, answer: &Said) -> boo
 }
 
 /// Asks a command while writes come to pass, `count` of them before each call from one on, for each call that it makes where none come to
-/// pass. Answers whether each time what was said is of a moment in between.
+/// pass. Answers whether there are such calls, and each time what was said is of a moment in between.
 fn asked_meanwhile<R: AllocGlobal + Threads + Sync>(
     rt: &R,
     changing: &mut Changing,
@@ -100,7 +100,7 @@ fn asked_meanwhile<R: AllocGlobal + Threads + Sync>(
 ) -> bool {
     changing.rewind(changing.count(), None);
     let _still = asked(rt, changing, reader);
-    let mut are_right = true;
+    let mut are_right = changing.calls > 0;
     for first in 0..changing.calls {
         let pace = Pace {
             first,
@@ -125,7 +125,7 @@ fn is_of_moments<R: AllocGlobal + Threads + Wait + Sync>(
         return Ok(false);
     };
     let said = said_of_each(rt, changing, reader)?;
-    let mut are_right = true;
+    let mut are_right = !growth.paces.is_empty();
     for (mark, count) in growth.paces {
         let from = marks.get(*mark).copied().unwrap_or(usize::MAX);
         are_right = are_right && asked_meanwhile(rt, changing, reader, &said, from, *count);

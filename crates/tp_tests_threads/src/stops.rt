@@ -76,8 +76,8 @@ fn is_stopped_well<R: Wait>(
     Ok(ended(rt, alloc, &CHECKPOINT, first, &left.bytes, told, fault)?.is_some())
 }
 
-/// Opens what a run left, and begins a checkpoint that stops within each of its calls. Answers how many calls there are, where each time the
-/// device opens as it ought to.
+/// Opens what a run left, and begins a checkpoint that stops within each of its calls. Answers how many calls there are, where there are some
+/// and each time the device opens as it ought to.
 fn checkpoints_behind<R: Wait>(
     rt: &R,
     alloc: Global,
@@ -87,12 +87,15 @@ fn checkpoints_behind<R: Wait>(
 ) -> Result<Option<u64>, Fail> {
     let from = calls_behind(rt, alloc, left, next, &NOTHING)?;
     let to = calls_behind(rt, alloc, left, next, &CHECKPOINT)?;
+    if to <= from {
+        return Ok(None);
+    }
     for call in from..to {
         if !is_stopped_well(rt, alloc, first, left, next, call)? {
             return Ok(None);
         }
     }
-    Ok(Some(to.saturating_sub(from)))
+    Ok(Some(to - from))
 }
 
 /// The script's device, and the numbers of its calls: those of the first step and behind the last, and those of both checkpoints.
@@ -234,7 +237,7 @@ fn end_each<R: Wait>(
     Ok(Ok((cases, behind)))
 }
 
-/// Ends the script over a device at each of its calls, and writes how often.
+/// Ends the script over a device at each of its calls, and writes how often: there are some, and some of a checkpoint behind one.
 fn tell_each<R: AllocGlobal + Wait + Abort, O: Write>(
     rt: &R,
     first: Vec<u8>,
@@ -243,6 +246,7 @@ fn tell_each<R: AllocGlobal + Wait + Abort, O: Write>(
 ) -> Result<(), Fail> {
     match end_each(rt, rt.alloc(), first, tears)? {
         Ok((ended, behind)) => {
+            assert!(rt; ended > 0 && behind > 0, "no call");
             let _ = write!(out, "{ended} ended, {behind} checkpoints behind them\n");
         }
         Err(call) => panic!(rt; "call {call}"),

@@ -8,6 +8,7 @@ use std::alloc::{AllocError, Global};
 use std::sync::Wait;
 use std::sync::atomic::{AtomicBool, Ordering};
 use std::thread::{Threads, join};
+use tp_book::Book;
 use tp_disk::Disk;
 use tp_flush::Flusher;
 use tp_shared::{Gate, Naming, Seat as Slips};
@@ -92,9 +93,16 @@ fn work_beside<
     if is_done { worked.ok() } else { None }
 }
 
+/// Whether the host has handed in all its pairs, and there are more entries than these, the first with the number `first`.
+fn have_journalled(book: &Book, first: u64) -> bool {
+    let handed = 2 * PAIRS;
+    let is_handed = book.ports() > 0 && book.accepted(0) == handed;
+    is_handed && book.next().saturating_sub(first) > handed
+}
+
 /// One worker ends after its first turn, and the others make the rest of `turns`, while a host hands in bytes and the flusher makes its
-/// turns. Answers whether what they journalled is all of the journal, each entry once, whose first has the number `first`. `slips`, which had
-/// none, gets all of theirs.
+/// turns. Answers whether all were handed in, turns journalled, too, and what they journalled is all of the journal, each entry once, whose
+/// first has the number `first`. `slips`, which had none, gets all of theirs.
 pub fn are_all_beside<
     J: Naming + Send + Sync,
     D: Disk + Drop,
@@ -123,5 +131,5 @@ pub fn are_all_beside<
     };
     let mut held = net.shared().book().lock(rt);
     let are_all = all.are_all(&mut held, slips, first);
-    are_all
+    are_all && have_journalled(held.book(), first)
 }
