@@ -6,7 +6,7 @@ ghost use Rattle.tp_model.specs.Head.{areas_of_length};
 ghost use Rattle.tp_model.specs.Opening.{groups_place, lines_place, nodes_place, ports_place};
 ghost use Rattle.tp_model.specs.Topology.{is_topology};
 ghost use Rattle.tp_model.specs.declared.limits.TheConstants.{MAX_PAGES};
-ghost use Rattle.tp_area.specs.Pieces.{piece_length, piece_place};
+ghost use Rattle.tp_area.specs.Pieces.{piece_place};
 
 use crate::front::FIELDS_BYTES;
 use crate::room::{cut_length, images_bytes, images_length};
@@ -34,17 +34,6 @@ pub fn area_start(areas: TwoAreas, second: bool) -> u64
         areas.first + areas.length
     } else {
         areas.first
-    }
-}
-
-/// Bytes of a piece of a node's image: of its head, which is piece 0, or of a page.
-pub fn piece_length(piece: usize) -> usize
-    ensures { result ≡ piece_length piece }
-{
-    if piece == 0 {
-        IMAGE_HEAD_BYTES
-    } else {
-        PAGE_BYTES
     }
 }
 

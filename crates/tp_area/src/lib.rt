@@ -42,7 +42,7 @@ pub use laws::{
     checkpoints_walk, entries_with_room_fit, open_devices_say_their_place,
     resting_devices_open_alike,
 };
-pub use layout_place::{Places, area_start, areas_of_length, piece_length, piece_place};
+pub use layout_place::{Places, area_start, areas_of_length, piece_place};
 pub use line::{LINES_BYTES, LineTokens, line_in, lines_bytes};
 pub use place::Place;
 pub use port::{PortRecord, port_bytes, port_in};

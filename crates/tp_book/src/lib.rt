@@ -53,7 +53,7 @@ pub use parts::NetParts;
 pub use port::{HostPort, fresh_ports};
 pub use port_parts::{PortParts, all_parts, parts_of};
 pub use receipt::Receipt;
-pub use received::{incoming, take_off, tokens_of, waiting};
+pub use received::{incoming, tokens_of};
 pub use refusal::Refusal;
 pub use room::groups_find_room;
 pub use send::{send_all, send_answer, send_some};

@@ -126,7 +126,7 @@ fn add_on_line(taken: &mut ArrayVec<(u16, Token), 8>, line: u16, one: Received)
 }
 
 /// Takes tokens off the fronts of their lines.
-pub fn take_off(lines: &mut Lines, tokens: &[(u16, Token)])
+pub(crate) fn take_off(lines: &mut Lines, tokens: &[(u16, Token)])
     requires { IsSome (taken lines.old tokens.now) }
     ensures { taken lines.old tokens.now ≡ Some lines.new }
 {
@@ -152,7 +152,7 @@ fn by_two(first: Option<Token>, second: Option<Token>) -> Received
 }
 
 /// What stands on a line in front of its first Marker.
-pub fn waiting(lines: &Lines, line: usize) -> Received
+pub(crate) fn waiting(lines: &Lines, line: usize) -> Received
     requires there { line < length lines.now }
     requires data { datas (on_line lines.now line) ≤ 1 }
     requires ack { acks (on_line lines.now line) ≤ 1 }

@@ -64,39 +64,8 @@ impl<J: Naming, D: Disk> Model for Flusher<J, D> {
 
 impl<J: Naming, D: Disk> Flusher<J, D> {
     /// The flusher over a store, where `opened`, `topology`, `store`, `key` and `raiser` come from one opening: the store is the one
-    /// over the device that was opened, the key's book goes on from it, and the mark has its next number.
-    pub fn new(
-        opened: &Opened,
-        topology: Topology,
-        store: Store<D>,
-        key: Key<Told>,
-        raiser: Raiser,
-    ) -> Flusher<J, D>
-        requires name { key.name ≡ J.flusher }
-        requires told { IsFirst key.value (reopened J.before (D.state store.disk).now.bytes (held_of opened.now) opened.now.now) }
-        requires numbered { key.value.numbered_from ≡ J.first }
-        requires form { key.value.form ≡ store.place.form }
-        requires unbroken { store.broken ≡ false }
-        requires whole { key.value.broken ≡ false }
-        requires next { store.place.next ≡ next_of opened.now }
-        requires raiser { raiser ≡ record { mark = J.mark; at = next_of opened.now; rises = unrisen (next_of opened.now) } }
-        requires read { D.keeps → verdict (D.state store.disk).now.bytes ≡ Ok opened.now }
-        requires synced { D.keeps → IsSynced (D.state store.disk) }
-        requires topology { topology ≡ opened.now.head.topology }
-        requires areas { store.place.areas ≡ opened.now.head.areas }
-        requires roomy { is_roomy opened.now.head.topology opened.now.head.areas.length ≡ true }
-        requires bound { J.room ≡ Some (room opened.now.head.topology opened.now.head.areas.length) }
-        requires first { J.first ≡ next_of opened.now }
-        ensures world { result.world ≡ reopened J.before (D.state store.disk).now.bytes (held_of opened.now) opened.now.now }
-        ensures opened { result.opened ≡ (D.state store.disk).now.bytes }
-        ensures place { (result.place ≡ store.place) × (result.topology ≡ topology) }
-        ensures device { (result.state ≡ D.state store.disk) × (result.size ≡ D.size_of store.disk) × (result.failures ≡ D.failures_of store.disk) }
-    {
-        opened.known();
-        Flusher::over(Snapshot::of(opened), topology, store, key, raiser)
-    }
-
-    /// The flusher over a store, where what was opened is known by contracts alone, since its network is in the book already.
+    /// over the device that was opened, the key's book goes on from it, and the mark has its next number. What was opened is known by
+    /// contracts alone, since its network is in the book already.
     pub fn over(
         opened: Snapshot<Opened>,
         topology: Topology,

@@ -1,14 +1,10 @@
 //! Tests of turns on whole networks in memory, in one thread: that turns take and close as many as they may, and that snapshots come to their
-//! end. And tests with two real threads: tokens, a journal under a lock, the mark and the ready queue; turns of two nodes over what they share.
+//! end. And tests with two real threads: the mark and the ready queue; turns of two nodes over what they share.
 //! They say what no proof can.
 #![tactic(auto)]
 
 #[cfg(test)]
 mod checkpoint;
-#[cfg(test)]
-mod counts;
-#[cfg(test)]
-mod day;
 #[cfg(test)]
 mod deeds;
 #[cfg(test)]
@@ -16,13 +12,9 @@ mod devices;
 #[cfg(test)]
 mod each_order;
 #[cfg(test)]
-mod journal;
-#[cfg(test)]
 mod machines;
 #[cfg(test)]
 mod marks;
-#[cfg(test)]
-mod naming;
 #[cfg(test)]
 mod network;
 #[cfg(test)]
@@ -49,8 +41,6 @@ mod rows;
 mod schedules;
 mod seat;
 #[cfg(test)]
-mod shared;
-#[cfg(test)]
 mod shared_pair;
 #[cfg(test)]
 mod stories;
@@ -64,7 +54,5 @@ mod two_threads;
 mod whole_turns;
 #[cfg(test)]
 mod workers;
-#[cfg(test)]
-mod written;
 
 pub use seat::{Away, Seat};

@@ -8,6 +8,6 @@ mod roll;
 mod slips;
 mod twin;
 
-pub use roll::{Roll, audit, audit_all, start, write, write_all};
-pub use slips::{Slips, apart, empty, part, transfer};
+pub use roll::{Roll, audit, audit_all, start, write};
+pub use slips::{Slips, empty, transfer};
 pub use twin::{Key, Seal, agree, pair, turn};

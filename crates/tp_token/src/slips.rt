@@ -1,6 +1,6 @@
 //! Slips: what is in exactly one hand.
 
-ghost use Rattle.std.specs.Prelude.{◌≡◌, ℕ, List, [], ◌++◌, length, take, drop, ◌+◌, ◌≤◌};
+ghost use Rattle.std.specs.Prelude.{◌≡◌, ℕ, List, [], ◌++◌, take, drop};
 ghost use Rattle.tp_token.specs.Owned.{slips_own};
 ghost use Rattle.tp_token.specs.Sound.{AreApart};
 
@@ -30,7 +30,7 @@ pub fn empty<T>() -> Slips<T>
 }
 
 // Deals the slips of both bundles anew, in their order: `one` gets the first ones, as many as the ghost number `kept`
-// says, which a contract says by `_at`.
+// says, which a caller may say by `_at`.
 fn deal<T>(one: &mut Slips<T>, two: &mut Slips<T>, _at: u64)
     ghost kept: { ℕ }
     requires { one.old.name ≡ two.old.name }
@@ -48,27 +48,6 @@ pub fn transfer<T>(to: &mut Slips<T>, from: &mut Slips<T>)
     ensures from { from.new.items ≡ [] }
 {
     deal(to, from, 0)
-}
-
-/// Moves the slips from the place `at` on out of `from`, to the front of `to`.
-pub fn part<T>(from: &mut Slips<T>, at: u64, to: &mut Slips<T>)
-    requires name { from.old.name ≡ to.old.name }
-    requires at { at ≤ length from.old.items }
-    ensures names { (from.new.name ≡ from.old.name) × (to.new.name ≡ to.old.name) }
-    ensures from { from.new.items ≡ take at from.old.items }
-    ensures to { to.new.items ≡ drop at from.old.items ++ to.old.items }
-{
-    deal(from, to, at)
-}
-
-/// Changes nothing. No slip of `one` is of a number of one in `two`.
-pub fn apart<T>(one: &mut Slips<T>, two: &mut Slips<T>)
-    requires { one.old.name ≡ two.old.name }
-    ensures names { (one.new.name ≡ one.old.name) × (two.new.name ≡ two.old.name) }
-    ensures slips { (one.new.items ≡ one.old.items) × (two.new.items ≡ two.old.items) }
-    ensures apart { AreApart one.old.items two.old.items }
-{
-    deal(one, two, 0)
 }
 
 unsafe impl<T> Send for Slips<T> {}
