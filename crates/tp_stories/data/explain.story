@@ -634,3 +634,31 @@ set device 73601 03
 tpnet recover device --explain 2>err
 starts err tpnet: Damaged 73601\n
 has err offset 73601 is in the record of line 0, which link 0 of node 0 sends, from 73601 on
+
+story shown_line
+# The line of a topology that is at fault is shown with its tabs and control characters as numbers, so that they are seen, and no terminal obeys
+# them. A CR in front of an LF ends a line, and isn't shown; any other is a byte of it. Of a long line 200 characters are shown.
+text net.txt node\x09a 4\nport h\n
+tpnet check net.txt . --explain 2>err
+has err  line 1: node\x5Cx09a 4\n
+text net.txt node a 4\nport h\nwire a.0 \x1B[31mh\x7F\n
+tpnet check net.txt . --explain 2>err
+has err  line 3: wire a.0 \x5Cx1B[31mh\x5Cx7F\n
+text net.txt node a 4\nport \xC2\x9Bh\n
+tpnet check net.txt . --explain 2>err
+has err  line 2: port \x5Cx9Bh\n
+text net.txt node gr\xC3\xB6\xC3\x9Fe 4\n
+tpnet check net.txt . --explain 2>err
+has err  line 1: node gr\xC3\xB6\xC3\x9Fe 4\n
+text net.txt node a 04\x0D\nport h\x0D\n
+tpnet check net.txt . --explain 2>err
+has err  line 1: node a 04\n
+text net.txt node a 4\nport h\x0D
+tpnet check net.txt . --explain 2>err
+has err  line 2: port h\x5Cx0D\n
+text net.txt node aaaaaaaaaaaaaaaaaaaaaaaaaaaaaaaaaaaaaaaaaaaaaaaaaaaaaaaaaaaaaaaaaaaaaaaaaaaaaaaaaaaaaaaaaaaaaaaaaaaaaaaaaaaaaaaaaaaaaaaaaaaaaaaaaaaaaaaaaaaaaaaaaaaaaaaaaaaaaaaaaaaaaaaaaaaaaaaaaaaaaaaaaaaaaaaaaaa\nport h\n
+tpnet check net.txt . --explain 2>err
+has err  line 1: node aaaaaaaaaaaaaaaaaaaaaaaaaaaaaaaaaaaaaaaaaaaaaaaaaaaaaaaaaaaaaaaaaaaaaaaaaaaaaaaaaaaaaaaaaaaaaaaaaaaaaaaaaaaaaaaaaaaaaaaaaaaaaaaaaaaaaaaaaaaaaaaaaaaaaaaaaaaaaaaaaaaaaaaaaaaaaaaaaaaaaaaaaaaaaaaaaaa\n
+text net.txt node aaaaaaaaaaaaaaaaaaaaaaaaaaaaaaaaaaaaaaaaaaaaaaaaaaaaaaaaaaaaaaaaaaaaaaaaaaaaaaaaaaaaaaaaaaaaaaaaaaaaaaaaaaaaaaaaaaaaaaaaaaaaaaaaaaaaaaaaaaaaaaaaaaaaaaaaaaaaaaaaaaaaaaaaaaaaaaaaaaaaaaaaaaaaaaaaaaabc\nport h\n
+tpnet check net.txt . --explain 2>err
+has err  line 1: node aaaaaaaaaaaaaaaaaaaaaaaaaaaaaaaaaaaaaaaaaaaaaaaaaaaaaaaaaaaaaaaaaaaaaaaaaaaaaaaaaaaaaaaaaaaaaaaaaaaaaaaaaaaaaaaaaaaaaaaaaaaaaaaaaaaaaaaaaaaaaaaaaaaaaaaaaaaaaaaaaaaaaaaaaaaaaaaaaaaaaaaaaaaaaaaaaaa ..\n

@@ -9,6 +9,9 @@ use tp_net::Topology;
 /// What is shown in place of a line that isn't text.
 const NO_TEXT: &str = "(no text: is this file the topology? --help has the order of the words)";
 
+/// How many characters of a line are shown at most.
+const MOST_SHOWN: usize = 200;
+
 /// The first lines of a text, as many as `count`, without the end of the last one.
 fn first_lines(text: &[u8], count: usize) -> &[u8] {
     let mut seen = 0usize;
@@ -60,14 +63,18 @@ fn line_of_fault(alloc: Global, text: &[u8], fault: NetFault) -> usize {
     with
 }
 
-/// The line of a text with a number from 1 on.
+/// The line of a text with a number from 1 on, without its end, which may be a CR and an LF.
 fn nth_line(text: &[u8], number: usize) -> &[u8] {
-    match text
+    let line = match text
         .split(|byte| *byte == b'\n')
         .nth(number.saturating_sub(1))
     {
         Some(line) => line,
         None => &[],
+    };
+    match line.split_last() {
+        Some((b'\r', front)) if number <= ended_lines(text) => front,
+        _ => line,
     }
 }
 
@@ -112,13 +119,35 @@ fn push_reason(text: &mut String, fault: NetFault) -> Result<(), AllocError> {
     }
 }
 
+/// Appends a character, where a terminal would obey it, or shows nothing, by its number: `\x09` is a tab.
+fn push_character(text: &mut String, character: char) -> Result<(), AllocError> {
+    let number = character as u32;
+    if number < 0x20 || (0x7F..0xA0).contains(&number) {
+        write!(text, "\\x{number:02X}")
+    } else {
+        text.push(character)
+    }
+}
+
+/// Appends a line, of a long one its first characters.
+fn push_line(text: &mut String, line: &str) -> Result<(), AllocError> {
+    for (count, character) in line.chars().enumerate() {
+        if count == MOST_SHOWN {
+            return text.push_str(" ..");
+        }
+        push_character(text, character)?;
+    }
+    Ok(())
+}
+
 /// Appends where the fault of a text at a path is: at its line with a number from 1 on, or, where that is 0, in all of it.
 fn push_where(text: &mut String, path: &str, number: usize, line: &[u8]) -> Result<(), AllocError> {
     if number == 0 {
         return write!(text, "  {path}: ");
     }
-    let line = str::from_utf8(line).unwrap_or(NO_TEXT);
-    write!(text, "  {path}, line {number}: {line}\n  ")
+    write!(text, "  {path}, line {number}: ")?;
+    push_line(text, str::from_utf8(line).unwrap_or(NO_TEXT))?;
+    text.push_str("\n  ")
 }
 
 /// Says where and why a text says no topology.
