@@ -28,7 +28,7 @@ use std::sync::Wait;
 use std::thread::Threads;
 use tp_disk::Disk;
 use tp_stream_files::{Feed, Onlooker, is_one_file};
-use tp_views::{explain, print_help, tell_halted};
+use tp_views::{explain, is_device_file, print_help, tell_halted};
 use tp_words::{Asked, Command, CommandLine};
 
 /// Does what was asked for. Answers the program's status: 0 where it was done, 1 where it was refused, 2 where a node or port
@@ -111,6 +111,33 @@ fn prints_into_device<R: Files>(rt: &R, asked: &Asked) -> bool {
     }
 }
 
+/// The file that a run takes as its port's input, where one is named.
+fn input_of(asked: &Asked) -> Option<&str> {
+    match asked {
+        Asked::Run(run) => Some(run.input.as_ref()?.as_str()),
+        _ => None,
+    }
+}
+
+/// Whether what a run prints would be written into the file of its input. What is no regular file has no bytes to lose, as a terminal.
+fn prints_into_input<R: Files>(rt: &R, asked: &Asked) -> bool {
+    match input_of(asked) {
+        Some(path) => is_device_file(rt, path) && prints_into(rt, path),
+        None => false,
+    }
+}
+
+/// Says that what is printed would be written into the input. Answers the status. A failed write is let go.
+fn refuse_input<E: Write>(err: &mut E) -> u8
+    ensures { result ≡ 2 }
+{
+    let _ = write!(
+        err,
+        "tpnet: standard output goes into the file of --in: let it go elsewhere; nothing was changed\n"
+    );
+    2
+}
+
 /// Says that what is printed would be written over the device. Answers the status. A failed write is let go.
 pub(crate) fn refuse_output<E: Write>(err: &mut E) -> u8
     ensures { result ≡ 2 }
@@ -140,8 +167,8 @@ fn say_more<R: Files<File = F> + AllocGlobal, F: FileExt + OpenFile + Drop, E: W
     }
 }
 
-/// Does what was asked for, unless what is printed would be written over the device, and says more of it where `explains`. The device that
-/// is to be written is held. Answers the program's status.
+/// Does what was asked for, unless what is printed would be written over the device, or into the input, and says more of it where
+/// `explains`. The device that is to be written is held. Answers the program's status.
 fn answer_held<
     R: Files<File = F> + AllocGlobal + Threads + Wait + Sync,
     F: FileExt + OpenFile + Drop + Send,
@@ -167,6 +194,9 @@ fn answer_held<
 {
     if prints_into_device(rt, asked) {
         return refuse_output(err);
+    }
+    if prints_into_input(rt, asked) {
+        return refuse_input(err);
     }
     let mut system = None;
     let status = carry_out(rt, devices, watch, asked, &mut system, out, err);

@@ -206,3 +206,24 @@ stand stdout=. stdin=. stderr=.
 tpnet run device --stream --quantum=64 --until-quiet --discard 0 --out 1=- --in 0=- <in 2>err
 equal one in
 empty none
+
+story input_printed_over
+# A run whose standard output is the file of its input, under whatever name, would take what its port puts out for further input. It is refused, and
+# nothing is changed; where another file is there, all goes as ever. A stream is refused so above.
+text net.txt node a 4\nport h\nwire a.0 h\n
+image a.img 11 24 F2 54 41 F7 11 24 F2 41 FB 60 03
+tpnet format device net.txt . 16384
+text given abc
+link given also_given
+symlink given to_given
+fill other 0 00
+keep device given
+stand stdout=given
+tpnet run device --turns 30 --workers 1 --in given
+tpnet run device --turns 30 --workers 1 --in also_given
+tpnet run device --turns 30 --workers 1 --in to_given --explain
+stay
+stand stdout=other
+tpnet run device --turns 30 --workers 1 --in given >out
+stand
+equal out given

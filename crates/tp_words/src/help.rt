@@ -137,7 +137,8 @@ Refusals (status 1):
                 confirm, whose output was printed (tpnet compact makes room): see --explain
   DeviceFailed  DEVICE can't be written or synced, or standard output can't: look at rights and room
   Memory        there is no memory left
-A --spare above a node's pages and a --port that isn't there end with status 2, once DEVICE is open.";
+A --spare above a node's pages and a --port that isn't there end with status 2, once DEVICE is open; standard output that is the file
+of DEVICE or of --in does before.";
 
 /// How `tpnet stop` asks, and what it refuses.
 pub const STOP_REFUSALS: &str =
