@@ -122,7 +122,7 @@ fn push_reason(text: &mut String, fault: NetFault) -> Result<(), AllocError> {
 /// Appends a character, where a terminal would obey it, or shows nothing, by its number: `\x09` is a tab.
 fn push_character(text: &mut String, character: char) -> Result<(), AllocError> {
     let number = character as u32;
-    if number < 0x20 || (0x7F..0xA0).contains(&number) {
+    if number < b' ' as u32 || (0x7F..0xA0).contains(&number) {
         write!(text, "\\x{number:02X}")
     } else {
         text.push(character)
