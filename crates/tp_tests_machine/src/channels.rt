@@ -114,6 +114,22 @@ const MEETINGS: &[Story<'static>] = &[
 
 const MESSAGES: &[Story<'static>] = &[
     Story {
+        name: "a word out of a register waits at the workspace",
+        code: &[0xFF],
+        given: &[Stack(0x77, 0x8000_0300, 3), Word(0x8000_0300, FIRST)],
+        events: &[
+            Run(1, &[]),
+            Then(&[
+                Gone,
+                Slice(1),
+                Word(0x8000_0200, 0x77),
+                Word(0x8000_0300, 0x8000_0201),
+                Word(0x8000_01F4, 0x8000_0200),
+                Word(0x8000_01FC, 0x8000_0101),
+            ]),
+        ],
+    },
+    Story {
         name: "a channel in the last word of memory, and a message that ends with it",
         code: &[0xFB],
         given: &[
@@ -210,10 +226,59 @@ const MESSAGES: &[Story<'static>] = &[
     },
 ];
 
+/// An input's pointer in word -3 is no state of an alternative just in front of these states, and just behind them; and the first word
+/// behind the links' is a channel.
+const NEXT_TO_OTHERS: &[Row<'static>] = &[
+    (
+        &[0xFB],
+        &[
+            Stack(1, 0x8000_0300, 0x8000_0310),
+            Word(0x8000_0300, 0x8000_0281),
+            Word(0x8000_0274, 0x8000_0000),
+            Word(0x8000_0310, 9),
+        ],
+        &[
+            Word(0x8000_0000, 9),
+            Word(0x8000_0300, FIRST),
+            Low(0x8000_0280, 0x8000_0280),
+        ],
+    ),
+    (
+        &[0xFB],
+        &[
+            Stack(1, 0x8000_0300, 0x8000_0310),
+            Word(0x8000_0300, 0x8000_0281),
+            Word(0x8000_0274, 0x8000_0004),
+            Word(0x8000_0310, 9),
+        ],
+        &[
+            Word(0x8000_0004, 9),
+            Word(0x8000_0300, FIRST),
+            Low(0x8000_0280, 0x8000_0280),
+        ],
+    ),
+    (
+        &[0xFB],
+        &[
+            Stack(1, 0x8000_0020, 0x8000_0310),
+            Word(0x8000_0020, 0x8000_0281),
+            Word(0x8000_0274, 0x8000_0320),
+            Word(0x8000_0310, 9),
+        ],
+        &[
+            Word(0x8000_0320, 9),
+            Word(0x8000_0020, FIRST),
+            Low(0x8000_0280, 0x8000_0280),
+        ],
+    ),
+];
+
 /// What lies outside halts the node: the channel; the range of the first to come, and of the second; the first's word -3;
 /// the pointer that the first left; the workspace of an output out of a register.
 const OUTSIDE: &[Row<'static>] = &[
     (&[0xF7], &[Stack(1, 0x8000_1000, 0x8000_0310)], &[Halt(1)]),
+    (&[0xF7], &[Stack(1, 0x7FFF_FFFC, 0x8000_0310)], &[Halt(1)]),
+    (&[0xF7], &[Stack(1, 0, 0x8000_0310)], &[Halt(1)]),
     (
         &[0xF7],
         &[Stack(2, 0x8000_0300, 0x8000_0FFF), Word(0x8000_0300, FIRST)],
@@ -261,5 +326,6 @@ const OUTSIDE: &[Row<'static>] = &[
 fn channels(rt: HostRuntime) {
     play_all(&rt, rt.alloc(), MEETINGS);
     play_all(&rt, rt.alloc(), MESSAGES);
+    check_rows(&rt, rt.alloc(), "next to others", NEXT_TO_OTHERS);
     check_rows(&rt, rt.alloc(), "outside", OUTSIDE);
 }

@@ -7,15 +7,11 @@
 #[cfg(test)]
 mod alternatives;
 #[cfg(test)]
-mod answers;
-#[cfg(test)]
 mod arrival;
 #[cfg(test)]
 mod bench;
 #[cfg(test)]
 mod channels;
-#[cfg(test)]
-mod desk;
 #[cfg(test)]
 mod ends;
 #[cfg(test)]
@@ -33,15 +29,9 @@ mod links;
 #[cfg(test)]
 mod memory;
 #[cfg(test)]
-mod part_calls;
-#[cfg(test)]
-mod parts;
-#[cfg(test)]
 mod registers;
 #[cfg(test)]
 mod runs;
-#[cfg(test)]
-mod steps;
 #[cfg(test)]
 mod story;
 #[cfg(test)]

@@ -275,6 +275,23 @@ const WRONG_AND_BUSY_ENDS: &[Row<'static>] = &[
         ],
         &[Halt(4)],
     ),
+    // The two low bits of a link's word don't count.
+    (
+        &[0xFB],
+        &[
+            Stack(1, 0x8000_000F, 0x8000_0310),
+            Waits(3, 0x8000_0281, 0x8000_0310, 1),
+        ],
+        &[Halt(4)],
+    ),
+    (
+        &[0xF7],
+        &[
+            Stack(1, 0x8000_001F, 0x8000_0310),
+            Inputs(3, 0x8000_0281, 0x8000_0320, 1),
+        ],
+        &[Halt(4)],
+    ),
     // An end is in use also where the own process enabled it.
     (
         &[0xF7],

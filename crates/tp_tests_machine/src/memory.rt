@@ -1,9 +1,14 @@
 //! A node's memory on its own.
 
-use crate::desk::four_pages;
 use crate::story::check;
+use std::alloc::{AllocError, Global};
 use std::test::Fail;
 use tp_mem::{FlatMemory, Freeze, Mem, WriteFault};
+
+/// Four pages of zeros.
+pub fn four_pages(alloc: Global) -> Result<FlatMemory, AllocError> {
+    FlatMemory::new(alloc, 4, &[0; 4096])
+}
 
 /// A call that writes.
 enum Write<'a> {

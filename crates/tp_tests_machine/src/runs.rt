@@ -79,23 +79,40 @@ const PROCESSES: &[Story<'static>] = &[
         // ldl 1, runp
         code: &[0x71, 0x23, 0xF9],
         given: &[
+            Stack(5, 6, 7),
             Word(0x8000_0204, 0x8000_0300),
             Word(0x8000_02FC, 0x8000_0180),
             // stopp
             Bytes(0x8000_0180, &[0x21, 0xF5]),
         ],
         events: &[
-            Run(6, &[]),
+            // Two instructions, and the interrupt.
+            Run(3, &[]),
             Then(&[
                 Iptr(0x8000_0103),
-                A(0x8000_0300),
+                Stack(0x8000_0300, 5, 6),
+                State(0),
                 Slice(2),
-                High(FIRST, 0x8000_0300),
-                Word(0x8000_002C, FIRST),
+                High(0x8000_0300, 0x8000_0300),
+                Word(0x8000_002C, 0x8000_0201),
                 Word(0x8000_0030, 0x8000_0103),
                 Word(0x8000_0034, 0x8000_0300),
-                Word(0x8000_0038, 0),
-                Word(0x8000_003C, 0),
+                Word(0x8000_0038, 5),
+                Word(0x8000_003C, 6),
+            ]),
+            // The dispatch.
+            Run(1, &[]),
+            Then(&[
+                Runs(0x8000_0180, 0x8000_0300),
+                State(1),
+                High(FIRST, 0x8000_0300),
+            ]),
+            // An instruction, and the restore.
+            Run(2, &[]),
+            Then(&[
+                Runs(0x8000_0103, 0x8000_0200),
+                Stack(0x8000_0300, 5, 6),
+                Word(0x8000_002C, FIRST),
                 Word(0x8000_02FC, 0x8000_0182),
             ]),
         ],

@@ -1,6 +1,6 @@
 //! The memory that copies before it writes beside its slow twin: commands give equal bytes in both.
 
-use crate::desk::four_pages;
+use crate::memory::four_pages;
 use crate::story::check;
 use std::alloc::Global;
 use tp_mem::{CowMemory, FlatMemory, Freeze, Mem, WriteFault};
