@@ -13,8 +13,6 @@ mod bench;
 #[cfg(test)]
 mod channels;
 #[cfg(test)]
-mod ends;
-#[cfg(test)]
 mod guards;
 #[cfg(test)]
 mod image;
