@@ -371,3 +371,48 @@ calls read-only
 tpnet run device --turns 4 --workers 1 --quantum 16
 asked write
 stay
+
+story stream_writes
+# Each call fails alone on the file that takes an output, or on its folder: three ask what file it is and how long, two sync it and the folder, one
+# writes what came back, of which half is there where it fails, and one syncs that. The same command then brings it to its end.
+text net.txt node a 4\nport h\nwire a.0 h\n
+image a.img 11 24 F2 54 41 F7 11 24 F2 41 FB 60 03
+tpnet format d net.txt . 16384
+copy d fresh
+text in abcd
+folder device
+sweep alone device
+copy fresh d
+remove device/out_device
+tpnet run d --stream --quantum=64 --until-quiet --workers 1 --out 0=device/out_device --in 0=in 2>err
+has err tpnet: DeviceFailed\n
+tpnet run d --stream --quantum=64 --until-quiet --workers 1 --out 0=device/out_device --in 0=in 2>err
+equal device/out_device in
+end
+
+story stream_reads
+# Each call fails alone on the file that an input comes from: which file it is; how long it is, so that nothing is known of that; and two reads, that of its
+# bytes and that at their end, which is no end where it fails. The same command then brings it to its end.
+text net.txt node a 4\nport h\nwire a.0 h\n
+image a.img 11 24 F2 54 41 F7 11 24 F2 41 FB 60 03
+tpnet format d net.txt . 16384
+copy d fresh
+text in_device abcd
+sweep alone device
+copy fresh d
+remove out
+tpnet run d --stream --quantum=64 --until-quiet --workers 1 --out 0=out --in 0=in_device 2>err
+has err tpnet: ReadFailed\n
+tpnet run d --stream --quantum=64 --until-quiet --workers 1 --out 0=out --in 0=in_device 2>err
+equal out in_device
+end
+
+story stream_few_bytes
+# Reads and writes that move three bytes at most go on: each byte comes in its place.
+text net.txt node a 4\nport h\nwire a.0 h\n
+image a.img 11 24 F2 54 41 F7 11 24 F2 41 FB 60 03
+tpnet format device net.txt . 16384
+text in abcdefghijklmnopqrstuvwxyz
+calls most 3
+tpnet run device --stream --quantum=64 --until-quiet --workers 1 --out 0=out --in 0=in 2>err
+equal out in

@@ -227,3 +227,44 @@ stand stdout=other
 tpnet run device --turns 30 --workers 1 --in given >out
 stand
 equal out given
+
+story unmade
+# What can be told of files that are there is told before any file is made: the output in front of it isn't made then.
+text net.txt node a 4\nport x\nport y\nport z\nwire a.0 x\nwire a.1 y\nwire a.3 z\n
+image a.img 11 24 F2 54 41 F7
+text in abcde
+tpnet format device net.txt . 65536
+fill there 0 00
+symlink there to_there
+symlink in to_in
+symlink device to_device
+keep device in there
+tpnet run device --stream --quantum=64 --until-quiet --out 0=new --out 1=to_device --discard 2 2>err
+starts err tpnet: --out 1 goes into the file of 
+there new
+tpnet run device --stream --quantum=64 --until-quiet --out 0=new --out 1=to_in --discard 2 --in 0=in 2>err
+starts err tpnet: --out 1 goes into the file of 
+there new
+tpnet run device --stream --quantum=64 --until-quiet --out 0=new --out 1=there --out 2=to_there 2>err
+starts err tpnet: --out 2 goes into the file of 
+there new
+stand stdin=in
+tpnet run device --stream --quantum=64 --until-quiet --out 0=new --out 1=to_in --discard 2 --in 0=- 2>err
+starts err tpnet: --out 1 goes into the file of 
+there new
+stand stdout=there
+tpnet run device --stream --quantum=64 --until-quiet --out 0=new --out 1=- --out 2=to_there 2>err
+starts err tpnet: --out 2 goes into the file of 
+there new
+stand stdout=device
+tpnet run device --stream --quantum=64 --until-quiet --out 0=new --out 1=- --discard 2 2>err
+starts err tpnet: --out 1 goes into the file of 
+there new
+stand stderr=there
+tpnet run device --stream --quantum=64 --until-quiet --out 0=new --out 1=to_there --discard 2 2>err
+starts err tpnet: --out 1 goes into the file of 
+there new
+stand
+stay
+tpnet run device --stream --quantum=64 --until-quiet --out 0=new --discard 1 --discard 2 2>err
+empty new

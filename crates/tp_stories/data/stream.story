@@ -536,3 +536,24 @@ tpnet run device --stream --quantum=64 --out 0=- --in 0=- <in 2>err
 ends err  written 0 confirmed 0 gone\n
 shut
 tpnet run device --stream --quantum=64 --until-quiet --out 0=- 2>err
+
+story synced
+# What a stream syncs beside its device: a file that takes an output as it is opened, and its folder where it is empty; and it once more behind the
+# piece that is put. What goes to standard output, or is let go, is synced nowhere, nor is an input.
+text net.txt node a 4\nport h\nwire a.0 h\n
+image a.img
+tpnet format device net.txt . 16384
+folder sub
+tpnet run device --stream --turns 0 --out 0=sub/out 2>err
+asked syncs
+empty sub/out
+tpnet run device --stream --quantum=64 --until-quiet --out 0=sub/out 2>err
+asked syncs
+length sub/out
+text in ab
+tpnet run device --stream --quantum=64 --until-quiet --out 0=sub/out --in 0=in 2>err
+asked syncs
+tpnet run device --stream --quantum=64 --until-quiet --out 0=- --in 0=in >printed 2>err
+asked syncs
+tpnet run device --stream --quantum=64 --until-quiet --discard 0 --in 0=in 2>err
+asked syncs

@@ -1,6 +1,7 @@
 -- What takes an output, and where an input comes from, whichever it is.
 use Rattle.std.specs.Prelude.{◌≡◌, ◌<◌, ◌≤◌, ℕ, ◌-◌, ◌^◌, Bool, true, false, Option, Some, None, List, [], ◌∷◌, ◌++◌, length, take, drop, Result, IfOk, is_ok, is_err}
 use Rattle.std.specs.Io.KnownBytes.{Appends, Keeps}
+use Rattle.tp_stream_files.specs.Said.{AppendsFront}
 use Rattle.tp_stream_files.specs.Told.{EndTold, Wrote, Synced}
 use Rattle.tp_stream_files.specs.Trace.{size_after, read, GrewAlike, bytes_given, says_end, says_failed}
 use Rattle.tp_stream_files.specs.declared.sinks.AnySink.{AnySink}
@@ -21,11 +22,17 @@ length_of (File sink) = Some sink.size
 length_of (Out out) = None
 length_of Nothing = None
 
+-- How many bytes a source has isn't known of what comes through a pipe.
+abbrev pub IsUnknownOfPipes : {F I : Type 0} → Option ℕ → AnySource F I → Type 0
+IsUnknownOfPipes n (FromFile file) = Unit {0}
+IsUnknownOfPipes n (In pipe) = n ≡ None
+
 -- Bytes were to be put: a file was asked to write them at their offset, and has as many bytes as that says; standard output has them behind
--- what it had.
+-- what it had, or a front of them where that failed.
 abbrev pub WasPut : {F O : Type 0} → (calls : F → List EndTold) → (contents : O → Option (List ℕ)) → ℕ → List ℕ → Bool → AnySink F O → AnySink F O → Type 0
 WasPut calls contents at bytes ok (File old) (File new) = (calls new.file ≡ calls old.file ++ Wrote at bytes ok ∷ []) × (new.size ≡ size_after old.size (Wrote at bytes ok))
-WasPut calls contents at bytes ok (Out old) (Out new) = ok ≡ true → Appends (contents old.now) (contents new.now) bytes
+WasPut calls contents at bytes ok (Out old) (Out new) =
+    (ok ≡ true → Appends (contents old.now) (contents new.now) bytes) × AppendsFront (contents old.now) (contents new.now) bytes
 WasPut calls contents at bytes ok Nothing Nothing = ok ≡ true
 WasPut calls contents at bytes ok (File old) (Out new) = ⊥
 WasPut calls contents at bytes ok (File old) Nothing = ⊥

@@ -1,9 +1,11 @@
 pub mod Any
+pub mod Failing
 pub mod Held
 pub mod Inputs
 pub mod Lines
 pub mod Named
 pub mod Notices
+pub mod Opened
 pub mod Opening
 pub mod Outputs
 pub mod Said

@@ -2,6 +2,8 @@
 use Rattle.std.specs.Prelude.{◌≡◌, ◌⊎◌, ℕ, Bool, true, false, Option, Some, None, List, [], ◌∷◌, ◌++◌, All, if◌then◌else◌, nat_eq, string_bytes}
 use Rattle.std.specs.Fs.{new_options, with_read, with_write, with_create}
 use Rattle.std.specs.declared.fs.options.OpenOptions.{OpenOptions}
+use Rattle.tp_stream_files.specs.declared.ends.EndFault.{EndFault}
+use Rattle.tp_stream_files.specs.declared.ends.EndFault.TheVariants.{ReadFailed as EndReadFailed, DeviceFailed as EndDeviceFailed, SameFile, Twice, Memory}
 use Rattle.tp_stream_files.specs.Told.{EndTold, Opened, SyncedFolder, Measured, MeasureFailed, HasRead, ReadFailed, Wrote, Synced, Gave, GiveFailed}
 
 -- a file that takes an output: it is read and written as it is, and made where it isn't there
@@ -24,6 +26,14 @@ KeepsBytesThere (Wrote at bytes ok) = Unit {0}
 KeepsBytesThere (Synced ok) = Unit {0}
 KeepsBytesThere (Gave bytes) = Unit {0}
 KeepsBytesThere GiveFailed = Unit {0}
+
+-- A refusal names that port, where it names one.
+abbrev pub NamesPort : ℕ → EndFault → Type 0
+NamesPort port (EndReadFailed of) = of ≡ port
+NamesPort port (EndDeviceFailed of) = of ≡ port
+NamesPort port (SameFile of) = of ≡ port
+NamesPort port (Twice of) = of ≡ port
+NamesPort port Memory = Unit {0}
 
 -- Whatever was asked since then left the bytes that are there.
 unfoldable pub KeepsFiles : List EndTold → List EndTold → Type 0

@@ -1,6 +1,6 @@
 //! Bytes that come once, in order.
 
-ghost use Rattle.std.specs.Prelude.{◌≡◌, ◌≤◌, List, [], ◌∷◌, ◌++◌, length, IfOk};
+ghost use Rattle.std.specs.Prelude.{◌≡◌, ◌≤◌, false, List, [], ◌∷◌, ◌++◌, length, IfOk};
 ghost use Rattle.std.specs.Io.KnownBytes.{ReadConsumes};
 ghost use Rattle.tp_stream_files.specs.Told.{EndTold};
 ghost use Rattle.tp_stream_files.specs.Trace.{gave};
@@ -65,6 +65,7 @@ impl<I: Read + Drop> Feed for Plain<I> {
 
     fn would_wait(&mut self, _millis: u64) -> bool
         ensures same { self.new ≡ self.old }
+        ensures there { result ≡ false }
     {
         false
     }

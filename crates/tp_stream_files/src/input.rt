@@ -84,6 +84,7 @@ impl<I: Source> Input<I> {
         ensures end { IfOk result (λ count. count ≡ 0 → 0 < length out.new → is_some self.new.ended ≡ true) }
         ensures ended { (self.new.ended ≡ self.old.ended) ⊎ ((result ≡ Ok 0) × (self.new.ended ≡ Some at)) }
         ensures blocked { self.new.is_blocked ≡ self.old.is_blocked }
+        ensures behind { IfSome self.old.ended (λ _. (result ≡ Ok 0) × (self.new.source ≡ self.old.source)) }
     {
         if out.is_empty() || self.ended.is_some() {
             return Ok(0);

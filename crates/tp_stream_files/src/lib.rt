@@ -26,6 +26,7 @@ mod system;
 mod telling;
 mod threads;
 mod trace;
+mod writing;
 
 pub use clock::{Onlooker, Times};
 pub use ending::{Ended, Ending, Stopped};

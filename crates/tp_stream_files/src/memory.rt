@@ -1,6 +1,7 @@
 //! A sink in memory. One of its calls may fail.
 
-ghost use Rattle.std.specs.Prelude.{◌≡◌, ◌≤◌, ◌++◌, length, take, Some, OnOk, OnErr};
+ghost use Rattle.std.specs.Prelude.{◌≡◌, ◌≤◌, [], ◌++◌, length, take, None, Some, OnOk, OnErr};
+ghost use Rattle.tp_stream_files.specs.Failing.{calls_behind, goes_on};
 ghost use Rattle.tp_stream_files.specs.Held.{HasLength, HasPut, HasReach, IsSafe, KeepsBytes, KeepsFront, Reaches};
 
 use crate::sink::{Sink, SinkFault};
@@ -17,7 +18,9 @@ pub struct MemSink {
 
 impl MemSink {
     /// A sink that has `bytes`, all of them safe.
-    pub fn new(bytes: Vec<u8>) -> MemSink {
+    pub fn new(bytes: Vec<u8>) -> MemSink
+        ensures { result ≡ record { bytes = bytes; safe = length bytes.items; calls = None } }
+    {
         let safe = bytes.len() as u64;
         MemSink {
             bytes,
@@ -27,12 +30,16 @@ impl MemSink {
     }
 
     /// No bytes.
-    pub fn empty(alloc: Global) -> MemSink {
+    pub fn empty(alloc: Global) -> MemSink
+        ensures { (result.bytes.items ≡ []) × (result.safe ≡ 0) × (result.calls ≡ None) }
+    {
         MemSink::new(Vec::new(alloc))
     }
 
     /// A sink with these bytes that fails one call, once `calls` were made.
-    pub fn failing(self, calls: u32) -> MemSink {
+    pub fn failing(self, calls: u32) -> MemSink
+        ensures { result ≡ record self { calls = Some calls } }
+    {
         MemSink {
             calls: Some(calls),
             ..self
@@ -40,13 +47,16 @@ impl MemSink {
     }
 
     /// Its bytes.
-    pub fn bytes(&self) -> &[u8] {
+    pub fn bytes(&self) -> &[u8]
+        ensures { result.now ≡ self.now.bytes.items }
+    {
         &self.bytes
     }
 
     // Whether a call is done.
     fn goes(&mut self) -> bool
-        ensures { (self.new.bytes ≡ self.old.bytes) × (self.new.safe ≡ self.old.safe) }
+        ensures goes { result ≡ goes_on self.old.calls }
+        ensures left { self.new ≡ record self.old { calls = calls_behind self.old.calls } }
     {
         match self.calls {
             Some(0) => {

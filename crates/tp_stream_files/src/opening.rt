@@ -1,8 +1,10 @@
 //! How ends are opened.
 
-ghost use Rattle.std.specs.Prelude.{◌≡◌, ◌++◌, ◌∷◌, [], map, is_ok, string_bytes, IfOk, OnOk};
+ghost use Rattle.std.specs.Prelude.{◌≡◌, ◌++◌, ◌∷◌, [], true, map, is_ok, string_bytes, IfErr, IfOk, OnOk};
 ghost use Rattle.tp_stream_files.specs.Named.{inputs_named, output_away, output_to, outputs_named};
-ghost use Rattle.tp_stream_files.specs.Opening.{KeepsFiles, to_read, to_write};
+ghost use Rattle.tp_stream_files.specs.Opened.{IsSinkOf, IsSourceOf, IsUnread};
+ghost use Rattle.tp_stream_files.specs.Opening.{KeepsFiles, NamesPort, to_read, to_write};
+ghost use Rattle.tp_stream_files.specs.Sinks.{SyncsFolder, begin_calls};
 ghost use Rattle.tp_stream_files.specs.Told.{Opened};
 
 use crate::ends::{EndFault, Ends, PortFile};
@@ -28,7 +30,9 @@ fn take_sink<S: Looks, F: EndFile>(
     port: u8,
     file: &F,
     taken: &mut Taken,
-) -> Result<(), EndFault> {
+) -> Result<(), EndFault>
+    ensures { IfErr result (NamesPort port) }
+{
     let Ok(numbers) = file.numbers() else {
         return Err(EndFault::DeviceFailed(port));
     };
@@ -43,7 +47,9 @@ fn open_to_write<S: EndFiles<File = F>, F: EndFile + Drop>(
     files: &mut S,
     end: &PortFile,
 ) -> Result<F, EndFault>
-    ensures { S.calls files.new ≡ S.calls files.old ++ Opened to_write (string_bytes end.now.path) (is_ok result) ∷ [] }
+    ensures noted { S.calls files.new ≡ S.calls files.old ++ Opened to_write (string_bytes end.now.path) (is_ok result) ∷ [] }
+    ensures fresh { IfOk result (λ file. F.calls file ≡ []) }
+    ensures fault { IfErr result (λ fault. fault ≡ EndFault.DeviceFailed end.now.port) }
 {
     match file_at(files, end.path.as_str()) {
         Ok(file) => Ok(file),
@@ -57,7 +63,10 @@ fn sink_over<S: EndFiles<File = F>, F: EndFile + Drop>(
     end: &PortFile,
     file: F,
 ) -> Result<FileSink<F>, EndFault>
-    ensures { KeepsFiles (S.calls files.old) (S.calls files.new) }
+    ensures kept { KeepsFiles (S.calls files.old) (S.calls files.new) }
+    ensures calls { IfOk result (λ sink. F.calls sink.file ≡ F.calls file ++ begin_calls sink.size) }
+    ensures folder { IfOk result (λ sink. SyncsFolder sink.size (string_bytes end.now.path) (S.calls files.old) (S.calls files.new)) }
+    ensures fault { IfErr result (λ fault. fault ≡ EndFault.DeviceFailed end.now.port) }
 {
     match FileSink::over(files, end.path.as_str(), file) {
         Ok(sink) => Ok(sink),
@@ -72,7 +81,10 @@ fn file_sink<S: EndFiles<File = F> + Looks, F: EndFile + Drop>(
     end: &PortFile,
     taken: &mut Taken,
 ) -> Result<FileSink<F>, EndFault>
-    ensures { KeepsFiles (S.calls files.old) (S.calls files.new) }
+    ensures kept { KeepsFiles (S.calls files.old) (S.calls files.new) }
+    ensures calls { IfOk result (λ sink. F.calls sink.file ≡ begin_calls sink.size) }
+    ensures folder { IfOk result (λ sink. SyncsFolder sink.size (string_bytes end.now.path) (S.calls files.old ++ Opened to_write (string_bytes end.now.path) true ∷ []) (S.calls files.new)) }
+    ensures fault { IfErr result (NamesPort end.now.port) }
 {
     let file = open_to_write(files, end)?;
     take_sink(files, end.port, &file, taken)?;
@@ -90,7 +102,9 @@ fn sink_at<'a, S: EndFiles<File = F> + Looks, F: EndFile + Drop, O: Write>(
     taken: &mut Taken,
     out: &mut Option<&'a mut O>,
 ) -> Result<AnySink<'a, F, O>, EndFault>
-    ensures { KeepsFiles (S.calls files.old) (S.calls files.new) }
+    ensures kept { KeepsFiles (S.calls files.old) (S.calls files.new) }
+    ensures sink { IfOk result (IsSinkOf F.calls end.now (S.calls files.old) (S.calls files.new)) }
+    ensures fault { IfErr result (NamesPort end.now.port) }
 {
     if end.is_standard() {
         return match out.take() {
@@ -105,7 +119,9 @@ fn sink_at<'a, S: EndFiles<File = F> + Looks, F: EndFile + Drop, O: Write>(
 }
 
 /// Gives a file its part, which is open and has the input of `port`.
-fn take_source<F: EndFile>(port: u8, file: &F, taken: &mut Taken) -> Result<(), EndFault> {
+fn take_source<F: EndFile>(port: u8, file: &F, taken: &mut Taken) -> Result<(), EndFault>
+    ensures { IfErr result (NamesPort port) }
+{
     let Ok(numbers) = file.numbers() else {
         return Err(EndFault::ReadFailed(port));
     };
@@ -117,7 +133,9 @@ fn open_to_read<S: EndFiles<File = F>, F: EndFile + Drop>(
     files: &mut S,
     end: &PortFile,
 ) -> Result<F, EndFault>
-    ensures { S.calls files.new ≡ S.calls files.old ++ Opened to_read (string_bytes end.now.path) (is_ok result) ∷ [] }
+    ensures noted { S.calls files.new ≡ S.calls files.old ++ Opened to_read (string_bytes end.now.path) (is_ok result) ∷ [] }
+    ensures fresh { IfOk result (λ file. F.calls file ≡ []) }
+    ensures fault { IfErr result (λ fault. fault ≡ EndFault.ReadFailed end.now.port) }
 {
     let mut how = OpenOptions::new();
     match files.open(how.read(true), end.path.as_str()) {
@@ -133,7 +151,9 @@ fn file_source<S: EndFiles<File = F>, F: EndFile + Drop>(
     end: &PortFile,
     taken: &mut Taken,
 ) -> Result<F, EndFault>
-    ensures { KeepsFiles (S.calls files.old) (S.calls files.new) }
+    ensures kept { KeepsFiles (S.calls files.old) (S.calls files.new) }
+    ensures calls { IfOk result (λ file. (F.calls file ≡ []) × (S.calls files.new ≡ S.calls files.old ++ Opened to_read (string_bytes end.now.path) true ∷ [])) }
+    ensures fault { IfErr result (NamesPort end.now.port) }
 {
     let file = open_to_read(files, end)?;
     take_source(end.port, &file, taken)?;
@@ -144,7 +164,10 @@ fn file_source<S: EndFiles<File = F>, F: EndFile + Drop>(
 fn standard_source<'a, F: EndFile + Drop, I: Feed>(
     port: u8,
     feed: &mut Option<&'a mut I>,
-) -> Result<AnySource<'a, F, I>, EndFault> {
+) -> Result<AnySource<'a, F, I>, EndFault>
+    ensures source { IfOk result IsUnread }
+    ensures fault { IfErr result (λ fault. fault ≡ EndFault.Twice port) }
+{
     match feed.take() {
         Some(feed) => Ok(AnySource::In(Pipe::new(feed))),
         None => Err(EndFault::Twice(port)),
@@ -159,7 +182,9 @@ fn source_at<'a, S: EndFiles<File = F> + Looks, F: EndFile + Drop, I: Feed>(
     taken: &mut Taken,
     feed: &mut Option<&'a mut I>,
 ) -> Result<AnySource<'a, F, I>, EndFault>
-    ensures { KeepsFiles (S.calls files.old) (S.calls files.new) }
+    ensures kept { KeepsFiles (S.calls files.old) (S.calls files.new) }
+    ensures source { IfOk result (IsSourceOf F.calls end.now (S.calls files.old) (S.calls files.new)) }
+    ensures fault { IfErr result (NamesPort end.now.port) }
 {
     if end.is_standard() {
         taken.add(files.numbers_behind(STANDARD_IN))?;
@@ -182,6 +207,7 @@ fn push_output<'a, S: EndFiles<File = F> + Looks, F: EndFile + Drop, O: Write>(
 ) -> Result<(), EndFault>
     ensures kept { KeepsFiles (S.calls files.old) (S.calls files.new) }
     ensures outputs { OnOk result (outputs.new.items ≡ outputs.old.items ++ output_to ends.now.haves.items end.now ∷ []) }
+    ensures fault { IfErr result (NamesPort end.now.port) }
 {
     let sink = sink_at(files, end, taken, out)?;
     let have = ends.have_of(end.port);
@@ -273,6 +299,7 @@ fn push_input<'a, S: EndFiles<File = F> + Looks, F: EndFile + Drop, I: Feed>(
 ) -> Result<(), EndFault>
     ensures kept { KeepsFiles (S.calls files.old) (S.calls files.new) }
     ensures ports { OnOk result (map (λ i. i.port) inputs.new.items ≡ map (λ i. i.port) inputs.old.items ++ end.now.port ∷ []) }
+    ensures fault { IfErr result (NamesPort end.now.port) }
 {
     let source = source_at(files, end, taken, feed)?;
     match inputs.push(Input::new(end.port, source)) {

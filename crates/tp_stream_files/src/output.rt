@@ -1,6 +1,6 @@
 //! A port's output: put at its positions, and made safe.
 
-ghost use Rattle.std.specs.Prelude.{◌≡◌, ◌<◌, ◌≤◌, ◌+◌, length, Some, IfSome, IfNone, OnOk, OnErr};
+ghost use Rattle.std.specs.Prelude.{◌≡◌, ◌<◌, ◌≤◌, ◌+◌, length, true, is_ok, Some, IfSome, IfNone, OnOk, OnErr};
 ghost use Rattle.tp_stream_files.specs.Held.{HasAtMost, HasLength, HasPut, HasReach, KeepsFront, Reaches};
 ghost use Rattle.tp_stream_files.specs.Outputs.{WasPutSafely};
 
@@ -36,6 +36,7 @@ fn put_safe<S: Sink>(sink: &mut S, at: u64, bytes: &[u8]) -> Result<(), SinkFaul
     ensures put { OnOk result (HasPut at bytes.now (S.held sink.old) (S.held sink.new)) }
     ensures reach { OnOk result (Reaches (at + length bytes.now) (S.held sink.new)) }
     ensures front { KeepsFront at (S.held sink.old) (S.held sink.new) }
+    ensures none { length bytes.now ≡ 0 → (is_ok result ≡ true) × (sink.new ≡ sink.old) }
 {
     if bytes.is_empty() {
         return Ok(());

@@ -1,6 +1,6 @@
 //! Whether two names stand for one file.
 
-ghost use Rattle.std.specs.Prelude.{◌≡◌, ◌↔◌, [], ◌++◌, true, Some, Contains, IfSome, OnOk, option_to_list};
+ghost use Rattle.std.specs.Prelude.{◌≡◌, ◌↔◌, [], ◌++◌, true, Some, Contains, IfErr, IfSome, OnOk, option_to_list};
 
 use crate::ends::{EndFault, Ends, PortFile};
 use crate::outside::Outside;
@@ -82,7 +82,8 @@ impl Taken {
 
     /// Gives a file a part.
     pub(crate) fn add(&mut self, file: Option<FileNumbers>) -> Result<(), EndFault>
-        ensures { OnOk result (self.new.files.items ≡ self.old.files.items ++ option_to_list file) }
+        ensures added { OnOk result (self.new.files.items ≡ self.old.files.items ++ option_to_list file) }
+        ensures fault { IfErr result (λ fault. fault ≡ EndFault.Memory) }
     {
         let Some(file) = file else {
             return Ok(());

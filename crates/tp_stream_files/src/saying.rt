@@ -4,26 +4,9 @@ ghost use Rattle.std.specs.Prelude.{◌≡◌, IfOk, string_bytes};
 ghost use Rattle.tp_stream_files.specs.Said.{AppendsFront, written};
 
 use crate::lines::{Line, text_of};
+use crate::writing::write_front;
 use std::alloc::{AllocError, Global};
-use std::io::{ErrorKind, Write};
-
-/// Writes bytes as they are, as far as they are taken.
-fn say<E: Write>(err: &mut E, bytes: &[u8])
-    ensures { AppendsFront (E.contents err.old) (E.contents err.new) bytes.now }
-{
-    let mut written = 0;
-    for _ in 0..u64::MAX {
-        if written >= bytes.len() {
-            break;
-        }
-        match err.write(&bytes[written..]) {
-            Ok(0) => break,
-            Ok(count) => written += count,
-            Err(error) if error.kind() == ErrorKind::Interrupted => {}
-            Err(_) => break,
-        }
-    }
-}
+use std::io::Write;
 
 /// What is written of a line: over the one before it, in one row of the terminal, however narrow that is; or behind what stands there.
 fn written(alloc: Global, is_over: bool, line: &Line) -> Result<String, AllocError>
@@ -42,6 +25,6 @@ pub(crate) fn say_line<E: Write>(alloc: Global, err: &mut E, is_over: bool, line
     ensures { AppendsFront (E.contents err.old) (E.contents err.new) (written is_over line.now) }
 {
     if let Ok(text) = written(alloc, is_over, line) {
-        say(err, text.as_bytes());
+        let _ = write_front(err, text.as_bytes());
     }
 }

@@ -1,6 +1,6 @@
 //! What takes a port's output in the program: a file, standard output, or nothing.
 
-ghost use Rattle.std.specs.Prelude.{◌≡◌, ◌↔◌, ◌++◌, ◌∷◌, [], true, None, length, is_ok, IfOk, OnOk, OnErr};
+ghost use Rattle.std.specs.Prelude.{◌≡◌, ◌↔◌, ◌++◌, ◌∷◌, [], true, Err, None, length, is_ok, IfErr, IfOk, OnOk, OnErr};
 ghost use Rattle.std.specs.IoError.{error_kind};
 ghost use Rattle.tp_stream_files.specs.Held.{HasLength, HasPut, HasReach, IsSafe, KeepsBytes, KeepsFront, Reaches};
 ghost use Rattle.tp_stream_files.specs.Opening.{KeepsFiles, to_write};
@@ -10,6 +10,7 @@ ghost use Rattle.tp_stream_files.specs.Trace.{size_after};
 
 use crate::outside::{Outside, OutsideFile};
 use crate::system::{EndFile, EndFiles};
+use crate::writing::write_front;
 use crate::{Sink, SinkFault};
 use std::fs::{Files, OpenFile, OpenOptions};
 use std::io;
@@ -92,7 +93,8 @@ fn fault_of(kind: ErrorKind) -> SinkFault
 
 /// The answer to a call of the system.
 fn answer(done: io::Result<()>) -> Result<(), SinkFault>
-    ensures { is_ok result ≡ is_ok done }
+    ensures done { is_ok result ≡ is_ok done }
+    ensures kind { IfErr done (λ error. (result ≡ Err SinkFault.Gone) ↔ (error_kind error ≡ ErrorKind.BrokenPipe)) }
 {
     match done {
         Ok(()) => Ok(()),
@@ -194,7 +196,7 @@ impl<'a, F: EndFile + Drop, O: Write> Sink for AnySink<'a, F, O> {
     {
         match self {
             AnySink::File(sink) => sink.put(at, bytes),
-            AnySink::Out(out) => answer(out.write_all(bytes)),
+            AnySink::Out(out) => answer(write_front(*out, bytes)),
             AnySink::Nothing => Ok(()),
         }
     }

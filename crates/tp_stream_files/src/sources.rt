@@ -16,11 +16,14 @@ pub enum AnySource<'a, F: Drop, I> {
 }
 
 impl<'a, F: EndFile + Drop, I: Feed> Source for AnySource<'a, F, I> {
-    ghost use Rattle.tp_stream_files.specs.Any.{WasAsked, WasRead};
+    ghost use Rattle.tp_stream_files.specs.Any.{IsUnknownOfPipes, WasAsked, WasRead};
 
     ghost input = { λ _. None };
 
-    fn length(&self) -> Option<u64> {
+    fn length(&self) -> Option<u64>
+        ensures known { IsLength result None }
+        ensures piped { IsUnknownOfPipes result self.now }
+    {
         match self {
             AnySource::File(file) => file.regular_length(),
             AnySource::In(_) => None,

@@ -1,6 +1,6 @@
 //! Bytes that a thread of its own reads, so that nobody else waits for them.
 
-ghost use Rattle.std.specs.Prelude.{◌≡◌, ◌<◌, ◌≤◌, true, length, is_err, IfNone, IfOk, IfSome};
+ghost use Rattle.std.specs.Prelude.{◌≡◌, ◌<◌, ◌≤◌, false, true, length, None, Some, Ok, is_err, IfErr, IfNone, IfOk, IfSome};
 ghost use Rattle.std.specs.Io.KnownBytes.{ReadConsumes};
 ghost use Rattle.tp_stream_files.specs.Trace.{count_answered, gave};
 ghost use Rattle.tp_model.specs.declared.limits.TheConstants.{MAX_HELD};
@@ -138,7 +138,9 @@ impl<R: Threads + Wait + AllocGlobal + Copy + Drop + Send + 'static> Threaded<R>
 impl<R: Wait + Drop> Threaded<R> {
     /// The next piece, for which it waits.
     fn take(&mut self) -> Option<Piece>
-        ensures { self.new.trace.told ≡ self.old.trace.told }
+        ensures same { (self.new.trace.told ≡ self.old.trace.told) × (self.new.is_over ≡ self.old.is_over) }
+        ensures ready { IfSome self.old.ready (λ piece. result ≡ Some piece) }
+        ensures left { self.new.ready ≡ None }
     {
         if let Some(piece) = self.ready.take() {
             return Some(piece);
@@ -147,10 +149,28 @@ impl<R: Wait + Drop> Threaded<R> {
         pieces.recv(&self.rt).ok()
     }
 
+    /// Keeps a piece that came until it is taken. Whether one may come later, where none came.
+    fn keep(&mut self, came: Result<Piece, bool>) -> bool
+        ensures piece { IfOk came (λ piece. (result ≡ false) × (self.new ≡ record self.old { ready = Some piece })) }
+        ensures none { IfErr came (λ may_come. (result ≡ may_come) × (self.new ≡ self.old)) }
+    {
+        match came {
+            Ok(piece) => {
+                self.ready = Some(piece);
+                false
+            }
+            Err(may_come) => may_come,
+        }
+    }
+
     /// Gives the next piece, for which it waits. Behind the end there are no bytes.
     fn next_piece(&mut self, out: &mut [u8; MAX_HELD]) -> Result<usize, SourceFailed>
         ensures few { IfOk result (λ count. count ≤ length out.new) }
         ensures same { self.new.trace.told ≡ self.old.trace.told }
+        ensures over { self.old.is_over ≡ true → (result ≡ Ok 0) × (self.new.ready ≡ self.old.ready) }
+        ensures ready { self.old.is_over ≡ false → IfSome self.old.ready (λ piece. gave result out.new ≡ gave piece.came piece.bytes.items) }
+        ensures left { self.old.is_over ≡ false → self.new.ready ≡ None }
+        ensures ended { self.new.is_over ≡ true → result ≡ Ok 0 }
     {
         if self.is_over {
             return Ok(0);
@@ -164,20 +184,20 @@ impl<R: Wait + Drop> Threaded<R> {
 impl<R: Wait + Clock + Drop> Feed for Threaded<R> {
     ghost given = { λ feed. feed.trace.told };
 
-    fn would_wait(&mut self, millis: u64) -> bool {
+    fn would_wait(&mut self, millis: u64) -> bool
+        ensures same { self.new.trace.told ≡ self.old.trace.told }
+        ensures ready { IfSome self.old.ready (λ piece. (result ≡ false) × (self.new.ready ≡ Some piece)) }
+        ensures over { self.old.is_over ≡ true → result ≡ false }
+        ensures left { self.new.is_over ≡ self.old.is_over }
+    {
         if self.is_over || self.ready.is_some() {
             return false;
         }
         let Some(pieces) = &self.pieces else {
             return false;
         };
-        match receive(&self.rt, pieces, millis) {
-            Ok(piece) => {
-                self.ready = Some(piece);
-                false
-            }
-            Err(may_come) => may_come,
-        }
+        let came = receive(&self.rt, pieces, millis);
+        self.keep(came)
     }
 
     fn next(&mut self, out: &mut [u8; MAX_HELD]) -> Result<usize, SourceFailed> {

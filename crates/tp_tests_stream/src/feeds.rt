@@ -1,8 +1,11 @@
 //! Feeds that come in pieces, and feeds that fail.
 
 use crate::files::Lent;
+use crossbeam_channel::{Receiver, bounded};
 use std::io;
 use std::io::{ErrorKind, Read};
+use std::sync::Wait;
+use std::test::Fail;
 use tp_model::limits::MAX_HELD;
 use tp_stream_files::{AnySource, Feed, Pipe, Plain, Source, SourceFailed, Threaded};
 
@@ -155,6 +158,7 @@ fn pieces_of_a_thread_are_put_together(rt: HostRuntime) {
 fn no_reader_is_no_end(rt: HostRuntime) {
     let none: Option<Numbered> = None;
     let mut feed = Threaded::new(rt, none);
+    assert!(rt; !feed.would_wait(0) && !feed.would_wait(1));
     let drained = drain(&mut piped(&mut feed));
     assert!(rt; drained.count == 0 && !drained.has_ended);
 }
@@ -212,4 +216,60 @@ fn bytes_that_are_passed_over_are_waited_for_by_pieces(rt: HostRuntime) {
     };
     let is_there = waits_once_a_piece(&mut feed);
     assert!(rt; is_there && feed.waited == 140);
+}
+
+/// A reader of numbered bytes that waits before the first one until it is told.
+#[derive(Drop)]
+struct Gated<R: Drop> {
+    rt: R,
+    told: Option<Receiver<()>>,
+    below: Numbered,
+}
+
+impl<R: Wait + Drop> Read for Gated<R> {
+    fn read(&mut self, out: &mut [u8]) -> io::Result<usize> {
+        if let Some(told) = &self.told {
+            if told.recv(&self.rt).is_err() {
+                return Err(io::Error::from(ErrorKind::BrokenPipe));
+            }
+            self.told = None;
+        }
+        self.below.read(out)
+    }
+}
+
+/// How many milliseconds a piece is waited for at most that is sure to come.
+const LONG: u64 = 60_000;
+
+/// Whether each piece of a feed comes in its place, though each is waited for twice, and nothing is waited for behind the end.
+fn comes_whole<F: Feed>(feed: &mut F) -> bool {
+    let mut at = 0;
+    for _ in 0..TOTAL {
+        let mut out = [0u8; MAX_HELD];
+        if feed.would_wait(LONG) || feed.would_wait(LONG) {
+            return false;
+        }
+        match feed.next(&mut out) {
+            Ok(0) => return at == u64::from(TOTAL) && !feed.would_wait(LONG),
+            Ok(count) if are_from(at, &out[..count]) => at = at.saturating_add(count as u64),
+            _ => return false,
+        }
+    }
+    false
+}
+
+/// Pieces that a thread hasn't read yet are waited for, and none is lost to the wait.
+#[test]
+fn a_thread_is_waited_for(rt: HostRuntime) -> Result<(), Fail> {
+    let (to_tell, told) = bounded(rt.alloc(), 1)?;
+    let reader = Gated {
+        rt,
+        told: Some(told),
+        below: Numbered::new(7, false),
+    };
+    let mut feed = Threaded::new(rt, Some(reader));
+    assert!(rt; feed.would_wait(0) && feed.would_wait(1) && feed.would_wait(0));
+    assert!(rt; to_tell.send(&rt, ()).is_ok());
+    assert!(rt; comes_whole(&mut feed));
+    Ok(())
 }

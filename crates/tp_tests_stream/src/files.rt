@@ -35,6 +35,8 @@ pub(crate) struct FakeFile {
     pub(crate) synced: usize,
     /// Whether it is a regular file, and no disk.
     pub(crate) is_regular: bool,
+    /// Whether the system says which file it is.
+    pub(crate) is_known: bool,
 }
 
 impl FakeFile {
@@ -46,6 +48,7 @@ impl FakeFile {
             syncs: Left(None),
             synced: 0,
             is_regular: true,
+            is_known: true,
         }
     }
 
@@ -133,7 +136,11 @@ impl<'a> EndFile for Lent<'a> {
     }
 
     fn numbers(&self) -> io::Result<Option<FileNumbers>> {
-        Ok(None)
+        if self.file.is_known {
+            Ok(None)
+        } else {
+            Err(io::Error::from(ErrorKind::StorageFull))
+        }
     }
 }
 

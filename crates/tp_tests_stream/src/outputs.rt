@@ -1,9 +1,11 @@
 //! Outputs whose file fails, or has more than what is put.
 
-use crate::files::{FakeFile, FakeFiles, Left};
+use crate::files::{FakeFile, FakeFiles, Left, Lent};
 use std::alloc::Global;
+use std::io;
+use std::io::{ErrorKind, Write};
 use std::test::Fail;
-use tp_stream_files::{EndFile, FileSink, SinkFault};
+use tp_stream_files::{AnySink, EndFile, FileSink, Sink, SinkFault};
 
 /// What came of an output: how many bytes the sink counts, or `None` where the file wasn't opened; how the last call went; and how many
 /// times a folder was synced.
@@ -197,5 +199,85 @@ fn a_file_takes_each_byte_by_itself(rt: HostRuntime) -> Result<(), Fail> {
     let came = come_of(&mut file, NONE, 0, wanted.as_slice());
     assert!(rt; came.size == Some(4_096) && came.last == Ok(()) && file.synced == 4_096);
     assert!(rt; file.bytes.as_slice() == wanted.as_slice());
+    Ok(())
+}
+
+/// A writer that hands on what it took as it is flushed, three bytes at most at a time; how each flush fails, and each write once so many bytes are
+/// there.
+#[derive(Drop)]
+struct Buffered {
+    taken: Vec<u8>,
+    flushed: usize,
+    flush_fails: Option<ErrorKind>,
+    room: usize,
+    write_fails: ErrorKind,
+}
+
+impl Buffered {
+    /// All that comes is taken.
+    fn new(alloc: Global) -> Buffered {
+        Buffered {
+            taken: Vec::new(alloc),
+            flushed: 0,
+            flush_fails: None,
+            room: usize::MAX,
+            write_fails: ErrorKind::StorageFull,
+        }
+    }
+}
+
+impl Write for Buffered {
+    fn write(&mut self, buf: &[u8]) -> io::Result<usize> {
+        if self.taken.len() >= self.room {
+            return Err(io::Error::from(self.write_fails));
+        }
+        let count = buf.len().min(3).min(self.room - self.taken.len());
+        self.taken.extend_from_slice(&buf[..count])?;
+        Ok(count)
+    }
+
+    fn flush(&mut self) -> io::Result<()> {
+        if let Some(kind) = self.flush_fails {
+            return Err(io::Error::from(kind));
+        }
+        self.flushed = self.taken.len();
+        Ok(())
+    }
+}
+
+/// Puts letters on standard output, and has them made safe.
+fn put_out(out: &mut Buffered) -> Result<(), SinkFault> {
+    let mut sink: AnySink<'_, Lent<'_>, Buffered> = AnySink::Out(out);
+    sink.put(7, b"letters")?;
+    sink.settle()
+}
+
+/// Standard output is flushed behind what is put, each byte of which it is handed once; and who reads it has gone just where the system says so, of a
+/// write or of the flush.
+#[test]
+fn standard_output_is_flushed(rt: HostRuntime) -> Result<(), Fail> {
+    let mut out = Buffered::new(rt.alloc());
+    assert!(rt; put_out(&mut out) == Ok(()) && out.flushed == 7);
+    assert!(rt; out.taken.as_slice() == b"letters".as_slice());
+    out.flush_fails = Some(ErrorKind::BrokenPipe);
+    assert!(rt; put_out(&mut out) == Err(SinkFault::Gone) && out.flushed == 7);
+    out.flush_fails = Some(ErrorKind::StorageFull);
+    assert!(rt; put_out(&mut out) == Err(SinkFault::Failed));
+    Ok(())
+}
+
+/// Where a write fails a front of the bytes is there, each once.
+#[test]
+fn standard_output_that_fails_has_a_front(rt: HostRuntime) -> Result<(), Fail> {
+    for (kind, fault) in [
+        (ErrorKind::BrokenPipe, SinkFault::Gone),
+        (ErrorKind::StorageFull, SinkFault::Failed),
+    ] {
+        let mut out = Buffered::new(rt.alloc());
+        out.room = 5;
+        out.write_fails = kind;
+        assert!(rt; put_out(&mut out) == Err(fault) && out.flushed == 0);
+        assert!(rt; out.taken.as_slice() == b"lette".as_slice());
+    }
     Ok(())
 }

@@ -1,0 +1,28 @@
+//! Bytes that are written one behind another.
+
+ghost use Rattle.std.specs.Prelude.{OnOk};
+ghost use Rattle.std.specs.Io.KnownBytes.{Appends};
+ghost use Rattle.tp_stream_files.specs.Said.{AppendsFront};
+
+use std::io;
+use std::io::{ErrorKind, Write};
+
+/// Writes bytes as they are. Where that fails those in front were taken, and no others. A write that was interrupted is made again.
+pub(crate) fn write_front<E: Write>(out: &mut E, bytes: &[u8]) -> io::Result<()>
+    ensures all { OnOk result (Appends (E.contents out.old) (E.contents out.new) bytes.now) }
+    ensures front { AppendsFront (E.contents out.old) (E.contents out.new) bytes.now }
+{
+    let mut written = 0;
+    for _ in 0..u64::MAX {
+        if written >= bytes.len() {
+            return Ok(());
+        }
+        match out.write(&bytes[written..]) {
+            Ok(0) => break,
+            Ok(count) => written += count,
+            Err(error) if error.kind() == ErrorKind::Interrupted => {}
+            Err(error) => return Err(error),
+        }
+    }
+    Err(io::Error::from(ErrorKind::WriteZero))
+}
