@@ -422,6 +422,54 @@ tpnet run device --stream --quantum=64 --turns=9 --explain --in 0=nowhere --disc
 starts err tpnet: ReadFailed\n
 has err nowhere: 
 
+story failed_calls
+# Whichever call of the device fails, what the system said of it is told: of a run, a compaction and a stream. Behind a run that was done the device is
+# opened again, for nodes that have halted: where a call of that fails nothing is said.
+text net.txt node a 4\nport h\nwire a.0 h\n
+image a.img
+tpnet format device net.txt . 16384
+copy device old
+sweep alone device 2
+copy old device
+tpnet run device --turns 4 --workers 1 --quantum 16 --explain >out 2>err
+has err \n  device: 
+end
+sweep alone device 2
+copy old device
+tpnet compact device --explain >out 2>err
+has err \n  device: 
+end
+sweep alone device 2
+copy old device
+tpnet run device --stream --turns 4 --discard 0 --explain >out 2>err
+has err \n  device: 
+end
+
+story failed_copy
+# Of a backup the system's words are told where a call on the copy's file or its names failed, and not where one on the device did, which is opened
+# again: so by turns, as pieces of the one are read and written into the other.
+text net.txt node a 4\nport h\nwire a.0 h\n
+image a.img
+tpnet format device net.txt . 16384
+sweep alone all 0
+remove copy
+tpnet backup device copy --explain >out 2>err
+has err \n  copy: 
+end
+
+story numbers_of_ends
+# Which number is whose, where an end has less or more of a port than it is to have, and which port's file it is.
+text net.txt node a 4\nport from\nport to\nwire a.0 from\nwire a.3 to\n
+image a.img 11 24 F2 54 41 F7 11 24 F2 53 41 FB 60 02
+tpnet format device net.txt . 65536
+text given abcd
+tpnet run device --stream --quantum=64 --until-quiet --discard 0 --out 1=out --in 0=given 2>err
+ends err quiet\n
+text short xy
+tpnet run device --stream --until-quiet --out 0=none --out 1=short --explain
+tpnet run device --stream --until-quiet --discard 0 --out 1=- --have 1=3 --explain
+tpnet run device --stream --until-quiet --discard 0 --out 1=- --have 1=5 --explain
+
 story old_device
 # What is said of a device that was there, whichever call of its file fails as another one is formatted over it: it may be gone, and when.
 text net.txt node a 4\nport h\nwire a.0 h\n
@@ -443,6 +491,58 @@ has err It is a folder
 tpnet show /dev/null --explain 2>err
 starts err tpnet: ReadFailed\n
 has err it is no regular file
+
+story images
+# Which rule an image breaks, and at which place.
+image a.img
+set a.img 0 02
+tpnet try a.img --turns 4 --explain 2>err
+has err a.img: byte 0 of its head, the version, must be 1 and is 2\n
+image a.img
+set a.img 2 03
+tpnet try a.img --turns 4 --explain 2>err
+has err a.img: bytes 2 and 3 of its head, the pages, must be 4 to 1024 and are 3\n
+image a.img
+set a.img 2 05
+tpnet try a.img --turns 4 --explain 2>err
+has err a.img: it must have 5292 bytes for 5 pages and has 4268\n
+image a.img
+set a.img 42 01 04
+tpnet try a.img --turns 4 --explain 2>err
+has err a.img: bytes 42 and 43 of its head, the slice count, are 1025 and must be at most 1024\n
+# The greatest slice count breaks none: what is behind it is told.
+image a.img
+set a.img 42 00 04
+set a.img 92 01
+tpnet try a.img --turns 4 --explain 2>err
+has err a.img: the output end of link 3, byte 92 of its head, must be idle and hold no byte\n
+image a.img
+set a.img 141 01
+tpnet try a.img --turns 4 --explain 2>err
+has err a.img: the input end of link 2, byte 140 of its head, must be idle and hold no byte\n
+
+story places
+# Where a damaged record stands: in the second area, and of which port a line is that a port sends.
+text net.txt node a 4\nport h\nport k\nwire a.0 h\nwire a.3 k\n
+image a.img
+tpnet format device net.txt . 32768
+copy device fresh
+tpnet compact device >out
+copy device compacted
+set device 33289 DD
+tpnet recover device --explain 2>err
+starts err tpnet: Damaged 33280\n
+has err offset 33280 is in the front of an area: gate, generation, the cut's length, its base and the form, from 33280 on\n
+copy compacted device
+set device 33301 02
+tpnet recover device --explain 2>err
+starts err tpnet: Damaged 33301\n
+has err offset 33301 is in the image of node 0, of 4 pages, from 33301 on\n
+copy fresh device
+set device 4821 03
+tpnet recover device --explain 2>err
+starts err tpnet: Damaged 4821\n
+has err offset 4821 is in the record of line 5, which port 1 sends, from 4821 on\n
 
 story heads
 # Which field of a head breaks its rule, by the version, and a form that isn't known.
@@ -634,6 +734,11 @@ set device 73601 03
 tpnet recover device --explain 2>err
 starts err tpnet: Damaged 73601\n
 has err offset 73601 is in the record of line 0, which link 0 of node 0 sends, from 73601 on
+copy wide device
+set device 73869 03
+tpnet recover device --explain 2>err
+starts err tpnet: Damaged 73869\n
+has err offset 73869 is in the record of line 67, which link 3 of node 16 sends, from 73869 on
 
 story shown_line
 # The line of a topology that is at fault is shown with its tabs and control characters as numbers, so that they are seen, and no terminal obeys

@@ -276,6 +276,19 @@ tpnet show copy >then 2>said
 equal shown then
 end
 
+story backup_folder
+# The folder of COPY is synced, and no other one: where it can't be, there is no copy.
+text net.txt node a 4\nport h\nwire a.0 h\n
+image a.img
+tpnet format source net.txt . 16384
+folder of_device
+sweep alone device
+remove of_device/copy
+tpnet backup source of_device/copy
+there of_device/copy
+there of_device/copy.part
+end
+
 story backup_there
 # What is there stays as it is, whichever call fails.
 text net.txt node a 4\nport h\nwire a.0 h\n

@@ -46,6 +46,29 @@ show device 970 1
 show device 5238 1
 show device 9506 1
 
+story twelve_nodes
+# The tenth image, the eleventh and the twelfth are those of the tenth node, of the eleventh and of the twelfth.
+text net.txt node a 4\nnode b 4\nnode c 4\nnode d 4\nnode e 4\nnode f 4\nnode g 4\nnode h 4\nnode i 4\nnode j 4\nnode k 4\nnode l 4\nport z\n
+image a.img
+image b.img
+image c.img
+image d.img
+image e.img
+image f.img
+image g.img
+image h.img
+image i.img
+image j.img
+image k.img
+image l.img
+set j.img 437 4A
+set k.img 437 4B
+set l.img 437 4C
+tpnet format device net.txt . 65536
+show device 39382 1
+show device 43650 1
+show device 47918 1
+
 story refused_new
 # A topology that is refused makes no file, nor does an image that can not be read.
 image a.img

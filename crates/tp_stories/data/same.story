@@ -164,6 +164,8 @@ keep device
 stand stdout=device
 tpnet show device 2>err
 empty err
+tpnet status device 2>err
+empty err
 tpnet recover to_device 2>err
 empty err
 tpnet journal also_device 2>err

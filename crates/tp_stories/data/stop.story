@@ -52,6 +52,7 @@ tpnet stop device --explain
 there device.stop
 tpnet stop --explain fresh 2>err
 starts err tpnet: ReadFailed\n  fresh:
+has err   Look at the path, and at your rights to it.\n
 folder folder
 tpnet stop --explain folder
 fill text 600 78
@@ -117,6 +118,34 @@ text device.stop
 tpnet run device --stream --discard 3
 there device.stop
 
+story not_removed
+# A request from before that can't be removed would end the stream at once, so that isn't begun. Calls fail in front of that, which open the device;
+# where it can't be seen whether there is a request, none is seen; and behind it an end isn't opened, in any case.
+text net.txt node a 4\nport h\nwire a.0 h\n
+image a.img
+tpnet format device net.txt . 16384
+keep device
+sweep alone all
+text device.stop
+tpnet run device --stream --out 0=nowhere/out
+there device.stop
+end
+stay
+
+story asked_of_one_that_fails
+# The reader of one port asks the stream to stop by the bytes that it gets, and then the other port's file fails: the stream ends for that, and takes
+# the request away.
+text net.txt node a 4\nport x\nport y\nwire a.1 x\nwire a.0 y\n
+image a.img 24 F2 51 24 42 FE 24 F2 24 41 FE 21 F5
+tpnet format fresh net.txt . 32768
+reader-makes made.stop
+sweep alone device 2
+copy fresh made
+remove out_device
+tpnet run made --stream --quantum=64 --out 0=- --out 1=out_device >out 2>err
+there made.stop
+end
+
 story somebodys
 # What stands at DEVICE.stop and is no empty file is somebody's: it ends no stream, and stays.
 text net.txt node a 4\nport h\nwire a.0 h\n
@@ -153,6 +182,10 @@ tpnet run device --stream --discard 0 --in 0=device.stop
 tpnet run device --stream --out 0=device.stop
 stand stdout=device.stop
 tpnet run device --stream --out 0=-
+stand stdin=device.stop
+tpnet run device --stream --discard 0 --in 0=-
+stand stderr=device.stop
+tpnet run device --stream --discard 0
 stand
 stay
 remove device.stop
@@ -169,6 +202,11 @@ image a.img
 tpnet format device net.txt . 16384
 keep device
 held 100
+# Who can't open it to write it has no right to stop it, either.
+calls read-only
+tpnet stop device
+there device.stop
+calls
 tpnet stop device
 empty device.stop
 tpnet stop device
@@ -208,6 +246,11 @@ empty device.stop
 remove device.stop
 # Who has the device now took the first request for one from before, so there is another one.
 held 100 2 device.stop
+tpnet stop device --wait 3
+empty device.stop
+remove device.stop
+# So is there one where it took the last one so: what is said to be asked is asked.
+held 100 4 device.stop
 tpnet stop device --wait 3
 empty device.stop
 remove device.stop
