@@ -2,6 +2,8 @@
 #![tactic(auto)]
 
 #[cfg(test)]
+mod backup_tests;
+#[cfg(test)]
 mod changing;
 #[cfg(test)]
 mod format_tests;
