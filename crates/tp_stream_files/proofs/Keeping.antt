@@ -1,5 +1,5 @@
 -- Calls that leave the bytes that are there.
-use Rattle.std.proofs.Common.{◌≡◌, ℕ, Bool, inl, inr, List, [], ◌∷◌, ◌++◌, All, refl, sym, ap, ◌∙◌, append_assoc, append-nil}
+use Rattle.std.proofs.Common.{◌≡◌, ℕ, Bool, inl, inr, List, [], ◌∷◌, ◌++◌, refl, sym, ap, ◌∙◌, append_assoc, append-nil}
 use Rattle.std.proofs.lemmas.List.Elements.{All-append, All-cons, All-nil}
 use Rattle.tp_stream_files.specs.Told.{EndTold, Opened, SyncedFolder}
 use Rattle.tp_stream_files.specs.Opening.{KeepsBytesThere, KeepsFiles, to_read, to_write}

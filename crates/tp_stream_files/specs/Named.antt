@@ -1,5 +1,5 @@
 -- Ends as they are named.
-use Rattle.std.specs.Prelude.{◌≡◌, ℕ, Bool, Option, Some, None, List, [], ◌∷◌, ◌++◌, if◌then◌else◌, nat_eq, bytes_eq, map, string_bytes}
+use Rattle.std.specs.Prelude.{ℕ, Bool, Option, Some, None, List, [], ◌∷◌, ◌++◌, if◌then◌else◌, nat_eq, bytes_eq, map, string_bytes}
 use Rattle.tp_stream_files.specs.Outputs.{OutputValue}
 use Rattle.tp_stream_files.specs.declared.ends.Ends.{Ends}
 use Rattle.tp_stream_files.specs.declared.ends.PortFile.{PortFile}

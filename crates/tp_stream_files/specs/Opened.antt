@@ -1,5 +1,5 @@
 -- What an end is that was opened.
-use Rattle.std.specs.Prelude.{◌≡◌, ℕ, true, false, List, [], ◌∷◌, ◌++◌, string_bytes}
+use Rattle.std.specs.Prelude.{◌≡◌, true, false, List, [], ◌∷◌, ◌++◌, string_bytes}
 use Rattle.tp_stream_files.specs.Named.{is_standard}
 use Rattle.tp_stream_files.specs.Opening.{to_read, to_write}
 use Rattle.tp_stream_files.specs.Sinks.{SyncsFolder, begin_calls}

@@ -1,5 +1,5 @@
 -- How ends are opened.
-use Rattle.std.specs.Prelude.{◌≡◌, ◌⊎◌, ℕ, Bool, true, false, Option, Some, None, List, [], ◌∷◌, ◌++◌, All, if◌then◌else◌, nat_eq, string_bytes}
+use Rattle.std.specs.Prelude.{◌≡◌, ◌⊎◌, ℕ, true, List, ◌++◌, All}
 use Rattle.std.specs.Fs.{new_options, with_read, with_write, with_create}
 use Rattle.std.specs.declared.fs.options.OpenOptions.{OpenOptions}
 use Rattle.tp_stream_files.specs.declared.ends.EndFault.{EndFault}

@@ -1,6 +1,6 @@
 //! What takes a port's output in the program: a file, standard output, or nothing.
 
-ghost use Rattle.std.specs.Prelude.{◌≡◌, ◌↔◌, ◌++◌, ◌∷◌, [], true, Err, None, length, is_ok, IfErr, IfOk, OnOk, OnErr};
+ghost use Rattle.std.specs.Prelude.{◌≡◌, ◌↔◌, ◌++◌, ◌∷◌, [], true, Err, None, length, is_ok, IfErr, IfOk, OnOk};
 ghost use Rattle.std.specs.IoError.{error_kind};
 ghost use Rattle.tp_stream_files.specs.Held.{HasLength, HasPut, HasReach, IsSafe, KeepsBytes, KeepsFront, Reaches};
 ghost use Rattle.tp_stream_files.specs.Opening.{KeepsFiles, to_write};

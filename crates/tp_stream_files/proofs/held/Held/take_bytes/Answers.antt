@@ -1,4 +1,4 @@
-use Rattle.std.proofs.Common.{◌+◌, sym, ◌∙◌, ap, take, true}
+use Rattle.std.proofs.Common.{◌+◌, sym, ◌∙◌, ap, take}
 use Rattle.std.proofs.lemmas.Bool.{eqb-true}
 use Rattle.std.proofs.lemmas.List.{length-take-le}
 use Rattle.tp_stream_files.specs.Trace.{says_end, says_failed}
