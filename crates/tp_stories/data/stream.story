@@ -538,10 +538,10 @@ shut
 tpnet run device --stream --quantum=64 --until-quiet --out 0=- 2>err
 
 story synced
-# What a stream syncs beside its device: a file that takes an output as it is opened, and its folder where it is empty; and it once more behind the
-# piece that is put. What goes to standard output, or is let go, is synced nowhere, nor is an input.
+# A node sends the letter A once. What a stream syncs beside its device: a file that takes an output as it is opened, and its folder where it is
+# empty; and it once more behind the piece that is put. What goes to standard output, or is let go, is synced nowhere, nor is an input.
 text net.txt node a 4\nport h\nwire a.0 h\n
-image a.img
+image a.img 27 2F 2F 2F 2F 2F 6F 40 24 41 FE 21 F5
 tpnet format device net.txt . 16384
 folder sub
 tpnet run device --stream --turns 0 --out 0=sub/out 2>err
