@@ -1,7 +1,7 @@
--- A sink of which one call fails.
+-- A sink that fails one call.
 use Rattle.std.specs.Prelude.{ℕ, ◌-◌, Bool, true, not, Option, Some, None, if◌then◌else◌, nat_eq}
 
--- whether the next call is done, where so many are before one fails, or none does
+-- whether the next call is done, where that many are done before one fails, or none does
 abbrev pub goes_on : Option ℕ → Bool
 goes_on None = true
 goes_on (Some left) = not (nat_eq left 0)

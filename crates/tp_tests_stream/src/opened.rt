@@ -38,7 +38,7 @@ fn refusal_of(alloc: Global, file: &mut FakeFile) -> Result<Option<EndFault>, Al
     Ok(refusal_over(alloc, &ends, file))
 }
 
-/// Why ends aren't opened of which one is this file.
+/// Why ends aren't opened where one is this file.
 fn refusal_over(alloc: Global, ends: &Ends, file: &mut FakeFile) -> Option<EndFault> {
     let mut files = FakeFiles::new(file, Left(None));
     let mut feed = Plain::new(Numbered::new(1, false));
@@ -59,7 +59,7 @@ fn a_disk_takes_no_output(rt: HostRuntime) -> Result<(), Fail> {
     Ok(())
 }
 
-/// A file of which the system doesn't say which one it is has no part: nothing would tell it from another end.
+/// A file has no part where the system doesn't say which one it is: nothing would tell it from another end.
 #[test]
 fn a_file_whose_numbers_fail_has_no_part(rt: HostRuntime) -> Result<(), Fail> {
     let alloc = rt.alloc();

@@ -202,7 +202,7 @@ fn a_file_takes_each_byte_by_itself(rt: HostRuntime) -> Result<(), Fail> {
     Ok(())
 }
 
-/// A writer that hands on what it took as it is flushed, three bytes at most at a time; how each flush fails, and each write once so many bytes are
+/// A writer that hands on what it took as it is flushed, three bytes at most at a time; how each flush fails, and each write once that many bytes are
 /// there.
 #[derive(Drop)]
 struct Buffered {
@@ -252,7 +252,7 @@ fn put_out(out: &mut Buffered) -> Result<(), SinkFault> {
     sink.settle()
 }
 
-/// Standard output is flushed behind what is put, each byte of which it is handed once; and who reads it has gone just where the system says so, of a
+/// Standard output is flushed behind what is put, and is handed each byte once; and who reads it has gone just where the system says so, of a
 /// write or of the flush.
 #[test]
 fn standard_output_is_flushed(rt: HostRuntime) -> Result<(), Fail> {
