@@ -5,6 +5,7 @@ pub mod Fitted
 pub mod Kept
 pub mod Looks
 pub mod Notices
+pub mod Offers
 pub mod Puts
 pub mod Quiets
 pub mod Runs

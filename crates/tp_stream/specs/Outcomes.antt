@@ -1,17 +1,22 @@
 -- What steps of streams come to.
-use Rattle.std.specs.Prelude.{ℕ, Bool, true, false, Option, Some, None}
+use Rattle.std.specs.Prelude.{◌≡◌, ◌⊎◌, ℕ, Bool, true, false, Option, Some, None, Result, Ok, Err}
 use Rattle.tp_node.specs.declared.standing.Standing.{Standing}
 use Rattle.tp_node.specs.declared.standing.Standing.TheVariants.{Halted as NodeHalted, Waits as NodeWaits, Free}
 use Rattle.tp_stream_files.specs.declared.ending.Stopped.{Stopped}
 use Rattle.tp_stream_files.specs.declared.ending.Stopped.TheVariants.{Halted, Waits}
-use Rattle.tp_stream.specs.declared.fault.StreamFault.TheVariants.{OutputFailed}
+use Rattle.tp_stream.specs.declared.fault.StreamFault.{StreamFault}
+use Rattle.tp_stream.specs.declared.fault.StreamFault.TheVariants.{OutputFailed, NotStored as NothingStored, JournalFull as FullJournal, Memory as NoMemory}
 use Rattle.tp_stream_files.specs.declared.sink.SinkFault.{SinkFault}
 use Rattle.tp_stream_files.specs.declared.sink.SinkFault.TheVariants.{Failed, Gone}
 use Rattle.tp_stream.specs.declared.output.StepFault.{StepFault}
 use Rattle.tp_stream.specs.declared.output.StepFault.TheVariants.{Gone as TakerGone, Fault}
+use Rattle.tp_stream.specs.declared.pumping.Pumped.{Pumped}
+use Rattle.tp_stream.specs.declared.pumping.Pumped.TheVariants.{Nothing, Moved, Gone as GoneThere}
 use Rattle.tp_stream.specs.Streamed.{CameBetween, OtherThanFull}
 use Rattle.tp_work.specs.declared.host_fault.ConfirmFault.{ConfirmFault}
 use Rattle.tp_work.specs.declared.host_fault.ConfirmFault.TheVariants.{JournalFull, NotShown, StoreBroken, Memory}
+use Rattle.tp_work.specs.declared.host_fault.OfferFault.{OfferFault}
+use Rattle.tp_work.specs.declared.host_fault.OfferFault.TheVariants as offer
 
 -- Why a step of a port's output isn't done, where its sink answered so.
 abbrev pub step_fault_of : ℕ → SinkFault → StepFault
@@ -34,6 +39,35 @@ ConfirmsOtherwise JournalFull = ⊥
 ConfirmsOtherwise NotShown = ⊥
 ConfirmsOtherwise StoreBroken = Unit {0}
 ConfirmsOtherwise Memory = Unit {0}
+
+-- the fault of a confirmation that was refused
+abbrev pub confirm_fault_of : ConfirmFault → StreamFault
+confirm_fault_of JournalFull = FullJournal
+confirm_fault_of NotShown = FullJournal
+confirm_fault_of StoreBroken = NothingStored
+confirm_fault_of Memory = NoMemory
+
+-- What comes of an offer that was refused: where there is no room its bytes are left for later.
+abbrev pub offer_left : OfferFault → Result Bool StreamFault
+offer_left offer.Memory = Err NoMemory
+offer_left offer.StoreBroken = Err NothingStored
+offer_left offer.JournalFull = Ok false
+offer_left (offer.PortFull room) = Ok false
+offer_left (offer.Already accepted) = Ok false
+offer_left (offer.Gap accepted) = Ok false
+
+-- An offer that is refused for this reason, where there is one, was answered so. One that isn't was taken, or may still want memory.
+abbrev pub OfferAnswer : Option OfferFault → Result Bool StreamFault → Type 0
+OfferAnswer None answer = (answer ≡ Ok true) ⊎ (answer ≡ Err NoMemory)
+OfferAnswer (Some reason) answer = answer ≡ offer_left reason
+
+-- what some steps and those behind them come to together
+abbrev pub pumped_then : Pumped → Pumped → Pumped
+pumped_then GoneThere more = GoneThere
+pumped_then Nothing more = more
+pumped_then Moved GoneThere = GoneThere
+pumped_then Moved Nothing = Moved
+pumped_then Moved Moved = Moved
 
 -- How a node has stopped that stands so: where it has halted; or where it waits and there is input that no node takes any more.
 abbrev pub stopped_of : Standing → Bool → Option Stopped

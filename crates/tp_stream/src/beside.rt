@@ -7,6 +7,7 @@ ghost use Rattle.tp_flush.specs.Flushing.{IsSameProcess, Walked};
 ghost use Rattle.tp_stream.specs.Failures.{FailedWhere, answer_failed};
 ghost use Rattle.tp_stream.specs.Rooms.{free_of};
 ghost use Rattle.tp_stream.specs.Streamed.{CameBegun, CameOfFlush};
+ghost use Rattle.tp_stream.specs.declared.beside.TheConstants.{SHIFT};
 
 use crate::fault::StreamFault;
 use crate::flushing::flush;
@@ -202,7 +203,10 @@ fn turns_in<J: Naming>(held: &Locked<J>, pace: Pace, most: u64) -> u64
 }
 
 /// How many turns may be made at most, as it was asked, in the next shift of `workers`.
-fn most_of(task: Task, turns: &Turns, workers: u64) -> u64 {
+fn most_of(task: Task, turns: &Turns, workers: u64) -> u64
+    ensures bound { IfSome task.turns (λ bound. result ≤ bound - turns.now.made) }
+    ensures shift { result ≤ SHIFT * workers }
+{
     let shift = SHIFT.saturating_mul(workers);
     match task.turns {
         Some(bound) => u64::from(bound).saturating_sub(turns.made).min(shift),

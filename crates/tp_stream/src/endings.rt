@@ -1,9 +1,9 @@
 //! When a stream is over.
 
 ghost use Rattle.std.specs.List.{list_all};
-ghost use Rattle.std.specs.Prelude.{◌≡◌, ◌++◌, true, nat_lt, IfSome};
+ghost use Rattle.std.specs.Prelude.{◌≡◌, ◌++◌, ◌&&◌, ◌||◌, not, true, nat_lt, IfSome};
 ghost use Rattle.tp_stream_files.specs.Inputs.{is_over};
-ghost use Rattle.tp_stream.specs.Endings.{IsEnding};
+ghost use Rattle.tp_stream.specs.Endings.{IsEnding, ending_of, is_bound_reached};
 ghost use Rattle.tp_stream.specs.Looks.{is_stopped, looked};
 
 use crate::pumping::Pumped;
@@ -25,7 +25,7 @@ pub(crate) fn are_over<I: Source>(inputs: &[Input<I>]) -> bool
 
 /// Whether a step of an input may wait: another turn may be made, nothing is left to do, and the stream doesn't rest meanwhile.
 pub(crate) fn may_wait(task: Task, turns: &Turns, nodes: u8) -> bool
-    ensures { result ≡ true → nat_lt nodes turns.now.idle ≡ true }
+    ensures { result ≡ (not (task.until_asked || task.tells) && not (is_bound_reached task turns.now) && not (task.stop_on_halt && turns.now.has_halted) && nat_lt nodes turns.now.idle) }
 {
     !task.rests() && !turns.are_out(task) && !turns.is_stopped(task) && turns.is_quiet(nodes)
 }
@@ -48,6 +48,7 @@ pub(crate) fn ending(
     pumped: Pumped,
     over: bool,
 ) -> Option<Ending>
+    ensures value { result ≡ ending_of task turns.now nodes asked pumped over }
     ensures why { IfSome result (IsEnding task turns.now nodes asked pumped over) }
     ensures stopped { is_stopped result ≡ asked }
 {

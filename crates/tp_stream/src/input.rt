@@ -6,7 +6,9 @@ ghost use Rattle.tp_model.specs.declared.entry.Entry.TheVariants.{HostIn};
 ghost use Rattle.tp_shared.specs.Gains.{HoldNoted};
 ghost use Rattle.tp_stream.specs.FailedEnds.{NamesInput};
 ghost use Rattle.tp_stream.specs.Offered.{Offered};
+ghost use Rattle.tp_stream.specs.Outcomes.{OfferAnswer};
 ghost use Rattle.tp_stream.specs.Streamed.{CameBetween, CameOfTurns};
+ghost use Rattle.tp_work.specs.Offers.{offer_fault};
 
 use crate::fault::StreamFault;
 use tp_shared::{Locked, Naming, Seat};
@@ -15,6 +17,7 @@ use tp_work::{OfferFault, offer};
 
 /// Hands a port bytes, under the book's lock, where it accepts those at this position. Whether it took them: it takes none that it, or
 /// the journal, has no room for. `seat` gets the slips of their entries.
+#[tactic(auto, using(crate::proofs::Offers::offer_taken, crate::proofs::Offers::offer_refused))]
 fn offer_bytes<J: Naming>(
     held: &mut Locked<J>,
     seat: &mut Seat<J>,
@@ -24,6 +27,7 @@ fn offer_bytes<J: Naming>(
 ) -> Result<bool, StreamFault>
     requires there { port < length held.old.book.state.ports }
     requires at { at ≡ accepted_of (port_in held.old.book port) }
+    ensures answer { OfferAnswer (offer_fault held.old.book port at (length bytes.now)) result }
     ensures taken { result ≡ Ok true → held.new.book ≡ after_inputs held.old.book port bytes.now }
     ensures noted { result ≡ Ok true → HoldNoted (λ entries. entries ≡ map (HostIn port) bytes.now) J.first held.old held.new seat.old seat.new }
     ensures refused { result ≡ Ok false → (held.new ≡ held.old) × (seat.new ≡ seat.old) }

@@ -11,7 +11,7 @@ ghost use Rattle.tp_stream_files.specs.Outputs.{WasPutSafely, given_of};
 ghost use Rattle.tp_stream.specs.FailedEnds.{NamesOutput, StepNames};
 ghost use Rattle.tp_stream.specs.Standing.{MayBegin, Refuses, from_of, put_out, port_standing};
 ghost use Rattle.tp_stream.specs.Streamed.{CameBetween, OtherThanFull};
-ghost use Rattle.tp_stream.specs.Outcomes.{ConfirmsOtherwise, IsStepFault, StepsOtherwise, step_fault_of};
+ghost use Rattle.tp_stream.specs.Outcomes.{ConfirmsOtherwise, IsStepFault, StepsOtherwise, confirm_fault_of, step_fault_of};
 ghost use Rattle.tp_stream.specs.Steps.{AreLeft, IsSetOut, PutsShown};
 
 use crate::fault::StreamFault;
@@ -43,6 +43,7 @@ fn step_fault(fault: SinkFault, port: u8) -> StepFault
 
 /// The fault of a confirmation that was refused.
 fn fault_of(fault: ConfirmFault) -> StreamFault
+    ensures value { result ≡ confirm_fault_of fault }
     ensures begun { CameBetween result }
     ensures names { (port : ℕ) → NamesOutput port result }
     ensures full { ConfirmsOtherwise fault → OtherThanFull result }

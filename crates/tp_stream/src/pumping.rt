@@ -1,17 +1,19 @@
 //! Steps of all streams of a network.
 
-ghost use Rattle.std.specs.Prelude.{◌≡◌, ◌<◌, ◌==◌, ◌-◌, ℕ, List, length, map, true, false, Ok, IfErr, OnErr};
+ghost use Rattle.std.specs.Prelude.{◌≡◌, ◌<◌, ◌==◌, ◌-◌, ℕ, List, length, map, true, false, Ok, IfSome, IfErr, OnErr, if◌then◌else◌};
 ghost use Rattle.tp_area.specs.declared.journal.JournalRoom.{JournalRoom};
-ghost use Rattle.tp_book.specs.Host.{port_in, room_of};
+ghost use Rattle.tp_book.specs.Host.{accepted_of, port_in, room_of};
 ghost use Rattle.tp_book.specs.Refusals.{is_journal_full};
 ghost use Rattle.tp_flush.specs.Known.{Began};
 ghost use Rattle.tp_stream.specs.FailedEnds.{NamesEnd, NamesInput, NamesOutput};
 ghost use Rattle.tp_stream.specs.Offered.{Offered};
+ghost use Rattle.tp_stream.specs.Outcomes.{pumped_then};
 ghost use Rattle.tp_stream.specs.Put.{EachWith};
 ghost use Rattle.tp_stream.specs.Rooms.{IsConfirmed, UnreservedBook, free_of, has_room_for};
 ghost use Rattle.tp_stream_files.specs.Outputs.{OutputValue};
 ghost use Rattle.tp_stream.specs.Steps.{AllStepped, AreLeft, PutsLeft, PutsShown};
 ghost use Rattle.tp_stream.specs.Streamed.{CameBetween, OtherThanFull};
+ghost use Rattle.tp_stream.specs.declared.pumping.Pumped.TheVariants.{Nothing, Moved};
 
 use crate::fault::StreamFault;
 use crate::output::StepFault;
@@ -40,7 +42,9 @@ pub(crate) enum Pumped {
 
 impl Pumped {
     /// What these steps and the ones behind them come to together.
-    fn then(self, more: Pumped) -> Pumped {
+    fn then(self, more: Pumped) -> Pumped
+        ensures { result ≡ pumped_then self more }
+    {
         match (self, more) {
             (Pumped::Gone, _) | (_, Pumped::Gone) => Pumped::Gone,
             (Pumped::Nothing, Pumped::Nothing) => Pumped::Nothing,
@@ -49,7 +53,9 @@ impl Pumped {
     }
 
     /// Whether one has moved.
-    fn of(has_moved: bool) -> Pumped {
+    fn of(has_moved: bool) -> Pumped
+        ensures { result ≡ (if has_moved then Moved else Nothing) }
+    {
         if has_moved {
             Pumped::Moved
         } else {
@@ -210,21 +216,24 @@ fn step_input<J: Naming, I: Source, R: Wait>(
     step_held(&mut held, seat, pace, may_wait, input)
 }
 
-/// The first input whose bytes haven't come yet for which the journal and its port have room: its port, and how many that has accepted.
-fn find_awaited<J: Naming, I: Source, R: Wait>(
-    rt: &R,
-    shared: &Shared<J>,
+/// The first input whose bytes haven't come yet for which the journal and its port have room, under the book's lock: its port, and how many that
+/// has accepted.
+fn awaited_under<J: Naming, I: Source>(
+    held: &Locked<J>,
     pace: Pace,
     inputs: &mut [Input<I>],
-) -> Option<(u8, u64)> {
-    let held = shared.book().lock(rt);
-    held.known();
+) -> Option<(u8, u64)>
+    ensures journal { IfSome result (λ found. pace.need < free_of pace.rooms.journal held.now.book) }
+    ensures port { IfSome result (λ found. found.0 < length held.now.book.state.ports) }
+    ensures room { IfSome result (λ found. 0 < room_of (port_in held.now.book found.0)) }
+    ensures at { IfSome result (λ found. found.1 ≡ accepted_of (port_in held.now.book found.0)) }
+{
     if pace.rooms.free(held.book()) <= u64::from(pace.need) {
         return None;
     }
     for next in inputs.iter_mut() {
         let port = next.port();
-        if port >= shared.ports() {
+        if usize::from(port) >= held.book().ports() {
             continue;
         }
         let at = held.book().accepted(port);
@@ -233,6 +242,17 @@ fn find_awaited<J: Naming, I: Source, R: Wait>(
         }
     }
     None
+}
+
+/// Takes the book's lock, and looks for that input under it.
+fn find_awaited<J: Naming, I: Source, R: Wait>(
+    rt: &R,
+    shared: &Shared<J>,
+    pace: Pace,
+    inputs: &mut [Input<I>],
+) -> Option<(u8, u64)> {
+    let held = shared.book().lock(rt);
+    awaited_under(&held, pace, inputs)
 }
 
 /// What a rest came to.

@@ -1,6 +1,6 @@
 //! Rounds of turns of the network's processes, one behind the other.
 
-ghost use Rattle.std.specs.Prelude.{◌≡◌, ◌<◌, ◌≤◌, length, true, false, Ok, IfOk, IfErr, OnOk};
+ghost use Rattle.std.specs.Prelude.{◌≡◌, ◌↔◌, ◌<◌, ◌≤◌, length, true, false, Ok, IfOk, IfErr, OnOk};
 ghost use Rattle.tp_model.specs.declared.limits.TheConstants.{MAX_STEPS};
 ghost use Rattle.tp_book.specs.Marked.{after_begin};
 ghost use Rattle.tp_flush.specs.Due.{is_due};
@@ -23,7 +23,9 @@ const ROUND: u32 = 1024;
 
 /// Whether a run ended since there is no step, and whether that is since the node has halted. One that lacks a frame has a step left.
 fn rests(why: Why) -> (bool, bool)
-    ensures { result.0 ≡ true → HasNoStep why }
+    ensures none { result.0 ≡ true → HasNoStep why }
+    ensures some { HasNoStep why → result.0 ≡ true }
+    ensures halted { result.1 ≡ true ↔ (why ≡ Why.Halted) }
 {
     match why {
         Why::Idle => (true, false),
@@ -37,6 +39,9 @@ fn did_of(turn: &NodeTurn) -> Did
     ensures taken { result.nothing ≡ true → turn.now.taken ≡ 0 }
     ensures count { result.nothing ≡ true → turn.now.ran.count ≡ 0 }
     ensures rests { result.nothing ≡ true → HasNoStep turn.now.ran.why }
+    ensures nothing { turn.now.taken ≡ 0 → turn.now.ran.count ≡ 0 → HasNoStep turn.now.ran.why → result.nothing ≡ true }
+    ensures halted { result.halted ≡ true ↔ (turn.now.ran.why ≡ Why.Halted) }
+    ensures steps { result.steps ≡ turn.now.ran.count }
 {
     let (rests, halted) = rests(turn.ran.why());
     Did {

@@ -1,7 +1,7 @@
 //! A stream, from a device to a device.
 
 ghost use Rattle.std.specs.List.{AllByRecursion, list_all};
-ghost use Rattle.std.specs.Prelude.{◌≡◌, ◌⊎◌, ◌++◌, ◌<◌, ◌≤◌, false, true, Ok, Err, Some, length, map, OnOk, IfOk, IfErr, IsErr};
+ghost use Rattle.std.specs.Prelude.{◌≡◌, ◌⊎◌, ◌++◌, ◌+◌, ◌<◌, ◌≤◌, max, false, true, Ok, Err, Some, length, map, OnOk, IfOk, IfErr, IsErr};
 ghost use Rattle.tp_area.specs.Capacity.{journal_of};
 ghost use Rattle.tp_area.specs.Places.{place_at};
 ghost use Rattle.tp_flush.specs.Known.{Began};
@@ -60,6 +60,8 @@ use tp_work::{MAX_WORKERS, Net};
 fn workers_of(task: Task, topology: &Topology) -> u8
     ensures some { 0 < result }
     ensures few { result ≤ MAX_WORKERS }
+    ensures asked { result ≤ max task.workers 1 }
+    ensures processes { result ≤ node_count topology.now + 1 }
 {
     let processes = (topology.pages().len() as u8).saturating_add(1);
     task.workers.min(processes).min(MAX_WORKERS).max(1)

@@ -1,5 +1,7 @@
 //! What a stream is asked.
 
+ghost use Rattle.std.specs.Prelude.{◌≡◌, ◌||◌};
+
 /// How a device's network is run, and when that ends.
 #[derive(Clone, Copy)]
 pub struct Task {
@@ -29,7 +31,9 @@ pub struct Task {
 impl Task {
     /// Whether it rests while input is waited for, since something else is to be done meanwhile: it is looked whether it is asked to stop,
     /// or it is told how far it has come.
-    pub(crate) fn rests(self) -> bool {
+    pub(crate) fn rests(self) -> bool
+        ensures { result ≡ (self.until_asked || self.tells) }
+    {
         self.until_asked || self.tells
     }
 }

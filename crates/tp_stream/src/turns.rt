@@ -1,7 +1,8 @@
 //! How far turns have come.
 
-ghost use Rattle.std.specs.Prelude.{◌≡◌, ◌<◌, ◌≤◌, ◌+◌, ◌&&◌, true, false, nat_lt, if◌then◌else◌};
-ghost use Rattle.tp_stream.specs.Endings.{IsBoundReached};
+ghost use Rattle.std.specs.Prelude.{◌≡◌, ◌<◌, ◌≤◌, ◌+◌, ◌-◌, ◌/◌, ◌^◌, ◌&&◌, ◌||◌, not, true, false, nat_le, nat_lt, if◌then◌else◌};
+ghost use Rattle.tp_stream.specs.Endings.{IsBoundReached, is_bound_reached, is_done};
+ghost use Rattle.tp_stream.specs.declared.turns.TheConstants.{HEAVY, MOST_SETTLED};
 
 use crate::task::Task;
 
@@ -94,6 +95,7 @@ impl Turns {
     pub(crate) fn end(&mut self, task: Task, nodes: u8, were_all: bool, may_be: bool)
         ensures whose { self.new.whose ≡ self.old.whose }
         ensures idle { self.new.idle ≡ self.old.idle }
+        ensures busy { self.new.is_busy ≡ (may_be && not (is_done task self.old nodes) && (if were_all then nat_le self.old.round (self.old.steps / HEAVY) else self.old.is_busy)) }
     {
         let more = may_be && !self.is_done(task, nodes);
         let heavy = self.steps / HEAVY >= u64::from(self.round);
@@ -113,6 +115,8 @@ impl Turns {
         ensures whose { self.new.whose ≡ self.old.whose }
         ensures idle { self.new.idle ≡ 0 }
         ensures made { self.new.made ≡ self.old.made }
+        ensures full { self.new.is_full ≡ false }
+        ensures settled { self.old.settled < MOST_SETTLED → self.new.settled ≡ self.old.settled + 1 }
     {
         self.idle = 0;
         self.is_full = false;
@@ -125,6 +129,9 @@ impl Turns {
         ensures whose { self.new.whose ≡ (if nat_lt self.old.whose nodes then self.old.whose + 1 else 0) }
         ensures rests { 0 < self.new.idle → (did.nothing ≡ true) × (is_running ≡ false) }
         ensures one { self.new.idle ≤ self.old.idle + 1 }
+        ensures made { self.old.made < 2 ^ 64 - 1 → self.new.made ≡ self.old.made + 1 }
+        ensures halted { self.new.has_halted ≡ (self.old.has_halted || did.halted) }
+        ensures settled { self.new.settled ≡ (if did.nothing then self.old.settled else 0) }
     {
         self.made = self.made.saturating_add(1);
         self.whose = next_of(self.whose, nodes);
@@ -149,6 +156,8 @@ impl Turns {
     pub(crate) fn add(&mut self, count: u64, has_halted: bool, is_idle: bool)
         ensures whose { self.new.whose ≡ self.old.whose }
         ensures idle { self.new.idle ≡ 0 }
+        ensures made { self.old.made + count < 2 ^ 64 → self.new.made ≡ self.old.made + count }
+        ensures halted { self.new.has_halted ≡ (self.old.has_halted || has_halted) }
     {
         self.made = self.made.saturating_add(count);
         self.idle = 0;
@@ -168,12 +177,15 @@ impl Turns {
     pub(crate) fn moved(&mut self)
         ensures whose { self.new.whose ≡ self.old.whose }
         ensures idle { self.new.idle ≡ self.old.idle }
+        ensures settled { self.new.settled ≡ 0 }
     {
         self.settled = 0;
     }
 
     /// Whether the journal may still be settled: it was done in vain fewer times than make it full for ever.
-    pub(crate) fn may_settle(&self) -> bool {
+    pub(crate) fn may_settle(&self) -> bool
+        ensures { result ≡ nat_lt self.now.settled MOST_SETTLED }
+    {
         self.settled < MOST_SETTLED
     }
 
@@ -186,6 +198,7 @@ impl Turns {
 
     /// Whether all turns were made that may be. Where there is no bound, never.
     pub(crate) fn are_out(&self, task: Task) -> bool
+        ensures value { result ≡ is_bound_reached task self.now }
         ensures out { result ≡ true → IsBoundReached task self.now }
     {
         match task.turns {
@@ -202,13 +215,17 @@ impl Turns {
     }
 
     /// Whether no turn may be made, or nothing is left to do.
-    fn is_done(&self, task: Task, nodes: u8) -> bool {
+    fn is_done(&self, task: Task, nodes: u8) -> bool
+        ensures { result ≡ is_done task self.now nodes }
+    {
         self.are_out(task) || self.is_stopped(task) || self.is_quiet(nodes)
     }
 
     /// Whether the round is over: no turn may be made, nothing is left to do, or each process has had its turn beside a snapshot, which
     /// goes on in the flusher's next turn.
-    pub(crate) fn is_round_over(&self, task: Task, nodes: u8) -> bool {
+    pub(crate) fn is_round_over(&self, task: Task, nodes: u8) -> bool
+        ensures { result ≡ (is_done task self.now nodes || nat_lt nodes self.now.beside) }
+    {
         self.is_done(task, nodes) || self.beside > u32::from(nodes)
     }
 }

@@ -1,0 +1,14 @@
+-- What comes of an offer.
+use Rattle.std.proofs.Common.{◌≡◌, ◌⊎◌, inl, inr, true, refl, sym, ap, ◌∙◌, Option, Some, None, Ok, Err}
+use Rattle.tp_stream.specs.Outcomes.{OfferAnswer, offer_left}
+use Rattle.tp_work.specs.Answers.{RefusesFor}
+use Rattle.tp_work.specs.declared.host_fault.OfferFault.{OfferFault}
+use Rattle.tp_work.specs.declared.host_fault.OfferFault.TheVariants.{Memory}
+
+pub offer_taken : {A : Type 0} (reason : Option OfferFault) (given : A) → RefusesFor Memory reason (Ok given) → OfferAnswer reason (Ok true)
+offer_taken None given taken = inl refl
+offer_taken (Some reason) given taken = absurd taken
+
+pub offer_refused : {A : Type 0} (reason : Option OfferFault) (fault : OfferFault) → RefusesFor {A = A} Memory reason (Err fault) → OfferAnswer reason (offer_left fault)
+offer_refused None fault is = inr (ap offer_left is)
+offer_refused (Some reason) fault is = ap offer_left is
