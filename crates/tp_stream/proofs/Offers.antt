@@ -9,6 +9,6 @@ pub offer_taken : {A : Type 0} (reason : Option OfferFault) (given : A) → Refu
 offer_taken None given taken = inl refl
 offer_taken (Some reason) given taken = absurd taken
 
-pub offer_refused : {A : Type 0} (reason : Option OfferFault) (fault : OfferFault) → RefusesFor {A = A} Memory reason (Err fault) → OfferAnswer reason (offer_left fault)
-offer_refused None fault is = inr (ap offer_left is)
-offer_refused (Some reason) fault is = ap offer_left is
+pub offer_refused : (A : Type 0) (reason : Option OfferFault) (fault : OfferFault) → RefusesFor {A = A} Memory reason (Err fault) → OfferAnswer reason (offer_left fault)
+offer_refused A None fault is = inr (ap offer_left is)
+offer_refused A (Some reason) fault is = ap offer_left is
