@@ -1,5 +1,5 @@
 -- What comes of an offer.
-use Rattle.std.proofs.Common.{◌≡◌, ◌⊎◌, inl, inr, true, refl, sym, ap, ◌∙◌, Option, Some, None, Ok, Err}
+use Rattle.std.proofs.Common.{inl, inr, true, refl, ap, Option, Some, None, Ok, Err}
 use Rattle.tp_stream.specs.Outcomes.{OfferAnswer, offer_left}
 use Rattle.tp_work.specs.Answers.{RefusesFor}
 use Rattle.tp_work.specs.declared.host_fault.OfferFault.{OfferFault}
