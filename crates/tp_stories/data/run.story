@@ -237,6 +237,20 @@ tpnet run device --turns 3 --workers 1 --spare 0
 tpnet run device --turns 3 --workers 1 --spare 1
 tpnet run device --stream --until-quiet --spare 4
 
+story frozen
+# A node writes a word again and again. A snapshot begins behind its first run, and it records in its next turn, before it runs: so it makes
+# no step then where it has no spare frame for the page, and sixteen where it has one. Behind one entry none begins yet where two are asked for.
+text net.txt node a 4\nport h\nwire a.0 h\n
+image a.img 41 D0 60 0C
+tpnet format device net.txt . 16384
+copy device one
+copy device two
+tpnet run device --turns 3 --workers 1 --quantum 16 --every 1 --spare 0
+tpnet journal device
+tpnet run one --turns 3 --workers 1 --quantum 16 --every 1 --spare 1
+tpnet recover one
+tpnet run two --turns 3 --workers 1 --quantum 16 --every 2 --spare 0
+
 story unconfirmed
 # A node sends 4200 bytes at once. Its port takes 4096 and no more, until they are printed and confirmed; then it takes the rest. A stream
 # goes on from the 4096 by itself, whether it writes them or lets them go.

@@ -116,11 +116,11 @@ const LINES: &[&str] = &[
 
 /// A writer: it says of its first writes that they failed so, and takes at most that many bytes of each other one.
 #[derive(Drop)]
-struct Taker {
-    bytes: Vec<u8>,
-    failed: u32,
-    how: ErrorKind,
-    most: usize,
+pub(crate) struct Taker {
+    pub(crate) bytes: Vec<u8>,
+    pub(crate) failed: u32,
+    pub(crate) how: ErrorKind,
+    pub(crate) most: usize,
 }
 
 impl Write for Taker {

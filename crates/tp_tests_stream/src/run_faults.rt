@@ -4,8 +4,10 @@ ghost use Rattle.std.specs.Prelude.{None};
 ghost use Rattle.tp_run.specs.Outlet.{unnoted};
 
 use crate::devices::{ECHO, ONE, formatted};
+use crate::ends_told::Taker;
 use crate::runs::{FOUR, left, letter, run_on};
 use std::alloc::{AllocError, Global};
+use std::io::ErrorKind;
 use std::process::Abort;
 use std::sync::Wait;
 use std::test::Fail;
@@ -215,6 +217,46 @@ fn an_outlet_that_failed_is_not_called_again(rt: HostRuntime) -> Result<(), Fail
     let failed = Some(RunFault::OutputFailed);
     let has_failed = ends_so(&rt, alloc, &mut disk, 1, failed, b"a", &[3, 3, 2, 2]);
     let told = ends_so(&rt, alloc, &mut disk, 3, None, b"abc", ALL);
+    assert!(rt; has_failed && told);
+    Ok(())
+}
+
+/// Whether a run on the device of a node that echoes ends with that fault, or with none, once a writer whose first `failed` writes failed so,
+/// and which takes a byte of each other one, took these bytes.
+fn writes_so<R: Threads + Wait + Abort + Sync>(
+    rt: &R,
+    alloc: Global,
+    disk: &mut MemDisk,
+    failed: u32,
+    how: ErrorKind,
+    fault: Option<RunFault>,
+    taken: &[u8],
+) -> bool {
+    let mut taker = Taker {
+        bytes: Vec::new(alloc),
+        failed,
+        how,
+        most: 1,
+    };
+    let done = run_on(rt, alloc, ECHOES, disk, b"abc", &mut taker);
+    done.err() == fault && taker.bytes.as_slice() == taken
+}
+
+#[test]
+fn a_writer_that_is_interrupted_is_called_again(rt: HostRuntime) -> Result<(), Fail> {
+    let alloc = rt.alloc();
+    let mut disk = MemDisk::of_bytes(formatted(alloc, ONE, ECHO, 16_384)?);
+    let failed = Some(RunFault::OutputFailed);
+    let has_failed = writes_so(&rt, alloc, &mut disk, 1, ErrorKind::WouldBlock, failed, b"");
+    let told = writes_so(
+        &rt,
+        alloc,
+        &mut disk,
+        3,
+        ErrorKind::Interrupted,
+        None,
+        b"abc",
+    );
     assert!(rt; has_failed && told);
     Ok(())
 }

@@ -6,6 +6,8 @@
 #[cfg(test)]
 mod acts;
 #[cfg(test)]
+mod alone;
+#[cfg(test)]
 mod beside;
 #[cfg(test)]
 mod book_calls;
