@@ -1,5 +1,5 @@
 -- What is left of a device that was compacted, whatever becomes of it meanwhile.
-use Rattle.std.specs.Prelude.{◌≡◌, ◌≤◌, ◌⊎◌, ℕ, ◌+◌, Bool, true, false, List, Result, Ok, Err, IfOk}
+use Rattle.std.specs.Prelude.{◌≡◌, ◌≤◌, ◌⊎◌, ℕ, ◌+◌, Bool, true, false, List, Option, Some, None, Result, Ok, Err, IfOk}
 use Rattle.tp_model.specs.declared.entry.Entry.{Entry}
 use Rattle.tp_model.specs.declared.opening.OpenFault.{OpenFault}
 use Rattle.tp_model.specs.NodeState.{NodeState}
@@ -9,6 +9,8 @@ use Rattle.tp_model.specs.Journal.{is_full_for_snapshot}
 use Rattle.tp_model.specs.Opening.{Opened, next_of, verdict}
 use Rattle.tp_model.specs.Disk.{MayBe}
 use Rattle.tp_model.specs.DiskHistory.{State, LeavesOnly}
+use Rattle.tp_book.specs.declared.refusal.Refusal.{Refusal}
+use Rattle.tp_book.specs.declared.refusal.Refusal.TheVariants as refusal
 use Rattle.tp_flush.specs.Follows.{Follows}
 use Rattle.tp_area.specs.Capacity.{capacity, journal_of}
 use Rattle.tp_flush.specs.declared.fault.FlushFault.{FlushFault}
@@ -62,6 +64,15 @@ flush_fault flush.DeviceFailed = DeviceFailed
 flush_fault flush.StoreBroken = DeviceFailed
 flush_fault flush.Memory = Memory
 flush_fault flush.AreaFull = NotWhole
+
+-- the fault of a snapshot that the book refuses to begin; none where one runs
+abbrev pub begin_fault : Refusal → Option CompactFault
+begin_fault refusal.SnapshotRunning = None
+begin_fault refusal.Memory = Some Memory
+begin_fault refusal.JournalFull = Some NotWhole
+begin_fault refusal.StoreBroken = Some NotWhole
+begin_fault refusal.NothingToTake = Some NotWhole
+begin_fault refusal.PortFull = Some NotWhole
 
 -- a fault of a snapshot that doesn't begin, though a generation is left
 abbrev pub IsBeginFault : CompactFault → Type 0

@@ -1,16 +1,28 @@
 -- The input that a run hands in.
-use Rattle.std.specs.Prelude.{◌≡◌, ℕ, ◌+◌, List, ◌++◌, length, map, take, drop}
+use Rattle.std.specs.Prelude.{◌≡◌, ℕ, ◌+◌, ◌==◌, if◌then◌else◌, List, ◌++◌, length, map, take, drop, Option, Some, None}
 use Rattle.std.specs.List.{enumerate_from}
 use Rattle.tp_model.specs.declared.entry.Entry.{Entry}
 use Rattle.tp_model.specs.declared.entry.Entry.TheVariants.{HostIn}
 use Rattle.tp_book.specs.Book.{BookValue}
 use Rattle.tp_book.specs.Covered.{ReceiptValue}
 use Rattle.tp_book.specs.Host.{accepted_of, port_in, room_of}
+use Rattle.tp_book.specs.Refusals.{is_journal_full}
+use Rattle.tp_run.specs.declared.fault.RunFault.{RunFault}
+use Rattle.tp_run.specs.declared.fault.RunFault.TheVariants.{OfferRefused, Unaccounted}
 use Rattle.tp_run.specs.declared.outset.Outset.{Outset}
 
 -- of a port's whole input, the bytes that it hasn't accepted, as many as it has room for
 abbrev pub rest_of : BookValue → ℕ → List ℕ → List ℕ
 rest_of b port input = take (room_of (port_in b port)) (drop (accepted_of (port_in b port)) input)
+
+-- Why `count` bytes that a port has room for aren't handed in: where there are any, the store is broken, the journal has no room for them, told
+-- in this order.
+abbrev pub rest_fault : BookValue → ℕ → Option RunFault
+rest_fault b count =
+    if count == 0 then None
+    else if b.broken then Some Unaccounted
+    else if is_journal_full b count then Some OfferRefused
+    else None
 
 -- of a port that stands so
 abbrev pub rest_at : Outset → List ℕ → List ℕ

@@ -1,14 +1,16 @@
 -- What is left on an output, and what confirms it.
-use Rattle.std.specs.Prelude.{◌≡◌, ◌≤◌, ◌⊎◌, ℕ, ◌+◌, List, [], ◌∷◌, length, Option, Result}
+use Rattle.std.specs.Prelude.{◌≡◌, ◌≤◌, ◌⊎◌, ℕ, ◌+◌, nat_le, if◌then◌else◌, List, [], ◌∷◌, length, Option, Some, None, Result}
 use Rattle.std.specs.Io.KnownBytes.{Appends}
 use Rattle.tp_model.specs.declared.entry.Entry.{Entry}
 use Rattle.tp_model.specs.declared.entry.Entry.TheVariants.{Confirm}
 use Rattle.tp_model.specs.DiskHistory.{State}
 use Rattle.tp_book.specs.Book.{BookValue, next_in_book}
 use Rattle.tp_book.specs.Covered.{ReceiptValue}
-use Rattle.tp_book.specs.Host.{port_in, shown_from, shown_of}
+use Rattle.tp_book.specs.Host.{port_in, shown_from, shown_of, shown_upto_of}
+use Rattle.tp_book.specs.Refusals.{is_journal_full}
 use Rattle.tp_work.specs.Receipts.{IsFor}
 use Rattle.tp_run.specs.declared.fault.RunFault.{RunFault}
+use Rattle.tp_run.specs.declared.fault.RunFault.TheVariants.{ConfirmRefused, Unaccounted}
 use Rattle.tp_run.specs.Outlet.{OutletValue}
 use Rattle.tp_run.specs.Prints.{MayBeSilent, PrintsAt}
 
@@ -16,6 +18,15 @@ use Rattle.tp_run.specs.Prints.{MayBeSilent, PrintsAt}
 abbrev pub confirms : ℕ → ℕ → List ℕ → List Entry
 confirms port from [] = []
 confirms port from (x ∷ xs) = Confirm port (from + length (x ∷ xs)) ∷ []
+
+-- Why all outputs of a port that a mark shows can't be confirmed: where some of them weren't confirmed before, the store is broken, or the
+-- journal is full, told in this order.
+abbrev pub unconfirmed_fault : BookValue → ℕ → ℕ → Option RunFault
+unconfirmed_fault b port mark =
+    if nat_le (shown_upto_of b port mark) (port_in b port).out_base then None
+    else if b.broken then Some Unaccounted
+    else if is_journal_full b 1 then Some ConfirmRefused
+    else None
 
 -- Bytes were appended, and a seat got the slip, and the host the receipt, of the entry that confirms just the appended ones as a port's
 -- outputs from `from` on. `Are` holds of the number of that entry, which is the next one where there is none, and of the bytes.

@@ -15,7 +15,7 @@ ghost use Rattle.tp_model.specs.Spelling.{IsCut};
 ghost use Rattle.tp_model.specs.WriteOrder.{Resting};
 ghost use Rattle.tp_recover.specs.Reading.{LeavesNothingNew};
 ghost use Rattle.tp_recover.specs.declared.unopened.Unopened.{Unopened};
-ghost use Rattle.tp_run.specs.Compacted.{CompactAnswer, Compacted, GrewByOne, IsBeginFault, SaysLast, StaysUnopened, flush_fault, has_failed_in, room_behind};
+ghost use Rattle.tp_run.specs.Compacted.{CompactAnswer, Compacted, GrewByOne, IsBeginFault, SaysLast, StaysUnopened, begin_fault, flush_fault, has_failed_in, room_behind};
 ghost use Rattle.tp_run.specs.Failures.{failures_after};
 ghost use Rattle.tp_flush.specs.Made.{IsMadeOf};
 ghost use Rattle.tp_run.specs.Ran.{History};
@@ -103,7 +103,8 @@ fn is_last(generation: u64) -> bool
 /// The fault of a snapshot that doesn't begin, though a generation is left; none where one runs. While nothing was done to the device, and
 /// nothing runs, it is want of memory alone.
 fn fault_of(refusal: Refusal) -> Option<CompactFault>
-    ensures { IfSome result IsBeginFault }
+    ensures is { result ≡ begin_fault refusal }
+    ensures begins { IfSome result IsBeginFault }
 {
     match refusal {
         Refusal::SnapshotRunning => None,

@@ -1,10 +1,12 @@
 //! Where a run prints.
 
-ghost use Rattle.std.specs.Prelude.{◌<◌, [], ◌∷◌, length, IfOk};
+ghost use Rattle.std.specs.Prelude.{◌≡◌, ◌<◌, ◌↔◌, [], ◌∷◌, length, IfOk};
 ghost use Rattle.std.specs.Io.{WritesAtMost};
 ghost use Rattle.std.specs.Io.KnownBytes.{WriteAppends};
+ghost use Rattle.std.specs.IoError.{error_kind};
 ghost use Rattle.tp_run.specs.Outlet.{CallsMore, OutletValue, unnoted};
 
+use std::io;
 use std::io::{ErrorKind, Write};
 use tp_disk::Disk;
 use tp_flush::Flusher;
@@ -36,6 +38,17 @@ pub trait Outlet {
         ensures noted { CallsMore (value self.old).calls (value self.new).calls (record { bytes = bytes.now; answer = result; there = flusher.now.state } ∷ []) };
 }
 
+/// Why a writer took no byte that failed so: one that was interrupted may be called again.
+fn fault_of(error: &io::Error) -> OutletFault
+    ensures { (result ≡ OutletFault.Interrupted) ↔ (error_kind error.now ≡ ErrorKind.Interrupted) }
+{
+    if error.kind() == ErrorKind::Interrupted {
+        OutletFault::Interrupted
+    } else {
+        OutletFault::Failed
+    }
+}
+
 /// Each writer is an outlet, which notes no call.
 impl<O: Write> Outlet for O {
     ghost value = { λ out. unnoted (O.contents out) };
@@ -47,8 +60,8 @@ impl<O: Write> Outlet for O {
     ) -> Result<usize, OutletFault> {
         match self.write(bytes) {
             Ok(count) if count > 0 => Ok(count),
-            Err(error) if error.kind() == ErrorKind::Interrupted => Err(OutletFault::Interrupted),
-            _ => Err(OutletFault::Failed),
+            Ok(_) => Err(OutletFault::Failed),
+            Err(error) => Err(fault_of(&error)),
         }
     }
 }

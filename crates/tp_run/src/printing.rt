@@ -7,7 +7,8 @@ ghost use Rattle.tp_book.specs.Host.{after_confirm, port_in, shown_from, shown_o
 ghost use Rattle.tp_book.specs.Acts.{confirm_entries};
 ghost use Rattle.tp_work.specs.Receipts.{IsFor};
 ghost use Rattle.tp_run.specs.Faults.{IsLate};
-ghost use Rattle.tp_run.specs.Output.{AreOutputs, AreShownBytes, IsForOutput, PrintedOf, ShowsAll};
+ghost use Rattle.tp_run.specs.Output.{AreOutputs, AreShownBytes, IsForOutput, PrintedOf, ShowsAll, unconfirmed_fault};
+ghost use Rattle.tp_work.specs.Answers.{RefusesFor};
 ghost use Rattle.tp_run.specs.Outlet.{WasCalled};
 ghost use Rattle.tp_run.specs.Prints.{PrintsAt, TellsAllPrinted};
 
@@ -69,6 +70,7 @@ fn confirm_shown<J: Naming>(
     mark: u64,
 ) -> Result<Receipt, RunFault>
     requires there { port < length held.old.book.state.ports }
+    ensures answer { RefusesFor RunFault.Memory (unconfirmed_fault held.old.book port mark) result }
     ensures book { IfOk result (λ receipt. held.new.book ≡ after_confirm held.old.book port (shown_upto_of held.old.book port mark)) }
     ensures number { IfOk result (λ receipt. receipt.number ≡ next_in_book held.new.book) }
     ensures receipt { IfOk result (IsFor (confirm_entries held.old.book port (shown_upto_of held.old.book port mark)) seat.old seat.new) }

@@ -52,7 +52,9 @@ pub(crate) struct Watch {
 
 impl Watch {
     /// A watch over a round of `turns` turns, in which `every` entries begin a snapshot.
-    pub(crate) fn new(turns: u32, every: u64) -> Watch {
+    pub(crate) fn new(turns: u32, every: u64) -> Watch
+        ensures { (result.turns ≡ turns) × (result.every ≡ every) }
+    {
         Watch {
             turns: turns.into(),
             drawn: AtomicU64::new(0),
@@ -65,7 +67,9 @@ impl Watch {
     }
 
     /// How many entries since the kept cut begin a snapshot.
-    pub(crate) fn every(&self) -> u64 {
+    pub(crate) fn every(&self) -> u64
+        ensures { result ≡ self.now.every }
+    {
         self.every
     }
 

@@ -1,6 +1,6 @@
 //! Workers.
 
-ghost use Rattle.std.specs.Prelude.{◌≡◌, ◌≤◌, All, None, Some, IfErr, IfOk, IfSome, length};
+ghost use Rattle.std.specs.Prelude.{◌≡◌, ◌<◌, ◌≤◌, All, None, Some, IfErr, IfOk, IfSome, length};
 ghost use Rattle.tp_run.specs.Worked.{Worked};
 
 use crate::aside::Aside;
@@ -16,7 +16,9 @@ use tp_work::{Net, Seat, Turn, TurnFault};
 /// How many entries a turn is told to have made that made `made`: one at least where it was refused for want of room or memory, since the
 /// flusher's turn may give some.
 fn told_of(done: &Result<Turn, TurnFault>, made: u64) -> u64
-    ensures { made ≤ result }
+    ensures no_fewer { made ≤ result }
+    ensures made { IfOk done.now (λ turn. result ≡ made) }
+    ensures wanting { IfErr done.now (λ fault. (fault ≡ TurnFault.JournalFull → 0 < result) × (fault ≡ TurnFault.Memory → 0 < result)) }
 {
     match done {
         Err(TurnFault::JournalFull | TurnFault::Memory) => made.max(1),
