@@ -78,6 +78,7 @@ served_ran law start before opened job input was now old new result began reads 
               printed = s.printed;
               appended = s.appended;
               number = s.number;
+              last = s.last;
               below = s.below;
               stored = λ left may. law start new.world.journal next _ left (less next low left may).recovers s.below s.stand;
               shows = s.shows;
@@ -141,6 +142,7 @@ opened_ran start job input was now result old read new L same R = record {
         printed = c.printed;
         appended = c.appended;
         number = c.number;
+        last = c.last;
         below = c.below;
         stored = c.stored;
         shows = c.shows;

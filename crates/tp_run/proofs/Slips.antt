@@ -101,6 +101,7 @@ host_settled start network job outset Are was now journal next handed host recei
       printed = O.printed;
       appended = O.appended;
       number = F.first;
+      last = is ∙ number;
       below =
           both (λ slip. slip.0 < next) handed (output_slips outset F.first O.printed) (below_more F.first next handed (omega (arith, is, number)) F.below)
           (enumerated_below F.first (confirms outset.port outset.confirmed O.printed) next (omega (arith, is, number)));

@@ -1,5 +1,5 @@
 -- What a run leaves, whatever becomes of the device in it.
-use Rattle.std.specs.Prelude.{◌≡◌, ◌≤◌, ◌⊎◌, ℕ, List, ◌++◌, Option, Result, Ok, IfOk}
+use Rattle.std.specs.Prelude.{◌≡◌, ◌≤◌, ◌⊎◌, ℕ, ◌+◌, List, ◌++◌, length, Option, Result, Ok, IfOk}
 use Rattle.std.specs.List.{enumerate_from}
 use Rattle.std.specs.Io.KnownBytes.{Appends}
 use Rattle.tp_model.specs.declared.entry.Entry.{Entry}
@@ -31,13 +31,14 @@ abbrev pub output_slips : Outset → ℕ → List ℕ → List (ℕ × Entry)
 output_slips outset number printed = enumerate_from number (confirms outset.port outset.confirmed printed)
 
 -- What was settled with the flusher as a run ended: bytes were printed, and in the flusher's journal, as far as that reaches, stand
--- the entries of some slips and, under a number of its own, the entry that confirms what was printed. All numbers are below `next`.
--- Where the entries before that number lead, the bytes are all outputs of the port behind those confirmed. These entries and those of
--- the turns of the workers, on a network of this shape, are all that was journalled since the opening.
+-- the entries of some slips and, under a number of its own, the entry that confirms what was printed, which is the last one. All numbers are
+-- below `next`. Where the entries before that number lead, the bytes are all outputs of the port behind those confirmed. These entries and
+-- those of the turns of the workers, on a network of this shape, are all that was journalled since the opening.
 pub record Settled (start network : Network NodeState) (job : Job) (outset : Outset) (handed : List (ℕ × Entry)) (was now : Option (List ℕ)) (journal : List Entry) (next : ℕ) : Type 0 where
   pub printed : List ℕ
   pub appended : Appends was now printed
   pub number : ℕ
+  pub last : next ≡ number + length (confirms outset.port outset.confirmed printed)
   pub below : AreBelow next (handed ++ output_slips outset number printed)
   pub stand : SlipsStand journal (handed ++ output_slips outset number printed)
   pub shows : LeadsToOutputs start journal number outset.port outset.confirmed printed
@@ -45,7 +46,7 @@ pub record Settled (start network : Network NodeState) (job : Job) (outset : Out
 
 -- What was handed in and printed by a run that was done is in the journal. The device opened, and its port stood somewhere. Behind
 -- all that the device had there are the entries of the input from what the port had accepted on, as many bytes as it had room for.
--- Some bytes were printed, and there is the entry that confirms as many outputs behind those confirmed before: where the entries
+-- Some bytes were printed, and there is the entry that confirms as many outputs behind those confirmed before, the last one: where the entries
 -- in front of it lead, the bytes are all the outputs of the port that weren't confirmed. All of the entries have numbers below
 -- `next`, and whatever a crash leaves of the device opens to where a prefix of the journal leads in which each stands at its number.
 -- They and those of the turns of the workers are all that the journal has behind what the device had, each once, up to `next`.
@@ -55,6 +56,7 @@ pub record Carried (start : Network NodeState) (journal : List Entry) (job : Job
   pub printed : List ℕ
   pub appended : Appends was now printed
   pub number : ℕ
+  pub last : next ≡ number + length (confirms job.port (outset_in opened job.port).confirmed printed)
   pub below : AreBelow next (input_slips (outset_in opened job.port) input ++ output_slips (outset_in opened job.port) number printed)
   pub stored :
       (left : List ℕ) → MayBe new.now left
