@@ -5,6 +5,7 @@ pub mod Faults
 pub mod Made
 pub mod Called
 pub mod Runs
+pub mod Reasons
 mod Shown
 pub mod Slips
 pub mod Compacts
