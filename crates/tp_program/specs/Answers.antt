@@ -12,7 +12,7 @@ use Rattle.tp_words.specs.declared.command.Command.TheVariants.{Stream, Stop, Ba
 use Rattle.tp_words.specs.declared.stream_args.StreamRun.{StreamRun}
 use Rattle.tp_program.specs.Backups.{PrintsCopied}
 use Rattle.tp_program.specs.CompactFile.{CompactedFile}
-use Rattle.tp_program.specs.Devices.{DeviceCall, Holds, WasRefused}
+use Rattle.tp_program.specs.Devices.{DeviceCall, Holds, MadeAtMost, WasRefused}
 use Rattle.tp_program.specs.RunFile.{RanFile}
 use Rattle.tp_program.specs.Stops.{StopAnswered}
 use Rattle.tp_program.specs.StreamFile.{StreamedFile}
@@ -22,10 +22,12 @@ pub record Helped (text : List ℕ) (old new : List DeviceCall) (was now : Optio
   pub unopened : new ≡ old
   pub printed : status ≡ 0 → Appends was now text
 
--- What a command did that was asked for. `format` makes its device, and one that changes none opens none to be written.
+-- What a command did that was asked for. `format` makes its device, in a file that it makes once at most, and one that changes none makes and
+-- opens none to be written.
 abbrev pub CarriedOut : (keeps : Type 0) → History → Asked → (old new : List DeviceCall) → (was now : Option (List ℕ)) → ℕ → Type 0
 CarriedOut keeps history (Runs run) old new was now status = RanFile keeps history run old new was now status
 CarriedOut keeps history (Compact device wait_lock) old new was now status = CompactedFile keeps history (string_bytes device) old new was now status
+CarriedOut keeps history (Format device) old new was now status = MadeAtMost (string_bytes device.device) old new
 CarriedOut keeps history (Help text) old new was now status = Helped (string_bytes text) old new was now status
 CarriedOut keeps history _ old new was now status = new ≡ old
 

@@ -5,6 +5,7 @@ ghost use Rattle.tp_program.specs.Backups.{IsCopiedLine, PrintsCopied};
 
 use crate::backing_up::{backup_on, copied_line};
 use crate::files::disk_to_read;
+use crate::folders::sync_folder;
 use std::alloc::Global;
 use std::fs::{Files, OpenFile, OpenOptions};
 use std::io::Write;
@@ -165,16 +166,6 @@ fn link_copy<R: Files>(
         Err(error) if error.kind() == io::ErrorKind::AlreadyExists => Err(Undone::CopyExists),
         Err(error) => Err(Undone::CopyFailed(error)),
     }
-}
-
-/// Syncs the folder of a path.
-fn sync_folder<R: Files>(rt: &R, path: &str) -> io::Result<()> {
-    let folder = match path.rsplit_once('/') {
-        Some(("", _)) => "/",
-        Some((folder, _)) => folder,
-        None => ".",
-    };
-    OpenOptions::new().read(true).open(rt, folder)?.sync_all()
 }
 
 /// Takes the other name from the copy, and syncs the folder.

@@ -1,8 +1,8 @@
-//! Which devices were asked for, opened and given back, as contracts alone see it.
+//! Which devices were asked for, made, opened and given back, as contracts alone see it.
 
 ghost use Rattle.std.specs.Prelude.{◌≡◌, List, [], ◌∷◌, ◌++◌};
 ghost use Rattle.std.specs.Borrow.{ftrue};
-ghost use Rattle.tp_program.specs.Devices.{DeviceCall, Holds, Opens, Closes};
+ghost use Rattle.tp_program.specs.Devices.{DeviceCall, Holds, Makes, Opens, Closes};
 
 use std::marker::Model;
 use tp_disk::Disk;
@@ -38,6 +38,13 @@ impl DeviceCalls {
         ensures { result.told ≡ self.now.told ++ Holds path.now seconds ok ∷ [] }
     {
         DeviceCalls::of(&(self, path, seconds, ok))
+    }
+
+    /// An empty file was to be made at a path and held, and that was done or not.
+    pub(crate) fn made(&self, path: &str, ok: bool) -> DeviceCalls
+        ensures { result.told ≡ self.now.told ++ Makes path.now ok ∷ [] }
+    {
+        DeviceCalls::of(&(self, path, ok))
     }
 
     /// The device at a path was opened.

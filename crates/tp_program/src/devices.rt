@@ -1,25 +1,42 @@
-//! The devices that commands write: who holds them, opens them, and takes them back.
+//! The devices that commands write: who holds them, makes files for them, opens them, and takes them back.
 
 ghost use Rattle.std.specs.Prelude.{◌≡◌, ℕ, List, [], ◌∷◌, ◌++◌, Option, Some, None, is_ok, IfOk, OnOk, OnErr};
 ghost use Rattle.std.specs.Option.{option_map};
-ghost use Rattle.tp_program.specs.Devices.{DeviceCall, Holds, Opens, Closes, path_held};
+ghost use Rattle.tp_program.specs.Devices.{DeviceCall, Holds, Makes, Opens, Closes, path_held};
 
 use crate::device_calls::DeviceCalls;
 use crate::files::read_refusal;
 use crate::in_use::{changed, is_busy};
 use crate::locks::{Held, InUse, Locks};
-use std::fs::{Files, OpenFile};
-use std::io;
+use std::fs::{Files, OpenFile, OpenOptions};
 use std::io::Write;
 use std::os::unix::fs::FileExt;
+use std::{fs, io};
 use tp_disk::{Counted, Disk, NotedFile, RawFile};
 use tp_views::{Refusal, refuse};
 
-/// Holds devices, opens them to be written, and takes them back.
+/// That a file was made at the path of a device, for it and by this process, which holds it since.
+#[derive(Drop)]
+pub struct Made {
+    noted: DeviceCalls,
+}
+
+impl Made {
+    /// A file that was made at this path.
+    fn new(path: &str) -> Made
+        ensures { path_held result.noted.told ≡ path.now }
+    {
+        Made {
+            noted: DeviceCalls::new().made(path, true),
+        }
+    }
+}
+
+/// Holds devices, makes files for them, opens them to be written, and takes them back.
 pub trait Devices {
     type Device: Disk + Drop;
 
-    /// Which were asked for, opened and given back, and what had become of each then, the oldest first.
+    /// Which were asked for, made, opened and given back, and what had become of each then, the oldest first.
     ghost calls: { Self → List DeviceCall };
 
     /// The path of the device that is held: no other process has it. No call lets it go.
@@ -33,6 +50,19 @@ pub trait Devices {
     /// Whether what stands at a path is what stood there as the device was asked for: the file that is held, or nothing. It is asked anew each
     /// time.
     fn is_kept(&self, path: &str) -> bool;
+
+    /// Makes an empty file for the device at a path, which is held, and holds that file at once. What stands there already is `AlreadyExists`,
+    /// and stays; a file that another process took as soon as it was made is in use, and left to it.
+    fn make(&mut self, path: &str) -> io::Result<Made>
+        requires { held self.old ≡ Some path.now }
+        ensures noted { calls self.new ≡ calls self.old ++ Makes path.now (is_ok result) ∷ [] }
+        ensures made { IfOk result (λ made. path_held made.noted.told ≡ path.now) }
+        ensures kept { held self.new ≡ held self.old };
+
+    /// Removes the file that was made at a path, which is held, where the path names that file still. A failed call is let go.
+    fn remove(&self, path: &str, made: Made)
+        requires held { held self.now ≡ Some path.now }
+        requires made { path_held made.noted.told ≡ path.now };
 
     /// Opens the device at a path, which is held, as it is. Another file that stands there by now isn't opened.
     fn open(&mut self, path: &str) -> io::Result<Self::Device>
@@ -78,7 +108,7 @@ impl<
     'r,
     R: Files<File = F>,
     F: FileExt + OpenFile + Drop,
-    L: Locks<Lock = K> + Drop,
+    L: Locks<F, Lock = K> + Drop,
     K: Drop,
 > Devices for FileDevices<'r, R, L, K> {
     type Device = Counted<RawFile<NotedFile<F>>>;
@@ -101,6 +131,19 @@ impl<
         }
     }
 
+    fn make(&mut self, path: &str) -> io::Result<Made> {
+        let made = made_file(self.rt, &mut self.locks, path);
+        self.noted = self.noted.made(path, made.is_ok());
+        self.held = Some(made?);
+        Ok(Made::new(path))
+    }
+
+    fn remove(&self, path: &str, _made: Made) {
+        if self.is_kept(path) {
+            let _left = fs::remove_file(self.rt, path);
+        }
+    }
+
     fn open(&mut self, path: &str) -> io::Result<Counted<RawFile<NotedFile<F>>>> {
         let device = Counted::open(self.rt, path)?;
         if !self.is_kept(path) {
@@ -113,6 +156,22 @@ impl<
     fn close(&mut self, device: Counted<RawFile<NotedFile<F>>>) -> Option<io::Error> {
         self.noted = self.noted.closed(&device);
         device.raw().failure().map(said_again)
+    }
+}
+
+/// Makes an empty file at a path, where nothing stands, and takes its lock. Where another process has that already, the file is left to it.
+fn made_file<R: Files<File = F>, F: OpenFile + Drop, L: Locks<F, Lock = K>, K: Drop>(
+    rt: &R,
+    locks: &mut L,
+    path: &str,
+) -> io::Result<Held<K>>
+    ensures { IfOk result (λ held. path_held held.noted.told ≡ path.now) }
+{
+    let mut how = OpenOptions::new();
+    let file = how.read(true).write(true).create_new(true).open(rt, path)?;
+    match locks.take_made(path, file) {
+        Ok(held) => Ok(held),
+        Err(InUse) => Err(changed()),
     }
 }
 

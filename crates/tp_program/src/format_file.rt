@@ -1,15 +1,17 @@
 //! `tpnet format`, on files.
 
-ghost use Rattle.std.specs.Prelude.{◌≡◌, ◌≤◌, true, Some, IfSome, string_bytes};
+ghost use Rattle.std.specs.Prelude.{◌≡◌, ◌≤◌, true, Some, IfOk, IfSome, string_bytes};
 ghost use Rattle.tp_model.specs.Device.{areas_end};
 ghost use Rattle.tp_model.specs.Head.{areas_of_length};
 ghost use Rattle.tp_model.specs.Topology.{is_topology};
 ghost use Rattle.tp_words.specs.declared.args.TheConstants.{MAX_AREA};
+ghost use Rattle.tp_program.specs.Devices.{MadeAtMost, path_held};
 
-use crate::devices::Devices;
+use crate::devices::{Devices, Made};
 use crate::files::{image_path, read_file, read_network};
+use crate::folders::sync_folder;
 use crate::formatting::format_on;
-use crate::in_use::changed;
+use crate::in_use::{changed, is_busy};
 use std::fs::{Files, OpenFile};
 use std::io;
 use std::io::Write;
@@ -68,12 +70,22 @@ fn refuse_sources<R: Files + AllocGlobal, E: Write>(
     }
 }
 
-/// Why a device wasn't made.
+/// Why a device wasn't made: another process has it where it came to the path meanwhile.
 fn making_refusal(error: &io::Error) -> Refusal {
     match error.kind() {
         io::ErrorKind::AlreadyExists => Refusal::DeviceExists,
+        _ if is_busy(error) => Refusal::InUse,
         _ => Refusal::DeviceFailed,
     }
+}
+
+/// Says why a device wasn't made, and puts what the system said into `system`. Answers the status.
+fn refuse_making<E: Write>(error: io::Error, system: &mut Option<io::Error>, err: &mut E) -> u8
+    ensures { result ≡ 1 }
+{
+    let refusal = making_refusal(&error);
+    *system = Some(error);
+    refuse(err, refusal)
 }
 
 /// How many bytes a device has, with a head of a version and two areas of `area` bytes.
@@ -84,23 +96,121 @@ fn device_length(version: HeadVersion, area: u64) -> u64
     head_length(version) as u64 + 2 * area
 }
 
-/// A device with room for the head of its topology and two areas, in a file that is made for it, or in one that is there, which is held.
+/// The device with room for the head of its topology and two areas, in the file that is held, which stays as it was until the first call of it.
+/// Where another file stands there by now, that is another's.
 fn new_disk<R: Files<File = F>, F: FileExt + OpenFile + Drop, S: Devices>(
     rt: &R,
-    _devices: &S,
+    devices: &S,
     new: &NewDevice,
     topology: &Topology,
 ) -> io::Result<NewDisk<F>>
     requires area { new.now.area ≤ MAX_AREA }
-    requires held { S.held _devices.now ≡ Some (string_bytes new.now.device) }
+    requires held { S.held devices.now ≡ Some (string_bytes new.now.device) }
 {
     let size = device_length(version_for(topology), new.area);
     let path = new.device.as_str();
-    if new.only_new {
-        NewDisk::create_new(rt, path, size)
-    } else {
-        NewDisk::create(rt, path, size)
+    let disk = NewDisk::create_over(rt, path, size)?;
+    if !devices.is_kept(path) {
+        return Err(changed());
     }
+    Ok(disk)
+}
+
+/// Makes the file of a device and holds it. None is made where one is there already, unless it must be new.
+fn make_file<S: Devices>(devices: &mut S, new: &NewDevice) -> io::Result<Option<Made>>
+    requires { S.held devices.old ≡ Some (string_bytes new.now.device) }
+    ensures kept { S.held devices.new ≡ S.held devices.old }
+    ensures made { IfOk result (λ made. IfSome made (λ made. path_held made.noted.told ≡ string_bytes new.now.device)) }
+    ensures noted { MadeAtMost (string_bytes new.now.device) (S.calls devices.old) (S.calls devices.new) }
+{
+    match devices.make(new.device.as_str()) {
+        Ok(made) => Ok(Some(made)),
+        Err(error) if error.kind() == io::ErrorKind::AlreadyExists && !new.only_new => Ok(None),
+        Err(error) => Err(error),
+    }
+}
+
+/// Formats the device in the file that is held. Whether it is formatted is put into `is_formatted`, and what the system said of a call that
+/// failed into `system`.
+fn format_held<
+    R: Files<File = F> + AllocGlobal,
+    F: FileExt + OpenFile + Drop,
+    S: Devices,
+    O: Write,
+    E: Write,
+>(
+    rt: &R,
+    devices: &S,
+    new: &NewDevice,
+    topology: &Topology,
+    images: &[Vec<u8>],
+    is_formatted: &mut bool,
+    system: &mut Option<io::Error>,
+    out: &mut O,
+    err: &mut E,
+) -> u8
+    requires area { new.now.area ≤ MAX_AREA }
+    requires held { S.held devices.now ≡ Some (string_bytes new.now.device) }
+    requires valid { is_topology topology.now ≡ true }
+    ensures few { result ≤ 1 }
+    ensures told { result ≡ 0 → is_formatted.new ≡ true }
+{
+    *is_formatted = false;
+    match new_disk(rt, devices, new, topology) {
+        Ok(mut disk) => {
+            let status = format_on(
+                rt.alloc(),
+                &mut disk,
+                topology,
+                images,
+                new.area,
+                is_formatted,
+                out,
+                err,
+            );
+            *system = disk.into_raw().into_failure();
+            status
+        }
+        Err(error) => refuse_making(error, system, err),
+    }
+}
+
+/// Formats the device in a file that was made for it, once its name lasts. Where the device isn't formatted the file is removed.
+fn format_made<
+    R: Files<File = F> + AllocGlobal,
+    F: FileExt + OpenFile + Drop,
+    S: Devices,
+    O: Write,
+    E: Write,
+>(
+    rt: &R,
+    devices: &S,
+    new: &NewDevice,
+    made: Made,
+    topology: &Topology,
+    images: &[Vec<u8>],
+    system: &mut Option<io::Error>,
+    out: &mut O,
+    err: &mut E,
+) -> u8
+    requires area { new.now.area ≤ MAX_AREA }
+    requires held { S.held devices.now ≡ Some (string_bytes new.now.device) }
+    requires made { path_held made.noted.told ≡ string_bytes new.now.device }
+    requires valid { is_topology topology.now ≡ true }
+    ensures { result ≤ 1 }
+{
+    let mut is_formatted = false;
+    let status = match sync_folder(rt, new.device.as_str()) {
+        Ok(()) => {
+            let is = &mut is_formatted;
+            format_held(rt, devices, new, topology, images, is, system, out, err)
+        }
+        Err(error) => refuse_making(error, system, err),
+    };
+    if !is_formatted {
+        devices.remove(new.device.as_str(), made);
+    }
+    status
 }
 
 /// Formats the device of this network, which is held: where another file stands at its path by now, or one where there was none, that is
@@ -113,7 +223,7 @@ fn format_network<
     E: Write,
 >(
     rt: &R,
-    devices: &S,
+    devices: &mut S,
     new: &NewDevice,
     topology: &Topology,
     images: &[Vec<u8>],
@@ -122,28 +232,26 @@ fn format_network<
     err: &mut E,
 ) -> u8
     requires area { new.now.area ≤ MAX_AREA }
-    requires held { S.held devices.now ≡ Some (string_bytes new.now.device) }
+    requires held { S.held devices.old ≡ Some (string_bytes new.now.device) }
     requires valid { is_topology topology.now ≡ true }
-    ensures { result ≤ 1 }
+    ensures few { result ≤ 1 }
+    ensures made { MadeAtMost (string_bytes new.now.device) (S.calls devices.old) (S.calls devices.new) }
 {
     if !new.only_new && !is_device_file(rt, new.device.as_str()) {
         return refuse(err, Refusal::DeviceFailed);
     }
     if !devices.is_kept(new.device.as_str()) {
-        *system = Some(changed());
-        return refuse(err, Refusal::InUse);
+        return refuse_making(changed(), system, err);
     }
-    match new_disk(rt, devices, new, topology) {
-        Ok(mut disk) => {
-            let status = format_on(rt.alloc(), &mut disk, topology, images, new.area, out, err);
-            *system = disk.into_raw().into_failure();
-            status
+    match make_file(devices, new) {
+        Ok(Some(made)) => {
+            format_made(rt, devices, new, made, topology, images, system, out, err)
         }
-        Err(error) => {
-            let refusal = making_refusal(&error);
-            *system = Some(error);
-            refuse(err, refusal)
+        Ok(None) => {
+            let is = &mut false;
+            format_held(rt, devices, new, topology, images, is, system, out, err)
         }
+        Err(error) => refuse_making(error, system, err),
     }
 }
 
@@ -156,7 +264,7 @@ fn format_named<
     E: Write,
 >(
     rt: &R,
-    devices: &S,
+    devices: &mut S,
     new: &NewDevice,
     named: &Named<'_>,
     images: &[Vec<u8>],
@@ -165,8 +273,9 @@ fn format_named<
     err: &mut E,
 ) -> u8
     requires area { new.now.area ≤ MAX_AREA }
-    requires held { S.held devices.now ≡ Some (string_bytes new.now.device) }
-    ensures { result ≤ 2 }
+    requires held { S.held devices.old ≡ Some (string_bytes new.now.device) }
+    ensures few { result ≤ 2 }
+    ensures made { MadeAtMost (string_bytes new.now.device) (S.calls devices.old) (S.calls devices.new) }
 {
     if let Some(status) = refuse_sources(rt, new, named.names.as_slice(), err) {
         return status;
@@ -184,7 +293,7 @@ fn format_text<
     E: Write,
 >(
     rt: &R,
-    devices: &S,
+    devices: &mut S,
     new: &NewDevice,
     text: &[u8],
     system: &mut Option<io::Error>,
@@ -192,8 +301,9 @@ fn format_text<
     err: &mut E,
 ) -> u8
     requires area { new.now.area ≤ MAX_AREA }
-    requires held { S.held devices.now ≡ Some (string_bytes new.now.device) }
-    ensures { result ≤ 2 }
+    requires held { S.held devices.old ≡ Some (string_bytes new.now.device) }
+    ensures few { result ≤ 2 }
+    ensures made { MadeAtMost (string_bytes new.now.device) (S.calls devices.old) (S.calls devices.new) }
 {
     match read_network(rt, text, new.images.as_str()) {
         Ok((named, images)) => {
@@ -222,15 +332,16 @@ pub(crate) fn format_file<
     E: Write,
 >(
     rt: &R,
-    devices: &S,
+    devices: &mut S,
     new: &NewDevice,
     system: &mut Option<io::Error>,
     out: &mut O,
     err: &mut E,
 ) -> u8
     requires area { new.now.area ≤ MAX_AREA }
-    requires held { S.held devices.now ≡ Some (string_bytes new.now.device) }
-    ensures { result ≤ 2 }
+    requires held { S.held devices.old ≡ Some (string_bytes new.now.device) }
+    ensures few { result ≤ 2 }
+    ensures made { MadeAtMost (string_bytes new.now.device) (S.calls devices.old) (S.calls devices.new) }
 {
     match read_file(rt, new.topology.as_str()) {
         Ok(text) => format_text(rt, devices, new, text.as_slice(), system, out, err),

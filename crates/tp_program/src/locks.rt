@@ -28,12 +28,16 @@ impl<K: Drop> Held<K> {
     }
 }
 
-/// Takes the locks of devices' files.
-pub trait Locks {
+/// Takes the locks of devices' files, which are `F`s.
+pub trait Locks<F: Drop> {
     type Lock: Drop;
 
     /// Takes the lock of the device's file at a path, and tries again for `seconds` while another process has it.
     fn take(&mut self, path: &str, seconds: u32) -> Result<Held<Self::Lock>, InUse>
+        ensures { IfOk result (λ held. path_held held.noted.told ≡ path.now) };
+
+    /// Takes the lock of this file, which was just made at a path, at once and without a second try: another process may have taken it between.
+    fn take_made(&mut self, path: &str, file: F) -> Result<Held<Self::Lock>, InUse>
         ensures { IfOk result (λ held. path_held held.noted.told ≡ path.now) };
 
     /// Whether what stands at a path is what stood there as this lock was taken: the very file that is locked, or nothing.
@@ -48,10 +52,14 @@ pub struct NoLocks;
 #[derive(Drop)]
 pub struct NoLock;
 
-impl Locks for NoLocks {
+impl<F: Drop> Locks<F> for NoLocks {
     type Lock = NoLock;
 
     fn take(&mut self, path: &str, _seconds: u32) -> Result<Held<NoLock>, InUse> {
+        Ok(Held::new(path, NoLock))
+    }
+
+    fn take_made(&mut self, path: &str, _file: F) -> Result<Held<NoLock>, InUse> {
         Ok(Held::new(path, NoLock))
     }
 

@@ -367,7 +367,7 @@ fn answer_untold<
 pub fn answer_locking<
     R: Files<File = F> + AllocGlobal + Threads + Wait + Sync,
     F: FileExt + OpenFile + Drop + Send,
-    L: Locks<Lock = K> + Drop,
+    L: Locks<F, Lock = K> + Drop,
     K: Drop,
     W: Watch,
     I: Feed,

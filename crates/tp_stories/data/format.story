@@ -150,40 +150,94 @@ tpnet format --new other net.txt . 16384
 equal other before
 
 story small_areas
-# An area with room for one entry is the least. A file that was made stays, with its length, and all its bytes are 00.
+# An area with room for one entry is the least. A file that was made is removed where it is less.
 text net.txt node a 4\nport h\nwire a.0 h\n
 image a.img
 tpnet format device13033 net.txt . 13033
-length device13033
-fill zeros 26578 00
-equal device13033 zeros
+there device13033
 tpnet format device100 net.txt . 100
-length device100
-fill zeros 712 00
-equal device100 zeros
+there device100
 tpnet format device0 net.txt . 0
-length device0
-fill zeros 512 00
-equal device0 zeros
+there device0
 tpnet format device net.txt . 13034
 length device
 
 story other_images
 # An image does not fit where a link of it is at work, where it says other pages than the topology, or where it is none. The
-# file that was made stays, and all its bytes are 00.
+# file that was made is removed.
 text net.txt node a 4\nport h\nwire a.0 h\n
 image a.img
-fill zeros 33280 00
 set a.img 109 01
 tpnet format busy net.txt . 16384
-equal busy zeros
+there busy
 image a.img
 set a.img 2 05
 tpnet format larger net.txt . 16384
-equal larger zeros
+there larger
 fill a.img 0 00
 tpnet format none net.txt . 16384
-equal none zeros
+there none
+
+story unprinted
+# A new device that is formatted stays where that can't be printed.
+text net.txt node a 4\nport h\nwire a.0 h\n
+image a.img
+tpnet format old net.txt . 16384
+shut full
+tpnet format device net.txt . 16384
+shut
+equal device old
+
+story rivals
+# Another process wants the path at which a device is made. What it puts there is neither written over nor removed. Here it has taken the lock of
+# the file that was made, which is left to it, empty.
+text net.txt node a 4\nport h\nwire a.0 h\n
+image a.img
+text theirs theirs
+rival locks
+tpnet format device net.txt . 16384 --explain
+length device
+# It moves a file there right before one is made, which --new says.
+remove device
+copy theirs other
+rival 1 other
+tpnet format device net.txt . 16384 --explain
+equal device theirs
+remove device
+copy theirs other
+tpnet format --new device net.txt . 16384
+equal device theirs
+# It does so right behind that, before the file is opened.
+remove device
+copy theirs other
+rival 2 other
+tpnet format device net.txt . 16384
+equal device theirs
+# It does so once the file is open, and then the image is refused, or no byte can be written.
+remove device
+copy theirs other
+rival 3 other
+text a.img no image
+tpnet format device net.txt . 16384
+equal device theirs
+image a.img
+remove device
+copy theirs other
+calls most 0
+tpnet format device net.txt . 16384
+equal device theirs
+# Without it the file that was made is removed then.
+rival
+remove device
+tpnet format device net.txt . 16384
+there device
+# It moves a file over a device right before that is opened.
+calls
+tpnet format device net.txt . 16384
+copy theirs other
+rival 1 other
+tpnet format device net.txt . 16384
+equal device theirs
 
 story large
 # Above 4 GiB the second area has its gate where an offset that wraps would hit the first image, or read it. The file is made larger by hand:

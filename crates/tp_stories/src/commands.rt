@@ -117,7 +117,7 @@ fn carry_out<
         refuses: stage.refuses,
         bytes: Vec::new(rt.alloc()),
     };
-    let (other, mut steps) = (stage.holding.other(rt), stage.looks.steps());
+    let (other, mut steps) = (stage.holding.other(rt, &stage.rival), stage.looks.steps());
     let status = answer_locking(
         files,
         other,

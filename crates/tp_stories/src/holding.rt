@@ -1,10 +1,13 @@
 //! Another process, which has the devices.
 
+use crate::rival::Rival;
 use crate::typed::{malformed, parted};
 use std::alloc::Global;
 use std::fs::{Files, OpenOptions};
+use std::sync::atomic::AtomicU64;
 use std::{fs, io};
 use tp_program::{Held, InUse, Locks};
+use tp_stream_files::{FileNumbers, numbers_in};
 
 /// How often another process is asked for a device in vain, before it lets it go; and the file that it removes behind each of the asks up
 /// to one, or makes, where a `+` stands in front of it.
@@ -48,12 +51,14 @@ impl Holding {
     }
 
     /// The other process, as it is when a command begins.
-    pub(crate) fn other<'a, R>(&'a self, rt: &'a R) -> Other<'a, R> {
+    pub(crate) fn other<'a, R>(&'a self, rt: &'a R, rival: &'a Rival) -> Other<'a, R> {
         Other {
             rt,
             vain: self.vain,
             takes: self.takes,
             file: self.file.as_str(),
+            rival,
+            asked: AtomicU64::new(0),
         }
     }
 }
@@ -65,6 +70,9 @@ pub(crate) struct Other<'a, R> {
     vain: u32,
     takes: u32,
     file: &'a str,
+    rival: &'a Rival,
+    /// How many questions were asked of the device that is held.
+    asked: AtomicU64,
 }
 
 /// Removes a file, or makes it, empty, where a `+` stands in front of it.
@@ -81,29 +89,49 @@ fn change<R: Files>(rt: &R, file: &str) -> io::Result<()> {
     }
 }
 
-/// Whether something stood at a device's path as it was asked for.
+/// The file that stood at a device's path as it was asked for, or was made there.
 #[derive(Drop)]
 pub(crate) struct Stood {
-    was_there: bool,
+    file: Option<FileNumbers>,
 }
 
-impl<'a, R: Files> Locks for Other<'a, R> {
+/// What stands at a path.
+fn standing<R: Files>(rt: &R, path: &str) -> Stood {
+    let file = match fs::metadata(rt, path) {
+        Ok(kept) => numbers_in(&kept),
+        Err(_) => None,
+    };
+    Stood { file }
+}
+
+impl<'a, R: Files, F: Drop> Locks<F> for Other<'a, R> {
     type Lock = Stood;
 
     fn take(&mut self, path: &str, _seconds: u32) -> Result<Held<Stood>, InUse> {
-        let was_there = fs::metadata(self.rt, path).is_ok();
+        let stood = standing(self.rt, path);
         if self.takes > 0 {
             self.takes = self.takes.saturating_sub(1);
             let _done = change(self.rt, self.file);
         }
         if self.vain == 0 {
-            return Ok(Held::new(path, Stood { was_there }));
+            return Ok(Held::new(path, stood));
         }
         self.vain = self.vain.saturating_sub(1);
         Err(InUse)
     }
 
+    fn take_made(&mut self, path: &str, _file: F) -> Result<Held<Stood>, InUse> {
+        let made = standing(self.rt, path);
+        if self.rival.locks {
+            return Err(InUse);
+        }
+        self.rival.come(self.rt, path, &self.asked);
+        Ok(Held::new(path, made))
+    }
+
     fn is_kept(&self, lock: &Stood, path: &str) -> bool {
-        lock.was_there == fs::metadata(self.rt, path).is_ok()
+        let is_kept = lock.file == standing(self.rt, path).file;
+        self.rival.come(self.rt, path, &self.asked);
+        is_kept
     }
 }

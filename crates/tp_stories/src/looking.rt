@@ -121,6 +121,7 @@ pub(crate) fn look<R: Files<File = F> + AllocGlobal, F: FileExt + Drop>(
         "keep" => keep(rt, stage, words),
         "stay" => stay(rt, stage),
         "held" => stage.hold(rt.alloc(), words),
+        "rival" => stage.meet(rt.alloc(), words),
         "looks" => stage.look_on(words),
         "shut" => stage.shut(words),
         "calls" => stage.call(words),

@@ -12,6 +12,7 @@ mod onlooking;
 mod playing;
 mod printed;
 mod redirected;
+mod rival;
 mod stage;
 mod staying;
 mod sweeping;

@@ -4,6 +4,7 @@ use crate::failing::read_calls;
 use crate::faulty::Plan;
 use crate::holding::Holding;
 use crate::onlooking::Looks;
+use crate::rival::Rival;
 use crate::staying::Kept;
 use crate::sweeping::Sweep;
 use crate::typed::malformed;
@@ -30,6 +31,8 @@ pub(crate) struct Stage {
     pub(crate) kept: Vec<Kept>,
     /// Another process that has devices.
     pub(crate) holding: Holding,
+    /// Another process that wants the path at which a device is made.
+    pub(crate) rival: Rival,
     /// Who looks at streams.
     pub(crate) looks: Looks,
     /// How calls of commands go.
@@ -55,6 +58,7 @@ impl Stage {
             refuses: None,
             kept: Vec::new(alloc),
             holding: Holding::none(alloc),
+            rival: Rival::none(alloc),
             looks: Looks::PLAIN,
             plan: Plan::NONE,
             next: None,
@@ -135,6 +139,12 @@ impl Stage {
         Ok(())
     }
 
+    /// Says what another process does at the path of a device that the commands behind this line make; with no word it isn't there.
+    pub(crate) fn meet(&mut self, alloc: Global, words: &str) -> io::Result<()> {
+        self.rival = Rival::read(alloc, words)?;
+        Ok(())
+    }
+
     /// Says who looks at the streams behind this line.
     pub(crate) fn look_on(&mut self, words: &str) -> io::Result<()> {
         self.looks = Looks::read(words)?;
@@ -171,6 +181,7 @@ impl Stage {
         self.refuses = None;
         self.kept.clear();
         self.holding = Holding::none(rt.alloc());
+        self.rival = Rival::none(rt.alloc());
         self.looks = Looks::PLAIN;
         self.plan = Plan::NONE;
         self.next = None;

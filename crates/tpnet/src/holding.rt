@@ -28,7 +28,7 @@ fn lock_file<R: Clock>(rt: &R, file: &File, seconds: u32) -> Result<(), InUse> {
     Err(InUse)
 }
 
-/// What stood at a device's path as it was asked for.
+/// What stood at a device's path as it was asked for, or was made there then.
 #[derive(Drop)]
 pub(crate) enum Found {
     /// A file, which is locked for as long as this lives, where its system knows locks.
@@ -86,12 +86,19 @@ impl<'a, R> SystemLocks<'a, R> {
     }
 }
 
-impl<'a, R: Files<File = File> + Clock> Locks for SystemLocks<'a, R> {
+impl<'a, R: Files<File = File> + Clock> Locks<File> for SystemLocks<'a, R> {
     type Lock = Found;
 
     fn take(&mut self, path: &str, seconds: u32) -> Result<Held<Found>, InUse> {
         let lock = hold_file(self.rt, path, seconds)?;
         Ok(Held::new(path, lock))
+    }
+
+    fn take_made(&mut self, path: &str, file: File) -> Result<Held<Found>, InUse> {
+        match file.try_lock() {
+            Err(TryLockError::WouldBlock) => Err(InUse),
+            _ => Ok(Held::new(path, Found::Locked(file))),
+        }
     }
 
     fn is_kept(&self, lock: &Found, path: &str) -> bool {

@@ -1,0 +1,56 @@
+//! Another process that wants the path at which a command makes a device.
+
+use crate::typed::{malformed, number_of, parted};
+use std::alloc::Global;
+use std::fs::Files;
+use std::sync::atomic::{AtomicU64, Ordering};
+use std::{fs, io};
+
+/// What another process does at the path of a device while a command makes it.
+#[derive(Drop)]
+pub(crate) struct Rival {
+    /// Whether it takes the lock of a file that was made there.
+    pub(crate) locks: bool,
+    /// Behind which of the questions that a command asks of the device which it holds a file is moved there; behind none for 0.
+    behind: u64,
+    /// That file.
+    file: String,
+}
+
+impl Rival {
+    /// There is no such process.
+    pub(crate) fn none(alloc: Global) -> Rival {
+        Rival {
+            locks: false,
+            behind: 0,
+            file: String::new(alloc),
+        }
+    }
+
+    /// What words say: `locks`, or `COUNT FILE`.
+    pub(crate) fn read(alloc: Global, words: &str) -> io::Result<Rival> {
+        let none = Rival::none(alloc);
+        match parted(words) {
+            ("", "") => Ok(none),
+            ("locks", "") => Ok(Rival {
+                locks: true,
+                ..none
+            }),
+            (_, "") => Err(malformed()),
+            (count, file) => Ok(Rival {
+                locks: false,
+                behind: number_of(count)?,
+                file: String::from_str(alloc, file)?,
+            }),
+        }
+    }
+
+    /// Comes to pass behind a question about a path, `asked` of which there were before.
+    pub(crate) fn come<R: Files>(&self, rt: &R, path: &str, asked: &AtomicU64) {
+        let number = asked.load(Ordering::SeqCst).saturating_add(1);
+        asked.store(number, Ordering::SeqCst);
+        if number == self.behind {
+            let _moved = fs::rename(rt, self.file.as_str(), path);
+        }
+    }
+}
