@@ -17,7 +17,7 @@ use std::io;
 use std::io::Write;
 use std::os::unix::fs::FileExt;
 use tp_area::{head_length, version_for};
-use tp_disk::NewDisk;
+use tp_disk::{Disk, NewDisk};
 use tp_model::HeadVersion;
 use tp_net::{Named, Topology};
 use tp_stream_files::is_one_file;
@@ -79,15 +79,6 @@ fn making_refusal(error: &io::Error) -> Refusal {
     }
 }
 
-/// Says why a device wasn't made, and puts what the system said into `system`. Answers the status.
-fn refuse_making<E: Write>(error: io::Error, system: &mut Option<io::Error>, err: &mut E) -> u8
-    ensures { result ≡ 1 }
-{
-    let refusal = making_refusal(&error);
-    *system = Some(error);
-    refuse(err, refusal)
-}
-
 /// How many bytes a device has, with a head of a version and two areas of `area` bytes.
 fn device_length(version: HeadVersion, area: u64) -> u64
     requires { area ≤ MAX_AREA }
@@ -130,87 +121,66 @@ fn make_file<S: Devices>(devices: &mut S, new: &NewDevice) -> io::Result<Option<
     }
 }
 
-/// Formats the device in the file that is held. Whether it is formatted is put into `is_formatted`, and what the system said of a call that
-/// failed into `system`.
-fn format_held<
-    R: Files<File = F> + AllocGlobal,
-    F: FileExt + OpenFile + Drop,
-    S: Devices,
-    O: Write,
-    E: Write,
->(
-    rt: &R,
-    devices: &S,
-    new: &NewDevice,
-    topology: &Topology,
-    images: &[Vec<u8>],
-    is_formatted: &mut bool,
-    system: &mut Option<io::Error>,
-    out: &mut O,
-    err: &mut E,
-) -> u8
-    requires area { new.now.area ≤ MAX_AREA }
-    requires held { S.held devices.now ≡ Some (string_bytes new.now.device) }
-    requires valid { is_topology topology.now ≡ true }
-    ensures few { result ≤ 1 }
-    ensures told { result ≡ 0 → is_formatted.new ≡ true }
-{
-    *is_formatted = false;
-    match new_disk(rt, devices, new, topology) {
-        Ok(mut disk) => {
-            let status = format_on(
-                rt.alloc(),
-                &mut disk,
-                topology,
-                images,
-                new.area,
-                is_formatted,
-                out,
-                err,
-            );
-            *system = disk.into_raw().into_failure();
-            status
-        }
-        Err(error) => refuse_making(error, system, err),
+/// What the system said of the call by which a device failed.
+fn failure_of<F: FileExt + OpenFile + Drop>(disk: NewDisk<F>) -> io::Error {
+    match disk.into_raw().into_failure() {
+        Some(error) => error,
+        None => io::Error::from(io::ErrorKind::Other),
     }
 }
 
-/// Formats the device in a file that was made for it, once its name lasts. Where the device isn't formatted the file is removed.
-fn format_made<
-    R: Files<File = F> + AllocGlobal,
-    F: FileExt + OpenFile + Drop,
-    S: Devices,
-    O: Write,
-    E: Write,
->(
+/// The device in an empty file that was made for it, once its name lasts and all its bytes are on the disk, 00.
+fn filled_disk<R: Files<File = F>, F: FileExt + OpenFile + Drop, S: Devices>(
     rt: &R,
     devices: &S,
     new: &NewDevice,
-    made: Made,
     topology: &Topology,
-    images: &[Vec<u8>],
-    system: &mut Option<io::Error>,
-    out: &mut O,
-    err: &mut E,
-) -> u8
+) -> io::Result<NewDisk<F>>
+    requires area { new.now.area ≤ MAX_AREA }
+    requires held { S.held devices.now ≡ Some (string_bytes new.now.device) }
+{
+    sync_folder(rt, new.device.as_str())?;
+    let mut disk = new_disk(rt, devices, new, topology)?;
+    match disk.sync() {
+        Ok(()) => Ok(disk),
+        Err(_) => Err(failure_of(disk)),
+    }
+}
+
+/// The device in an empty file that was made for it, which is filled, or removed where it can't be.
+fn disk_made<R: Files<File = F>, F: FileExt + OpenFile + Drop, S: Devices>(
+    rt: &R,
+    devices: &S,
+    new: &NewDevice,
+    topology: &Topology,
+    made: Made,
+) -> io::Result<NewDisk<F>>
     requires area { new.now.area ≤ MAX_AREA }
     requires held { S.held devices.now ≡ Some (string_bytes new.now.device) }
     requires made { path_held made.noted.told ≡ string_bytes new.now.device }
-    requires valid { is_topology topology.now ≡ true }
-    ensures { result ≤ 1 }
 {
-    let mut is_formatted = false;
-    let status = match sync_folder(rt, new.device.as_str()) {
-        Ok(()) => {
-            let is = &mut is_formatted;
-            format_held(rt, devices, new, topology, images, is, system, out, err)
-        }
-        Err(error) => refuse_making(error, system, err),
-    };
-    if !is_formatted {
+    let disk = filled_disk(rt, devices, new, topology);
+    if disk.is_err() {
         devices.remove(new.device.as_str(), made);
     }
-    status
+    disk
+}
+
+/// The device in a file that is made for it, and filled, or in one that is there, which stays as it was until the first call of it.
+fn disk_of<R: Files<File = F>, F: FileExt + OpenFile + Drop, S: Devices>(
+    rt: &R,
+    devices: &mut S,
+    new: &NewDevice,
+    topology: &Topology,
+) -> io::Result<NewDisk<F>>
+    requires area { new.now.area ≤ MAX_AREA }
+    requires held { S.held devices.old ≡ Some (string_bytes new.now.device) }
+    ensures { MadeAtMost (string_bytes new.now.device) (S.calls devices.old) (S.calls devices.new) }
+{
+    match make_file(devices, new)? {
+        Some(made) => disk_made(rt, devices, new, topology, made),
+        None => new_disk(rt, devices, new, topology),
+    }
 }
 
 /// Formats the device of this network, which is held: where another file stands at its path by now, or one where there was none, that is
@@ -241,17 +211,20 @@ fn format_network<
         return refuse(err, Refusal::DeviceFailed);
     }
     if !devices.is_kept(new.device.as_str()) {
-        return refuse_making(changed(), system, err);
+        *system = Some(changed());
+        return refuse(err, Refusal::InUse);
     }
-    match make_file(devices, new) {
-        Ok(Some(made)) => {
-            format_made(rt, devices, new, made, topology, images, system, out, err)
+    match disk_of(rt, devices, new, topology) {
+        Ok(mut disk) => {
+            let status = format_on(rt.alloc(), &mut disk, topology, images, new.area, out, err);
+            *system = disk.into_raw().into_failure();
+            status
         }
-        Ok(None) => {
-            let is = &mut false;
-            format_held(rt, devices, new, topology, images, is, system, out, err)
+        Err(error) => {
+            let refusal = making_refusal(&error);
+            *system = Some(error);
+            refuse(err, refusal)
         }
-        Err(error) => refuse_making(error, system, err),
     }
 }
 

@@ -18,53 +18,43 @@ use tp_disk::Disk;
 use tp_net::Topology;
 use tp_views::{Refusal, put, refuse};
 
-/// Formats the device, and says so. Whether it is formatted is put into `is_formatted`.
+/// Formats the device, and says so.
 fn make<D: Disk, O: Write>(
     alloc: Global,
     disk: &mut D,
     topology: &Topology,
     images: &[Vec<u8>],
     area: u64,
-    is_formatted: &mut bool,
     out: &mut O,
 ) -> Result<(), Refusal>
     requires valid { is_topology topology.now ≡ true }
     ensures formatted { D.keeps → OnOk result (Formatted topology.now (map (λ image. image.items) images.now) (areas_of_length (version_for topology.now) area) (D.state disk.old) (D.state disk.new)) }
     ensures fits { OnOk result (fits_device (D.size_of disk.old) topology.now (areas_of_length (version_for topology.now) area) ≡ true) }
-    ensures told { OnOk result (is_formatted.new ≡ true) }
-    ensures unsaid { D.keeps → is_formatted.new ≡ true → Formatted topology.now (map (λ image. image.items) images.now) (areas_of_length (version_for topology.now) area) (D.state disk.old) (D.state disk.new) }
-    ensures unformatted { is_formatted.new ≡ false → O.contents out.new ≡ O.contents out.old }
     ensures printed { OnOk result (Appends (O.contents out.old) (O.contents out.new) formatted_text) }
     ensures refused { start_of topology.now (map (λ image. image.items) images.now) ≡ None → (IsErr result) × (disk.new ≡ disk.old) × (O.contents out.new ≡ O.contents out.old) }
     ensures small { fits_device (D.size_of disk.old) topology.now (areas_of_length (version_for topology.now) area) ≡ false → (IsErr result) × (disk.new ≡ disk.old) × (O.contents out.new ≡ O.contents out.old) }
     ensures front { AppendsFront (O.contents out.old) (O.contents out.new) formatted_text }
     ensures leaves { D.keeps → LeavesOnly (D.state disk.old) (D.state disk.new) (IsOldOrNew topology.now (map (λ image. image.items) images.now) (areas_of_length (version_for topology.now) area) (D.state disk.old)) }
 {
-    *is_formatted = false;
     format(alloc, disk, topology, images, area)?;
-    *is_formatted = true;
     put(out, b"formatted\n")
 }
 
 /// `tpnet format`, on a device of the size that is asked for. Answers the program's status: 0 where the device is formatted,
 /// all of it synced, and that is printed; else 1. Where the images don't fit the topology, or the device is too small, nothing
-/// has changed. Whether the device is formatted, which it is, too, where that can't be printed, is put into `is_formatted`. Whatever a crash on the way leaves is old outside the areas, or has both areas complete.
+/// has changed. Whatever a crash on the way leaves is old outside the areas, or has both areas complete.
 pub fn format_on<D: Disk, O: Write, E: Write>(
     alloc: Global,
     disk: &mut D,
     topology: &Topology,
     images: &[Vec<u8>],
     area: u64,
-    is_formatted: &mut bool,
     out: &mut O,
     err: &mut E,
 ) -> u8
     requires valid { is_topology topology.now ≡ true }
     ensures status { result ≤ 1 }
     ensures formatted { D.keeps → result ≡ 0 → Formatted topology.now (map (λ image. image.items) images.now) (areas_of_length (version_for topology.now) area) (D.state disk.old) (D.state disk.new) }
-    ensures told { result ≡ 0 → is_formatted.new ≡ true }
-    ensures unsaid { D.keeps → is_formatted.new ≡ true → Formatted topology.now (map (λ image. image.items) images.now) (areas_of_length (version_for topology.now) area) (D.state disk.old) (D.state disk.new) }
-    ensures unformatted { is_formatted.new ≡ false → O.contents out.new ≡ O.contents out.old }
     ensures fits { result ≡ 0 → fits_device (D.size_of disk.old) topology.now (areas_of_length (version_for topology.now) area) ≡ true }
     ensures printed { result ≡ 0 → Appends (O.contents out.old) (O.contents out.new) formatted_text }
     ensures refused { start_of topology.now (map (λ image. image.items) images.now) ≡ None → (result ≡ 1) × (disk.new ≡ disk.old) × (O.contents out.new ≡ O.contents out.old) }
@@ -72,7 +62,7 @@ pub fn format_on<D: Disk, O: Write, E: Write>(
     ensures front { AppendsFront (O.contents out.old) (O.contents out.new) formatted_text }
     ensures leaves { D.keeps → LeavesOnly (D.state disk.old) (D.state disk.new) (IsOldOrNew topology.now (map (λ image. image.items) images.now) (areas_of_length (version_for topology.now) area) (D.state disk.old)) }
 {
-    match make(alloc, disk, topology, images, area, is_formatted, out) {
+    match make(alloc, disk, topology, images, area, out) {
         Ok(()) => 0,
         Err(refusal) => refuse(err, refusal),
     }

@@ -125,12 +125,12 @@ tpnet format device net.txt . 32513
 equal device three
 
 story roomless
-# A new file that doesn't become a device is removed, whichever call fails: of the nine behind those that open the topology's file and the image's
-# one makes it, one opens its folder and one syncs that, one opens it once it is held and one measures it, three fill it and one syncs it. Behind
+# A new file that gets no room is removed, whichever call fails: of the ten one makes it, one opens its folder and one syncs that, one opens
+# it once it is held and one measures it, three fill it and two sync it. In front of them the topology's file and the image's are opened; behind
 # them the device is written.
 text net.txt node a 4\nport h\nwire a.0 h\n
 image a.img
-sweep alone all 9
+sweep alone all 10
 remove device
 tpnet format device net.txt . 98048
 there device

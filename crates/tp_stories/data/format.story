@@ -150,43 +150,53 @@ tpnet format --new other net.txt . 16384
 equal other before
 
 story small_areas
-# An area with room for one entry is the least. A file that was made is removed where it is less.
+# An area with room for one entry is the least. A file that was made stays, with its length, and all its bytes are 00.
 text net.txt node a 4\nport h\nwire a.0 h\n
 image a.img
 tpnet format device13033 net.txt . 13033
-there device13033
+length device13033
+fill zeros 26578 00
+equal device13033 zeros
 tpnet format device100 net.txt . 100
-there device100
+length device100
+fill zeros 712 00
+equal device100 zeros
 tpnet format device0 net.txt . 0
-there device0
+length device0
+fill zeros 512 00
+equal device0 zeros
 tpnet format device net.txt . 13034
 length device
 
 story other_images
 # An image does not fit where a link of it is at work, where it says other pages than the topology, or where it is none. The
-# file that was made is removed.
+# file that was made stays, and all its bytes are 00.
 text net.txt node a 4\nport h\nwire a.0 h\n
 image a.img
+fill zeros 33280 00
 set a.img 109 01
 tpnet format busy net.txt . 16384
-there busy
+equal busy zeros
 image a.img
 set a.img 2 05
 tpnet format larger net.txt . 16384
-there larger
+equal larger zeros
 fill a.img 0 00
 tpnet format none net.txt . 16384
-there none
+equal none zeros
 
-story unprinted
-# A new device that is formatted stays where that can't be printed.
+story full
+# On a full disk a new file is refused before what is in it, and isn't left; one that is there stays, and what is in it is refused first.
 text net.txt node a 4\nport h\nwire a.0 h\n
 image a.img
-tpnet format old net.txt . 16384
-shut full
-tpnet format device net.txt . 16384
-shut
-equal device old
+fill before 200 2A
+copy before other
+calls most 0
+tpnet format device net.txt . 100
+there device
+tpnet format other net.txt . 100
+tpnet format other net.txt . 16384
+equal other before
 
 story rivals
 # Another process wants the path at which a device is made. What it puts there is neither written over nor removed. Here it has taken the lock of
@@ -213,16 +223,10 @@ copy theirs other
 rival 2 other
 tpnet format device net.txt . 16384
 equal device theirs
-# It does so once the file is open, and then the image is refused, or no byte can be written.
+# It does so once the file is open, and then no byte can be written.
 remove device
 copy theirs other
 rival 3 other
-text a.img no image
-tpnet format device net.txt . 16384
-equal device theirs
-image a.img
-remove device
-copy theirs other
 calls most 0
 tpnet format device net.txt . 16384
 equal device theirs

@@ -45,7 +45,7 @@ impl Rival {
         }
     }
 
-    /// Comes to pass behind a question about a path, `asked` of which there were before.
+    /// Comes to pass behind a question about a path, before which `asked` were.
     pub(crate) fn come<R: Files>(&self, rt: &R, path: &str, asked: &AtomicU64) {
         let number = asked.load(Ordering::SeqCst).saturating_add(1);
         asked.store(number, Ordering::SeqCst);
