@@ -1,0 +1,20 @@
+use Rattle.std.proofs.Common.{[]}
+use Rattle.tp_model.specs.Runs.{fresh}
+use Rattle.tp_model.specs.WriteOrder.{Resting}
+use Rattle.tp_shared.specs.Parted.{name_of}
+use Rattle.tp_tests_threads.proofs.alone.plays.Given as goal
+
+-- No history is told of: nothing here speaks of crashes.
+abbrev pub ghosts-is_taken_once : goal.ghosts-is_taken_once
+ghosts-is_taken_once g a = record {
+  roll = a.opening.parts.roll;
+  first = a.opening.parts.first;
+  start = record { wires = a.opening.parts.book.state.start.wires; nodes = a.opening.parts.book.state.start.nodes; ports = a.opening.parts.book.state.ports; lines = [] };
+  node = name_of a.opening.parts.seals;
+  mark = a.opening.parts.mark;
+  flusher = a.opening.parts.flusher;
+  sights = a.opening.parts.sights;
+  room = a.opening.parts.book.room;
+  formatted = a.opening.parts.book.state.start;
+  before = record { net = fresh a.opening.parts.book.state.start; base = 0; journal = []; disk = record { bytes = []; unsynced = [] }; at = Resting; backlog = []; stored = 0; mark = 0; seen = [] };
+}
