@@ -1,13 +1,10 @@
 //! What a teller says by time of how far a stream has come, at times and of numbers that it is given.
 
-use crate::files::Lent;
 use std::alloc::{AllocError, Global};
 use std::io;
 use std::io::{ErrorKind, Write};
 use std::test::Fail;
-use tp_stream_files::{
-    AnySink, Ended, Ending, Listener, Onlooker, Output, Progress, Stopped, Teller, Times, say_end,
-};
+use tp_stream_files::{Listener, Onlooker, Progress, Stopped, Teller, Times};
 
 /// How far a stream has come at a time in milliseconds, with the first two outputs.
 struct Row {
@@ -321,35 +318,6 @@ fn lines_are_due_by_time(rt: HostRuntime) -> Result<(), Fail> {
     for case in CASES {
         let text = wanted(rt.alloc(), case)?;
         assert!(rt; said(rt.alloc(), case).as_slice() == text.as_bytes());
-    }
-    Ok(())
-}
-
-/// An output of a port that was put up to 7, and is confirmed up to 5.
-fn output_of<'a>(port: u8) -> Output<AnySink<'a, Lent<'a>, Vec<u8>>> {
-    let mut output = Output::new(port, None, AnySink::Nothing);
-    output.set(5, 7);
-    output
-}
-
-/// The last line says of the port on standard output how much was written, and how much of that is confirmed; of no other one.
-#[test]
-fn the_end_says_what_was_written_and_confirmed(rt: HostRuntime) -> Result<(), Fail> {
-    let ended = Ended {
-        next: 9,
-        why: Ending::Gone,
-    };
-    let mut outputs = Vec::new(rt.alloc());
-    outputs.push(output_of(0))?;
-    outputs.push(output_of(1))?;
-    for (out, wanted) in [
-        (Some(1u8), "next 9 written 7 confirmed 5 gone\n"),
-        (Some(2), "next 9 gone\n"),
-        (None, "next 9 gone\n"),
-    ] {
-        let mut err = Vec::new(rt.alloc());
-        say_end(&mut err, ended, out, outputs.as_slice());
-        assert!(rt; err.as_slice() == wanted.as_bytes());
     }
     Ok(())
 }
