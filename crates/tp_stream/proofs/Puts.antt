@@ -17,7 +17,8 @@ use Rattle.std.proofs.lemmas.List.{length-append}
 use Rattle.tp_stream_files.specs.Held.{HeldBytes, HasPut, KeepsFront}
 use Rattle.tp_stream_files.specs.Outputs.{WasPutSafely, OutputValue}
 use Rattle.tp_stream_files.proofs.StreamEndsSinks.{none_put}
-use Rattle.tp_stream.specs.Put.{EachWith, LeadsToBytes, port_or_fresh}
+use Rattle.tp_stream_files.specs.declared.ending.Ending.{Ending}
+use Rattle.tp_stream.specs.Put.{EachWith, EndsPut, LeadsToBytes, are_put, port_or_fresh}
 use Rattle.tp_stream.specs.Steps.{AreLeft, Extends, IsPartConfirmed, PutsLeft, PutsShown, PortsStand}
 
 -- ## Bytes of one output
@@ -131,6 +132,14 @@ book_stands start w b A stored =
       leads = ap (after t414 start) front ∙ A.leads;
       left = λ p. left_still (port_in b p);
     }
+
+-- all of them do, to its ports as a stream ends
+pub ends_put : (start : Network NodeState) (w : World NodeState) (b : BookValue) → IsAheadOf start w b → next_in_book b ≤ w.mark → (why : Ending) (outputs : List OutputValue)
+    → are_put why (port_in b) outputs ≡ true → EndsPut start w.journal why outputs
+ends_put start w b A stored why outputs put =
+    let all = all_in_journal start w b A stored in
+    let whole : w.journal ≡ w.journal ++ A.more = sym (append-nil w.journal) ∙ ap (λ es. w.journal ++ es) (sym all.0) in
+    record { state = plain_network (world_of b).live; leads = ap (after t414 start) whole ∙ A.leads; each = put }
 
 -- the first ones of a list are as many as they are
 front_of : (n : ℕ) (xs : List ℕ) → take n xs ≡ take (length (take n xs)) xs

@@ -21,7 +21,7 @@ use Rattle.tp_stream_files.specs.declared.ending.Ended.{Ended}
 use Rattle.tp_stream.specs.declared.fault.StreamFault.{StreamFault}
 use Rattle.tp_stream.specs.declared.fault.StreamFault.TheVariants.{Opening, Spare, Port, Unnamed, Short, Long, Gone, NotShown, ShortInput, InputFailed, OutputFailed, FlushFailed, NotStored, JournalFull, Memory}
 use Rattle.tp_stream.specs.declared.standing.Standing.{Standing}
-use Rattle.tp_stream.specs.Put.{ArePut, EachWith, Got, PutPiece, ServedInto, StreamedInto, bytes_put}
+use Rattle.tp_stream.specs.Put.{ArePut, EachWith, EndsPut, Got, PutPiece, ServedInto, StreamedInto, bytes_put}
 use Rattle.tp_stream.specs.Standing.{from_of, stands_opened}
 use Rattle.tp_stream.specs.Steps.{AllStepped, IsSetOut}
 use Rattle.tp_stream.specs.Streamed.{CameBegun, StaysUnstreamed, Streamed}
@@ -32,9 +32,10 @@ use Rattle.tp_stream_files.proofs.StreamEndsSinks.{none_put}
 -- a device that was opened, and whose flusher walked on from there, with steps of outputs on the way
 pub served : (start : Network NodeState) (before : World NodeState) (o : Opened) (old new : Flushing) (result : Result Ended StreamFault) → Began start before old.state.now.bytes
     → verdict old.state.now.bytes ≡ Ok o → old.world ≡ reopened before old.state.now.bytes (held_of o) o.now → Reached start old.world → Walked old new
-    → IfOk result (λ ended. ended.next ≤ new.world.mark) → IfOk result (λ ended. ended.next ≡ length new.world.journal) → (was now : List OutputValue) → AllStepped start old new was now
+    → IfOk result (λ ended. ended.next ≤ new.world.mark) → IfOk result (λ ended. ended.next ≡ length new.world.journal) → (was now : List OutputValue)
+    → AllStepped start old new was now → IfOk result (λ ended. EndsPut start new.world.journal ended.why now)
     → ServedInto start result was now old.state new.state
-served start before o old new result began reads first reached W stored last was now stepped =
+served start before o old new result began reads first reached W stored last was now stepped ends =
     let bytes = old.state.now.bytes in record {
       streamed = record {
         journal = new.world.journal;
@@ -43,6 +44,7 @@ served start before o old new result began reads first reached W stored last was
         last = last;
       };
       outputs = all_got start old new reached was now stepped;
+      ends = ends;
     }
 
 -- a device that was only read
@@ -52,7 +54,7 @@ unwritten start fault old new L = record { journal = []; leaves = read_alone sta
 -- and nothing was put
 pub unput : (start : Network NodeState) (fault : StreamFault) (was now : List OutputValue) (old new : State) → LeavesNothingNew old new → map given_of now ≡ map given_of was
     → StreamedInto start (Err fault) was now old new
-unput start fault was now old new L same = record { streamed = unwritten start fault old new L; outputs = inl same }
+unput start fault was now old new L same = record { streamed = unwritten start fault old new L; outputs = inl same; ends = tt }
 
 -- where nothing was begun, and nothing was put
 pub unserved : (start : Network NodeState) (fault : StreamFault) (outputs : List OutputValue) (old : State) → ServedInto start (Err fault) outputs outputs old old
@@ -61,6 +63,7 @@ unserved start fault outputs old = record {
   outputs =
       each_same (λ a b. Got start [] a.next old old a b)
       (λ a. let none : a.next ≡ a.next + 0 = omega arith in record { port = refl; pieces = []; each = tt; next = none; holds = none_put a.next [] a.held refl }) outputs;
+  ends = tt;
 }
 
 -- ## A device that was read first
@@ -110,6 +113,7 @@ into start result o was set now old read new L same reads sets S =
             each_then (IsSetOut (stands_opened o)) (λ a b. Got start R.journal a.next read new a b)
             (λ a b. Got start R.journal (from_of (stands_opened o a.port) (given_of a)) old new a b) (got_set start R.journal (stands_opened o) old read new L.later) was set now sets S.outputs;
       });
+      ends = S.ends;
     }
 
 -- a stream that was begun isn't answered as one that wasn't

@@ -1,5 +1,6 @@
 -- What is put into sinks, beside the journal: outputs of ports where entries lead.
-use Rattle.std.specs.Prelude.{◌≡◌, ◌⊎◌, ◌≤◌, ℕ, ◌+◌, ◌-◌, List, [], ◌∷◌, ◌++◌, length, map, get_or, take, drop, Result, Ok, Some}
+use Rattle.std.specs.List.{list_all}
+use Rattle.std.specs.Prelude.{◌≡◌, ◌⊎◌, ◌≤◌, ℕ, ◌+◌, ◌-◌, ◌==◌, Bool, true, ◌&&◌, nat_le, List, [], ◌∷◌, ◌++◌, length, map, get_or, take, drop, Result, Ok, Some, IfOk}
 use Rattle.tp_model.specs.declared.entry.Entry.{Entry}
 use Rattle.tp_model.specs.NodeState.{NodeState}
 use Rattle.tp_model.specs.Node.{t414}
@@ -13,6 +14,8 @@ use Rattle.tp_book.specs.Ports.{fresh_value}
 use Rattle.tp_stream_files.specs.Held.{HasPut}
 use Rattle.tp_stream_files.specs.Outputs.{OutputValue, given_of}
 use Rattle.tp_stream_files.specs.declared.ending.Ended.{Ended}
+use Rattle.tp_stream_files.specs.declared.ending.Ending.{Ending}
+use Rattle.tp_stream_files.specs.declared.ending.Ending.TheVariants.{Quiet, Turns, Gone, Halted, Stopped}
 use Rattle.tp_stream.specs.declared.fault.StreamFault.{StreamFault}
 use Rattle.tp_stream.specs.Standing.{from_of, stands_opened}
 use Rattle.tp_stream.specs.Streamed.{Streamed}
@@ -77,12 +80,35 @@ pub record AreShown (start : Network NodeState) (journal : List Entry) (was now 
   pub reads : verdict old.now.bytes ≡ Ok opened
   pub each : EachWith (λ a b. Got start journal (from_of (stands_opened opened a.port) (given_of a)) old new a b) was now
 
--- What a stream leaves, and what its sinks got in that journal; or no sink has changed.
+-- ## As a stream ends
+
+-- Whether the outputs of a port that were put up to `next` are confirmed no further, where a stream ends so; and, where it ends as quiet or since all
+-- turns were made, whether all that the port has put out was put and confirmed.
+abbrev pub is_put : Ending → Port → ℕ → Bool
+is_put Quiet port next = port.out_base == next && length port.outputs == 0
+is_put Turns port next = port.out_base == next && length port.outputs == 0
+is_put Gone port next = nat_le port.out_base next
+is_put Halted port next = nat_le port.out_base next
+is_put Stopped port next = nat_le port.out_base next
+
+-- so it is of each output, where ports stand so
+abbrev pub are_put : Ending → (ℕ → Port) → List OutputValue → Bool
+are_put why ports outputs = list_all (λ (o : OutputValue). is_put why (ports o.port) o.next) outputs
+
+-- So it is of each output where all of a journal leads.
+pub record EndsPut (start : Network NodeState) (journal : List Entry) (why : Ending) (outputs : List OutputValue) : Type 0 where
+  pub state : Network NodeState
+  pub leads : after t414 start journal ≡ Some state
+  pub each : are_put why (port_or_fresh state) outputs ≡ true
+
+-- What a stream leaves, and what its sinks got in that journal, which are all outputs where it says so; or no sink has changed.
 pub record StreamedInto (start : Network NodeState) (result : Result Ended StreamFault) (was now : List OutputValue) (old new : State) : Type 0 where
   pub streamed : Streamed start result old new
   pub outputs : (map given_of now ≡ map given_of was) ⊎ AreShown start streamed.journal was now old new
+  pub ends : IfOk result (λ ended. EndsPut start streamed.journal ended.why now)
 
--- What a stream leaves whose outputs are set out, and what they got in that journal; or none has changed.
+-- What a stream leaves whose outputs are set out, and what they got in that journal, which are all where it says so; or none has changed.
 pub record ServedInto (start : Network NodeState) (result : Result Ended StreamFault) (was now : List OutputValue) (old new : State) : Type 0 where
   pub streamed : Streamed start result old new
   pub outputs : EachWith (λ a b. Got start streamed.journal a.next old new a b) was now
+  pub ends : IfOk result (λ ended. EndsPut start streamed.journal ended.why now)

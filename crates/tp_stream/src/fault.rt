@@ -32,7 +32,8 @@ pub enum StreamFault {
     /// A call of the device failed in a flush. None was made since.
     FlushFailed,
     /// The book or the area takes no entries, or the book has some that a flush hasn't stored, though no call of the device failed in a
-    /// flush. As a flush that fails is told first, and the last one comes behind all turns, none of that comes, which no clause says.
+    /// flush; or, behind the last flush, an output is left that was to be put. As a flush that fails is told first, and the last one comes
+    /// behind all turns and steps, none of that comes, which no clause says.
     NotStored,
     /// There is no room on the device, and no checkpoint frees any.
     JournalFull,

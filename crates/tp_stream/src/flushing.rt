@@ -5,14 +5,17 @@ ghost use Rattle.tp_model.specs.WriteOrder.{Resting};
 ghost use Rattle.tp_flush.specs.Known.{Began};
 ghost use Rattle.tp_flush.specs.Flushing.{IsSameProcess, Walked};
 ghost use Rattle.tp_stream.specs.Failures.{FailedWhere, answer_failed, flushing_fault};
+ghost use Rattle.tp_stream.specs.Put.{EndsPut};
 ghost use Rattle.tp_stream.specs.Streamed.{CameOfFlush};
 
 use crate::fault::StreamFault;
+use crate::left::are_put;
 use std::alloc::Global;
 use std::sync::Wait;
 use tp_disk::Disk;
 use tp_flush::{FlushFault, Flusher};
 use tp_shared::{Locked, Naming, Shared};
+use tp_stream_files::{Ending, Output, Sink};
 
 /// The fault of a flusher's turn.
 fn fault_in(fault: FlushFault) -> StreamFault
@@ -45,14 +48,19 @@ pub(crate) fn flush<J: Naming, D: Disk, R: Wait>(
     }
 }
 
-/// The number that the next entry gets, under the book's lock, where the flusher has stored all below: its journal has no more.
-fn last_under<J: Naming, D: Disk>(
+/// The number that the next entry gets, under the book's lock, where the flusher has stored all below, so that its journal has no more, and
+/// no output is left that a stream which ends so has to put.
+fn last_under<J: Naming, D: Disk, S: Sink>(
     held: &mut Locked<J>,
     flusher: &mut Flusher<J, D>,
+    why: Ending,
+    outputs: &[Output<S>],
 ) -> Result<u64, StreamFault>
     ensures same { flusher.new ≡ flusher.old }
     ensures stored { IfOk result (λ next. next ≤ flusher.old.world.mark) }
     ensures last { D.keeps → Began J.formatted J.before flusher.old.opened → IfOk result (λ next. next ≡ length flusher.old.world.journal) }
+    ensures put { D.keeps → Began J.formatted J.before flusher.old.opened
+        → IfOk result (λ next. EndsPut J.formatted flusher.old.world.journal why outputs.now) }
     ensures unfailed { answer_failed result ≡ false }
     ensures begun { IfErr result CameOfFlush }
 {
@@ -61,39 +69,51 @@ fn last_under<J: Naming, D: Disk>(
     if mark < next {
         return Err(StreamFault::NotStored);
     }
+    if !are_put(why, held.book(), outputs) {
+        return Err(StreamFault::NotStored);
+    }
     Ok(next)
 }
 
 /// Takes the book's lock, and asks for that number under it.
-fn last_of<J: Naming, D: Disk, R: Wait>(
+fn last_of<J: Naming, D: Disk, S: Sink, R: Wait>(
     rt: &R,
     shared: &Shared<J>,
     flusher: &mut Flusher<J, D>,
+    why: Ending,
+    outputs: &[Output<S>],
 ) -> Result<u64, StreamFault>
     ensures same { flusher.new ≡ flusher.old }
     ensures stored { IfOk result (λ next. next ≤ flusher.old.world.mark) }
     ensures last { D.keeps → Began J.formatted J.before flusher.old.opened → IfOk result (λ next. next ≡ length flusher.old.world.journal) }
+    ensures put { D.keeps → Began J.formatted J.before flusher.old.opened
+        → IfOk result (λ next. EndsPut J.formatted flusher.old.world.journal why outputs.now) }
     ensures unfailed { answer_failed result ≡ false }
     ensures begun { IfErr result CameOfFlush }
 {
     let mut held = shared.book().lock(rt);
-    last_under(&mut held, flusher)
+    last_under(&mut held, flusher, why, outputs)
 }
 
-/// The last flush. Answers the number that the next entry gets: all below is stored, and the journal has no more.
-pub(crate) fn finish<J: Naming, D: Disk, R: Wait>(
+/// The last flush. Answers the number that the next entry gets: all below is stored, and the journal has no more; and no output is left that a stream
+/// which ends so has to put.
+pub(crate) fn finish<J: Naming, D: Disk, S: Sink, R: Wait>(
     rt: &R,
     alloc: Global,
     shared: &Shared<J>,
     flusher: &mut Flusher<J, D>,
+    why: Ending,
+    outputs: &[Output<S>],
 ) -> Result<u64, StreamFault>
     ensures walks { D.keeps → Began J.formatted J.before flusher.old.opened → Walked flusher.old flusher.new }
     ensures process { IsSameProcess flusher.old flusher.new }
     ensures stored { IfOk result (λ next. next ≤ flusher.new.world.mark) }
     ensures last { D.keeps → Began J.formatted J.before flusher.old.opened → IfOk result (λ next. next ≡ length flusher.new.world.journal) }
+    ensures put { D.keeps → Began J.formatted J.before flusher.old.opened
+        → IfOk result (λ next. EndsPut J.formatted flusher.new.world.journal why outputs.now) }
     ensures failures { flusher.old.world.at ≡ Resting → FailedWhere (answer_failed result) flusher.old flusher.new }
     ensures begun { IfErr result CameOfFlush }
 {
     let _mark = flush(rt, alloc, shared, flusher)?;
-    last_of(rt, shared, flusher)
+    last_of(rt, shared, flusher, why, outputs)
 }

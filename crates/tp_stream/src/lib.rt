@@ -10,6 +10,7 @@ mod flushing;
 mod ground;
 mod input;
 mod leading;
+mod left;
 mod lent;
 mod opening;
 mod output;

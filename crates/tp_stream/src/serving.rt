@@ -7,6 +7,7 @@ ghost use Rattle.tp_stream_files.specs.Inputs.{is_over};
 ghost use Rattle.tp_stream.specs.Failures.{answer_failed};
 ghost use Rattle.tp_stream.specs.Looks.{HaveLooked, LooksAtMostOnce, LooksOnce};
 ghost use Rattle.tp_stream.specs.Over.{LeavesNoInput};
+ghost use Rattle.tp_stream.specs.Put.{EndsPut};
 ghost use Rattle.tp_stream.specs.Quiet.{HaveRested, IsWhyEnded};
 ghost use Rattle.tp_stream.specs.Served.{ServedAnswer, ServedOn};
 ghost use Rattle.tp_stream.specs.Steps.{AllStepped};
@@ -348,6 +349,8 @@ pub(crate) fn serve<
     ensures looks { IfOk result.1 (λ ended. HaveLooked ground.entry.pace.task (P.answers stop.old) (P.answers stop.new) (Some ended.why)) }
     ensures stored { IfOk result.1 (λ ended. ended.next ≤ result.0.world.mark) }
     ensures last { D.keeps → Began J.formatted J.before flusher.opened → IfOk result.1 (λ ended. ended.next ≡ length result.0.world.journal) }
+    ensures put { D.keeps → Began J.formatted J.before flusher.opened
+        → IfOk result.1 (λ ended. EndsPut J.formatted result.0.world.journal ended.why streams.new.outputs.items) }
     ensures begun { IfErr result.1 CameBegun }
 {
     let Ground { rt, alloc, net, .. } = ground;
@@ -360,7 +363,7 @@ pub(crate) fn serve<
         Ok(None) => return (there, Err(StreamFault::NotStored)),
         Err(fault) => return (there, Err(fault)),
     };
-    match finish(rt, alloc, shared, &mut there) {
+    match finish(rt, alloc, shared, &mut there, why, &streams.outputs) {
         Ok(next) => {
             tell_stopped(rt, shared, why, rests, listener);
             (there, Ok(Ended { next, why }))

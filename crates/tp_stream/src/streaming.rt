@@ -181,7 +181,8 @@ fn stream_parts<
 /// Whatever a crash leaves at any moment of the call is what one just before might have left, or opens to where a prefix of the journal
 /// leads, with all that the device had. After a stream that was done it has each entry below the number that is answered, which are all
 /// of the journal. What a sink got, however the stream ends, are outputs of its port where entries of that journal lead that whatever a
-/// crash leaves from then on has. That all that was put is safe, and no more is confirmed, is said by `Output`, of each moment. It ends as
+/// crash leaves from then on has. Where it has ended as quiet, or since all turns were made, they are all that a port has put out, and
+/// confirmed. That all that was put is safe, and no more is confirmed, is said by `Output`, of each moment. It ends as
 /// stopped just where the last look whether it is asked to stop has answered yes, and no look before that has. A fault of the opening is
 /// what that answers, and that a call of the device failed, as it was opened or in a flush, is answered just where one has.
 pub fn stream<

@@ -57,11 +57,12 @@ impl<I: Source> Input<I> {
     }
 
     /// Whether a read would wait for bytes that haven't come yet, where the port has accepted those up to `at`. It waits for them itself,
-    /// `millis` milliseconds or less.
+    /// `millis` milliseconds or less. None does behind the end.
     #[tactic(auto, using(crate::proofs::Read::ends_still))]
     pub fn would_wait(&mut self, at: u64, millis: u64) -> bool
         ensures same { (self.new.port ≡ self.old.port) × (I.input self.new.source ≡ I.input self.old.source) }
         ensures over { (self.new.ended ≡ self.old.ended) × (self.new.is_blocked ≡ self.old.is_blocked) }
+        ensures behind { IfSome self.old.ended (λ _. result ≡ false) }
     {
         self.ended.is_none() && self.source.would_wait(at, millis)
     }

@@ -1,6 +1,6 @@
 //! A sink in memory. One of its calls may fail.
 
-ghost use Rattle.std.specs.Prelude.{◌≡◌, ◌≤◌, [], ◌++◌, length, take, None, Some, OnOk, OnErr};
+ghost use Rattle.std.specs.Prelude.{◌≡◌, ◌≤◌, [], ◌++◌, length, take, true, is_ok, None, Some, OnOk, OnErr};
 ghost use Rattle.tp_stream_files.specs.Failing.{calls_behind, goes_on};
 ghost use Rattle.tp_stream_files.specs.Held.{HasLength, HasPut, HasReach, IsSafe, KeepsBytes, KeepsFront, Reaches};
 
@@ -78,6 +78,7 @@ impl MemSink {
         ensures put { OnOk result (self.new.bytes.items ≡ take at self.old.bytes.items ++ bytes.now) }
         ensures failed { OnErr result (self.new.bytes.items ≡ take at self.old.bytes.items) }
         ensures safe { self.new.safe ≡ at }
+        ensures left { self.new.calls ≡ self.old.calls }
     {
         self.safe = at;
         self.bytes.truncate(at as usize);
@@ -99,7 +100,13 @@ impl Sink for MemSink {
         Some(self.bytes.len() as u64)
     }
 
-    fn put(&mut self, at: u64, bytes: &[u8]) -> Result<(), SinkFault> {
+    fn put(&mut self, at: u64, bytes: &[u8]) -> Result<(), SinkFault>
+        requires { Reaches at (Some (record { bytes = self.old.bytes.items; safe = self.old.safe })) }
+        ensures put { OnOk result (HasPut at bytes.now (Some (record { bytes = self.old.bytes.items; safe = self.old.safe })) (Some (record { bytes = self.new.bytes.items; safe = self.new.safe }))) }
+        ensures front { KeepsFront at (Some (record { bytes = self.old.bytes.items; safe = self.old.safe })) (Some (record { bytes = self.new.bytes.items; safe = self.new.safe })) }
+        ensures goes { OnOk result (goes_on self.old.calls ≡ true) }
+        ensures left { self.new.calls ≡ calls_behind self.old.calls }
+    {
         if self.goes() {
             return self.put_behind(at, bytes);
         }
@@ -107,7 +114,12 @@ impl Sink for MemSink {
         Err(SinkFault::Failed)
     }
 
-    fn settle(&mut self) -> Result<(), SinkFault> {
+    fn settle(&mut self) -> Result<(), SinkFault>
+        ensures safe { OnOk result (IsSafe (Some (record { bytes = self.new.bytes.items; safe = self.new.safe }))) }
+        ensures bytes { KeepsBytes (Some (record { bytes = self.old.bytes.items; safe = self.old.safe })) (Some (record { bytes = self.new.bytes.items; safe = self.new.safe })) }
+        ensures goes { is_ok result ≡ goes_on self.old.calls }
+        ensures left { self.new.calls ≡ calls_behind self.old.calls }
+    {
         if !self.goes() {
             return Err(SinkFault::Failed);
         }

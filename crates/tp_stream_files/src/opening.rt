@@ -1,7 +1,7 @@
 //! How ends are opened.
 
 ghost use Rattle.std.specs.Prelude.{◌≡◌, ◌++◌, ◌∷◌, [], true, map, is_ok, string_bytes, IfErr, IfOk, OnOk};
-ghost use Rattle.tp_stream_files.specs.Named.{inputs_named, output_away, output_to, outputs_named};
+ghost use Rattle.tp_stream_files.specs.Named.{inputs_named, is_standard, output_away, output_to, outputs_named};
 ghost use Rattle.tp_stream_files.specs.Opened.{IsSinkOf, IsSourceOf, IsUnread};
 ghost use Rattle.tp_stream_files.specs.Opening.{KeepsFiles, NamesPort, to_read, to_write};
 ghost use Rattle.tp_stream_files.specs.Sinks.{SyncsFolder, begin_calls};
@@ -105,6 +105,7 @@ fn sink_at<'a, S: EndFiles<File = F> + Looks, F: EndFile + Drop, O: Write>(
     ensures kept { KeepsFiles (S.calls files.old) (S.calls files.new) }
     ensures sink { IfOk result (IsSinkOf F.calls end.now (S.calls files.old) (S.calls files.new)) }
     ensures fault { IfErr result (NamesPort end.now.port) }
+    ensures twice { is_standard end.now ≡ true → IfErr result (λ fault. fault ≡ EndFault.Twice end.now.port) }
 {
     if end.is_standard() {
         return match out.take() {
@@ -239,7 +240,8 @@ fn add_discards<'a, F: EndFile + Drop, O: Write>(
     ends: &Ends,
     outputs: &mut Vec<Output<AnySink<'a, F, O>>>,
 ) -> Result<(), EndFault>
-    ensures { OnOk result (outputs.new.items ≡ outputs.old.items ++ map output_away ends.now.discards.items) }
+    ensures added { OnOk result (outputs.new.items ≡ outputs.old.items ++ map output_away ends.now.discards.items) }
+    ensures fault { IfErr result (λ fault. fault ≡ EndFault.Memory) }
 {
     for port in &ends.discards {
         let output = Output::new(*port, None, AnySink::Nothing);

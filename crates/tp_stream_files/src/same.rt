@@ -1,6 +1,6 @@
 //! Whether two names stand for one file.
 
-ghost use Rattle.std.specs.Prelude.{◌≡◌, ◌↔◌, [], ◌++◌, true, Some, Contains, IfErr, IfSome, OnOk, option_to_list};
+ghost use Rattle.std.specs.Prelude.{◌≡◌, ◌↔◌, [], ◌++◌, false, true, Some, Contains, IfErr, IfNone, IfSome, OnOk, option_to_list};
 
 use crate::ends::{EndFault, Ends, PortFile};
 use crate::outside::Outside;
@@ -38,7 +38,8 @@ pub fn numbers_in(kept: &Metadata) -> Option<FileNumbers> {
 
 /// Whether two numbers are those of one file.
 pub(crate) fn are_one(one: Option<FileNumbers>, other: Option<FileNumbers>) -> bool
-    ensures { IfSome one (λ file. (result ≡ true) ↔ (other ≡ Some file)) }
+    ensures some { IfSome one (λ file. (result ≡ true) ↔ (other ≡ Some file)) }
+    ensures none { IfNone one (result ≡ false) }
 {
     match (one, other) {
         (Some(one), Some(other)) => one == other,
@@ -72,7 +73,8 @@ impl Taken {
 
     /// Whether a file has a part.
     pub(crate) fn has(&self, file: Option<FileNumbers>) -> bool
-        ensures { IfSome file (λ file. (result ≡ true) ↔ Contains self.now.files.items file) }
+        ensures some { IfSome file (λ file. (result ≡ true) ↔ Contains self.now.files.items file) }
+        ensures none { IfNone file (result ≡ false) }
     {
         match file {
             Some(file) => self.files.contains(&file),

@@ -1,6 +1,6 @@
 //! Bytes that a thread of its own reads, so that nobody else waits for them.
 
-ghost use Rattle.std.specs.Prelude.{◌≡◌, ◌<◌, ◌≤◌, false, true, length, None, Some, Ok, is_err, IfErr, IfNone, IfOk, IfSome};
+ghost use Rattle.std.specs.Prelude.{◌≡◌, ◌↔◌, ◌<◌, ◌≤◌, [], ◌∷◌, ◌++◌, false, true, length, None, Some, Ok, is_err, IfErr, IfNone, IfOk, IfSome};
 ghost use Rattle.std.specs.Io.KnownBytes.{ReadConsumes};
 ghost use Rattle.tp_stream_files.specs.Trace.{count_answered, gave};
 ghost use Rattle.tp_model.specs.declared.limits.TheConstants.{MAX_HELD};
@@ -45,6 +45,13 @@ fn read_piece<I: Read>(alloc: Global, reader: &mut I) -> Piece
     Piece { came, bytes }
 }
 
+/// Whether a piece is the last one that its reader is asked for: no byte came, at the end or since the read failed.
+fn is_last(piece: &Piece) -> bool
+    ensures { (result ≡ false) ↔ (0 < count_answered piece.now.came) }
+{
+    matches!(piece.came, Ok(0) | Err(_))
+}
+
 /// Sends the next piece of a reader. Whether there may be another one that somebody takes.
 fn send_piece<R: Wait + AllocGlobal, I: Read>(
     rt: &R,
@@ -52,7 +59,7 @@ fn send_piece<R: Wait + AllocGlobal, I: Read>(
     pieces: &Sender<Piece>,
 ) -> bool {
     let piece = read_piece(rt.alloc(), reader);
-    let is_last = matches!(piece.came, Ok(0) | Err(_));
+    let is_last = is_last(&piece);
     pieces.send(rt, piece).is_ok() && !is_last
 }
 
@@ -170,7 +177,7 @@ impl<R: Wait + Drop> Threaded<R> {
         ensures over { self.old.is_over ≡ true → (result ≡ Ok 0) × (self.new.ready ≡ self.old.ready) }
         ensures ready { self.old.is_over ≡ false → IfSome self.old.ready (λ piece. gave result out.new ≡ gave piece.came piece.bytes.items) }
         ensures left { self.old.is_over ≡ false → self.new.ready ≡ None }
-        ensures ended { self.new.is_over ≡ true → result ≡ Ok 0 }
+        ensures ended { (self.new.is_over ≡ true) ↔ (result ≡ Ok 0) }
     {
         if self.is_over {
             return Ok(0);
@@ -200,7 +207,12 @@ impl<R: Wait + Clock + Drop> Feed for Threaded<R> {
         self.keep(came)
     }
 
-    fn next(&mut self, out: &mut [u8; MAX_HELD]) -> Result<usize, SourceFailed> {
+    fn next(&mut self, out: &mut [u8; MAX_HELD]) -> Result<usize, SourceFailed>
+        ensures few { IfOk result (λ count. count ≤ length out.new) }
+        ensures noted { self.new.trace.told ≡ self.old.trace.told ++ gave result out.new ∷ [] }
+        ensures over { self.old.is_over ≡ true → result ≡ Ok 0 }
+        ensures ended { (self.new.is_over ≡ true) ↔ (result ≡ Ok 0) }
+    {
         let came = self.next_piece(out);
         self.trace = match came {
             Ok(count) => self.trace.gave(&out[..count]),

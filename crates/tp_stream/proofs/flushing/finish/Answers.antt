@@ -3,6 +3,7 @@ use Rattle.std.specs.Prelude.{IfOk}
 use Rattle.tp_flush.specs.Known.{Began}
 use Rattle.tp_flush.specs.Flushing.{Flushing, IsSameProcess, Walked}
 use Rattle.tp_stream.specs.Failures.{FailedWhere, answer_failed}
+use Rattle.tp_stream.specs.Put.{EndsPut}
 use Rattle.tp_stream.proofs.Failures.{failed_still}
 use Rattle.tp_stream.proofs.flushing.finish.Goals as goal
 
@@ -28,3 +29,8 @@ pub returns-in_err-_mark-clause-failures : goal.returns-in_err-_mark-clause-fail
 returns-in_err-_mark-clause-failures g c rests =
     let is : c.from_residual.result ≡ Err c.in_err-_mark.field-0.0 = search rules in
     subst (λ r. FailedWhere (answer_failed r) c.args.flusher.now c.flush.new.flusher) (sym is) (c.in_err-_mark.ensures.failures rests)
+
+pub returns-clause-put : goal.returns-clause-put
+returns-clause-put g c k began =
+    subst (λ (f : Flushing). IfOk c.last_of.result (λ next. EndsPut g.J.Naming.formatted f.world.journal c.args.why c.args.outputs.now)) (sym c.last_of.ensures.same)
+    (c.last_of.ensures.put k (subst (Began g.J.Naming.formatted g.J.Naming.before) (sym c.flush.ensures.process.opened) began))

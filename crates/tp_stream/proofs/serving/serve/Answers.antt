@@ -1,6 +1,7 @@
 use Rattle.std.proofs.Common.{false, length, sym, subst}
 use Rattle.tp_flush.specs.Known.{Began}
 use Rattle.tp_stream.specs.Failures.{answer_failed, fault_failed}
+use Rattle.tp_stream.specs.Put.{EndsPut}
 use Rattle.tp_stream.specs.Served.{ServedOn}
 use Rattle.tp_stream.proofs.Failures.{flush_begun}
 use Rattle.tp_stream.proofs.Notices.{later_then}
@@ -39,3 +40,8 @@ returns-in-Ok-clause-told g c = later_then (length g.J.Naming.start.nodes) _ _ _
 
 pub returns-in-Err-finish-clause-begun : goal.returns-in-Err-finish-clause-begun
 returns-in-Err-finish-clause-begun g c = flush_begun c.in-Err-finish.fault c.in-Err-finish.ensures.begun
+
+pub returns-in-Ok-clause-put : goal.returns-in-Ok-clause-put
+returns-in-Ok-clause-put g c k began =
+    subst (λ l. EndsPut g.J.Naming.formatted c.finish.new.flusher.world.journal c.in-Ok-Some.why l) c.deref.ensures.value
+    (c.in-Ok.ensures.put k (subst (Began g.J.Naming.formatted g.J.Naming.before) (sym c.lead-there.ensures.served.process.opened) began))

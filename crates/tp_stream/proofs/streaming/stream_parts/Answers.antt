@@ -37,7 +37,7 @@ returns-clause-streamed g c k began =
     let S = c.serve-flusher.ensures in
     subst (λ s. ServedInto start done was now (g.D.Disk.state c.args.device.store.disk) s) (sym c.into_disk-2.ensures.state)
     (subst (λ s. ServedInto start done was now s new.state) c.over-flusher.ensures.device.0
-    (served start before o old new done there reads world (c.known.ensures.reached k first) (S.served.walks k first) S.stored (S.last k first) was now (S.served.put k first)))
+    (served start before o old new done there reads world (c.known.ensures.reached k first) (S.served.walks k first) S.stored (S.last k first) was now (S.served.put k first) (S.put k first)))
 
 pub returns-clause-why : goal.returns-clause-why
 returns-clause-why g c =
