@@ -3,7 +3,7 @@
 /// How a device's network is run.
 #[derive(Clone, Copy)]
 pub struct Job {
-    /// How many turns all workers make together. A refused turn counts.
+    /// How many turns all workers make together. A refused turn counts; behind one that is refused since the store has failed a worker makes none.
     pub turns: u32,
     /// How many threads make turns, 1 to [`MAX_WORKERS`].
     pub workers: u8,

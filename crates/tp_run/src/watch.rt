@@ -19,7 +19,7 @@ const UNBEGUN: u64 = 0;
 /// It makes turns.
 const MAKES_TURNS: u64 = 1;
 
-/// No turn is left.
+/// No turn is left, or the store has failed.
 const ENDED: u64 = 2;
 
 /// At how many made entries it is worth a look at the book again, after `made` were made and `missing` were wanting then. `missing` is
@@ -83,10 +83,15 @@ impl Watch {
         }
         let is_left = before < self.turns;
         if !is_left {
-            self.first.store(ENDED, Ordering::SeqCst);
-            self.first.wake_all();
+            self.end_rests();
         }
         is_left
+    }
+
+    /// Wakes who rests, since no turn is left, or each that is would be refused.
+    pub(crate) fn end_rests(&self) {
+        self.first.store(ENDED, Ordering::SeqCst);
+        self.first.wake_all();
     }
 
     /// Tells that the first worker begins to make turns.
@@ -94,7 +99,7 @@ impl Watch {
         self.first.store(MAKES_TURNS, Ordering::SeqCst);
     }
 
-    /// Sleeps for `micros` microseconds, or until no turn is left; not at all where the first worker makes none.
+    /// Sleeps for `micros` microseconds, or until rests end; not at all where the first worker makes no turns.
     pub(crate) fn rest<R: Wait>(&self, rt: &R, micros: u64) {
         self.first
             .park_timeout(rt, MAKES_TURNS as u32, Duration::from_micros(micros));

@@ -1,6 +1,6 @@
 //! Workers.
 
-ghost use Rattle.std.specs.Prelude.{◌≡◌, ◌<◌, ◌≤◌, All, None, Some, IfErr, IfOk, IfSome, length};
+ghost use Rattle.std.specs.Prelude.{◌≡◌, ◌<◌, ◌≤◌, ◌↔◌, false, All, None, Some, Err, IfErr, IfOk, IfSome, length};
 ghost use Rattle.tp_run.specs.Worked.{Worked};
 
 use crate::aside::Aside;
@@ -38,6 +38,14 @@ fn steps_of(done: &Result<Turn, TurnFault>) -> u16
     }
 }
 
+/// Whether a worker makes further turns behind such a one: not once the store has failed, which is for good, and
+/// refuses each turn of a node.
+fn may_go_on(done: &Result<Turn, TurnFault>) -> bool
+    ensures { (result ≡ false) ↔ (done.now ≡ Err TurnFault.StoreBroken) }
+{
+    !matches!(done, Err(TurnFault::StoreBroken))
+}
+
 /// Begins a snapshot where it is time. That it is refused is passed over. No lock is taken before enough entries may have been made.
 fn begin<J: Naming, R: Wait>(rt: &R, alloc: Global, shared: &Shared<J>, watch: &Watch) {
     let Some(made) = watch.made_when_due() else {
@@ -49,8 +57,8 @@ fn begin<J: Naming, R: Wait>(rt: &R, alloc: Global, shared: &Shared<J>, watch: &
     watch.set_due(made, missing_in(&held, watch.every()));
 }
 
-/// Makes turns until none is left. A refused turn counts. It never waits for the flusher; one that `helps` rests while turns are short.
-/// `seat` has the slips of just these turns.
+/// Makes turns until none is left, or the store has failed: behind a turn that is refused for that it makes none. A refused turn counts. It never
+/// waits for the flusher; one that `helps` rests while turns are short. `seat` has the slips of just these turns.
 fn work<J: Naming, R: Wait>(
     rt: &R,
     alloc: Global,
@@ -75,6 +83,10 @@ fn work<J: Naming, R: Wait>(
         let before = seat.count();
         let done = net.turn(rt, seat);
         watch.tell(told_of(&done, seat.count().saturating_sub(before)));
+        if !may_go_on(&done) {
+            watch.end_rests();
+            return;
+        }
         if matches!(done, Err(TurnFault::Empty)) {
             thread::yield_now();
         }
@@ -87,8 +99,8 @@ fn work<J: Naming, R: Wait>(
     }
 }
 
-/// Lets a worker at each seat make turns until none is left, each in a thread of its own where one can be made, and then tells the
-/// flusher. The first worker never rests, and the others only while it makes turns.
+/// Lets a worker at each seat make turns until none is left, or the store has failed, each in a thread of its own where one can be made, and
+/// then tells the flusher. The first worker never rests, and the others only while it makes turns.
 pub(crate) fn work_all<J: Naming + Send + Sync, R: Threads + Wait + Sync>(
     rt: &R,
     alloc: Global,
