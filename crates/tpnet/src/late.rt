@@ -1,15 +1,41 @@
 //! Standard input that isn't read before the first call.
 
-ghost use Rattle.std.specs.Prelude.{◌≡◌};
+ghost use Rattle.std.specs.Io.{ReadsAtMost};
+ghost use Rattle.std.specs.Io.KnownBytes.{ReadConsumes};
+ghost use Rattle.std.specs.Prelude.{◌≡◌, [], None};
 
 use crossbeam_channel::{Receiver, Sender, bounded};
 use std::io;
 use std::io::{ErrorKind, Input, Read};
 use std::sync::Wait;
-use std::thread::Threads;
-use std::time::Clock;
+use std::thread::{Threads, sleep};
+use std::time::{Clock, Duration};
 use tp_model::limits::MAX_HELD;
 use tp_stream_files::{Feed, SourceFailed, Threaded, Trace};
+
+/// How many milliseconds a reader is left alone that didn't wait for bytes.
+const PAUSE: u64 = 20;
+
+/// The next bytes of a reader, which are waited for also where the reader doesn't wait itself: whoever shares a pipe or a terminal with this
+/// process may have made it so (O_NONBLOCK).
+fn read_waiting<R: Wait + Clock, I: Read>(
+    rt: &R,
+    reader: &mut I,
+    buf: &mut [u8],
+) -> io::Result<usize>
+    ensures bound { ReadsAtMost result buf.new }
+    ensures bytes { ReadConsumes (I.remaining reader.old) (I.remaining reader.new) result buf.new }
+{
+    for _ in rt.forever() {
+        match reader.read(buf) {
+            Err(error) if error.kind() == ErrorKind::WouldBlock => {
+                sleep(rt, Duration::from_millis(PAUSE));
+            }
+            done => return done,
+        }
+    }
+    Err(io::Error::from(ErrorKind::WouldBlock))
+}
 
 /// A reader that reads nothing before it is told to; where nobody is left who could tell it, a read fails.
 #[derive(Drop)]
@@ -19,7 +45,9 @@ struct Gated<R: Drop, I: Drop> {
     reader: I,
 }
 
-impl<R: Wait + Drop, I: Read + Drop> Read for Gated<R, I> {
+impl<R: Wait + Clock + Drop, I: Read + Drop> Read for Gated<R, I> {
+    ghost remaining = { λ gated. I.remaining gated.reader };
+
     fn read(&mut self, buf: &mut [u8]) -> io::Result<usize> {
         if let Some(told) = &self.told {
             if told.recv(&self.rt).is_err() {
@@ -27,7 +55,7 @@ impl<R: Wait + Drop, I: Read + Drop> Read for Gated<R, I> {
             }
             self.told = None;
         }
-        self.reader.read(buf)
+        read_waiting(&self.rt, &mut self.reader, buf)
     }
 }
 
@@ -42,11 +70,13 @@ pub(crate) struct Late<R: Drop> {
 }
 
 impl<
-    R: Input<Reader = I> + Threads + Wait + AllocGlobal + Copy + Drop + Send + 'static,
+    R: Input<Reader = I> + Threads + Wait + Clock + AllocGlobal + Copy + Drop + Send + 'static,
     I: Read + Drop + Send + 'static,
 > Late<R> {
     /// Standard input, unread so far.
-    pub(crate) fn new(rt: R) -> Late<R> {
+    pub(crate) fn new(rt: R) -> Late<R>
+        ensures { result.trace.told ≡ [] }
+    {
         let (to_tell, reader) = match bounded(rt.alloc(), 1) {
             Ok((to_tell, told)) => {
                 let told = Some(told);
@@ -67,7 +97,8 @@ impl<
 impl<R: Wait + Drop> Late<R> {
     /// Tells the thread to read, where it wasn't told.
     fn begin(&mut self)
-        ensures { self.new.trace.told ≡ self.old.trace.told }
+        ensures same { self.new.trace.told ≡ self.old.trace.told }
+        ensures told { self.new.to_tell ≡ None }
     {
         if let Some(to_tell) = self.to_tell.take() {
             let _ = to_tell.send(&self.rt, ());

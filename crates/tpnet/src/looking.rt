@@ -1,5 +1,7 @@
 //! Who looks at standard error, for lines by time.
 
+ghost use Rattle.std.specs.Prelude.{◌≡◌, []};
+
 use std::time::Clock;
 use tp_stream_files::{Onlooker, Times};
 
@@ -14,7 +16,10 @@ pub(crate) struct Looker<'a, R> {
 
 impl<'a, R> Looker<'a, R> {
     /// No time was asked for.
-    pub(crate) fn new(rt: &'a R, is_terminal: bool, is_output_terminal: bool) -> Looker<'a, R> {
+    pub(crate) fn new(rt: &'a R, is_terminal: bool, is_output_terminal: bool) -> Looker<'a, R>
+        ensures terminals { (result.is_terminal ≡ is_terminal) × (result.is_output_terminal ≡ is_output_terminal) }
+        ensures times { result.times.told ≡ [] }
+    {
         Looker {
             rt,
             is_terminal,
