@@ -3,6 +3,10 @@ use Rattle.std.specs.Prelude.{◌≡◌, ℕ, List, [], ◌∷◌, ◌++◌, cod
 use Rattle.std.specs.Fmt.{decimal}
 use Rattle.std.specs.Io.KnownBytes.{Appends}
 use Rattle.tp_recover.specs.Copies.{IsCopy, area_kept}
+use Rattle.tp_recover.specs.declared.fault.CopyFault.{CopyFault}
+use Rattle.tp_recover.specs.declared.fault.CopyFault.TheVariants.{ReadFailed as NotRead, DeviceFailed as NotWritten, Memory as NoMemory}
+use Rattle.tp_views.specs.declared.refusal.Refusal.{Refusal}
+use Rattle.tp_views.specs.declared.refusal.Refusal.TheVariants.{ReadFailed, DeviceFailed, Memory}
 use Rattle.tp_model.specs.Disk.{Moment}
 use Rattle.tp_model.specs.Opening.{Opened, verdict}
 
@@ -26,3 +30,9 @@ pub record IsCopiedLine (text : List ℕ) : Type 0 where
 pub record PrintsCopied (was now : Option (List ℕ)) : Type 0 where
   pub next : ℕ
   pub printed : Appends was now (copied_line next)
+
+-- as what it is said that an opened device wasn't copied
+abbrev pub copy_refusal : CopyFault → Refusal
+copy_refusal NotRead = ReadFailed
+copy_refusal NotWritten = DeviceFailed
+copy_refusal NoMemory = Memory

@@ -1,5 +1,5 @@
 -- What `compact` does and prints.
-use Rattle.std.specs.Prelude.{◌≡◌, ℕ, List, [], ◌∷◌, ◌++◌, codes, Option, Result, Ok, IfOk}
+use Rattle.std.specs.Prelude.{◌≡◌, ℕ, List, [], ◌∷◌, ◌++◌, codes, Option, Result, Ok, IfOk, IsErr}
 use Rattle.std.specs.Fmt.{decimal}
 use Rattle.std.specs.Io.KnownBytes.{Appends}
 use Rattle.tp_flush.specs.Known.{Began}
@@ -29,4 +29,5 @@ pub record CompactedAs (keeps : Type 0) (history : History) (old new : State) (w
   pub grown : keeps → IfOk done (GrewByOne (verdict old.now.bytes))
   pub unwritten : keeps → StaysUnopened done → LeavesNothingNew old new
   pub printed : status ≡ 0 → PrintsDone done was now
+  pub silent : IsErr done → now ≡ was
   pub answer : keeps → CompactAnswer (verdict old.now.bytes) done

@@ -4,7 +4,7 @@ ghost use Rattle.std.specs.Prelude.{◌≡◌, IfErr, IfOk, IsErr, IsSomeAnd, st
 ghost use Rattle.tp_recover.specs.Copies.{CopyAnswer, area_kept};
 ghost use Rattle.tp_model.specs.Opening.{verdict};
 ghost use Rattle.tp_recover.specs.Reading.{LeavesNothingNew};
-ghost use Rattle.tp_program.specs.Backups.{IsBackup, copied_line};
+ghost use Rattle.tp_program.specs.Backups.{IsBackup, copied_line, copy_refusal};
 
 use std::alloc::{AllocError, Global};
 use std::io;
@@ -24,7 +24,9 @@ pub(crate) fn copied_line(alloc: Global, next: u64) -> Result<String, AllocError
 }
 
 /// Why an opened device wasn't copied.
-fn refusal_of(fault: CopyFault) -> Refusal {
+fn refusal_of(fault: CopyFault) -> Refusal
+    ensures { result ≡ copy_refusal fault }
+{
     match fault {
         CopyFault::ReadFailed => Refusal::ReadFailed,
         CopyFault::DeviceFailed => Refusal::DeviceFailed,

@@ -1,6 +1,6 @@
 //! `tpnet format`, over any device.
 
-ghost use Rattle.std.specs.Prelude.{◌≡◌, ◌≤◌, true, false, None, map, IsErr, OnOk};
+ghost use Rattle.std.specs.Prelude.{◌≡◌, ◌⊎◌, ◌≤◌, true, false, None, map, IsErr, OnOk};
 ghost use Rattle.std.specs.Io.KnownBytes.{Appends};
 ghost use Rattle.tp_model.specs.Device.{fits_device};
 ghost use Rattle.tp_model.specs.DiskHistory.{LeavesOnly};
@@ -34,6 +34,7 @@ fn make<D: Disk, O: Write>(
     ensures refused { start_of topology.now (map (λ image. image.items) images.now) ≡ None → (IsErr result) × (disk.new ≡ disk.old) × (O.contents out.new ≡ O.contents out.old) }
     ensures small { fits_device (D.size_of disk.old) topology.now (areas_of_length (version_for topology.now) area) ≡ false → (IsErr result) × (disk.new ≡ disk.old) × (O.contents out.new ≡ O.contents out.old) }
     ensures front { AppendsFront (O.contents out.old) (O.contents out.new) formatted_text }
+    ensures said { D.keeps → (O.contents out.new ≡ O.contents out.old) ⊎ Formatted topology.now (map (λ image. image.items) images.now) (areas_of_length (version_for topology.now) area) (D.state disk.old) (D.state disk.new) }
     ensures leaves { D.keeps → LeavesOnly (D.state disk.old) (D.state disk.new) (IsOldOrNew topology.now (map (λ image. image.items) images.now) (areas_of_length (version_for topology.now) area) (D.state disk.old)) }
 {
     format(alloc, disk, topology, images, area)?;
@@ -42,7 +43,8 @@ fn make<D: Disk, O: Write>(
 
 /// `tpnet format`, on a device of the size that is asked for. Answers the program's status: 0 where the device is formatted,
 /// all of it synced, and that is printed; else 1. Where the images don't fit the topology, or the device is too small, nothing
-/// has changed. Whatever a crash on the way leaves is old outside the areas, or has both areas complete.
+/// has changed. Nothing is printed before the device is formatted. Whatever a crash on the way leaves is old outside the areas, or has both areas
+/// complete.
 pub fn format_on<D: Disk, O: Write, E: Write>(
     alloc: Global,
     disk: &mut D,
@@ -60,6 +62,7 @@ pub fn format_on<D: Disk, O: Write, E: Write>(
     ensures refused { start_of topology.now (map (λ image. image.items) images.now) ≡ None → (result ≡ 1) × (disk.new ≡ disk.old) × (O.contents out.new ≡ O.contents out.old) }
     ensures small { fits_device (D.size_of disk.old) topology.now (areas_of_length (version_for topology.now) area) ≡ false → (result ≡ 1) × (disk.new ≡ disk.old) × (O.contents out.new ≡ O.contents out.old) }
     ensures front { AppendsFront (O.contents out.old) (O.contents out.new) formatted_text }
+    ensures said { D.keeps → (O.contents out.new ≡ O.contents out.old) ⊎ Formatted topology.now (map (λ image. image.items) images.now) (areas_of_length (version_for topology.now) area) (D.state disk.old) (D.state disk.new) }
     ensures leaves { D.keeps → LeavesOnly (D.state disk.old) (D.state disk.new) (IsOldOrNew topology.now (map (λ image. image.items) images.now) (areas_of_length (version_for topology.now) area) (D.state disk.old)) }
 {
     match make(alloc, disk, topology, images, area, out) {

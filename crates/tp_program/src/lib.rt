@@ -47,4 +47,4 @@ pub use tp_words::{
     ArgFault, Asked, Backup, Command, CommandFault, CommandLine, EndsFault, JournalPart, NewDevice,
     Run, StopRequest, StreamRun, View,
 };
-pub use watching::{OneLook, Watch};
+pub use watching::Watch;

@@ -11,21 +11,3 @@ pub trait Watch {
     /// Waits `seconds`. Answers whether a further look is wanted.
     fn pause(&mut self, seconds: u32) -> bool;
 }
-
-/// Nobody holds a device, and one look is enough.
-#[derive(Drop)]
-pub struct OneLook;
-
-impl Watch for OneLook {
-    fn is_held(&mut self, _device: &str) -> bool {
-        false
-    }
-
-    fn now(&mut self) -> u64 {
-        0
-    }
-
-    fn pause(&mut self, _seconds: u32) -> bool {
-        false
-    }
-}

@@ -14,6 +14,7 @@ returns-clause-done g c = record {
   grown = c.compact-disk.ensures.grown;
   unwritten = c.compact-disk.ensures.unwritten;
   printed = c.report.ensures.printed;
+  silent = λ failed. (c.report.ensures.refused failed).1;
   answer = c.compact-disk.ensures.answer;
 }
 
