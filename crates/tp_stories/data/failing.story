@@ -139,6 +139,13 @@ length device
 part device rest 13546 183062
 fill zeros 183062 00
 equal rest zeros
+# The folder that is synced is that in which the device is made, wherever its images are: one call does that.
+folder of_device
+sweep alone device
+remove of_device/made
+tpnet format of_device/made net.txt . 98048
+there of_device/made
+end
 
 story old_file
 # A file that was there stays until there is room for the device, whichever call fails: five measure it, write three pieces behind its end and sync

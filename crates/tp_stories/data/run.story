@@ -250,6 +250,15 @@ tpnet journal device
 tpnet run one --turns 3 --workers 1 --quantum 16 --every 1 --spare 1
 tpnet recover one
 tpnet run two --turns 3 --workers 1 --quantum 16 --every 2 --spare 0
+# One that writes a word of the first page and one of the second, again and again, five steps a round, is to write the first of them then: it makes
+# two steps where it has one spare frame, and sixteen where it has two.
+image a.img 41 D0 41 21 20 D0 60 08
+tpnet format device net.txt . 16384
+copy device one
+tpnet run one --turns 3 --workers 1 --quantum 16 --every 1 --spare 1
+tpnet journal one --from 1
+tpnet run device --turns 3 --workers 1 --quantum 16 --every 1 --spare 2
+tpnet journal device --from 1
 
 story unconfirmed
 # A node sends 4200 bytes at once. Its port takes 4096 and no more, until they are printed and confirmed; then it takes the rest. A stream
@@ -332,6 +341,21 @@ held 0 1 device
 tpnet format device net.txt . 16384
 there device
 held
+# It is asked whether the device stands there still once that is open: what comes there then is another's, and stays as it is.
+tpnet format device net.txt . 16384
+text given ab
+copy device theirs
+copy theirs other
+rival 1 other
+tpnet run device --turns 0 --in given
+equal device theirs
+copy theirs other
+tpnet run device --stream --turns 0 --discard 0 --in 0=given 2>err
+equal device theirs
+copy theirs other
+tpnet compact device >out 2>err
+equal device theirs
+rival
 
 story halted
 # A node that has halted has its turns as before: its link takes a byte, and it makes no step. A turn that takes nothing makes no entry.

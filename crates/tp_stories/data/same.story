@@ -267,6 +267,10 @@ tpnet run device --stream --quantum=64 --until-quiet --out 0=new --out 1=to_ther
 starts err tpnet: --out 1 goes into the file of 
 there new
 stand
+# Nor is it where an input can't be opened.
+tpnet run device --stream --quantum=64 --until-quiet --out 0=new --discard 1 --discard 2 --in 0=nowhere 2>err
+starts err tpnet: ReadFailed
+there new
 stay
 tpnet run device --stream --quantum=64 --until-quiet --out 0=new --discard 1 --discard 2 2>err
 empty new

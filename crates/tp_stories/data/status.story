@@ -39,6 +39,22 @@ tpnet run device --turns 0 --port 1
 tpnet run device --turns 0 --port 1 --in more
 tpnet status device
 
+story watched
+# Another process runs the device, and has gone on behind the first look: by how much all grew in a second is told, two seconds behind that look, and
+# then that nothing grew.
+text net.txt node a 4\nport from\nport to\nwire a.0 from\nwire a.3 to\n
+image a.img 11 24 F2 54 41 F7 11 24 F2 53 41 FB 60 02
+text in ab
+tpnet format device net.txt . 65536
+copy device later
+tpnet run later --turns 3 --workers 1 --in in
+watched 2 later
+tpnet status device --every 2
+watched 1
+tpnet status device --every 1 --json
+watched
+tpnet status device --every 1
+
 story halted
 # One of two nodes has halted.
 text net.txt node a 4\nnode b 4\nport h\nwire a.0 h\n

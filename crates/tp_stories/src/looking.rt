@@ -123,6 +123,7 @@ pub(crate) fn look<R: Files<File = F> + AllocGlobal, F: FileExt + Drop>(
         "held" => stage.hold(rt.alloc(), words),
         "rival" => stage.meet(rt.alloc(), words),
         "looks" => stage.look_on(words),
+        "watched" => stage.watch(rt.alloc(), words),
         "shut" => stage.shut(words),
         "calls" => stage.call(words),
         "sweep" => stage.begin_sweep(rt.alloc(), words),

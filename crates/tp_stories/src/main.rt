@@ -17,6 +17,7 @@ mod stage;
 mod staying;
 mod sweeping;
 mod typed;
+mod watching;
 
 use faulty::Faults;
 use playing::play_file;

@@ -8,6 +8,7 @@ use crate::rival::Rival;
 use crate::staying::Kept;
 use crate::sweeping::Sweep;
 use crate::typed::malformed;
+use crate::watching::Watched;
 use std::alloc::Global;
 use std::fs::Files;
 use std::io::ErrorKind;
@@ -35,6 +36,8 @@ pub(crate) struct Stage {
     pub(crate) rival: Rival,
     /// Who looks at streams.
     pub(crate) looks: Looks,
+    /// What `status` is told beside a device.
+    pub(crate) watched: Watched,
     /// How calls of commands go.
     pub(crate) plan: Plan,
     /// How those of the next command go, where they go in another way.
@@ -60,6 +63,7 @@ impl Stage {
             holding: Holding::none(alloc),
             rival: Rival::none(alloc),
             looks: Looks::PLAIN,
+            watched: Watched::none(alloc),
             plan: Plan::NONE,
             next: None,
             has_failed: false,
@@ -151,6 +155,12 @@ impl Stage {
         Ok(())
     }
 
+    /// Says what `status` is told in the commands behind this line; with no word nobody else has a device, and one look is taken.
+    pub(crate) fn watch(&mut self, alloc: Global, words: &str) -> io::Result<()> {
+        self.watched = Watched::read(alloc, words)?;
+        Ok(())
+    }
+
     /// Says how calls go in the commands behind this line.
     pub(crate) fn call(&mut self, words: &str) -> io::Result<()> {
         self.plan = read_calls(words)?;
@@ -183,6 +193,7 @@ impl Stage {
         self.holding = Holding::none(rt.alloc());
         self.rival = Rival::none(rt.alloc());
         self.looks = Looks::PLAIN;
+        self.watched = Watched::none(rt.alloc());
         self.plan = Plan::NONE;
         self.next = None;
         self.sweep = None;

@@ -1,10 +1,13 @@
 //! What a teller says by time of how far a stream has come, at times and of numbers that it is given.
 
+use crate::files::Lent;
 use std::alloc::{AllocError, Global};
 use std::io;
 use std::io::{ErrorKind, Write};
 use std::test::Fail;
-use tp_stream_files::{Listener, Onlooker, Progress, Stopped, Teller, Times};
+use tp_stream_files::{
+    AnySink, Ended, Ending, Listener, Onlooker, Output, Progress, Stopped, Teller, Times, say_end,
+};
 
 /// How far a stream has come at a time in milliseconds, with the first two outputs.
 struct Row {
@@ -319,5 +322,31 @@ fn lines_are_due_by_time(rt: HostRuntime) -> Result<(), Fail> {
         let text = wanted(rt.alloc(), case)?;
         assert!(rt; said(rt.alloc(), case).as_slice() == text.as_bytes());
     }
+    Ok(())
+}
+
+/// A port's output that is let go.
+type Away<'a> = Output<AnySink<'a, Lent<'a>, Taker>>;
+
+/// Of two outputs that which is on standard output is told: up to where it was put, and up to where that is confirmed.
+#[test]
+fn an_end_says_what_is_written_and_what_confirmed(rt: HostRuntime) -> Result<(), Fail> {
+    let alloc = rt.alloc();
+    let mut first: Away<'_> = Output::new(0, None, AnySink::Nothing);
+    let mut second: Away<'_> = Output::new(1, None, AnySink::Nothing);
+    first.set(1, 2);
+    second.set(3, 5);
+    let mut err = Taker {
+        bytes: Vec::new(alloc),
+        failed: 0,
+        how: ErrorKind::BrokenPipe,
+        most: 4096,
+    };
+    let ended = Ended {
+        next: 42,
+        why: Ending::Turns,
+    };
+    say_end(&mut err, ended, Some(1), &[first, second]);
+    assert!(rt; err.bytes.as_slice() == b"next 42 written 5 confirmed 3 turns\n".as_slice());
     Ok(())
 }

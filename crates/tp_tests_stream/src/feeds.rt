@@ -1,5 +1,7 @@
 //! Feeds that come in pieces, and feeds that fail.
 
+ghost use Rattle.std.specs.Prelude.{None};
+
 use crate::files::Lent;
 use crossbeam_channel::{Receiver, bounded};
 use std::io;
@@ -7,7 +9,7 @@ use std::io::{ErrorKind, Read};
 use std::sync::Wait;
 use std::test::Fail;
 use tp_model::limits::MAX_HELD;
-use tp_stream_files::{AnySource, Feed, Pipe, Plain, Source, SourceFailed, Threaded};
+use tp_stream_files::{AnySource, Feed, Input, Pipe, Plain, Source, SourceFailed, Threaded};
 
 /// How many bytes come.
 const TOTAL: u32 = 10_000;
@@ -272,4 +274,66 @@ fn a_thread_is_waited_for(rt: HostRuntime) -> Result<(), Fail> {
     assert!(rt; to_tell.send(&rt, ()).is_ok());
     assert!(rt; comes_whole(&mut feed));
     Ok(())
+}
+
+/// A reader of one byte a read, whose second read fails.
+#[derive(Drop)]
+struct FailsOnce {
+    reads: u32,
+}
+
+impl Read for FailsOnce {
+    fn read(&mut self, out: &mut [u8]) -> io::Result<usize> {
+        self.reads = self.reads.saturating_add(1);
+        if self.reads == 2 {
+            return Err(io::Error::from(ErrorKind::InvalidData));
+        }
+        match out.first_mut() {
+            Some(place) => {
+                *place = 65;
+                Ok(1)
+            }
+            None => Ok(0),
+        }
+    }
+}
+
+/// A thread reads nothing behind a read that failed: no byte from there is given, and none is waited for.
+#[test]
+fn a_thread_reads_nothing_behind_a_failure(rt: HostRuntime) {
+    let mut feed = Threaded::new(rt, Some(FailsOnce { reads: 0 }));
+    let mut out = [0u8; MAX_HELD];
+    assert!(rt; matches!(feed.next(&mut out), Ok(1)));
+    assert!(rt; feed.next(&mut out).is_err());
+    assert!(rt; feed.next(&mut out).is_err());
+    assert!(rt; !feed.would_wait(LONG) && !feed.would_wait(0));
+}
+
+/// A source without bytes, which is waited for at one position and for one time alone.
+#[derive(Drop)]
+struct Awaited;
+
+impl Source for Awaited {
+    ghost input = { λ _. None };
+
+    fn length(&self) -> Option<u64> {
+        None
+    }
+
+    fn would_wait(&mut self, at: u64, millis: u64) -> bool {
+        at == 7 && millis == 20
+    }
+
+    fn read(&mut self, _at: u64, _out: &mut [u8]) -> Result<usize, SourceFailed> {
+        Ok(0)
+    }
+}
+
+/// An input is waited for where its port has accepted it, and for as long as is asked; behind its end it isn't.
+#[test]
+fn an_input_is_waited_for_where_it_goes_on(rt: HostRuntime) {
+    let mut input = Input::new(0, Awaited);
+    assert!(rt; input.would_wait(7, 20) && !input.would_wait(8, 20) && !input.would_wait(7, 21));
+    let mut out = [0u8; 3];
+    assert!(rt; matches!(input.read(7, &mut out), Ok(0)) && !input.would_wait(7, 20));
 }

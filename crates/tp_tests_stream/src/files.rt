@@ -37,6 +37,8 @@ pub(crate) struct FakeFile {
     pub(crate) is_regular: bool,
     /// Whether the system says which file it is.
     pub(crate) is_known: bool,
+    /// By which numbers, where it says them.
+    pub(crate) numbers: Option<FileNumbers>,
 }
 
 impl FakeFile {
@@ -49,6 +51,7 @@ impl FakeFile {
             synced: 0,
             is_regular: true,
             is_known: true,
+            numbers: None,
         }
     }
 
@@ -137,7 +140,7 @@ impl<'a> EndFile for Lent<'a> {
 
     fn numbers(&self) -> io::Result<Option<FileNumbers>> {
         if self.file.is_known {
-            Ok(None)
+            Ok(self.file.numbers)
         } else {
             Err(io::Error::from(ErrorKind::StorageFull))
         }
@@ -150,6 +153,8 @@ pub(crate) struct FakeFiles<'a> {
     file: Option<&'a mut FakeFile>,
     folder: Left,
     pub(crate) folders: u32,
+    /// The numbers of the file at `device`.
+    pub(crate) device: Option<FileNumbers>,
     trace: Trace,
 }
 
@@ -160,6 +165,7 @@ impl<'a> FakeFiles<'a> {
             file: Some(file),
             folder,
             folders: 0,
+            device: None,
             trace: Trace::new(),
         }
     }
@@ -195,10 +201,10 @@ impl<'a> EndFiles for FakeFiles<'a> {
     }
 }
 
-/// No two names stand for one file.
+/// At each other name nothing is seen.
 impl<'a> Looks for FakeFiles<'a> {
-    fn numbers_at(&self, _path: &str) -> Option<FileNumbers> {
-        None
+    fn numbers_at(&self, path: &str) -> Option<FileNumbers> {
+        if path == "device" { self.device } else { None }
     }
 
     fn numbers_behind(&self, _stream: &str) -> Option<FileNumbers> {

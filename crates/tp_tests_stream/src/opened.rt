@@ -4,13 +4,20 @@ use crate::feeds::Numbered;
 use crate::files::{FakeFile, FakeFiles, Left};
 use std::alloc::{AllocError, Global};
 use std::test::Fail;
-use tp_stream_files::{EndFault, Ends, Plain, PortFile, open_ends_over};
+use tp_stream_files::{EndFault, Ends, FileNumbers, Plain, PortFile, is_one_file, open_ends_over};
 
 /// The output of port 0 goes to a file.
 fn ends_of(alloc: Global) -> Result<Ends, AllocError> {
-    let path = String::from_str(alloc, "folder/out")?;
+    outputs_to(alloc, &[(0, "folder/out")])
+}
+
+/// The outputs of ports go to the files of these paths.
+fn outputs_to(alloc: Global, paths: &[(u8, &str)]) -> Result<Ends, AllocError> {
     let mut outs = Vec::new(alloc);
-    outs.push(PortFile { port: 0, path })?;
+    for (port, path) in paths {
+        let path = String::from_str(alloc, path)?;
+        outs.push(PortFile { port: *port, path })?;
+    }
     Ok(Ends {
         outs,
         haves: Vec::new(alloc),
@@ -35,12 +42,18 @@ fn input_of(alloc: Global) -> Result<Ends, AllocError> {
 /// Why a file doesn't take the output of a port; none: it takes it.
 fn refusal_of(alloc: Global, file: &mut FakeFile) -> Result<Option<EndFault>, AllocError> {
     let ends = ends_of(alloc)?;
-    Ok(refusal_over(alloc, &ends, file))
+    Ok(refusal_over(alloc, &ends, None, file))
 }
 
-/// Why ends aren't opened where one is this file.
-fn refusal_over(alloc: Global, ends: &Ends, file: &mut FakeFile) -> Option<EndFault> {
+/// Why ends aren't opened where one is this file, beside a device of these numbers.
+fn refusal_over(
+    alloc: Global,
+    ends: &Ends,
+    device: Option<FileNumbers>,
+    file: &mut FakeFile,
+) -> Option<EndFault> {
     let mut files = FakeFiles::new(file, Left(None));
+    files.device = device;
     let mut feed = Plain::new(Numbered::new(1, false));
     let mut out: Vec<u8> = Vec::new(alloc);
     let opened = open_ends_over(&mut files, alloc, "device", ends, &mut feed, &mut out);
@@ -65,9 +78,57 @@ fn a_file_whose_numbers_fail_has_no_part(rt: HostRuntime) -> Result<(), Fail> {
     let alloc = rt.alloc();
     let mut file = FakeFile::new(Vec::new(alloc));
     file.is_known = false;
-    let output = refusal_over(alloc, &ends_of(alloc)?, &mut file);
-    let input = refusal_over(alloc, &input_of(alloc)?, &mut file);
+    let output = refusal_over(alloc, &ends_of(alloc)?, None, &mut file);
+    let input = refusal_over(alloc, &input_of(alloc)?, None, &mut file);
     assert!(rt; matches!(output, Some(EndFault::DeviceFailed(0))));
     assert!(rt; matches!(input, Some(EndFault::ReadFailed(3))));
     Ok(())
+}
+
+/// Numbers of a file.
+const ONE: FileNumbers = FileNumbers { disk: 1, number: 2 };
+
+/// Numbers of a file on another disk.
+const OTHER: FileNumbers = FileNumbers { disk: 2, number: 2 };
+
+/// What is opened as an output's file is no device, though nothing was seen at its path before.
+#[test]
+fn a_device_that_comes_to_stand_at_a_path_takes_no_output(rt: HostRuntime) -> Result<(), Fail> {
+    let alloc = rt.alloc();
+    let ends = ends_of(alloc)?;
+    let mut file = FakeFile::new(Vec::new(alloc));
+    file.numbers = Some(ONE);
+    let refusal = refusal_over(alloc, &ends, Some(ONE), &mut file);
+    assert!(rt; matches!(refusal, Some(EndFault::SameFile(0))) && file.synced == 0);
+    assert!(rt; refusal_over(alloc, &ends, Some(OTHER), &mut file).is_none());
+    Ok(())
+}
+
+/// Where the system says no numbers one path is one file: an output's that is the device's, or another output's, isn't opened.
+#[test]
+fn one_path_takes_no_output_twice(rt: HostRuntime) -> Result<(), Fail> {
+    let alloc = rt.alloc();
+    let mut file = FakeFile::new(Vec::new(alloc));
+    let on_device = refusal_over(
+        alloc,
+        &outputs_to(alloc, &[(0, "device")])?,
+        None,
+        &mut file,
+    );
+    let twice = refusal_over(
+        alloc,
+        &outputs_to(alloc, &[(0, "out"), (1, "out")])?,
+        None,
+        &mut file,
+    );
+    assert!(rt; matches!(on_device, Some(EndFault::SameFile(0))));
+    assert!(rt; matches!(twice, Some(EndFault::SameFile(1))) && file.synced == 0);
+    Ok(())
+}
+
+/// The roots of two of the system's disks have one number, and aren't one file.
+#[test]
+fn files_of_two_disks_are_two(rt: HostRuntime) {
+    assert!(rt; is_one_file(&rt, "/", "/."));
+    assert!(rt; !is_one_file(&rt, "/proc", "/sys"));
 }

@@ -130,6 +130,39 @@ fn any_call_of_the_device_may_fail(rt: HostRuntime) -> Result<(), Fail> {
     Ok(())
 }
 
+/// As many turns as may be asked for: nobody waits for them.
+const ENDLESS: Job = Job {
+    turns: u32::MAX,
+    ..FOUR
+};
+
+/// Whether a run of [`ENDLESS`] turns by `workers` workers ends as its device's call `call` fails, and prints nothing.
+fn ends_broken<R: Threads + Wait + Abort + Sync>(
+    rt: &R,
+    alloc: Global,
+    call: u64,
+    workers: u8,
+) -> Result<bool, Fail> {
+    let job = Job { workers, ..ENDLESS };
+    let mut disk = letter(alloc)?.with_fault(call, fault_of(alloc, 1)?);
+    let mut out = Vec::new(alloc);
+    let done = run_on(rt, alloc, job, &mut disk, b"x", &mut out);
+    Ok(done == Err(RunFault::FlushFailed) && out.is_empty())
+}
+
+/// A run ends once a call of its device has failed, however many turns are left, early or behind checkpoints: by one worker, by two, where
+/// one rests, and by more than there are processes.
+#[test]
+fn a_run_ends_where_its_device_fails(rt: HostRuntime) -> Result<(), Fail> {
+    for workers in [1u8, 2, 16] {
+        for call in [CALLS, 40 * CALLS] {
+            let told = ends_broken(&rt, rt.alloc(), call, workers)?;
+            assert!(rt; told, "{workers} workers, call {call}");
+        }
+    }
+    Ok(())
+}
+
 /// An outlet that is interrupted before each byte that it takes, and fails once it has no room: what it took, and how many bytes each call
 /// was for.
 #[derive(Drop)]

@@ -25,6 +25,14 @@ const SIDE_BY_SIDE: Row = Row {
     has_shifts: true,
 };
 
+/// A node that computes, and the host: as many workers as processes.
+const ALONE: Row = Row {
+    text: ONE,
+    workers: 3,
+    quantum: 320,
+    has_shifts: true,
+};
+
 /// Turns that are too short for threads by one step of each node's, and others; three nodes that compute side by side, and one worker. In a
 /// round of node and host each node's turn runs as many steps as it may: 160 in the mean with 320, and fewer with 319.
 const ROWS: &[Row] = &[
@@ -34,12 +42,7 @@ const ROWS: &[Row] = &[
         quantum: 319,
         has_shifts: false,
     },
-    Row {
-        text: ONE,
-        workers: 3,
-        quantum: 320,
-        has_shifts: true,
-    },
+    ALONE,
     SIDE_BY_SIDE,
     Row {
         text: CHAIN,
@@ -140,6 +143,43 @@ fn a_shift_keeps_the_bound_of_turns(rt: HostRuntime) -> Result<(), Fail> {
     };
     let fresh = Fresh {
         text: CHAIN,
+        code: COUNTS,
+        begin: NUMBERS,
+        area: 1_048_576,
+    };
+    assert!(rt; are_steps_on(&rt, fresh, &[step])?);
+    Ok(())
+}
+
+/// A node that computes, and the host, where a round leaves some hundred turns of the node's: 512 of its turns have 328,704 of the 393,276 steps
+/// that it needs for its two numbers.
+const NEARLY: Row = Row {
+    text: ONE,
+    workers: 3,
+    quantum: 642,
+    has_shifts: true,
+};
+
+/// More turns than are made until nothing is left to do, and no more than a round and a shift of its two workers have. In a shift at most four turns
+/// in a row have nothing to do, else it ends: so behind the first round fewer than a thousand are made, in whatever order threads come, and no
+/// more than a thousand in the last one.
+const AMPLE: u32 = 3000;
+
+/// A shift that ends since nothing is left to do counts the turns that were made, and not those that it had: the bound isn't reached, and the
+/// stream ends as quiet.
+#[test]
+fn turns_that_nobody_made_are_none(rt: HostRuntime) -> Result<(), Fail> {
+    let step = step_of(&NEARLY);
+    let task = Task {
+        turns: Some(AMPLE),
+        ..step.asked.task
+    };
+    let step = Step {
+        asked: Asked { task, ..step.asked },
+        ..step
+    };
+    let fresh = Fresh {
+        text: ONE,
         code: COUNTS,
         begin: NUMBERS,
         area: 1_048_576,
