@@ -169,7 +169,7 @@ fn link_copy<R: Files>(
 }
 
 /// Takes the other name from the copy, and syncs the folder.
-fn settle_names<R: Files>(
+fn settle_names<R: Files<File = F>, F: FileExt + OpenFile + Drop>(
     rt: &R,
     names: &Names<'_>,
     numbers: Option<FileNumbers>,
@@ -179,7 +179,7 @@ fn settle_names<R: Files>(
 }
 
 /// Gives a copy that is whole and synced its name, which lasts. Where it doesn't, the copy has no such name.
-fn name_copy<R: Files>(
+fn name_copy<R: Files<File = F>, F: FileExt + OpenFile + Drop>(
     rt: &R,
     names: &Names<'_>,
     numbers: Option<FileNumbers>,
@@ -195,7 +195,7 @@ fn name_copy<R: Files>(
 }
 
 /// Copies the device into the copy's file and names that. Answers what is to be printed.
-fn fill_and_name<R: Files + AllocGlobal, D: Disk, F: FileExt + OpenFile + Drop, E: Write>(
+fn fill_and_name<R: Files<File = F> + AllocGlobal, D: Disk, F: FileExt + OpenFile + Drop, E: Write>(
     rt: &R,
     source: &mut D,
     names: &Names<'_>,

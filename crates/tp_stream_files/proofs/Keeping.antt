@@ -2,6 +2,7 @@
 use Rattle.std.proofs.Common.{◌≡◌, ℕ, Bool, inl, inr, List, [], ◌∷◌, ◌++◌, refl, sym, ap, ◌∙◌, append_assoc, append-nil}
 use Rattle.std.proofs.lemmas.List.Elements.{All-append, All-cons, All-nil}
 use Rattle.tp_stream_files.specs.Told.{EndTold, Opened, SyncedFolder}
+use Rattle.tp_stream_files.specs.Folders.{AsksFolder}
 use Rattle.tp_stream_files.specs.Opening.{KeepsBytesThere, KeepsFiles, to_read, to_write}
 
 pub keeps_none : (calls : List EndTold) → KeepsFiles calls calls
@@ -25,6 +26,6 @@ keeps_written old new path ok grew = keeps_one old new (Opened to_write path ok)
 pub keeps_read : (old new : List EndTold) (path : List ℕ) (ok : Bool) → new ≡ old ++ Opened to_read path ok ∷ [] → KeepsFiles old new
 keeps_read old new path ok grew = keeps_one old new (Opened to_read path ok) (inr refl) grew
 
--- a folder was synced, or not
-pub keeps_folder : (old new : List EndTold) (folder : List ℕ) (ok : Bool) → new ≡ old ++ SyncedFolder folder ok ∷ [] → KeepsFiles old new
-keeps_folder old new folder ok grew = keeps_one old new (SyncedFolder folder ok) tt grew
+-- the folder of a path was synced, or not
+pub keeps_folder : (old new : List EndTold) (path : List ℕ) (ok : Bool) → AsksFolder path ok old new → KeepsFiles old new
+keeps_folder old new path ok (folder, is, grew) = keeps_one old new (SyncedFolder folder ok) tt grew

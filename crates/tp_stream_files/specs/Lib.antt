@@ -1,5 +1,6 @@
 pub mod Any
 pub mod Failing
+pub mod Folders
 pub mod Held
 pub mod Inputs
 pub mod Lines

@@ -4,10 +4,11 @@ ghost use Rattle.std.specs.Prelude.{◌≡◌, ◌↔◌, ◌++◌, ◌∷◌, [
 ghost use Rattle.std.specs.IoError.{error_kind};
 ghost use Rattle.tp_stream_files.specs.Held.{HasLength, HasPut, HasReach, IsSafe, KeepsBytes, KeepsFront, Reaches};
 ghost use Rattle.tp_stream_files.specs.Opening.{KeepsFiles, to_write};
-ghost use Rattle.tp_stream_files.specs.Sinks.{IsFolder, SyncsFolder, before_slash, begin_calls};
+ghost use Rattle.tp_stream_files.specs.Sinks.{SyncsFolder, begin_calls};
 ghost use Rattle.tp_stream_files.specs.Told.{Opened, Synced, Wrote};
 ghost use Rattle.tp_stream_files.specs.Trace.{size_after};
 
+use crate::folders::sync_folder_of;
 use crate::outside::{Outside, OutsideFile};
 use crate::system::{EndFile, EndFiles};
 use crate::writing::write_front;
@@ -34,23 +35,6 @@ pub enum AnySink<'a, F: Drop, O> {
     Nothing,
 }
 
-/// What is in front of a path's last slash, or the root where nothing is.
-fn before_slash(front: &str) -> &str
-    ensures { result.now ≡ before_slash front.now }
-{
-    if front.is_empty() { "/" } else { front }
-}
-
-/// The folder of a path.
-fn folder_of(path: &str) -> &str
-    ensures { IsFolder path.now result.now }
-{
-    match path.rsplit_once('/') {
-        Some((front, _)) => before_slash(front),
-        None => ".",
-    }
-}
-
 /// Syncs the folder of a file that is empty, since it may be new.
 fn sync_new<S: EndFiles>(files: &mut S, path: &str, size: u64) -> io::Result<()>
     ensures kept { KeepsFiles (S.calls files.old) (S.calls files.new) }
@@ -59,7 +43,7 @@ fn sync_new<S: EndFiles>(files: &mut S, path: &str, size: u64) -> io::Result<()>
     if size != 0 {
         return Ok(());
     }
-    files.sync_folder(folder_of(path))
+    sync_folder_of(files, path)
 }
 
 /// How many bytes a file has, once what is in it is synced.
