@@ -29,6 +29,8 @@ set device 4802 01
 set device 9070 04
 tpnet show device
 tpnet show device --json
+# With --explain a run says of each by its number that it has halted.
+tpnet run device --turns=1 --explain
 
 story registers
 # All registers of a node differ, both queues have two ends, link ends are at work, and one holds a byte; a node that is fresh.
