@@ -8,11 +8,16 @@ use Rattle.tp_stream.specs.declared.fault.StreamFault.{StreamFault}
 use Rattle.tp_stream.specs.declared.fault.StreamFault.TheVariants.{OutputFailed, NotStored as NothingStored, JournalFull as FullJournal, Memory as NoMemory}
 use Rattle.tp_stream_files.specs.declared.sink.SinkFault.{SinkFault}
 use Rattle.tp_stream_files.specs.declared.sink.SinkFault.TheVariants.{Failed, Gone}
+use Rattle.tp_book.specs.declared.refusal.Refusal.{Refusal}
+use Rattle.tp_book.specs.declared.refusal.Refusal.TheVariants as refusal
 use Rattle.tp_stream.specs.declared.output.StepFault.{StepFault}
 use Rattle.tp_stream.specs.declared.output.StepFault.TheVariants.{Gone as TakerGone, Fault}
 use Rattle.tp_stream.specs.declared.pumping.Pumped.{Pumped}
 use Rattle.tp_stream.specs.declared.pumping.Pumped.TheVariants.{Nothing, Moved, Gone as GoneThere}
+use Rattle.tp_stream.specs.declared.shift.Refused.{Refused}
 use Rattle.tp_stream.specs.Streamed.{CameBetween, OtherThanFull}
+use Rattle.tp_work.specs.declared.fault.TurnFault.{TurnFault}
+use Rattle.tp_work.specs.declared.fault.TurnFault.TheVariants as turn
 use Rattle.tp_work.specs.declared.host_fault.ConfirmFault.{ConfirmFault}
 use Rattle.tp_work.specs.declared.host_fault.ConfirmFault.TheVariants.{JournalFull, NotShown, StoreBroken, Memory}
 use Rattle.tp_work.specs.declared.host_fault.OfferFault.{OfferFault}
@@ -55,6 +60,19 @@ offer_left offer.JournalFull = Ok false
 offer_left (offer.PortFull room) = Ok false
 offer_left (offer.Already accepted) = Ok false
 offer_left (offer.Gap accepted) = Ok false
+
+-- Why no more turns are made behind one that the book refused; none where it was for want of room alone.
+abbrev pub turn_fault_of : Refusal → Option StreamFault
+turn_fault_of refusal.JournalFull = None
+turn_fault_of refusal.StoreBroken = Some NothingStored
+turn_fault_of _ = Some NoMemory
+
+-- what a shift keeps of a turn that was refused: all but that nobody was there end it
+abbrev pub refused_of : TurnFault → Refused
+refused_of turn.Empty = record { ends = false; lacks_memory = false; is_broken = false }
+refused_of turn.JournalFull = record { ends = true; lacks_memory = false; is_broken = false }
+refused_of turn.Memory = record { ends = true; lacks_memory = true; is_broken = false }
+refused_of turn.StoreBroken = record { ends = true; lacks_memory = false; is_broken = true }
 
 -- An offer that is refused for this reason, where there is one, was answered so. One that isn't was taken, or may still want memory.
 abbrev pub OfferAnswer : Option OfferFault → Result Bool StreamFault → Type 0

@@ -4,6 +4,7 @@ ghost use Rattle.std.specs.Prelude.{◌≡◌, ◌↔◌, ◌<◌, ◌≤◌, le
 ghost use Rattle.tp_model.specs.declared.limits.TheConstants.{MAX_STEPS};
 ghost use Rattle.tp_book.specs.Marked.{after_begin};
 ghost use Rattle.tp_flush.specs.Due.{is_due};
+ghost use Rattle.tp_stream.specs.Outcomes.{turn_fault_of};
 ghost use Rattle.tp_stream.specs.Quiet.{HadNothing, HasNoStep, HaveRested, HostRests, IsStill, NodeRests};
 ghost use Rattle.tp_stream.specs.Rooms.{HavePlace, has_room_for};
 ghost use Rattle.tp_stream.specs.Streamed.{CameOfTurns};
@@ -149,6 +150,17 @@ fn look<J: Naming, R: Wait>(rt: &R, alloc: Global, shared: &Shared<J>, pace: Pac
     look_at(&held, pace)
 }
 
+/// Why no more turns are made behind one that was refused; none where that was for want of room alone.
+fn fault_of(refusal: Refusal) -> Option<StreamFault>
+    ensures { result ≡ turn_fault_of refusal }
+{
+    match refusal {
+        Refusal::JournalFull => None,
+        Refusal::StoreBroken => Some(StreamFault::NotStored),
+        _ => Some(StreamFault::Memory),
+    }
+}
+
 /// A turn of the process whose turn it is, behind what was seen of the book. One for which the journal has no room counts, and has
 /// something left to do.
 fn one_turn<J: Naming, R: Wait>(
@@ -171,12 +183,13 @@ fn one_turn<J: Naming, R: Wait>(
             turns.count(did, seen.is_running, nodes);
             Ok(())
         }
-        Err(Refusal::JournalFull) => {
-            turns.count(Did::refused(), seen.is_running, nodes);
-            Ok(())
-        }
-        Err(Refusal::StoreBroken) => Err(StreamFault::NotStored),
-        Err(_) => Err(StreamFault::Memory),
+        Err(refusal) => match fault_of(refusal) {
+            None => {
+                turns.count(Did::refused(), seen.is_running, nodes);
+                Ok(())
+            }
+            Some(fault) => Err(fault),
+        },
     }
 }
 

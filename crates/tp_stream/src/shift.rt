@@ -1,6 +1,7 @@
 //! What workers and the flusher tell each other while both go on.
 
-ghost use Rattle.std.specs.Prelude.{◌≤◌, IfErr};
+ghost use Rattle.std.specs.Prelude.{◌≡◌, ◌≤◌, ◌||◌, not, is_ok, if◌then◌else◌, IfErr};
+ghost use Rattle.tp_stream.specs.Outcomes.{refused_of};
 ghost use Rattle.tp_stream.specs.Streamed.{CameOfTurns};
 
 use crate::crew::Crew;
@@ -45,6 +46,39 @@ fn seen_of(turn: &Turn) -> (bool, bool) {
                 Why::Full | Why::NoFrame => (false, false),
             }
         }
+    }
+}
+
+/// What a shift keeps of a turn that was refused: whether it ends by that, and whether memory was refused, or the book says that it is broken.
+#[derive(Clone, Copy)]
+struct Refused {
+    ends: bool,
+    lacks_memory: bool,
+    is_broken: bool,
+}
+
+/// What it keeps of a turn that was refused so. One for which no process was there ends nothing.
+fn refused_of(fault: TurnFault) -> Refused
+    ensures { result ≡ refused_of fault }
+{
+    Refused {
+        ends: fault != TurnFault::Empty,
+        lacks_memory: fault == TurnFault::Memory,
+        is_broken: fault == TurnFault::StoreBroken,
+    }
+}
+
+/// Why turns were refused, where they were for another reason than room.
+fn outcome_of(is_broken: bool, lacks_memory: bool) -> Result<(), StreamFault>
+    ensures done { is_ok result ≡ not (is_broken || lacks_memory) }
+    ensures fault { IfErr result (λ fault. fault ≡ (if is_broken then StreamFault.NotStored else StreamFault.Memory)) }
+{
+    if is_broken {
+        Err(StreamFault::NotStored)
+    } else if lacks_memory {
+        Err(StreamFault::Memory)
+    } else {
+        Ok(())
     }
 }
 
@@ -110,6 +144,19 @@ impl Shift {
         }
     }
 
+    /// Tells that a turn was refused.
+    fn tell_refused(&self, refused: Refused) {
+        if refused.lacks_memory {
+            self.lacks_memory.store(true, Ordering::SeqCst);
+        }
+        if refused.is_broken {
+            self.is_broken.store(true, Ordering::SeqCst);
+        }
+        if refused.ends {
+            self.stop();
+        }
+    }
+
     /// Tells what a turn did, which made `count` entries. The flusher sees it where it is awake, and once it has slept.
     pub(crate) fn tell(&self, done: &Result<Turn, TurnFault>, count: u64) {
         self.made.fetch_add(count, Ordering::SeqCst);
@@ -121,16 +168,7 @@ impl Shift {
                     self.has_halted.store(true, Ordering::SeqCst);
                 }
             }
-            Err(TurnFault::Empty) => {}
-            Err(TurnFault::JournalFull) => self.stop(),
-            Err(TurnFault::Memory) => {
-                self.lacks_memory.store(true, Ordering::SeqCst);
-                self.stop();
-            }
-            Err(TurnFault::StoreBroken) => {
-                self.is_broken.store(true, Ordering::SeqCst);
-                self.stop();
-            }
+            Err(fault) => self.tell_refused(refused_of(*fault)),
         }
     }
 
@@ -195,12 +233,8 @@ impl Shift {
     pub(crate) fn outcome(&self) -> Result<(), StreamFault>
         ensures { IfErr result CameOfTurns }
     {
-        if self.is_broken.load(Ordering::SeqCst) {
-            return Err(StreamFault::NotStored);
-        }
-        if self.lacks_memory.load(Ordering::SeqCst) {
-            return Err(StreamFault::Memory);
-        }
-        Ok(())
+        let is_broken = self.is_broken.load(Ordering::SeqCst);
+        let lacks_memory = self.lacks_memory.load(Ordering::SeqCst);
+        outcome_of(is_broken, lacks_memory)
     }
 }

@@ -1,5 +1,7 @@
 //! How full a device's journal is, where a run was refused.
 
+ghost use Rattle.std.specs.Prelude.{◌≡◌, ◌↔◌, ◌<◌, ◌≤◌, ◌+◌, true, false, None, IfSome};
+
 use crate::looking::push_rest;
 use crate::parts::Part::{Number, Text};
 use crate::parts::push_parts;
@@ -97,10 +99,14 @@ fn push_ways(
     push_pieces(text, device, run.port)
 }
 
-/// Whether a journal with `entries` entries, and room for `most`, has room for those that a run wants, where that is known.
-fn has_room(entries: u64, most: u64, wanted: Option<u64>) -> bool {
+/// Whether a journal with `entries` entries, and room for `most`, has room for those that a run wants, and for one at least, where that is
+/// known.
+fn has_room(entries: u64, most: u64, wanted: Option<u64>) -> bool
+    ensures none { wanted ≡ None → result ≡ false }
+    ensures some { IfSome wanted (λ more. result ≡ true ↔ ((entries < most) × (entries + more ≤ most))) }
+{
     match wanted {
-        Some(wanted) => entries.saturating_add(wanted.max(1)) <= most,
+        Some(wanted) => wanted.max(1) <= most.saturating_sub(entries),
         None => false,
     }
 }
