@@ -313,6 +313,21 @@ text in abcdefg
 tpnet format device net.txt . 25890
 tpnet run device --stream --until-quiet --spare 8 --quantum 1 --every 2 --discard 0 --discard 1 --in 0=none --in 1=in
 
+story room_for_one
+# A run left a journal with room for one entry, and the confirms of two ports take two. Nobody has put what port 0 has put out: the stream settles before
+# it confirms anything, and puts that from its first byte on.
+text net.txt node a 4\nnode b 4\nport h\nport g\nwire a.0 h\nwire b.0 g\n
+image a.img 27 2F 2F 2F 2F 2F 6F 40 24 41 FE 60 02
+image b.img 27 2F 2F 2F 2F 2F 6F 40 24 41 FE 60 02
+tpnet format device net.txt . 28000
+tpnet run device --turns=46 --workers=1 --quantum=64 --every=1000000 --port=1 >shown 2>err
+tpnet status device
+text out 
+tpnet run device --stream --quantum=64 --turns=200 --discard 1 --out 0=out 2>err
+ends err next 369 turns\n
+text wanted AAAAAAAAAAAAAAAAAAAAAAAAAAAAAAAAAAAAAAAAAAAAAAAAAAAAAAAAAAAAAAAAAAAAAAAAAAAAAAAAAA
+equal out wanted
+
 story unwired
 # A port without a wire needs no end; one with a wire does, whichever it is.
 text net.txt node a 4\nport x\nport y\nwire a.0 y\n
