@@ -1,5 +1,5 @@
 -- Turns that had nothing to do, and when nothing is left to do in a network.
-use Rattle.std.specs.Prelude.{◌≡◌, ◌<◌, ◌≤◌, ℕ, ◌+◌, false, true, length, None, Ok, IsSome}
+use Rattle.std.specs.Prelude.{◌≡◌, ◌<◌, ◌≤◌, ℕ, ◌+◌, false, true, length, None, Ok, IfSome, IsSome}
 use Rattle.tp_model.specs.NodeState.{NodeState}
 use Rattle.tp_model.specs.Network.{Network}
 use Rattle.tp_model.specs.Node.{node_step}
@@ -11,6 +11,7 @@ use Rattle.tp_book.specs.Book.{BookValue, count_of_nodes}
 use Rattle.tp_shared.specs.declared.node_turn.NodeTurn.{NodeTurn}
 use Rattle.tp_shared.specs.Holds.{InHand}
 use Rattle.tp_shared.specs.TurnsMade.{HostTurnMade, TurnMade}
+use Rattle.tp_work.specs.declared.turn.Turn.{Turn}
 use Rattle.tp_stream.specs.declared.task.Task.{Task}
 use Rattle.tp_stream_files.specs.declared.ending.Ending.{Ending}
 use Rattle.tp_stream_files.specs.declared.ending.Ending.TheVariants.{Quiet, Turns, Gone, Halted, Stopped as AskedTo}
@@ -28,6 +29,10 @@ HasNoStep Full = ⊥
 HasNoStep Idle = Unit {0}
 HasNoStep NoFrame = ⊥
 HasNoStep Stopped = Unit {0}
+
+-- A turn of a worker's had nothing to do: it took no token, and where it is a node's made no step, since there is none.
+abbrev pub HadNoWork : Turn → Type 0
+HadNoWork turn = (turn.takes ≡ 0) × IfSome turn.ran (λ ran. (ran.count ≡ 0) × HasNoStep ran.why)
 
 -- A turn of a node took no token and made no step, and that since the node has no step: it wasn't for want of a frame.
 pub record NodeRests (start : Network NodeState) (number : ℕ) : Type 0 where

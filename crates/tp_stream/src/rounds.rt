@@ -23,7 +23,7 @@ use tp_shared::{Locked, Naming, NoGate, NodeTurn, Seat, Shared, Sights};
 const ROUND: u32 = 1024;
 
 /// Whether a run ended since there is no step, and whether that is since the node has halted. One that lacks a frame has a step left.
-fn rests(why: Why) -> (bool, bool)
+pub(crate) fn rests(why: Why) -> (bool, bool)
     ensures none { result.0 ≡ true → HasNoStep why }
     ensures some { HasNoStep why → result.0 ≡ true }
     ensures halted { result.1 ≡ true ↔ (why ≡ Why.Halted) }

@@ -1,11 +1,13 @@
 //! What workers and the flusher tell each other while both go on.
 
-ghost use Rattle.std.specs.Prelude.{◌≡◌, ◌≤◌, ◌||◌, not, is_ok, if◌then◌else◌, IfErr};
+ghost use Rattle.std.specs.Prelude.{◌≡◌, ◌↔◌, ◌≤◌, ◌||◌, not, true, false, None, is_ok, if◌then◌else◌, IfErr, IfSome};
 ghost use Rattle.tp_stream.specs.Outcomes.{refused_of};
+ghost use Rattle.tp_stream.specs.Quiet.{HadNoWork};
 ghost use Rattle.tp_stream.specs.Streamed.{CameOfTurns};
 
 use crate::crew::Crew;
 use crate::fault::StreamFault;
+use crate::rounds::rests;
 use std::sync::Wait;
 use std::sync::atomic::{AtomicBool, AtomicU64, Ordering};
 use std::time::Duration;
@@ -35,16 +37,16 @@ pub(crate) struct Shift {
 }
 
 /// Whether a process had nothing to do in a turn, and whether it is a node that has halted.
-fn seen_of(turn: &Turn) -> (bool, bool) {
+fn seen_of(turn: &Turn) -> (bool, bool)
+    ensures nothing { result.0 ≡ true ↔ HadNoWork turn.now }
+    ensures halted { IfSome turn.now.ran (λ ran. result.1 ≡ true ↔ (ran.why ≡ Why.Halted)) }
+    ensures host { turn.now.ran ≡ None → result.1 ≡ false }
+{
     match &turn.ran {
         None => (turn.takes == 0, false),
         Some(ran) => {
-            let did = turn.takes > 0 || ran.count() > 0;
-            match ran.why() {
-                Why::Idle => (!did, false),
-                Why::Halted => (!did, true),
-                Why::Full | Why::NoFrame => (false, false),
-            }
+            let (rests, halted) = rests(ran.why());
+            (turn.takes == 0 && ran.count() == 0 && rests, halted)
         }
     }
 }

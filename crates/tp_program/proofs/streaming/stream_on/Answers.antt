@@ -1,5 +1,3 @@
-use Rattle.std.proofs.Common.{rules}
-use denote.Param.Send.{sendable}
 use Rattle.tp_program.proofs.streaming.stream_on.Goals as goal
 
 pub stream_files-disk-requires : goal.stream_files-disk-requires

@@ -7,9 +7,9 @@ returns-in-Ok-clause-rested g c =
     turn_more g.J.Naming.start c.nodes-nodes.result c.args.turns.now.whose c.args.turns.now.idle c.count.new.self.whose c.count.new.self.idle c.nodes-nodes.ensures
     c.requires.rested T.whose T.one (λ some. record { had = c.in-Ok.ensures ((T.rests some).0); still = c.requires.still ((T.rests some).1) })
 
-pub returns-in-Err-None-clause-rested : goal.returns-in-Err-None-clause-rested
-returns-in-Err-None-clause-rested g c =
-    let n = c.count-in-Err-None in
+pub returns-in-None-clause-rested : goal.returns-in-None-clause-rested
+returns-in-None-clause-rested g c =
+    let n = c.count-in-None in
     let T = n.ensures in
     turn_more g.J.Naming.start c.nodes-nodes.result c.args.turns.now.whose c.args.turns.now.idle n.new.self.whose n.new.self.idle c.nodes-nodes.ensures
     c.requires.rested T.whose T.one (λ some. absurd (let did = (T.rests some).0 in let refused = c.refused.ensures in cc))
