@@ -394,6 +394,14 @@ tpnet run device --stream --until-quiet --discard 0 --discard 1 --in 1=in
 cut in 4095
 tpnet run device --stream --until-quiet --discard 0 --discard 1 --in 1=in
 
+story one_left_over
+# One byte that no node takes is enough.
+text net.txt node a 4\nport x\nport y\nwire a.0 x\nwire a.1 y\n
+image a.img 11 24 F2 54 41 F7
+text in x
+tpnet format device net.txt . 65536
+tpnet run device --stream --until-quiet --discard 0 --discard 1 --in 1=in
+
 story stop_file
 # A stream that a file is to end isn't begun where something is at its path already, where it is a file of the stream, also one that is
 # made for it, and where its path can't be looked at: the device stays as it is. Where nothing is there it goes as without.

@@ -12,7 +12,7 @@ ghost use Rattle.tp_stream.specs.Quiet.{HaveRested, IsWhyEnded};
 ghost use Rattle.tp_stream.specs.Served.{ServedAnswer, ServedOn};
 ghost use Rattle.tp_stream.specs.Steps.{AllStepped};
 ghost use Rattle.tp_stream.specs.Streamed.{CameBegun, CameBetween, CameOfTurns};
-ghost use Rattle.tp_stream.specs.Told.{ToldLater};
+ghost use Rattle.tp_stream.specs.Told.{TellsProgress, ToldLater};
 
 use crate::beside::go_beside;
 use crate::endings::{are_over, ending, is_asked, may_wait};
@@ -224,7 +224,7 @@ fn go_on<J: Naming, D: Disk, S: Sink, I: Source, P: Stop, R: Wait>(
     Ok(None)
 }
 
-/// A flush, how far it has come, and all that comes behind that before the next flush.
+/// A flush, how far it has come with that, and all that comes behind that before the next flush.
 #[tactic(auto, using(crate::proofs::Stepping::all_still))]
 fn cycle<J: Naming, D: Disk, S: Sink, I: Source, L: Listener, P: Stop, R: Wait>(
     ground: Ground<'_, J, R>,
@@ -239,6 +239,7 @@ fn cycle<J: Naming, D: Disk, S: Sink, I: Source, L: Listener, P: Stop, R: Wait>(
     ensures answer { ServedAnswer J.start ground.entry.pace.task (list_all (λ i. is_over i.ended i.is_blocked) streams.new.inputs.items) result }
     ensures looks { IfOk result (LooksOnce ground.entry.pace.task going.old.turns.made going.new.turns.made (P.answers stop.old) (P.answers stop.new)) }
     ensures told { ToldLater (length J.start.nodes) (L.told listener.old) (L.told listener.new) }
+    ensures progress { OnOk result (TellsProgress ground.entry.pace.task.tells ground.entry.pace.rooms.journal flusher.new going.old.turns.made streams.old.outputs.items (L.told listener.old) (L.told listener.new)) }
     ensures over { IfOk result (λ ended. IfSome ended (λ why. going.new ≡ record going.old { steps = going.new.steps })) }
     ensures rested { OnOk result (HaveRested J.start going.new.turns.whose going.new.turns.idle) }
 {
