@@ -236,22 +236,12 @@ text out
 tpnet run device --stream --quantum=64 --until-quiet --spare 16 --out 0=out 2>err
 ends err  quiet\n
 equal out wanted
-# Where each entry begins a snapshot, what it did is in more entries the fewer spare frames it has: with none, with some, with one fewer than the pages
-# that it writes, and with as many.
+# Where each entry begins a snapshot, what it did is in more entries where it has no spare frame than with one fewer than the pages that it writes, or
+# with as many.
 tpnet format device net.txt . 65536
 text out 
 tpnet run device --stream --quantum=64 --until-quiet --spare 0 --every 1 --out 0=out 2>err
 ends err next 3948 quiet\n
-equal out wanted
-tpnet format device net.txt . 65536
-text out 
-tpnet run device --stream --quantum=64 --until-quiet --spare 1 --every 1 --out 0=out 2>err
-ends err next 4005 quiet\n
-equal out wanted
-tpnet format device net.txt . 65536
-text out 
-tpnet run device --stream --quantum=64 --until-quiet --spare 4 --every 1 --out 0=out 2>err
-ends err next 2803 quiet\n
 equal out wanted
 tpnet format device net.txt . 65536
 text out 
