@@ -236,22 +236,33 @@ text out
 tpnet run device --stream --quantum=64 --until-quiet --spare 16 --out 0=out 2>err
 ends err  quiet\n
 equal out wanted
-# Where each entry begins a snapshot, what it did is in more entries where it has no spare frame than with one fewer than the pages that it writes, or
-# with as many.
+# It writes them a hundred times, and each entry begins a snapshot: what it did is in more entries the fewer spare frames it has: with none, with some,
+# with one fewer than the pages that it writes, and with as many.
+set a.img 428 20 26 44
 tpnet format device net.txt . 65536
 text out 
 tpnet run device --stream --quantum=64 --until-quiet --spare 0 --every 1 --out 0=out 2>err
-ends err next 3948 quiet\n
+ends err next 397 quiet\n
+equal out wanted
+tpnet format device net.txt . 65536
+text out 
+tpnet run device --stream --quantum=64 --until-quiet --spare 1 --every 1 --out 0=out 2>err
+ends err next 405 quiet\n
+equal out wanted
+tpnet format device net.txt . 65536
+text out 
+tpnet run device --stream --quantum=64 --until-quiet --spare 4 --every 1 --out 0=out 2>err
+ends err next 283 quiet\n
 equal out wanted
 tpnet format device net.txt . 65536
 text out 
 tpnet run device --stream --quantum=64 --until-quiet --spare 11 --every 1 --out 0=out 2>err
-ends err next 2412 quiet\n
+ends err next 244 quiet\n
 equal out wanted
 tpnet format device net.txt . 65536
 text out 
 tpnet run device --stream --quantum=64 --until-quiet --spare 12 --every 1 --out 0=out 2>err
-ends err next 2412 quiet\n
+ends err next 244 quiet\n
 equal out wanted
 
 story no_room
