@@ -236,8 +236,8 @@ text out
 tpnet run device --stream --quantum=64 --until-quiet --spare 16 --out 0=out 2>err
 ends err  quiet\n
 equal out wanted
-# It writes them a hundred times, and each entry begins a snapshot: what it did is in more entries the fewer spare frames it has: with none, with some,
-# with one fewer than the pages that it writes, and with as many.
+# It writes them a hundred times, and each entry begins a snapshot: that takes more entries with none, one or four spare frames than with one fewer
+# than the pages that it writes, or with as many.
 set a.img 428 20 26 44
 tpnet format device net.txt . 65536
 text out 
