@@ -221,6 +221,21 @@ tpnet recover often
 tpnet run never --turns 40 --workers 1 --quantum 16 --every 4294967295
 tpnet show never
 
+story begun_by_two
+# A snapshot is due behind each entry, and often two workers find that at once: the one that comes second makes its turns all the same. Five nodes
+# of six are no other worker's, so more than half of the turns make an entry, in whatever order threads run: there are 10,000 entries and more.
+text net.txt node a 4\nnode b 4\nnode c 4\nnode d 4\nnode e 4\nnode f 4\nport h\n
+image a.img 60 0E
+copy a.img b.img
+copy a.img c.img
+copy a.img d.img
+copy a.img e.img
+copy a.img f.img
+tpnet format device net.txt . --area 4M
+tpnet run device --turns 20000 --workers 2 --quantum 1 --every 1 2>err
+starts err next
+length err
+
 story spare
 # What the smallest node has is the most, whichever it is; a device that is refused so stays as it is.
 text net.txt node a 8\nnode b 4\nport h\n
