@@ -1,13 +1,13 @@
 //! `tpnet compact`, over any device.
 
-ghost use Rattle.std.specs.Prelude.{◌≡◌, ◌≤◌, IfOk, IsErr, Ok, OnOk, string_bytes};
+ghost use Rattle.std.specs.Prelude.{◌≡◌, ◌≤◌, IfErr, IfOk, IsErr, Ok, OnOk, string_bytes};
 ghost use Rattle.std.specs.Io.KnownBytes.{Appends};
 ghost use Rattle.tp_model.specs.Opening.{verdict};
 ghost use Rattle.tp_recover.specs.Reading.{LeavesNothingNew};
 ghost use Rattle.tp_run.specs.Ran.{History};
 ghost use Rattle.tp_program.specs.Compacting.{CompactedAs, PrintsDone, compaction_line};
 
-use std::alloc::{AllocError, Global};
+use std::alloc::Global;
 use std::io::Write;
 use std::sync::Wait;
 use tp_disk::Disk;
@@ -15,23 +15,25 @@ use tp_run::{CompactFault, Compaction, compact};
 use tp_views::{Refusal, put, refuse};
 
 /// What is printed of a device that was compacted.
-fn compaction_line(alloc: Global, done: Compaction) -> Result<String, AllocError>
-    ensures { IfOk result (λ text. string_bytes text ≡ compaction_line done) }
+fn compaction_line(alloc: Global, done: Compaction) -> Result<String, Refusal>
+    ensures line { IfOk result (λ text. string_bytes text ≡ compaction_line done) }
+    ensures memory { IfErr result (λ refusal. refusal ≡ Refusal.Memory) }
 {
     let Compaction {
         next,
         generation,
         room,
     } = done;
-    format!(in alloc; "generation {generation} next {next} room {room}\n")
+    match format!(in alloc; "generation {generation} next {next} room {room}\n") {
+        Ok(text) => Ok(text),
+        Err(_) => Err(Refusal::Memory),
+    }
 }
 
 fn print_done<O: Write>(alloc: Global, done: Compaction, out: &mut O) -> Result<(), Refusal>
     ensures { OnOk result (Appends (O.contents out.old) (O.contents out.new) (compaction_line done)) }
 {
-    let Ok(text) = compaction_line(alloc, done) else {
-        return Err(Refusal::Memory);
-    };
+    let text = compaction_line(alloc, done)?;
     put(out, text.as_bytes())
 }
 

@@ -1,11 +1,12 @@
 //! The commands on files that write no device.
 
 ghost use Rattle.std.specs.Prelude.{◌≡◌, ◌≤◌, IfErr};
+ghost use Rattle.std.specs.IoError.{error_kind};
 
 use crate::watching::Watch;
 use std::alloc::Global;
 use std::fs::{Files, OpenFile};
-use std::io::Write;
+use std::io::{ErrorKind, Write};
 use std::os::unix::fs::FileExt;
 use std::thread::Threads;
 use std::{fs, io};
@@ -18,10 +19,14 @@ use tp_views::{
 use tp_words::View;
 
 /// Why a file wasn't read.
-pub(crate) fn read_refusal(error: &io::Error) -> Refusal {
-    match error.kind() {
-        io::ErrorKind::OutOfMemory => Refusal::Memory,
-        _ => Refusal::ReadFailed,
+pub(crate) fn read_refusal(error: &io::Error) -> Refusal
+    ensures memory { error_kind error.now ≡ ErrorKind.OutOfMemory → result ≡ Refusal.Memory }
+    ensures failed { (error_kind error.now ≡ ErrorKind.OutOfMemory → ⊥) → result ≡ Refusal.ReadFailed }
+{
+    if error.kind() == ErrorKind::OutOfMemory {
+        Refusal::Memory
+    } else {
+        Refusal::ReadFailed
     }
 }
 

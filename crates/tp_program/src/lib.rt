@@ -34,7 +34,7 @@ pub use compacting::compact_on;
 pub use devices::{Devices, FileDevices, Made};
 pub use formatting::format_on;
 pub use in_use::refuse_in_use;
-pub use locks::{Held, InUse, Locks, NoLock, NoLocks};
+pub use locks::{Held, InUse, Locks};
 pub use program::{answer_locking, answer_over};
 pub use running::run_on;
 pub use stop_file::StopFault;

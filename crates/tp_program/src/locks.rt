@@ -43,27 +43,3 @@ pub trait Locks<F: Drop> {
     /// Whether what stands at a path is what stood there as this lock was taken: the very file that is locked, or nothing.
     fn is_kept(&self, lock: &Self::Lock, path: &str) -> bool;
 }
-
-/// There are no locks: nobody else has a device.
-#[derive(Drop)]
-pub struct NoLocks;
-
-/// What there is in place of a lock.
-#[derive(Drop)]
-pub struct NoLock;
-
-impl<F: Drop> Locks<F> for NoLocks {
-    type Lock = NoLock;
-
-    fn take(&mut self, path: &str, _seconds: u32) -> Result<Held<NoLock>, InUse> {
-        Ok(Held::new(path, NoLock))
-    }
-
-    fn take_made(&mut self, path: &str, _file: F) -> Result<Held<NoLock>, InUse> {
-        Ok(Held::new(path, NoLock))
-    }
-
-    fn is_kept(&self, _lock: &NoLock, _path: &str) -> bool {
-        true
-    }
-}

@@ -1,6 +1,6 @@
 //! A sink in memory. One of its calls may fail.
 
-ghost use Rattle.std.specs.Prelude.{◌≡◌, ◌≤◌, [], ◌++◌, length, take, true, is_ok, None, Some, OnOk, OnErr};
+ghost use Rattle.std.specs.Prelude.{◌≡◌, ◌≤◌, [], ◌++◌, length, take, true, is_ok, None, Some, IfErr, OnOk, OnErr};
 ghost use Rattle.tp_stream_files.specs.Failing.{calls_behind, goes_on};
 ghost use Rattle.tp_stream_files.specs.Held.{HasLength, HasPut, HasReach, IsSafe, KeepsBytes, KeepsFront, Reaches};
 
@@ -77,6 +77,7 @@ impl MemSink {
         requires there { at ≤ length self.old.bytes.items }
         ensures put { OnOk result (self.new.bytes.items ≡ take at self.old.bytes.items ++ bytes.now) }
         ensures failed { OnErr result (self.new.bytes.items ≡ take at self.old.bytes.items) }
+        ensures fault { IfErr result (λ fault. fault ≡ SinkFault.Failed) }
         ensures safe { self.new.safe ≡ at }
         ensures left { self.new.calls ≡ self.old.calls }
     {
@@ -105,6 +106,7 @@ impl Sink for MemSink {
         ensures put { OnOk result (HasPut at bytes.now (Some (record { bytes = self.old.bytes.items; safe = self.old.safe })) (Some (record { bytes = self.new.bytes.items; safe = self.new.safe }))) }
         ensures front { KeepsFront at (Some (record { bytes = self.old.bytes.items; safe = self.old.safe })) (Some (record { bytes = self.new.bytes.items; safe = self.new.safe })) }
         ensures goes { OnOk result (goes_on self.old.calls ≡ true) }
+        ensures fault { IfErr result (λ fault. fault ≡ SinkFault.Failed) }
         ensures left { self.new.calls ≡ calls_behind self.old.calls }
     {
         if self.goes() {
@@ -118,6 +120,7 @@ impl Sink for MemSink {
         ensures safe { OnOk result (IsSafe (Some (record { bytes = self.new.bytes.items; safe = self.new.safe }))) }
         ensures bytes { KeepsBytes (Some (record { bytes = self.old.bytes.items; safe = self.old.safe })) (Some (record { bytes = self.new.bytes.items; safe = self.new.safe })) }
         ensures goes { is_ok result ≡ goes_on self.old.calls }
+        ensures fault { IfErr result (λ fault. fault ≡ SinkFault.Failed) }
         ensures left { self.new.calls ≡ calls_behind self.old.calls }
     {
         if !self.goes() {

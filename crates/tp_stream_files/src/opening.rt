@@ -197,6 +197,23 @@ fn source_at<'a, S: EndFiles<File = F> + Looks, F: EndFile + Drop, I: Feed>(
     }
 }
 
+/// Adds what takes an output to `outputs`.
+fn add_output<'a, F: EndFile + Drop, O: Write>(
+    ends: &Ends,
+    end: &PortFile,
+    sink: AnySink<'a, F, O>,
+    outputs: &mut Vec<Output<AnySink<'a, F, O>>>,
+) -> Result<(), EndFault>
+    ensures outputs { OnOk result (outputs.new.items ≡ outputs.old.items ++ output_to ends.now.haves.items end.now ∷ []) }
+    ensures fault { IfErr result (λ fault. fault ≡ EndFault.Memory) }
+{
+    let have = ends.have_of(end.port);
+    match outputs.push(Output::new(end.port, have, sink)) {
+        Ok(()) => Ok(()),
+        Err(_) => Err(EndFault::Memory),
+    }
+}
+
 /// Opens what takes an output, and adds it to `outputs`.
 fn push_output<'a, S: EndFiles<File = F> + Looks, F: EndFile + Drop, O: Write>(
     files: &mut S,
@@ -211,11 +228,7 @@ fn push_output<'a, S: EndFiles<File = F> + Looks, F: EndFile + Drop, O: Write>(
     ensures fault { IfErr result (NamesPort end.now.port) }
 {
     let sink = sink_at(files, end, taken, out)?;
-    let have = ends.have_of(end.port);
-    match outputs.push(Output::new(end.port, have, sink)) {
-        Ok(()) => Ok(()),
-        Err(_) => Err(EndFault::Memory),
-    }
+    add_output(ends, end, sink, outputs)
 }
 
 /// Opens what takes the outputs of ports, and adds each to `outputs`.
@@ -291,6 +304,21 @@ fn outputs_of<'a, S: EndFiles<File = F> + Looks, F: EndFile + Drop, O: Write>(
     }
 }
 
+/// Adds where the input of `port` comes from to `inputs`.
+fn add_input<'a, F: EndFile + Drop, I: Feed>(
+    port: u8,
+    source: AnySource<'a, F, I>,
+    inputs: &mut Vec<Input<AnySource<'a, F, I>>>,
+) -> Result<(), EndFault>
+    ensures ports { OnOk result (map (λ i. i.port) inputs.new.items ≡ map (λ i. i.port) inputs.old.items ++ port ∷ []) }
+    ensures fault { IfErr result (λ fault. fault ≡ EndFault.Memory) }
+{
+    match inputs.push(Input::new(port, source)) {
+        Ok(()) => Ok(()),
+        Err(_) => Err(EndFault::Memory),
+    }
+}
+
 /// Opens where an input comes from, and adds it to `inputs`.
 fn push_input<'a, S: EndFiles<File = F> + Looks, F: EndFile + Drop, I: Feed>(
     files: &mut S,
@@ -304,10 +332,7 @@ fn push_input<'a, S: EndFiles<File = F> + Looks, F: EndFile + Drop, I: Feed>(
     ensures fault { IfErr result (NamesPort end.now.port) }
 {
     let source = source_at(files, end, taken, feed)?;
-    match inputs.push(Input::new(end.port, source)) {
-        Ok(()) => Ok(()),
-        Err(_) => Err(EndFault::Memory),
-    }
+    add_input(end.port, source, inputs)
 }
 
 /// Opens where the inputs of ports come from, and adds each to `inputs`.

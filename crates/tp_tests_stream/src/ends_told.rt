@@ -6,7 +6,8 @@ use std::io;
 use std::io::{ErrorKind, Write};
 use std::test::Fail;
 use tp_stream_files::{
-    AnySink, Ended, Ending, Listener, Onlooker, Output, Progress, Stopped, Teller, Times, say_end,
+    AnySink, Ended, Ending, Listener, Onlooker, Output, Progress, Sink, SinkFault, Stopped, Teller,
+    Times, say_end,
 };
 
 /// How far a stream has come at a time in milliseconds, with the first two outputs.
@@ -349,4 +350,23 @@ fn an_end_says_what_is_written_and_what_confirmed(rt: HostRuntime) -> Result<(),
     say_end(&mut err, ended, Some(1), &[first, second]);
     assert!(rt; err.bytes.as_slice() == b"next 42 written 5 confirmed 3 turns\n".as_slice());
     Ok(())
+}
+
+/// Standard output that takes nothing, and says no fault, has failed. Its reader has gone where it says that.
+#[test]
+fn an_output_that_takes_nothing_has_failed(rt: HostRuntime) {
+    for (failed, most, wanted) in [
+        (0u32, 0, Err(SinkFault::Failed)),
+        (1, 0, Err(SinkFault::Gone)),
+        (0, 1, Ok(())),
+    ] {
+        let mut out = Taker {
+            bytes: Vec::new(rt.alloc()),
+            failed,
+            how: ErrorKind::BrokenPipe,
+            most,
+        };
+        let mut sink: AnySink<'_, Lent<'_>, Taker> = AnySink::Out(&mut out);
+        assert!(rt; sink.put(0, b"abc") == wanted);
+    }
 }

@@ -6,6 +6,7 @@ use crate::files::Lent;
 use crossbeam_channel::{Receiver, bounded};
 use std::io;
 use std::io::{ErrorKind, Read};
+use std::rt::Clock;
 use std::sync::Wait;
 use std::test::Fail;
 use tp_model::limits::MAX_HELD;
@@ -260,7 +261,7 @@ fn comes_whole<F: Feed>(feed: &mut F) -> bool {
     false
 }
 
-/// Pieces that a thread hasn't read yet are waited for, and none is lost to the wait.
+/// Pieces that a thread hasn't read yet are waited for, some milliseconds where so many are said, and none is lost to the wait.
 #[test]
 fn a_thread_is_waited_for(rt: HostRuntime) -> Result<(), Fail> {
     let (to_tell, told) = bounded(rt.alloc(), 1)?;
@@ -270,9 +271,11 @@ fn a_thread_is_waited_for(rt: HostRuntime) -> Result<(), Fail> {
         below: Numbered::new(7, false),
     };
     let mut feed = Threaded::new(rt, Some(reader));
-    assert!(rt; feed.would_wait(0) && feed.would_wait(1) && feed.would_wait(0));
+    let begun = rt.monotonic()?;
+    assert!(rt; feed.would_wait(0) && feed.would_wait(40) && feed.would_wait(0));
+    let waited = rt.monotonic()?.saturating_sub(begun).as_secs();
     assert!(rt; to_tell.send(&rt, ()).is_ok());
-    assert!(rt; comes_whole(&mut feed));
+    assert!(rt; comes_whole(&mut feed) && waited < 20);
     Ok(())
 }
 

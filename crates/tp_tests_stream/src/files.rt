@@ -155,6 +155,8 @@ pub(crate) struct FakeFiles<'a> {
     pub(crate) folders: u32,
     /// The numbers of the file at `device`.
     pub(crate) device: Option<FileNumbers>,
+    /// Those of the file that standard input comes from.
+    pub(crate) input: Option<FileNumbers>,
     trace: Trace,
 }
 
@@ -166,6 +168,7 @@ impl<'a> FakeFiles<'a> {
             folder,
             folders: 0,
             device: None,
+            input: None,
             trace: Trace::new(),
         }
     }
@@ -207,7 +210,11 @@ impl<'a> Looks for FakeFiles<'a> {
         if path == "device" { self.device } else { None }
     }
 
-    fn numbers_behind(&self, _stream: &str) -> Option<FileNumbers> {
-        None
+    fn numbers_behind(&self, stream: &str) -> Option<FileNumbers> {
+        if stream == "/dev/stdin" {
+            self.input
+        } else {
+            None
+        }
     }
 }

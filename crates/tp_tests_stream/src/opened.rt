@@ -54,9 +54,14 @@ fn refusal_over(
 ) -> Option<EndFault> {
     let mut files = FakeFiles::new(file, Left(None));
     files.device = device;
+    refusal_by(alloc, ends, &mut files)
+}
+
+/// Why ends aren't opened over such files.
+fn refusal_by(alloc: Global, ends: &Ends, files: &mut FakeFiles<'_>) -> Option<EndFault> {
     let mut feed = Plain::new(Numbered::new(1, false));
     let mut out: Vec<u8> = Vec::new(alloc);
-    let opened = open_ends_over(&mut files, alloc, "device", ends, &mut feed, &mut out);
+    let opened = open_ends_over(files, alloc, "device", ends, &mut feed, &mut out);
     opened.err()
 }
 
@@ -101,6 +106,25 @@ fn a_device_that_comes_to_stand_at_a_path_takes_no_output(rt: HostRuntime) -> Re
     let refusal = refusal_over(alloc, &ends, Some(ONE), &mut file);
     assert!(rt; matches!(refusal, Some(EndFault::SameFile(0))) && file.synced == 0);
     assert!(rt; refusal_over(alloc, &ends, Some(OTHER), &mut file).is_none());
+    Ok(())
+}
+
+/// Nor is it the file that standard input comes from, where a port takes that.
+#[test]
+fn a_file_that_is_read_takes_no_output(rt: HostRuntime) -> Result<(), Fail> {
+    let alloc = rt.alloc();
+    let mut ends = ends_of(alloc)?;
+    let path = String::from_str(alloc, "-")?;
+    ends.ins.push(PortFile { port: 3, path })?;
+    let mut file = FakeFile::new(Vec::new(alloc));
+    file.numbers = Some(ONE);
+    let mut files = FakeFiles::new(&mut file, Left(None));
+    files.input = Some(ONE);
+    let refusal = refusal_by(alloc, &ends, &mut files);
+    let mut files = FakeFiles::new(&mut file, Left(None));
+    files.input = Some(OTHER);
+    let beside = refusal_by(alloc, &ends, &mut files);
+    assert!(rt; matches!(refusal, Some(EndFault::SameFile(0))) && beside.is_none());
     Ok(())
 }
 
