@@ -1,6 +1,6 @@
 -- How many calls of the device have failed.
 use Rattle.std.specs.Prelude.{if◌then◌else◌}
-use Rattle.std.proofs.Common.{◌≡◌, ℕ, ◌+◌, inl, inr, Bool, true, false, Result, Ok, Err, refl, sym, ap, subst, ◌∙◌, arith}
+use Rattle.std.proofs.Common.{◌≡◌, ℕ, ◌+◌, inl, inr, Bool, true, false, Result, Ok, Err, IsOk, IfErr, OnOk, MatchResult, refl, sym, ap, subst, ◌∙◌, arith}
 use Rattle.tp_model.specs.NodeState.{NodeState}
 use Rattle.tp_model.specs.WriteOrder.{Position, Broken, Resting}
 use Rattle.tp_recover.specs.declared.unopened.Unopened.{Unopened}
@@ -48,10 +48,23 @@ refused_by A given Memory old new (inl W) = inr (inl refl, W.0.rested.rests)
 refused_by A given Memory old new (inr W) = inr (inl refl, W.rested.rests)
 refused_by A given AreaFull old new E = inr (inr refl, E.rested.rests)
 
-pub flush_refused : {A : Type 0} (r : Result A FlushFault) (given : RunFault) (fault : FlushFault) (old new : Flushing) → r ≡ Err fault → Ended r old new → IsFlushFault given new.world.at (flush_fault_of given fault)
-flush_refused (Ok x) given fault old new is E = cc
-flush_refused {A} (Err other) given fault old new is E =
-    let same : other ≡ fault = cc in subst (λ f. IsFlushFault given new.world.at (flush_fault_of given f)) same (refused_by A given other old new E)
+abbrev pub IsOutcome : {A : Type 0} → RunFault → Result A FlushFault → Result Unit RunFault → Type 0
+IsOutcome given turned answer = MatchResult turned (λ flushed. IsOk answer) (λ refused. answer ≡ Err (flush_fault_of given refused))
+
+pub outcome_rests : {A : Type 0} (turned : Result A FlushFault) (answer : Result Unit RunFault) (given : RunFault) (old new : Flushing) → IsOutcome given turned answer → Ended turned old new
+    → OnOk answer (new.world.at ≡ Resting)
+outcome_rests (Ok x) (Ok done) given old new is E = E.rests
+outcome_rests (Ok x) (Err fault) given old new is E = tt
+outcome_rests (Err refused) (Ok done) given old new is E = cc
+outcome_rests (Err refused) (Err fault) given old new is E = tt
+
+pub outcome_refused : {A : Type 0} (turned : Result A FlushFault) (answer : Result Unit RunFault) (given : RunFault) (old new : Flushing) → IsOutcome given turned answer → Ended turned old new
+    → IfErr answer (IsFlushFault given new.world.at)
+outcome_refused (Ok x) (Ok done) given old new is E = tt
+outcome_refused (Ok x) (Err fault) given old new is E = cc
+outcome_refused (Err refused) (Ok done) given old new is E = tt
+outcome_refused {A} (Err refused) (Err fault) given old new is E =
+    let same : flush_fault_of given refused ≡ fault = cc in subst (IsFlushFault given new.world.at) same (refused_by A given refused old new E)
 
 -- one behind the other
 pub failures_then : (a b c : Flushing) → CountsFailures a b → CountsFailures b c → CountsFailures a c

@@ -1,6 +1,6 @@
 //! The flusher's thread, and flushes behind it.
 
-ghost use Rattle.std.specs.Prelude.{◌≡◌, ◌≤◌, IfOk, IfErr, OnOk};
+ghost use Rattle.std.specs.Prelude.{◌≡◌, ◌≤◌, Err, IsOk, IfOk, IfErr, OnOk, MatchResult};
 ghost use Rattle.tp_model.specs.WriteOrder.{Resting};
 ghost use Rattle.tp_flush.specs.Known.{Began};
 ghost use Rattle.tp_flush.specs.Flushing.{IsSameProcess, Walked};
@@ -65,6 +65,19 @@ fn fault_in(fault: FlushFault, given: RunFault) -> RunFault
     }
 }
 
+/// What comes of a flush whose turn was `turned`: done just where the turn was, else its fault, which is `given` where the device has failed.
+fn outcome_of<J: Naming>(
+    turned: Result<Flushed<J>, FlushFault>,
+    given: RunFault,
+) -> Result<(), RunFault>
+    ensures { MatchResult turned (λ flushed. IsOk result) (λ refused. result ≡ Err (flush_fault_of given refused)) }
+{
+    match turned {
+        Ok(_) => Ok(()),
+        Err(refused) => Err(fault_in(refused, given)),
+    }
+}
+
 /// A flush. It answers `fault` where the device fails.
 fn flush<J: Naming, D: Disk, R: Wait>(
     rt: &R,
@@ -79,10 +92,7 @@ fn flush<J: Naming, D: Disk, R: Wait>(
     ensures rests { OnOk result (flusher.new.world.at ≡ Resting) }
     ensures refused { IfErr result (IsFlushFault fault flusher.new.world.at) }
 {
-    match flusher.turn(rt, alloc, shared) {
-        Ok(_) => Ok(()),
-        Err(refused) => Err(fault_in(refused, fault)),
-    }
+    outcome_of(flusher.turn(rt, alloc, shared), fault)
 }
 
 /// A flush of all entries below `number`, which is the next one of a receipt. Answers the mark. It answers `fault` where the device
