@@ -1,7 +1,7 @@
 //! A device is compacted: its network, as it is, becomes the cut, and its journal is empty.
 
 ghost use Rattle.std.specs.List.{AllByRecursion};
-ghost use Rattle.std.specs.Prelude.{◌≡◌, ◌≤◌, ◌+◌, true, false, Ok, Err, Some, IfOk, IfSome, IsErr};
+ghost use Rattle.std.specs.Prelude.{◌≡◌, ◌≤◌, ◌+◌, true, false, Ok, Err, Some, None, IfOk, IfSome, IsErr, MatchResult};
 ghost use Rattle.tp_area.specs.Places.{place_at};
 ghost use Rattle.tp_flush.specs.Flushing.{IsSameProcess, Walked};
 ghost use Rattle.tp_flush.specs.Known.{Began};
@@ -114,6 +114,17 @@ fn fault_of(refusal: Refusal) -> Option<CompactFault>
     }
 }
 
+/// What comes of beginning a snapshot, by its answer: no fault where one begins.
+fn outcome_of(answer: Result<(), Refusal>) -> Option<CompactFault>
+    ensures is { MatchResult answer (λ begun. result ≡ None) (λ refusal. result ≡ begin_fault refusal) }
+    ensures begins { IfSome result IsBeginFault }
+{
+    match answer {
+        Ok(()) => None,
+        Err(refusal) => fault_of(refusal),
+    }
+}
+
 /// Begins a snapshot.
 fn begin<J: Naming, D: Disk, R: Wait>(
     rt: &R,
@@ -123,10 +134,7 @@ fn begin<J: Naming, D: Disk, R: Wait>(
 ) -> Option<CompactFault>
     ensures { IfSome result IsBeginFault }
 {
-    match flusher.snapshot(rt, alloc, shared).answer() {
-        Ok(()) => None,
-        Err(refusal) => fault_of(refusal),
-    }
+    outcome_of(flusher.snapshot(rt, alloc, shared).answer())
 }
 
 /// Each node records, and each Marker is taken off its line. Nothing is taken, and nothing runs.
