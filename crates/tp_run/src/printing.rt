@@ -1,6 +1,6 @@
 //! The output that a run prints and confirms.
 
-ghost use Rattle.std.specs.Prelude.{◌≡◌, ◌<◌, ◌≤◌, length, take, IfOk, IfErr, OnOk, OnErr};
+ghost use Rattle.std.specs.Prelude.{◌≡◌, ◌<◌, ◌≤◌, length, take, IsOk, IfOk, IfErr, OnOk, OnErr};
 ghost use Rattle.std.specs.Io.KnownBytes.{Appends};
 ghost use Rattle.tp_book.specs.Book.{next_in_book};
 ghost use Rattle.tp_book.specs.Host.{after_confirm, port_in, shown_from, shown_of, shown_upto_of};
@@ -111,11 +111,12 @@ fn print_shown<J: Naming, D: Disk, O: Outlet>(
     confirm_shown(held, seat, port, mark)
 }
 
-/// Tests that `mark` shows all outputs of a port, and is above all entries of the book.
+/// Tests that `mark` shows all outputs of a port, and is above all entries of the book: it is refused just where one of the two isn't so.
 fn is_all_shown(book: &Book, port: u8, mark: u64) -> Result<(), RunFault>
     requires { port < length book.now.state.ports }
     ensures all { IfOk result (λ done. shown_of book.now port mark ≡ length (port_in book.now port).outputs) }
     ensures stored { IfOk result (λ done. next_in_book book.now ≤ mark) }
+    ensures exact { shown_of book.now port mark ≡ length (port_in book.now port).outputs → next_in_book book.now ≤ mark → IsOk result }
     ensures refused { IfErr result (λ fault. fault ≡ RunFault.Unaccounted) }
 {
     let shown = book.shown_upto(port, mark) - book.out_base(port);
