@@ -1,6 +1,6 @@
 //! Workers, and the flusher beside them.
 
-ghost use Rattle.std.specs.Prelude.{◌≡◌, ◌≤◌, ◌*◌, ◌-◌, All, Some, None, IfOk, IfErr, IfSome};
+ghost use Rattle.std.specs.Prelude.{◌≡◌, ◌≤◌, ◌*◌, ◌-◌, ◌^◌, min, All, Some, None, IfOk, IfErr, IfSome};
 ghost use Rattle.tp_model.specs.WriteOrder.{Resting};
 ghost use Rattle.tp_flush.specs.Known.{Began};
 ghost use Rattle.tp_flush.specs.Flushing.{IsSameProcess, Walked};
@@ -202,10 +202,11 @@ fn turns_in<J: Naming>(held: &Locked<J>, pace: Pace, most: u64) -> u64
     (free.saturating_sub(u64::from(pace.confirms)) / turn).min(most)
 }
 
-/// How many turns may be made at most, as it was asked, in the next shift of `workers`.
+/// How many turns may be made at most in the next shift of `workers`: [`SHIFT`] for each of them; or what is left of the bound that was asked for,
+/// where that is less.
 fn most_of(task: Task, turns: &Turns, workers: u64) -> u64
-    ensures bound { IfSome task.turns (λ bound. result ≤ bound - turns.now.made) }
-    ensures shift { result ≤ SHIFT * workers }
+    ensures unbounded { task.turns ≡ None → result ≡ min (SHIFT * workers) (2 ^ 64 - 1) }
+    ensures bounded { IfSome task.turns (λ bound. result ≡ min (bound - turns.now.made) (min (SHIFT * workers) (2 ^ 64 - 1))) }
 {
     let shift = SHIFT.saturating_mul(workers);
     match task.turns {
