@@ -2,6 +2,7 @@
 use Rattle.std.specs.Prelude.{◌≡◌, ◌⊎◌, ℕ, Bool, true, false, Option, Some, None, Result, Ok, Err}
 use Rattle.tp_node.specs.declared.standing.Standing.{Standing}
 use Rattle.tp_node.specs.declared.standing.Standing.TheVariants.{Halted as NodeHalted, Waits as NodeWaits, Free}
+use Rattle.tp_stream_files.specs.declared.ending.Ending.{Ending}
 use Rattle.tp_stream_files.specs.declared.ending.Stopped.{Stopped}
 use Rattle.tp_stream_files.specs.declared.ending.Stopped.TheVariants.{Halted, Waits}
 use Rattle.tp_stream.specs.declared.fault.StreamFault.{StreamFault}
@@ -73,6 +74,13 @@ refused_of turn.Empty = record { ends = false; lacks_memory = false; is_broken =
 refused_of turn.JournalFull = record { ends = true; lacks_memory = false; is_broken = false }
 refused_of turn.Memory = record { ends = true; lacks_memory = true; is_broken = false }
 refused_of turn.StoreBroken = record { ends = true; lacks_memory = false; is_broken = true }
+
+-- What comes of a shift: the fault of its flush, where that failed; else the fault for which its turns were refused, where there is one; else nothing
+-- that ends the stream.
+abbrev pub shift_outcome : Result (Unit {0}) StreamFault → Result (Unit {0}) StreamFault → Result (Option Ending) StreamFault
+shift_outcome (Err fault) told = Err fault
+shift_outcome (Ok done) (Err fault) = Err fault
+shift_outcome (Ok done) (Ok none) = Ok None
 
 -- An offer that is refused for this reason, where there is one, was answered so. One that isn't was taken, or may still want memory.
 abbrev pub OfferAnswer : Option OfferFault → Result Bool StreamFault → Type 0

@@ -5,8 +5,9 @@ ghost use Rattle.tp_model.specs.WriteOrder.{Resting};
 ghost use Rattle.tp_flush.specs.Known.{Began};
 ghost use Rattle.tp_flush.specs.Flushing.{IsSameProcess, Walked};
 ghost use Rattle.tp_stream.specs.Failures.{FailedWhere, answer_failed};
+ghost use Rattle.tp_stream.specs.Outcomes.{shift_outcome};
 ghost use Rattle.tp_stream.specs.Rooms.{free_of};
-ghost use Rattle.tp_stream.specs.Streamed.{CameBegun, CameOfFlush};
+ghost use Rattle.tp_stream.specs.Streamed.{CameBegun, CameOfFlush, CameOfTurns};
 ghost use Rattle.tp_stream.specs.declared.beside.TheConstants.{SHIFT};
 
 use crate::fault::StreamFault;
@@ -223,19 +224,21 @@ fn turns_under<J: Naming, R: Wait>(rt: &R, shared: &Shared<J>, pace: Pace, most:
     turns_in(&held, pace, most)
 }
 
-/// What comes of a shift: the fault of a flush, or why turns were refused.
+/// What comes of a shift: the fault of a flush, or else why turns were refused, which it `told`.
 fn outcome_of(
     flushed: Result<(), StreamFault>,
-    shift: &Shift,
+    told: Result<(), StreamFault>,
 ) -> Result<Option<Ending>, StreamFault>
-    requires { IfErr flushed CameOfFlush }
+    requires flush { IfErr flushed CameOfFlush }
+    requires turns { IfErr told CameOfTurns }
+    ensures value { result ≡ shift_outcome flushed told }
     ensures failed { answer_failed result ≡ answer_failed flushed }
     ensures goes_on { IfOk result (λ ended. ended ≡ None) }
     ensures begun { IfErr result CameBegun }
 {
     match flushed {
         Err(fault) => Err(fault),
-        Ok(()) => match shift.outcome() {
+        Ok(()) => match told {
             Ok(()) => Ok(None),
             Err(fault) => Err(fault),
         },
@@ -271,5 +274,5 @@ pub(crate) fn go_beside<J: Naming, D: Disk, R: Wait>(
     let before = shift.open(turns_under(rt, net.shared(), pace, most));
     let flushed = flush_beside(rt, alloc, net, shift, before, seat, flusher);
     turns.add(shift.count(), shift.has_halted(), shift.is_idle());
-    outcome_of(flushed, shift)
+    outcome_of(flushed, shift.outcome())
 }
