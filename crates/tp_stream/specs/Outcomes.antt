@@ -87,6 +87,12 @@ abbrev pub OfferAnswer : Option OfferFault → Result Bool StreamFault → Type 
 OfferAnswer None answer = (answer ≡ Ok true) ⊎ (answer ≡ Err NoMemory)
 OfferAnswer (Some reason) answer = answer ≡ offer_left reason
 
+-- Of these steps none found that whoever takes an output has gone.
+abbrev pub AreTakersThere : Pumped → Type 0
+AreTakersThere Nothing = Unit {0}
+AreTakersThere Moved = Unit {0}
+AreTakersThere GoneThere = ⊥
+
 -- what some steps and those behind them come to together
 abbrev pub pumped_then : Pumped → Pumped → Pumped
 pumped_then GoneThere more = GoneThere

@@ -1,19 +1,19 @@
 //! Steps of all streams of a network.
 
-ghost use Rattle.std.specs.Prelude.{◌≡◌, ◌<◌, ◌==◌, ◌-◌, ℕ, List, length, map, true, false, Ok, IfSome, IfErr, OnErr, if◌then◌else◌};
+ghost use Rattle.std.specs.Prelude.{◌≡◌, ◌<◌, ◌==◌, ◌-◌, ℕ, List, length, map, true, false, Ok, IfOk, IfSome, IfErr, OnErr, if◌then◌else◌};
 ghost use Rattle.tp_area.specs.declared.journal.JournalRoom.{JournalRoom};
 ghost use Rattle.tp_book.specs.Host.{accepted_of, port_in, room_of};
 ghost use Rattle.tp_book.specs.Refusals.{is_journal_full};
 ghost use Rattle.tp_flush.specs.Known.{Began};
 ghost use Rattle.tp_stream.specs.FailedEnds.{NamesEnd, NamesInput, NamesOutput};
 ghost use Rattle.tp_stream.specs.Offered.{Offered};
-ghost use Rattle.tp_stream.specs.Outcomes.{pumped_then};
+ghost use Rattle.tp_stream.specs.Outcomes.{AreTakersThere, pumped_then};
 ghost use Rattle.tp_stream.specs.Put.{EachWith};
 ghost use Rattle.tp_stream.specs.Rooms.{IsConfirmed, UnreservedBook, free_of, has_room_for};
 ghost use Rattle.tp_stream_files.specs.Outputs.{OutputValue};
 ghost use Rattle.tp_stream.specs.Steps.{AllStepped, AreLeft, PutsLeft, PutsShown};
 ghost use Rattle.tp_stream.specs.Streamed.{CameBetween, OtherThanFull};
-ghost use Rattle.tp_stream.specs.declared.pumping.Pumped.TheVariants.{Nothing, Moved};
+ghost use Rattle.tp_stream.specs.declared.pumping.Pumped.TheVariants.{Nothing, Moved, Gone};
 
 use crate::fault::StreamFault;
 use crate::output::StepFault;
@@ -43,7 +43,8 @@ pub(crate) enum Pumped {
 impl Pumped {
     /// What these steps and the ones behind them come to together.
     fn then(self, more: Pumped) -> Pumped
-        ensures { result ≡ pumped_then self more }
+        ensures value { result ≡ pumped_then self more }
+        ensures there { AreTakersThere self → AreTakersThere more → AreTakersThere result }
     {
         match (self, more) {
             (Pumped::Gone, _) | (_, Pumped::Gone) => Pumped::Gone,
@@ -54,7 +55,8 @@ impl Pumped {
 
     /// Whether one has moved.
     fn of(has_moved: bool) -> Pumped
-        ensures { result ≡ (if has_moved then Moved else Nothing) }
+        ensures value { result ≡ (if has_moved then Moved else Nothing) }
+        ensures there { AreTakersThere result }
     {
         if has_moved {
             Pumped::Moved
@@ -297,6 +299,7 @@ pub(crate) fn step_inputs<J: Naming, I: Source, R: Wait>(
 ) -> Result<Pumped, StreamFault>
     ensures begun { IfErr result CameBetween }
     ensures ends { (outputs : List OutputValue) → IfErr result (NamesEnd outputs (map (λ i. i.port) inputs.new)) }
+    ensures there { IfOk result AreTakersThere }
 {
     let mut has_moved = false;
     for input in inputs.iter_mut() {
@@ -319,6 +322,7 @@ fn pump_inputs<J: Naming, I: Source, R: Wait>(
     inputs: &mut [Input<I>],
 ) -> Result<Pumped, StreamFault>
     ensures begun { IfErr result CameBetween }
+    ensures there { AreTakersThere put → IfOk result AreTakersThere }
 {
     let pumped = put.then(step_inputs(rt, shared, pace, seat, false, inputs)?);
     if pumped != Pumped::Nothing || !may_wait {
@@ -343,6 +347,7 @@ pub(crate) fn pump<J: Naming, D: Disk, S: Sink, I: Source, R: Wait>(
     ensures put { D.keeps → Began J.formatted J.before flusher.old.opened
         → AllStepped J.formatted flusher.old flusher.old streams.old.outputs.items streams.new.outputs.items }
     ensures begun { IfErr result CameBetween }
+    ensures gone { result ≡ Ok Gone → streams.new.inputs ≡ streams.old.inputs }
 {
     let put = step_outputs(rt, shared, seat, flusher, &mut streams.outputs)?;
     if put == Pumped::Gone {
