@@ -1,5 +1,5 @@
 -- What steps of streams come to.
-use Rattle.std.specs.Prelude.{◌≡◌, ◌⊎◌, ℕ, Bool, true, false, Option, Some, None, Result, Ok, Err}
+use Rattle.std.specs.Prelude.{◌≡◌, ◌⊎◌, ℕ, Bool, true, false, Option, Some, None, Result, Ok, Err, nat_eq, if◌then◌else◌}
 use Rattle.tp_node.specs.declared.standing.Standing.{Standing}
 use Rattle.tp_node.specs.declared.standing.Standing.TheVariants.{Halted as NodeHalted, Waits as NodeWaits, Free}
 use Rattle.tp_stream_files.specs.declared.ending.Ending.{Ending}
@@ -68,12 +68,23 @@ turn_fault_of refusal.JournalFull = None
 turn_fault_of refusal.StoreBroken = Some NothingStored
 turn_fault_of _ = Some NoMemory
 
+-- The number by which a shift notes why a turn was refused, of which it keeps the greatest: 0 where that is no fault.
+abbrev pub refusal_number : TurnFault → ℕ
+refusal_number turn.Empty = 0
+refusal_number turn.JournalFull = 0
+refusal_number turn.Memory = 1
+refusal_number turn.StoreBroken = 2
+
 -- what a shift keeps of a turn that was refused: all but that nobody was there end it
 abbrev pub refused_of : TurnFault → Refused
-refused_of turn.Empty = record { ends = false; lacks_memory = false; is_broken = false }
-refused_of turn.JournalFull = record { ends = true; lacks_memory = false; is_broken = false }
-refused_of turn.Memory = record { ends = true; lacks_memory = true; is_broken = false }
-refused_of turn.StoreBroken = record { ends = true; lacks_memory = false; is_broken = true }
+refused_of turn.Empty = record { ends = false; number = refusal_number turn.Empty }
+refused_of turn.JournalFull = record { ends = true; number = refusal_number turn.JournalFull }
+refused_of turn.Memory = record { ends = true; number = refusal_number turn.Memory }
+refused_of turn.StoreBroken = record { ends = true; number = refusal_number turn.StoreBroken }
+
+-- Why turns were refused, where this is the greatest of their numbers: where the book is broken for one of them, that is told.
+abbrev pub noted_outcome : ℕ → Result (Unit {0}) StreamFault
+noted_outcome number = if nat_eq number 0 then Ok tt else (if nat_eq number 1 then Err NoMemory else Err NothingStored)
 
 -- What comes of a shift: the fault of its flush, where that failed; else the fault for which its turns were refused, where there is one; else nothing
 -- that ends the stream.

@@ -1,7 +1,7 @@
 //! What workers and the flusher tell each other while both go on.
 
-ghost use Rattle.std.specs.Prelude.{◌≡◌, ◌↔◌, ◌≤◌, ◌||◌, not, true, false, None, is_ok, if◌then◌else◌, IfErr, IfSome};
-ghost use Rattle.tp_stream.specs.Outcomes.{refused_of};
+ghost use Rattle.std.specs.Prelude.{◌≡◌, ◌↔◌, ◌≤◌, true, false, None, IfErr, IfSome};
+ghost use Rattle.tp_stream.specs.Outcomes.{noted_outcome, refusal_number, refused_of};
 ghost use Rattle.tp_stream.specs.Quiet.{HadNoWork};
 ghost use Rattle.tp_stream.specs.Streamed.{CameOfTurns};
 
@@ -18,10 +18,16 @@ use tp_work::{Turn, TurnFault};
 /// How many microseconds the flusher sleeps where no turn is left and too little was made. No turn wakes it.
 const SLEEP: u64 = 500;
 
+/// The number of turns that were refused for want of memory.
+const MEMORY: u64 = 1;
+
+/// The number of turns that were refused since the book says that it is broken: the greater one, so it is told where both were.
+const BROKEN: u64 = 2;
+
 /// Shifts, one behind the other, of workers that stay. Of the one that was opened last: how many turns it may have, and how many of these are
 /// left; how many of the last ones in a row had nothing to do, and how many of these end it; and whether it is to end. Of all of them: entries
-/// made, or a greater number; whether a node has halted; and whether a turn was refused for want of memory, or since the book says that
-/// it is broken. No lock is taken for it.
+/// made, or a greater number; whether a node has halted; and the greatest number of a turn that was refused (`refusal_number`). No lock is taken
+/// for it.
 #[derive(Drop)]
 pub(crate) struct Shift {
     pub(crate) crew: Crew,
@@ -32,8 +38,7 @@ pub(crate) struct Shift {
     made: AtomicU64,
     is_over: AtomicBool,
     has_halted: AtomicBool,
-    lacks_memory: AtomicBool,
-    is_broken: AtomicBool,
+    refusal: AtomicU64,
 }
 
 /// Whether a process had nothing to do in a turn, and whether it is a node that has halted.
@@ -51,12 +56,22 @@ fn seen_of(turn: &Turn) -> (bool, bool)
     }
 }
 
-/// What a shift keeps of a turn that was refused: whether it ends by that, and whether memory was refused, or the book says that it is broken.
+/// What a shift keeps of a turn that was refused: whether it ends by that, and the number that says why.
 #[derive(Clone, Copy)]
 struct Refused {
     ends: bool,
-    lacks_memory: bool,
-    is_broken: bool,
+    number: u64,
+}
+
+/// The number that says why a turn was refused: 0 where that is no fault, since there was no room, or no process.
+fn refusal_number(fault: TurnFault) -> u64
+    ensures { result ≡ refusal_number fault }
+{
+    match fault {
+        TurnFault::Empty | TurnFault::JournalFull => 0,
+        TurnFault::Memory => MEMORY,
+        TurnFault::StoreBroken => BROKEN,
+    }
 }
 
 /// What it keeps of a turn that was refused so. One for which no process was there ends nothing.
@@ -65,22 +80,19 @@ fn refused_of(fault: TurnFault) -> Refused
 {
     Refused {
         ends: fault != TurnFault::Empty,
-        lacks_memory: fault == TurnFault::Memory,
-        is_broken: fault == TurnFault::StoreBroken,
+        number: refusal_number(fault),
     }
 }
 
-/// Why turns were refused, where they were for another reason than room.
-fn outcome_of(is_broken: bool, lacks_memory: bool) -> Result<(), StreamFault>
-    ensures done { is_ok result ≡ not (is_broken || lacks_memory) }
-    ensures fault { IfErr result (λ fault. fault ≡ (if is_broken then StreamFault.NotStored else StreamFault.Memory)) }
+/// Why turns were refused, where they were for another reason than room, by the greatest of their numbers.
+fn outcome_of(number: u64) -> Result<(), StreamFault>
+    ensures value { result ≡ noted_outcome number }
+    ensures begun { IfErr result CameOfTurns }
 {
-    if is_broken {
-        Err(StreamFault::NotStored)
-    } else if lacks_memory {
-        Err(StreamFault::Memory)
-    } else {
-        Ok(())
+    match number {
+        0 => Ok(()),
+        MEMORY => Err(StreamFault::Memory),
+        _ => Err(StreamFault::NotStored),
     }
 }
 
@@ -96,8 +108,7 @@ impl Shift {
             made: AtomicU64::new(0),
             is_over: AtomicBool::new(false),
             has_halted: AtomicBool::new(false),
-            lacks_memory: AtomicBool::new(false),
-            is_broken: AtomicBool::new(false),
+            refusal: AtomicU64::new(0),
         }
     }
 
@@ -148,12 +159,7 @@ impl Shift {
 
     /// Tells that a turn was refused.
     fn tell_refused(&self, refused: Refused) {
-        if refused.lacks_memory {
-            self.lacks_memory.store(true, Ordering::SeqCst);
-        }
-        if refused.is_broken {
-            self.is_broken.store(true, Ordering::SeqCst);
-        }
+        self.refusal.fetch_max(refused.number, Ordering::SeqCst);
         if refused.ends {
             self.stop();
         }
@@ -235,8 +241,6 @@ impl Shift {
     pub(crate) fn outcome(&self) -> Result<(), StreamFault>
         ensures { IfErr result CameOfTurns }
     {
-        let is_broken = self.is_broken.load(Ordering::SeqCst);
-        let lacks_memory = self.lacks_memory.load(Ordering::SeqCst);
-        outcome_of(is_broken, lacks_memory)
+        outcome_of(self.refusal.load(Ordering::SeqCst))
     }
 }
