@@ -133,6 +133,7 @@ tpnet backup device copy
 tpnet backup device copy --explain 2>err
 starts err tpnet: Damaged 0\n
 has err byte 10 is 01 and must be 00
+has err opens now
 stay
 bring kept/one.dev device
 set device 512 00

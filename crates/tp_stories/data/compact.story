@@ -141,6 +141,11 @@ tpnet node device 3
 tpnet run device --turns 5 --workers 1 --explain
 tpnet compact device
 
+story no_device
+# What is no regular file isn't opened.
+tpnet compact /dev/null
+asked write
+
 story last_generation
 # Behind the last generation but one there is one cut more; behind the last one there is none, and the device stays as it is.
 text net.txt node a 4\nport h\nwire a.0 h\n

@@ -421,6 +421,30 @@ has err It is a folder: name a file.
 tpnet run device --stream --quantum=64 --turns=9 --explain --in 0=nowhere --discard 0 >out 2>err
 starts err tpnet: ReadFailed\n
 has err nowhere: 
+# Of words that don't fit the device nothing more is said.
+tpnet run device --stream --turns=9 --out 7=out --explain 2>err
+has err Nothing was opened
+
+story unwritten
+# A file that takes an output fails at a call: three ask which it is and how long, one syncs it, one writes, and one syncs that. Of the last two it is
+# told what comes of opening and syncing it again: that goes where one call fails alone, and not where those behind it do, too.
+text net.txt node a 4\nport h\nwire a.0 h\n
+image a.img 11 24 F2 54 41 F7 11 24 F2 41 FB 60 03
+tpnet format d net.txt . 16384
+copy d fresh
+text in abcd
+sweep alone device
+copy fresh d
+remove out_device
+tpnet run d --stream --quantum=64 --until-quiet --workers 1 --out 0=out_device --in 0=in --explain 2>err
+has err it can be opened and synced now
+end
+sweep onward device
+copy fresh d
+remove out_device
+tpnet run d --stream --quantum=64 --until-quiet --workers 1 --out 0=out_device --in 0=in --explain 2>err
+has err it can be opened and synced now
+end
 
 story failed_calls
 # Whichever call of the device fails, what the system said of it is told: of a run, a compaction and a stream. Behind a run that was done the device is
@@ -489,6 +513,12 @@ tpnet show there --explain 2>err
 starts err tpnet: ReadFailed\n
 has err It is a folder
 tpnet show /dev/null --explain 2>err
+starts err tpnet: ReadFailed\n
+has err it is no regular file
+tpnet run there --stream --until-quiet --discard 0 --explain 2>err
+starts err tpnet: ReadFailed\n
+has err It is a folder
+tpnet run /dev/null --stream --until-quiet --discard 0 --explain 2>err
 starts err tpnet: ReadFailed\n
 has err it is no regular file
 
