@@ -68,7 +68,7 @@ turn_fault_of refusal.JournalFull = None
 turn_fault_of refusal.StoreBroken = Some NothingStored
 turn_fault_of _ = Some NoMemory
 
--- The number by which a shift notes why a turn was refused, of which it keeps the greatest: 0 where that is no fault.
+-- The number by which a shift notes why a turn was refused: 0 where that is no fault. It keeps the greatest one.
 abbrev pub refusal_number : TurnFault → ℕ
 refusal_number turn.Empty = 0
 refusal_number turn.JournalFull = 0

@@ -261,7 +261,7 @@ fn comes_whole<F: Feed>(feed: &mut F) -> bool {
     false
 }
 
-/// Pieces that a thread hasn't read yet are waited for, some milliseconds where so many are said, and none is lost to the wait.
+/// Pieces that a thread hasn't read yet are waited for, as long as is said in milliseconds, and none is lost to the wait.
 #[test]
 fn a_thread_is_waited_for(rt: HostRuntime) -> Result<(), Fail> {
     let (to_tell, told) = bounded(rt.alloc(), 1)?;
