@@ -143,7 +143,8 @@ tpnet compact device
 
 story no_device
 # What is no regular file isn't opened.
-tpnet compact /dev/null
+symlink /dev/null null_device
+tpnet compact null_device
 asked write
 
 story last_generation

@@ -421,8 +421,8 @@ has err It is a folder: name a file.
 tpnet run device --stream --quantum=64 --turns=9 --explain --in 0=nowhere --discard 0 >out 2>err
 starts err tpnet: ReadFailed\n
 has err nowhere: 
-# Of words that don't fit the device nothing more is said.
-tpnet run device --stream --turns=9 --out 7=out --explain 2>err
+# Of words that name one file twice nothing more is said.
+tpnet run device --stream --turns=9 --out 0=device --explain 2>err
 has err Nothing was opened
 
 story unwritten
