@@ -116,7 +116,7 @@ pub(crate) fn lead<
 {
     let mut seats = seats;
     let mut seat = seats.pop();
-    let shift = Shift::new(2 * (u64::from(ground.net.shared().nodes()) + 1));
+    let shift = Shift::new(ground.net.shared().nodes());
     if ground.pace.workers < 2 {
         let (mut going, mut flusher) = (going, flusher);
         let done = laps(

@@ -1,6 +1,6 @@
 //! What workers and the flusher tell each other while both go on.
 
-ghost use Rattle.std.specs.Prelude.{◌≡◌, ◌↔◌, ◌≤◌, true, false, None, IfErr, IfSome};
+ghost use Rattle.std.specs.Prelude.{◌≡◌, ◌↔◌, ◌≤◌, ◌+◌, ◌*◌, true, false, None, IfErr, IfSome};
 ghost use Rattle.tp_stream.specs.Outcomes.{noted_outcome, refusal_number, refused_of};
 ghost use Rattle.tp_stream.specs.Quiet.{HadNoWork};
 ghost use Rattle.tp_stream.specs.Streamed.{CameOfTurns};
@@ -97,14 +97,17 @@ fn outcome_of(number: u64) -> Result<(), StreamFault>
 }
 
 impl Shift {
-    /// None is open. One that is ends sooner than its turns where `idle_at_most` in a row had nothing to do.
-    pub(crate) fn new(idle_at_most: u64) -> Shift {
+    /// None is open. One that is ends sooner than its turns where more of them in a row had nothing to do than two for each of `nodes` nodes, and
+    /// for the host.
+    pub(crate) fn new(nodes: u8) -> Shift
+        ensures { result.idle_at_most ≡ 2 * (nodes + 1) }
+    {
         Shift {
             crew: Crew::new(),
             turns: AtomicU64::new(0),
             left: AtomicU64::new(0),
             idle: AtomicU64::new(0),
-            idle_at_most,
+            idle_at_most: 2 * (u64::from(nodes) + 1),
             made: AtomicU64::new(0),
             is_over: AtomicBool::new(false),
             has_halted: AtomicBool::new(false),
