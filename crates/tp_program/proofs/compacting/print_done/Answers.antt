@@ -9,5 +9,5 @@ on_ok P Q (Err e) turn h = h
 pub returns : goal.returns
 returns g c =
     on_ok _ _ c.put.result
-    (λ appended. subst (λ bytes. Appends (g.O.Write.contents c.args.out.now) (g.O.Write.contents c.put.new.out) bytes) (c.as_bytes.ensures.value ∙ c.in-Ok.ensures) appended)
+    (λ appended. subst (λ bytes. Appends (g.O.Write.contents c.args.out.now) (g.O.Write.contents c.put.new.out) bytes) (c.as_bytes.ensures.value ∙ c.in_ok-text.ensures.line) appended)
     c.put.ensures.written
