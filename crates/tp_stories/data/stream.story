@@ -380,6 +380,15 @@ tpnet run device --turns 3 --workers 1
 tpnet run device --stream --stop-on-halt --turns 9 --discard 0
 tpnet run device --stream --stop-on-halt --turns 0 --discard 0
 
+story no_turns
+# Of no turns the end is behind the steps of the ports: both bytes of the input are pending then.
+text net.txt node a 4\nport h\nwire a.0 h\n
+image a.img 11 24 F2 54 41 F7 11 24 F2 41 FB 60 03
+tpnet format device net.txt . 16384
+text given ab
+tpnet run device --stream --turns 0 --discard 0 --in 0=given
+tpnet show device
+
 story left_over
 # More input than a port holds, and its node takes nothing of it: 4096 bytes are pending, the rest isn't handed in, and nothing is left
 # to do. The input may end there, but no byte before.
