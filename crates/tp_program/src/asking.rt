@@ -16,6 +16,7 @@ use std::io::Write;
 use std::os::unix::fs::FileExt;
 use std::{fmt, io};
 use tp_recover::read_head;
+use tp_stream_files::StandardStreams;
 use tp_views::{Refusal, is_device_file, put, refuse};
 use tp_words::StopRequest;
 
@@ -267,7 +268,7 @@ fn refuse_unasked<E: Write>(err: &mut E, fault: Unasked) -> u8
 /// has ended where that was waited for, and that was printed; 1 where it was refused; or 2 where standard output is the file of the
 /// device; nobody is asked then.
 pub(crate) fn answer_stop<
-    R: Files<File = F> + AllocGlobal,
+    R: Files<File = F> + StandardStreams + AllocGlobal,
     F: FileExt + OpenFile + Drop,
     S: Devices,
     O: Write,

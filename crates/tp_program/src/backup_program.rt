@@ -9,13 +9,14 @@ use crate::program::{prints_into, refuse_output};
 use std::fs::{Files, OpenFile};
 use std::io::Write;
 use std::os::unix::fs::FileExt;
+use tp_stream_files::StandardStreams;
 use tp_words::Backup;
 
 /// Makes the copy that is asked for, and says so, or why there is none; more of that where `explains`. Answers the program's status: 0
 /// where the copy is made and that was printed, 1 where it was refused, or 2 where standard output is the file of the device; no other
 /// file is opened then.
 pub(crate) fn answer_backup<
-    R: Files<File = F> + AllocGlobal,
+    R: Files<File = F> + StandardStreams + AllocGlobal,
     F: FileExt + OpenFile + Drop,
     O: Write,
     E: Write,

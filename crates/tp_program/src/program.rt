@@ -27,7 +27,9 @@ use std::os::unix::fs::FileExt;
 use std::sync::Wait;
 use std::thread::Threads;
 use tp_disk::Disk;
-use tp_stream_files::{Feed, Onlooker, is_one_file};
+use tp_stream_files::{
+    Feed, Onlooker, StandardStream, StandardStreams, is_output_said_over, is_standard_file,
+};
 use tp_views::{explain, is_device_file, print_help, tell_halted};
 use tp_words::{Asked, Command, CommandLine};
 
@@ -81,9 +83,6 @@ fn carry_out<
     }
 }
 
-/// What the system calls standard output.
-const STANDARD_OUT: &str = "/dev/stdout";
-
 /// The device that is asked for, where one is.
 fn device_of(asked: &Asked) -> Option<&str> {
     match asked {
@@ -98,13 +97,13 @@ fn device_of(asked: &Asked) -> Option<&str> {
     }
 }
 
-/// Whether what is printed would be written over the file of a device.
-pub(crate) fn prints_into<R: Files>(rt: &R, device: &str) -> bool {
-    is_one_file(rt, device, STANDARD_OUT)
+/// Whether what is printed would be written over the file of a path.
+pub(crate) fn prints_into<R: Files + StandardStreams>(rt: &R, path: &str) -> bool {
+    is_standard_file(rt, path, StandardStream::Out)
 }
 
 /// Whether what is printed would be written over the device that is asked for.
-fn prints_into_device<R: Files>(rt: &R, asked: &Asked) -> bool {
+fn prints_into_device<R: Files + StandardStreams>(rt: &R, asked: &Asked) -> bool {
     match device_of(asked) {
         Some(device) => prints_into(rt, device),
         None => false,
@@ -120,11 +119,30 @@ fn input_of(asked: &Asked) -> Option<&str> {
 }
 
 /// Whether what a run prints would be written into the file of its input. What is no regular file has no bytes to lose, as a terminal.
-fn prints_into_input<R: Files>(rt: &R, asked: &Asked) -> bool {
+fn prints_into_input<R: Files + StandardStreams>(rt: &R, asked: &Asked) -> bool {
     match input_of(asked) {
         Some(path) => is_device_file(rt, path) && prints_into(rt, path),
         None => false,
     }
+}
+
+/// Whether what is said on standard error may be written over what a run prints.
+fn is_run_said_over<R: StandardStreams>(rt: &R, asked: &Asked) -> bool {
+    match asked {
+        Asked::Run(_) => is_output_said_over(rt),
+        _ => false,
+    }
+}
+
+/// Says that standard output and standard error go into one file. Answers the status. A failed write is let go.
+fn refuse_mixed<E: Write>(err: &mut E) -> u8
+    ensures { result ≡ 2 }
+{
+    let _ = write!(
+        err,
+        "tpnet: standard output goes into the file of standard error: let it go elsewhere; nothing was changed\n"
+    );
+    2
 }
 
 /// Says that what is printed would be written into the input. Answers the status. A failed write is let go.
@@ -167,10 +185,10 @@ fn say_more<R: Files<File = F> + AllocGlobal, F: FileExt + OpenFile + Drop, E: W
     }
 }
 
-/// Does what was asked for, unless what is printed would be written over the device, or into the input, and says more of it where
-/// `explains`. The device that is to be written is held. Answers the program's status.
+/// Does what was asked for, unless what is printed would be written over the device, or into the input, or what a run prints be written over;
+/// and says more of it where `explains`. The device that is to be written is held. Answers the program's status.
 fn answer_held<
-    R: Files<File = F> + AllocGlobal + Threads + Wait + Sync,
+    R: Files<File = F> + StandardStreams + AllocGlobal + Threads + Wait + Sync,
     F: FileExt + OpenFile + Drop + Send,
     S: Devices<Device = D>,
     D: Disk + Drop + Send,
@@ -197,6 +215,9 @@ fn answer_held<
     }
     if prints_into_input(rt, asked) {
         return refuse_input(err);
+    }
+    if is_run_said_over(rt, asked) {
+        return refuse_mixed(err);
     }
     let mut system = None;
     let status = carry_out(rt, devices, watch, asked, &mut system, out, err);
@@ -228,7 +249,7 @@ fn hold_written<S: Devices>(devices: &mut S, asked: &Asked) -> Result<(), InUse>
 
 /// Does what was asked for, unless another process has the device that is to be written. Answers the program's status.
 fn answer_asked<
-    R: Files<File = F> + AllocGlobal + Threads + Wait + Sync,
+    R: Files<File = F> + StandardStreams + AllocGlobal + Threads + Wait + Sync,
     F: FileExt + OpenFile + Drop + Send,
     S: Devices<Device = D>,
     D: Disk + Drop + Send,
@@ -257,7 +278,7 @@ fn answer_asked<
 
 /// Does what a command asks for, and says more of it where `explains`. Answers the program's status.
 fn answer_command<
-    R: Files<File = F> + AllocGlobal + Threads + Wait + Sync,
+    R: Files<File = F> + StandardStreams + AllocGlobal + Threads + Wait + Sync,
     F: FileExt + OpenFile + Drop + Send,
     S: Devices<Device = D>,
     D: Disk + Drop + Send,
@@ -298,7 +319,7 @@ fn answer_command<
 /// `watch` says who holds one that `status` looks at. `feed` is standard input, which a stream alone reads; `onlooker` looks at `err` and
 /// has the time.
 pub fn answer_over<
-    R: Files<File = F> + AllocGlobal + Threads + Wait + Sync,
+    R: Files<File = F> + StandardStreams + AllocGlobal + Threads + Wait + Sync,
     F: FileExt + OpenFile + Drop + Send,
     S: Devices<Device = D>,
     D: Disk + Drop + Send,
@@ -338,7 +359,7 @@ pub fn answer_over<
 
 /// Does what the words ask for, as `answer_over`, over devices that tell nothing of what was called.
 fn answer_untold<
-    R: Files<File = F> + AllocGlobal + Threads + Wait + Sync,
+    R: Files<File = F> + StandardStreams + AllocGlobal + Threads + Wait + Sync,
     F: FileExt + OpenFile + Drop + Send,
     S: Devices<Device = D>,
     D: Disk + Drop + Send,
@@ -365,7 +386,7 @@ fn answer_untold<
 
 /// Does what the words ask for, as `answer_over`, with the devices in files of the system, whose locks `locks` takes.
 pub fn answer_locking<
-    R: Files<File = F> + AllocGlobal + Threads + Wait + Sync,
+    R: Files<File = F> + StandardStreams + AllocGlobal + Threads + Wait + Sync,
     F: FileExt + OpenFile + Drop + Send,
     L: Locks<F, Lock = K> + Drop,
     K: Drop,

@@ -7,11 +7,15 @@ use std::fs;
 use std::fs::Files;
 use std::io::{ErrorKind, Write};
 use tp_stream::{Noted, Stop};
-use tp_stream_files::{PortFile, is_one_file};
+use tp_stream_files::{PortFile, StandardStream, StandardStreams, is_one_file, is_standard_file};
 use tp_words::StreamRun;
 
-/// What the system calls the standard streams.
-const STANDARD: &[&str] = &["/dev/stdin", "/dev/stdout", "/dev/stderr"];
+/// The standard streams.
+const STANDARD: &[StandardStream] = &[
+    StandardStream::In,
+    StandardStream::Out,
+    StandardStream::Error,
+];
 
 /// Why a stream isn't begun, because of the file that is to end it, or of where it may be asked to stop. The device is as it was.
 #[derive(Clone, Copy)]
@@ -83,9 +87,9 @@ fn is_end<R: Files>(rt: &R, path: &str, files: &[PortFile]) -> bool {
 }
 
 /// Whether a path names the file of a standard stream.
-fn is_standard<R: Files>(rt: &R, path: &str) -> bool {
-    for name in STANDARD {
-        if is_one_file(rt, path, name) {
+fn is_standard<R: Files + StandardStreams>(rt: &R, path: &str) -> bool {
+    for stream in STANDARD {
+        if is_standard_file(rt, path, *stream) {
             return true;
         }
     }
@@ -93,7 +97,7 @@ fn is_standard<R: Files>(rt: &R, path: &str) -> bool {
 }
 
 /// Whether a path names the file of the device, of an end of a port, or of a standard stream.
-fn is_part<R: Files>(rt: &R, asked: &StreamRun, path: &str) -> bool {
+fn is_part<R: Files + StandardStreams>(rt: &R, asked: &StreamRun, path: &str) -> bool {
     is_one_file(rt, path, asked.device.as_str())
         || is_end(rt, path, &asked.ends.outs)
         || is_end(rt, path, &asked.ends.ins)
@@ -101,7 +105,7 @@ fn is_part<R: Files>(rt: &R, asked: &StreamRun, path: &str) -> bool {
 }
 
 /// Why a stream isn't begun because of the file that is to end it, where it isn't: as things stand now.
-fn stop_fault<R: Files>(rt: &R, asked: &StreamRun) -> Option<StopFault>
+fn stop_fault<R: Files + StandardStreams>(rt: &R, asked: &StreamRun) -> Option<StopFault>
     ensures { asked.now.stop_file ≡ None → result ≡ None }
 {
     let path = asked.stop_file.as_ref()?.as_str();
@@ -116,13 +120,13 @@ fn stop_fault<R: Files>(rt: &R, asked: &StreamRun) -> Option<StopFault>
 }
 
 /// Whether the path of requests names the file of an end of a port, or of a standard stream.
-fn is_taken<R: Files>(rt: &R, asked: &StreamRun, request: &RequestFile) -> bool {
+fn is_taken<R: Files + StandardStreams>(rt: &R, asked: &StreamRun, request: &RequestFile) -> bool {
     let path = request.path();
     is_end(rt, path, &asked.ends.outs) || is_end(rt, path, &asked.ends.ins) || is_standard(rt, path)
 }
 
 /// Why a stream isn't begun because of the file that is to end it, or of where it may be asked to stop: as things stand now.
-pub(crate) fn places_fault<R: Files>(
+pub(crate) fn places_fault<R: Files + StandardStreams>(
     rt: &R,
     asked: &StreamRun,
     request: &RequestFile,
@@ -138,7 +142,7 @@ pub(crate) fn places_fault<R: Files>(
 }
 
 /// The same before anything was opened; and a request from before, which was for another process, is taken away. The device is held.
-pub(crate) fn first_fault<R: Files>(
+pub(crate) fn first_fault<R: Files + StandardStreams>(
     rt: &R,
     asked: &StreamRun,
     request: &RequestFile,

@@ -18,7 +18,7 @@ use std::os::unix::fs::FileExt;
 use std::sync::Wait;
 use std::thread::Threads;
 use tp_disk::Disk;
-use tp_stream_files::{Feed, Onlooker};
+use tp_stream_files::{Feed, Onlooker, StandardStreams};
 use tp_views::{Refusal, is_device_file, refuse};
 use tp_words::StreamRun;
 
@@ -54,7 +54,7 @@ fn unopened<E: Write>(err: &mut E, refusal: Refusal, system: Option<io::Error>) 
 
 /// `tpnet run --stream`, on files. The device's file, which is held, is opened as it is, and keeps its length.
 fn stream_file<
-    R: Files<File = F> + AllocGlobal + Threads + Wait + Sync,
+    R: Files<File = F> + StandardStreams + AllocGlobal + Threads + Wait + Sync,
     F: FileExt + OpenFile + Drop + Send,
     S: Devices<Device = D>,
     D: Disk + Drop + Send,
@@ -104,7 +104,7 @@ fn say_why<R: Files<File = F> + AllocGlobal, F: FileExt + OpenFile + Drop, E: Wr
 
 /// Streams as it is asked for, and says more of a refusal where `explains`. Answers the status.
 fn stream_and_explain<
-    R: Files<File = F> + AllocGlobal + Threads + Wait + Sync,
+    R: Files<File = F> + StandardStreams + AllocGlobal + Threads + Wait + Sync,
     F: FileExt + OpenFile + Drop + Send,
     S: Devices<Device = D>,
     D: Disk + Drop + Send,
@@ -138,7 +138,7 @@ fn stream_and_explain<
 /// Asks for the device first, and streams on it unless another process has it; says more of a refusal where `explains`. Answers the status:
 /// that of the stream, or 3 where it ended since a node halted.
 pub(crate) fn hold_and_stream<
-    R: Files<File = F> + AllocGlobal + Threads + Wait + Sync,
+    R: Files<File = F> + StandardStreams + AllocGlobal + Threads + Wait + Sync,
     F: FileExt + OpenFile + Drop + Send,
     S: Devices<Device = D>,
     D: Disk + Drop + Send,

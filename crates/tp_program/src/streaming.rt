@@ -23,7 +23,8 @@ use std::thread::Threads;
 use tp_disk::Disk;
 use tp_stream::{Ended, Ending, Sink, Source, StreamFault, Streams, Task, stream};
 use tp_stream_files::{
-    AnySink, AnySource, EndFault, Feed, Onlooker, OutsideFile, Teller, open_ends, say_end,
+    AnySink, AnySource, EndFault, Feed, Onlooker, OutsideFile, StandardStreams, Teller, open_ends,
+    say_end,
 };
 use tp_words::StreamRun;
 
@@ -257,7 +258,7 @@ fn stream_opened<
 /// since it may be one of them that was made meanwhile.
 fn open_ports<
     'a,
-    R: Files<File = F> + AllocGlobal,
+    R: Files<File = F> + StandardStreams + AllocGlobal,
     F: FileExt + OpenFile + Drop + Send,
     I: Feed,
     O: Write,
@@ -286,7 +287,7 @@ fn open_ports<
 /// Opens the ends of a device's ports, and streams its network on them. A request to stop is taken away behind that, whyever it ended: it was
 /// for this process, which holds the device.
 fn stream_files<
-    R: Files<File = F> + AllocGlobal + Threads + Wait + Sync,
+    R: Files<File = F> + StandardStreams + AllocGlobal + Threads + Wait + Sync,
     F: FileExt + OpenFile + Drop + Send,
     D: Disk + Drop + Send,
     I: Feed,
@@ -329,7 +330,7 @@ fn stream_files<
 /// `tpnet run --stream`, on a device: opens the ends of its ports, lets its network run, and puts, makes safe and confirms what ports
 /// show as it comes, until it is over as it was asked to be. Answers the device, the program's status and what came of it.
 pub fn stream_on<
-    R: Files<File = F> + AllocGlobal + Threads + Wait + Sync,
+    R: Files<File = F> + StandardStreams + AllocGlobal + Threads + Wait + Sync,
     F: FileExt + OpenFile + Drop + Send,
     D: Disk + Drop + Send,
     I: Feed,

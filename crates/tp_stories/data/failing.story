@@ -434,6 +434,14 @@ text net.txt node a 4\nport h\nwire a.0 h\n
 image a.img 11 24 F2 54 41 F7 11 24 F2 41 FB 60 03
 tpnet format device net.txt . 16384
 text in abcdefghijklmnopqrstuvwxyz
+copy device second_device
+copy device third_device
 calls most 3
 tpnet run device --stream --quantum=64 --until-quiet --workers 1 --out 0=out --in 0=in 2>err
 equal out in
+# Each read is interrupted once, and made again: those of a stream's input, of a run's, and of the device.
+calls interrupted
+tpnet run second_device --stream --quantum=64 --until-quiet --workers 1 --out 0=second --in 0=in 2>err
+equal second in
+tpnet run third_device --turns 400 --workers 1 --in in >third 2>err
+equal third in

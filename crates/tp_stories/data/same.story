@@ -110,6 +110,18 @@ tpnet run device --stream --quantum=64 --until-quiet --out 1=./there --out 0=- <
 starts err tpnet: --out 0 goes into the file of 
 stay
 remove fresh
+stand stdout=there stderr=there
+keep device in there fresh net.txt a.img
+tpnet run device --stream --quantum=64 --until-quiet --discard 0 --out 1=- <in 2>err
+starts err tpnet: --out 1 goes into the file of 
+stay
+remove fresh
+stand stdout=there stderr=also_there
+keep device in there fresh net.txt a.img
+tpnet run device --stream --quantum=64 --until-quiet --out 0=fresh --out 1=- <in 2>err
+starts err tpnet: --out 1 goes into the file of 
+stay
+remove fresh
 stand stdin=in
 keep device in there fresh net.txt a.img
 tpnet run device --stream --quantum=64 --until-quiet --discard 0 --out 1=in --in 0=- <in 2>err
@@ -202,7 +214,7 @@ stand
 tpnet run device --stream --quantum=64 --until-quiet --out 0=none --out 1=one --in 0=in --in 1=in <in 2>err
 stand stdout=one stdin=in
 tpnet run device --stream --quantum=64 --until-quiet --discard 0 --out 1=one --in 0=in <in 2>err
-stand stdout=there stdin=in stderr=there
+stand stdout=there stdin=in stderr=net.txt
 tpnet run device --stream --quantum=64 --until-quiet --out 0=none --out 1=- --in 0=- <in 2>err
 stand stdout=. stdin=. stderr=.
 tpnet run device --stream --quantum=64 --until-quiet --discard 0 --out 1=- --in 0=- <in 2>err
@@ -229,6 +241,33 @@ stand stdout=other
 tpnet run device --turns 30 --workers 1 --in given >out
 stand
 equal out given
+
+story said_over
+# A run whose standard output and standard error are one file, under whatever name, would have what it says written over what its port puts out. It
+# is refused, and nothing is changed; where they are two files, or one that is no regular file, as a terminal, all goes as ever. A stream is refused so above.
+# Nothing is lost by what another command prints.
+text net.txt node a 4\nport h\nwire a.0 h\n
+image a.img
+tpnet format device net.txt . 16384
+copy device second_device
+fill there 0 00
+fill other 0 00
+link there also_there
+symlink there to_there
+keep device there
+stand stdout=there stderr=there
+tpnet run device --turns 4 --workers 1
+stand stdout=there stderr=also_there
+tpnet run device --turns 4 --workers 1 --in net.txt
+stand stdout=to_there stderr=there
+tpnet run device --turns 4 --workers 1 --explain
+stay
+stand stdout=there stderr=there
+tpnet show device >out
+stand stdout=. stderr=.
+tpnet run device --turns 4 --workers 1
+stand stdout=there stderr=other
+tpnet run second_device --turns 4 --workers 1
 
 story unmade
 # What can be told of files that are there is told before any file is made: the output in front of it isn't made then.

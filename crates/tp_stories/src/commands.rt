@@ -102,7 +102,7 @@ impl<'a, R: Files> Write for Reader<'a, R> {
 /// Does what a command asks for, as the program does.
 fn carry_out<
     R: Files<File = F> + AllocGlobal,
-    S: Files<File = E> + AllocGlobal + Threads + Wait + Sync,
+    S: Files<File = E> + AllocGlobal + Redirects + Threads + Wait + Sync,
     F: FileExt + OpenFile + Drop,
     E: FileExt + OpenFile + Drop + Send,
 >(rt: &R, files: &S, stage: &Stage, words: &[String], input: &[u8]) -> Done {

@@ -4,14 +4,18 @@ use crate::faulty::Plan;
 use crate::typed::{count_of, malformed, parted};
 use std::io;
 
-/// How the calls of a command go, by words: no read or write moves more bytes than `most` says, nothing is seen at a path, or a device can't be
-/// opened to write it; with no word all are done.
+/// How the calls of a command go, by words: no read or write moves more bytes than `most` says, each read is interrupted once, nothing is seen at
+/// a path, or a device can't be opened to write it; with no word all are done.
 pub(crate) fn read_calls(words: &str) -> io::Result<Plan> {
     let plan = Plan::NONE;
     match parted(words) {
         ("", "") => Ok(plan),
         ("most", count) => Ok(Plan {
             most: count_of(count)?,
+            ..plan
+        }),
+        ("interrupted", "") => Ok(Plan {
+            interrupts: true,
             ..plan
         }),
         ("blind", "") => Ok(Plan {

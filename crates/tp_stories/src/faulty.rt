@@ -18,6 +18,8 @@ pub(crate) struct Plan {
     pub(crate) is_everywhere: bool,
     /// The most bytes of one read or write.
     pub(crate) most: usize,
+    /// Whether each read is interrupted once.
+    pub(crate) interrupts: bool,
     /// Whether nothing is seen at a path.
     pub(crate) is_blind: bool,
     /// Whether opening a device to write it is refused.
@@ -31,6 +33,7 @@ impl Plan {
         goes_on: true,
         is_everywhere: false,
         most: usize::MAX,
+        interrupts: false,
         is_blind: false,
         only_reads: false,
     };
@@ -43,6 +46,8 @@ pub(crate) struct Faults {
     goes_on: AtomicBool,
     is_everywhere: AtomicBool,
     most: AtomicUsize,
+    interrupts: AtomicBool,
+    was_interrupted: AtomicBool,
     is_blind: AtomicBool,
     only_reads: AtomicBool,
     has_failed: AtomicBool,
@@ -58,6 +63,8 @@ impl Faults {
             goes_on: AtomicBool::new(true),
             is_everywhere: AtomicBool::new(false),
             most: AtomicUsize::new(usize::MAX),
+            interrupts: AtomicBool::new(false),
+            was_interrupted: AtomicBool::new(false),
             is_blind: AtomicBool::new(false),
             only_reads: AtomicBool::new(false),
             has_failed: AtomicBool::new(false),
@@ -73,6 +80,8 @@ impl Faults {
         self.is_everywhere
             .store(plan.is_everywhere, Ordering::SeqCst);
         self.most.store(plan.most, Ordering::SeqCst);
+        self.interrupts.store(plan.interrupts, Ordering::SeqCst);
+        self.was_interrupted.store(false, Ordering::SeqCst);
         self.is_blind.store(plan.is_blind, Ordering::SeqCst);
         self.only_reads.store(plan.only_reads, Ordering::SeqCst);
         self.has_failed.store(false, Ordering::SeqCst);
@@ -108,6 +117,17 @@ impl Faults {
     /// The most bytes of one read or write.
     fn most(&self) -> usize {
         self.most.load(Ordering::SeqCst)
+    }
+
+    /// Whether the next read isn't interrupted: each other one is, where reads are.
+    fn pass_read(&self) -> io::Result<()> {
+        let was_interrupted = self.was_interrupted.load(Ordering::SeqCst);
+        if !self.interrupts.load(Ordering::SeqCst) || was_interrupted {
+            self.was_interrupted.store(false, Ordering::SeqCst);
+            return Ok(());
+        }
+        self.was_interrupted.store(true, Ordering::SeqCst);
+        Err(io::Error::from(io::ErrorKind::Interrupted))
     }
 
     /// Notes that a device is to be opened to write it. Answers whether that may be.
@@ -164,6 +184,7 @@ impl<'a, F: Drop> FaultyFile<'a, F> {
 
 impl<'a, F: Read + Drop> Read for FaultyFile<'a, F> {
     fn read(&mut self, buf: &mut [u8]) -> io::Result<usize> {
+        self.faults.pass_read()?;
         self.file.read(buf)
     }
 }
@@ -186,6 +207,7 @@ impl<'a, F: Seek + Drop> Seek for FaultyFile<'a, F> {
 
 impl<'a, F: FileExt + Drop> FileExt for FaultyFile<'a, F> {
     fn read_at(&self, buf: &mut [u8], offset: u64) -> io::Result<usize> {
+        self.faults.pass_read()?;
         self.faults.pass(self.counts)?;
         let few = buf.len().min(self.faults.most());
         self.file.read_at(&mut buf[..few], offset)

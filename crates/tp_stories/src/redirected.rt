@@ -6,23 +6,24 @@ use std::fs::{Files, Metadata, OpenOptions};
 use std::io;
 use std::sync::{Mutex, Wait};
 use std::thread::Threads;
+use tp_stream_files::{StandardFile, StandardStream, StandardStreams, numbers_in};
 
-/// Files in which standard streams may be redirected to files, each named by its path, as `/dev/stdout`, and in which calls may fail.
-pub(crate) trait Redirects {
+/// Files beside which standard streams may be redirected to files, and in which calls may fail.
+pub(crate) trait Redirects: StandardStreams {
     /// Takes these for the standard streams from now on.
-    fn redirect(&self, streams: Vec<(&'static str, String)>);
+    fn redirect(&self, streams: Vec<(StandardStream, String)>);
 
     /// What becomes of calls.
     fn faults(&self) -> &Faults;
 }
 
-/// The files below, in which each of these streams is the file of a path, and calls fail. A story's commands change which they are; it is made
-/// once, where the system is known, since what commands send to threads may not rest on what is only assumed of it.
+/// The files below, beside which each of these streams is the file of a path, and calls fail. A story's commands change which they are; it is
+/// made once, where the system is known, since what commands send to threads may not rest on what is only assumed of it.
 #[derive(Drop)]
 pub(crate) struct Redirected<'a, R> {
     below: &'a R,
     faults: &'a Faults,
-    streams: Mutex<Vec<(&'static str, String)>>,
+    streams: Mutex<Vec<(StandardStream, String)>>,
 }
 
 impl<'a, R: AllocGlobal> Redirected<'a, R> {
@@ -37,23 +38,50 @@ impl<'a, R: AllocGlobal> Redirected<'a, R> {
     }
 }
 
-/// What stands at a path where these streams are redirected.
-fn behind<'b>(streams: &'b [(&'static str, String)], path: &'b str) -> &'b str {
-    for (stream, file) in streams {
-        if *stream == path {
-            return file.as_str();
+/// The path of the file that a stream is, where it is redirected to one.
+fn path_behind(streams: &[(StandardStream, String)], stream: StandardStream) -> Option<&str> {
+    for (redirected, file) in streams {
+        if *redirected == stream {
+            return Some(file.as_str());
         }
     }
-    path
+    None
 }
 
-impl<'a, R: Wait> Redirects for Redirected<'a, R> {
-    fn redirect(&self, streams: Vec<(&'static str, String)>) {
+impl<'a, R: Files + Wait> Redirects for Redirected<'a, R> {
+    fn redirect(&self, streams: Vec<(StandardStream, String)>) {
         *self.streams.lock(self.below) = streams;
     }
 
     fn faults(&self) -> &Faults {
         self.faults
+    }
+}
+
+/// A standard stream that is no file of the story.
+const TERMINAL: StandardFile = StandardFile {
+    numbers: None,
+    is_regular: false,
+};
+
+/// What a path names, as a standard stream.
+fn standard_at<R: Files>(rt: &R, path: &str) -> StandardFile {
+    match rt.metadata(path) {
+        Ok(kept) => StandardFile {
+            numbers: numbers_in(&kept),
+            is_regular: kept.is_file(),
+        },
+        Err(_) => TERMINAL,
+    }
+}
+
+impl<'a, R: Files + Wait> StandardStreams for Redirected<'a, R> {
+    fn behind(&self, stream: StandardStream) -> StandardFile {
+        let streams = self.streams.lock(self.below);
+        match path_behind(streams.as_slice(), stream) {
+            Some(path) => standard_at(self.below, path),
+            None => TERMINAL,
+        }
     }
 }
 
@@ -80,10 +108,7 @@ impl<'a, R: Files + Wait> Files for Redirected<'a, R> {
             self.faults.pass_write()?;
         }
         self.faults.pass_path()?;
-        let file = {
-            let streams = self.streams.lock(self.below);
-            self.below.open_file(how, behind(streams.as_slice(), path))?
-        };
+        let file = self.below.open_file(how, path)?;
         let counts = is_device || self.faults.is_everywhere();
         Ok(FaultyFile::new(file, self.faults, counts))
     }
@@ -93,8 +118,7 @@ impl<'a, R: Files + Wait> Files for Redirected<'a, R> {
     }
 
     fn metadata(&self, path: &str) -> io::Result<Metadata> {
-        let streams = self.streams.lock(self.below);
-        self.below.metadata(behind(streams.as_slice(), path))
+        self.below.metadata(path)
     }
 
     fn symlink_metadata(&self, path: &str) -> io::Result<Metadata> {

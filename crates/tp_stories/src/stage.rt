@@ -14,6 +14,7 @@ use std::fs::Files;
 use std::io::ErrorKind;
 use std::rt::Env;
 use std::{env, fs, io};
+use tp_stream_files::StandardStream;
 
 /// Where a story is played: in a folder of its own.
 #[derive(Drop)]
@@ -22,8 +23,8 @@ pub(crate) struct Stage {
     folder: Option<String>,
     /// What was printed and isn't written yet.
     pub(crate) transcript: Vec<u8>,
-    /// Standard streams that are files of the story, as `/dev/stdout`, and the path of each.
-    pub(crate) streams: Vec<(&'static str, String)>,
+    /// Standard streams that are files of the story, and the path of each.
+    pub(crate) streams: Vec<(StandardStream, String)>,
     /// The file that the reader of a stream's standard output makes once something has come, where it makes one.
     pub(crate) made: Option<String>,
     /// What the reader of standard output says, where it takes nothing.
@@ -97,9 +98,9 @@ impl Stage {
         self.streams.clear();
         for word in words.split_whitespace() {
             let (stream, file) = match word.split_once('=') {
-                Some(("stdin", file)) => ("/dev/stdin", file),
-                Some(("stdout", file)) => ("/dev/stdout", file),
-                Some(("stderr", file)) => ("/dev/stderr", file),
+                Some(("stdin", file)) => (StandardStream::In, file),
+                Some(("stdout", file)) => (StandardStream::Out, file),
+                Some(("stderr", file)) => (StandardStream::Error, file),
                 _ => return Err(malformed()),
             };
             self.streams.push((stream, String::from_str(alloc, file)?))?;
@@ -108,7 +109,7 @@ impl Stage {
     }
 
     /// The standard streams that are files, and the path of each.
-    pub(crate) fn redirected(&self, alloc: Global) -> io::Result<Vec<(&'static str, String)>> {
+    pub(crate) fn redirected(&self, alloc: Global) -> io::Result<Vec<(StandardStream, String)>> {
         let mut streams = Vec::new(alloc);
         for (stream, file) in &self.streams {
             streams.push((*stream, String::from_str(alloc, file.as_str())?))?;

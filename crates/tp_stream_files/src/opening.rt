@@ -11,11 +11,10 @@ use crate::ends::{EndFault, Ends, PortFile};
 use crate::feeds::Feed;
 use crate::outside::{Outside, OutsideFile};
 use crate::pipes::Pipe;
-use crate::same::{
-    FileNumbers, STANDARD_ERROR, STANDARD_IN, STANDARD_OUT, Taken, are_one, same_file,
-};
+use crate::same::{Taken, are_one, same_file};
 use crate::sinks::{AnySink, FileSink, file_at};
 use crate::sources::AnySource;
+use crate::standard::{StandardStream, StandardStreams};
 use crate::system::{EndFile, EndFiles, Looks};
 use crate::{Input, Output, Streams};
 use std::alloc::Global;
@@ -36,7 +35,7 @@ fn take_sink<S: Looks, F: EndFile>(
     let Ok(numbers) = file.numbers() else {
         return Err(EndFault::DeviceFailed(port));
     };
-    if taken.has(numbers) || are_one(numbers, looks.numbers_behind(STANDARD_ERROR)) {
+    if taken.has(numbers) || are_one(numbers, looks.numbers_behind(StandardStream::Error)) {
         return Err(EndFault::SameFile(port));
     }
     taken.add(numbers)
@@ -188,7 +187,7 @@ fn source_at<'a, S: EndFiles<File = F> + Looks, F: EndFile + Drop, I: Feed>(
     ensures fault { IfErr result (NamesPort end.now.port) }
 {
     if end.is_standard() {
-        taken.add(files.numbers_behind(STANDARD_IN))?;
+        taken.add(files.numbers_behind(StandardStream::In))?;
         return standard_source(end.port, feed);
     }
     match file_source(files, end, taken) {
@@ -279,7 +278,7 @@ fn push_all<'a, S: EndFiles<File = F> + Looks, F: EndFile + Drop, O: Write>(
 {
     push_outputs(files, ends, taken, out, outputs)?;
     match ends.standard_out() {
-        Some(port) if taken.has(files.numbers_behind(STANDARD_OUT)) => {
+        Some(port) if taken.has(files.numbers_behind(StandardStream::Out)) => {
             Err(EndFault::SameFile(port))
         }
         _ => add_discards(ends, outputs),
@@ -415,7 +414,7 @@ pub fn open_ends_over<'a, S: EndFiles<File = F> + Looks, F: EndFile + Drop, I: F
 /// Opens all ends on the files of the system.
 pub fn open_ends<
     'a,
-    R: Files<File = F> + AllocGlobal,
+    R: Files<File = F> + StandardStreams + AllocGlobal,
     F: FileExt + OpenFile + Drop,
     I: Feed,
     O: Write,

@@ -1,15 +1,19 @@
 //! The files of the system. Each call is noted.
 //!
-//! That each method here makes the one call that it notes is held by reading alone: no contract can say what a file takes.
+//! That each method here makes the one call that it notes, a read that is interrupted again, is held by reading alone: no contract can say what a
+//! file takes.
 
-ghost use Rattle.std.specs.Prelude.{◌≡◌, [], ◌∷◌, ◌++◌};
+ghost use Rattle.std.specs.Prelude.{◌≡◌, ◌≢◌, ◌≤◌, [], ◌∷◌, ◌++◌, length, IfErr, IfOk};
+ghost use Rattle.std.specs.IoError.{error_kind};
 
-use crate::same::{FileNumbers, numbers_in};
+use crate::same::{FileNumbers, numbers_at_path, numbers_in};
+use crate::standard::{StandardStream, StandardStreams, regular_behind};
 use crate::system::{EndFile, EndFiles, Looks};
 use crate::trace::Trace;
 use std::fs::{Files, OpenFile, OpenOptions};
+use std::io;
+use std::io::ErrorKind;
 use std::os::unix::fs::FileExt;
-use std::{fs, io};
 
 /// What opens files of the system.
 #[derive(Drop)]
@@ -49,6 +53,20 @@ impl<F: Drop> OutsideFile<F> {
     }
 }
 
+/// Reads bytes of a file from a place on. A read that was interrupted is made again.
+fn read_again<F: FileExt>(file: &F, at: u64, out: &mut [u8]) -> io::Result<usize>
+    ensures few { IfOk result (λ count. count ≤ length out.new) }
+    ensures again { IfErr result (λ error. error_kind error ≢ ErrorKind.Interrupted) }
+{
+    for _ in 0..u64::MAX {
+        match file.read_at(out, at) {
+            Err(error) if error.kind() == ErrorKind::Interrupted => {}
+            done => return done,
+        }
+    }
+    Err(io::Error::from(ErrorKind::TimedOut))
+}
+
 impl<F: FileExt + OpenFile + Drop> EndFile for OutsideFile<F> {
     ghost calls = { λ file. file.trace.told };
 
@@ -67,7 +85,7 @@ impl<F: FileExt + OpenFile + Drop> EndFile for OutsideFile<F> {
     }
 
     fn read_at(&mut self, at: u64, out: &mut [u8]) -> io::Result<usize> {
-        let done = self.file.read_at(out, at);
+        let done = read_again(&self.file, at, out);
         self.trace = match &done {
             Ok(count) => self.trace.has_read(at, &out[..*count]),
             Err(_) => self.trace.read_failed(at),
@@ -122,18 +140,12 @@ impl<'r, R: Files<File = F>, F: FileExt + OpenFile + Drop> EndFiles for Outside<
     }
 }
 
-impl<'r, R: Files> Looks for Outside<'r, R> {
+impl<'r, R: Files + StandardStreams> Looks for Outside<'r, R> {
     fn numbers_at(&self, path: &str) -> Option<FileNumbers> {
-        match fs::metadata(self.rt, path) {
-            Ok(kept) => numbers_in(&kept),
-            Err(_) => None,
-        }
+        numbers_at_path(self.rt, path)
     }
 
-    fn numbers_behind(&self, stream: &str) -> Option<FileNumbers> {
-        match fs::metadata(self.rt, stream) {
-            Ok(kept) if kept.is_file() => numbers_in(&kept),
-            _ => None,
-        }
+    fn numbers_behind(&self, stream: StandardStream) -> Option<FileNumbers> {
+        regular_behind(self.rt, stream)
     }
 }

@@ -3,20 +3,12 @@
 ghost use Rattle.std.specs.Prelude.{◌≡◌, ◌↔◌, [], ◌++◌, false, true, Some, Contains, IfErr, IfNone, IfSome, OnOk, option_to_list};
 
 use crate::ends::{EndFault, Ends, PortFile};
-use crate::outside::Outside;
+use crate::standard::{StandardStream, StandardStreams, regular_behind};
 use crate::system::Looks;
 use std::alloc::Global;
+use std::fs;
 use std::fs::{Files, Metadata};
 use std::os::unix::fs::MetadataExt;
-
-/// What the system calls standard input.
-pub(crate) const STANDARD_IN: &str = "/dev/stdin";
-
-/// What the system calls standard output.
-pub(crate) const STANDARD_OUT: &str = "/dev/stdout";
-
-/// What the system calls standard error.
-pub(crate) const STANDARD_ERROR: &str = "/dev/stderr";
 
 /// The numbers by which the system tells a file from all others.
 #[derive(Clone, Copy, PartialEq, Eq)]
@@ -47,12 +39,36 @@ pub(crate) fn are_one(one: Option<FileNumbers>, other: Option<FileNumbers>) -> b
     }
 }
 
+/// The numbers of the file that a path names. None where none is there, or the system says none.
+pub(crate) fn numbers_at_path<R: Files>(rt: &R, path: &str) -> Option<FileNumbers> {
+    match fs::metadata(rt, path) {
+        Ok(kept) => numbers_in(&kept),
+        Err(_) => None,
+    }
+}
+
 /// Whether two paths name one file, as far as the system says: whatever their spelling, and whatever links lie between.
 pub fn is_one_file<R: Files>(rt: &R, one: &str, other: &str) -> bool
     ensures { one.now ≡ other.now → result ≡ true }
 {
-    let looks = Outside::new(rt);
-    one == other || are_one(looks.numbers_at(one), looks.numbers_at(other))
+    one == other || are_one(numbers_at_path(rt, one), numbers_at_path(rt, other))
+}
+
+/// Whether a path names the file that a standard stream comes from or goes to, as far as the system says.
+pub fn is_standard_file<R: Files + StandardStreams>(
+    rt: &R,
+    path: &str,
+    stream: StandardStream,
+) -> bool {
+    are_one(numbers_at_path(rt, path), rt.behind(stream).numbers)
+}
+
+/// Whether standard output and standard error go into one regular file: what is said on one may be written over what was put on the other.
+pub fn is_output_said_over<R: StandardStreams>(rt: &R) -> bool {
+    are_one(
+        regular_behind(rt, StandardStream::Out),
+        regular_behind(rt, StandardStream::Error),
+    )
 }
 
 /// The files that have a part in a stream already.
@@ -97,8 +113,8 @@ impl Taken {
     }
 }
 
-/// The numbers of the file of an end, where it is there; one that is standard is what the system calls `stream`.
-fn numbers_of<L: Looks>(looks: &L, end: &PortFile, stream: &str) -> Option<FileNumbers> {
+/// The numbers of the file of an end, where it is there; one that is standard is that of `stream`.
+fn numbers_of<L: Looks>(looks: &L, end: &PortFile, stream: StandardStream) -> Option<FileNumbers> {
     if end.is_standard() {
         looks.numbers_behind(stream)
     } else {
@@ -111,16 +127,16 @@ fn have_one_path(one: &PortFile, other: &PortFile) -> bool {
     !one.is_standard() && one.path.as_str() == other.path.as_str()
 }
 
-/// Whether an output goes into the file of one of these ends, whose standard one the system calls `stream`. Where they are outputs, two that
-/// are standard output are told elsewhere.
+/// Whether an output goes into the file of one of these ends, whose standard one is that of `stream`. Where they are outputs, two that are
+/// standard output are told elsewhere.
 fn goes_into<L: Looks>(
     looks: &L,
     end: &PortFile,
     others: &[PortFile],
-    stream: &str,
+    stream: StandardStream,
     are_outputs: bool,
 ) -> bool {
-    let numbers = numbers_of(looks, end, STANDARD_OUT);
+    let numbers = numbers_of(looks, end, StandardStream::Out);
     for other in others {
         let is_told = are_outputs && end.is_standard() && other.is_standard();
         if have_one_path(end, other)
@@ -132,15 +148,13 @@ fn goes_into<L: Looks>(
     false
 }
 
-/// Whether an output goes into the file of the device, or a file that takes an output is what standard error goes to.
+/// Whether an output goes into the file of the device or of standard error.
 fn goes_elsewhere<L: Looks>(looks: &L, end: &PortFile, device: &str) -> bool {
-    let numbers = numbers_of(looks, end, STANDARD_OUT);
+    let numbers = numbers_of(looks, end, StandardStream::Out);
     let is_device = are_one(numbers, looks.numbers_at(device));
-    if end.is_standard() {
-        return is_device;
-    }
-    let is_error = are_one(numbers, looks.numbers_behind(STANDARD_ERROR));
-    is_device || end.path.as_str() == device || is_error
+    let is_error = are_one(numbers, looks.numbers_behind(StandardStream::Error));
+    let is_path = !end.is_standard() && end.path.as_str() == device;
+    is_device || is_path || is_error
 }
 
 /// A port whose output goes into the file of the device, of an input, of another port's output or of standard error, as far as can be
@@ -152,8 +166,8 @@ pub(crate) fn same_file<L: Looks>(looks: &L, device: &str, ends: &Ends) -> Optio
             None => &[],
         };
         if goes_elsewhere(looks, end, device)
-            || goes_into(looks, end, before, STANDARD_OUT, true)
-            || goes_into(looks, end, &ends.ins, STANDARD_IN, false)
+            || goes_into(looks, end, before, StandardStream::Out, true)
+            || goes_into(looks, end, &ends.ins, StandardStream::In, false)
         {
             return Some(end.port);
         }

@@ -4,7 +4,7 @@ ghost use Rattle.std.specs.Prelude.{◌≡◌, ◌↔◌, ◌++◌, ◌∷◌, [
 ghost use Rattle.std.specs.IoError.{error_kind};
 ghost use Rattle.tp_stream_files.specs.Held.{HasLength, HasPut, HasReach, IsSafe, KeepsBytes, KeepsFront, Reaches};
 ghost use Rattle.tp_stream_files.specs.Opening.{KeepsFiles, to_write};
-ghost use Rattle.tp_stream_files.specs.Sinks.{SyncsFolder, begin_calls};
+ghost use Rattle.tp_stream_files.specs.Sinks.{SaysGone, SyncsFolder, begin_calls};
 ghost use Rattle.tp_stream_files.specs.Told.{Opened, Synced, Wrote};
 ghost use Rattle.tp_stream_files.specs.Trace.{size_after};
 
@@ -64,25 +64,40 @@ pub(crate) fn file_at<S: EndFiles>(files: &mut S, path: &str) -> io::Result<S::F
     files.open(how.read(true).write(true).create(true), path)
 }
 
-/// Why a call of the system wasn't done: whoever takes the bytes has gone just where nobody reads a pipe any more.
+/// Why a call on standard output wasn't done: whoever takes the bytes has gone just where nobody reads a pipe any more, or the connection of a
+/// socket has ended. One that was never made, or that doesn't answer, is a failure.
 fn fault_of(kind: ErrorKind) -> SinkFault
-    ensures { (result ≡ SinkFault.Gone) ↔ (kind ≡ ErrorKind.BrokenPipe) }
+    ensures { (result ≡ SinkFault.Gone) ↔ SaysGone kind }
 {
-    if kind == ErrorKind::BrokenPipe {
+    if kind == ErrorKind::BrokenPipe
+        || kind == ErrorKind::ConnectionReset
+        || kind == ErrorKind::ConnectionAborted
+    {
         SinkFault::Gone
     } else {
         SinkFault::Failed
     }
 }
 
-/// The answer to a call of the system.
+/// The answer to a call on standard output.
 fn answer(done: io::Result<()>) -> Result<(), SinkFault>
     ensures done { is_ok result ≡ is_ok done }
-    ensures kind { IfErr done (λ error. (result ≡ Err SinkFault.Gone) ↔ (error_kind error ≡ ErrorKind.BrokenPipe)) }
+    ensures kind { IfErr done (λ error. (result ≡ Err SinkFault.Gone) ↔ SaysGone (error_kind error)) }
 {
     match done {
         Ok(()) => Ok(()),
         Err(error) => Err(fault_of(error.kind())),
+    }
+}
+
+/// The answer to a call on a file, which has no reader that could go.
+fn answer_of_file(done: io::Result<()>) -> Result<(), SinkFault>
+    ensures done { is_ok result ≡ is_ok done }
+    ensures failed { IfErr result (λ fault. fault ≡ SinkFault.Failed) }
+{
+    match done {
+        Ok(()) => Ok(()),
+        Err(_) => Err(SinkFault::Failed),
     }
 }
 
@@ -132,8 +147,9 @@ impl<F: EndFile + Drop> FileSink<F> {
     pub fn put(&mut self, at: u64, bytes: &[u8]) -> Result<(), SinkFault>
         ensures calls { F.calls self.new.file ≡ F.calls self.old.file ++ Wrote at bytes.now (is_ok result) ∷ [] }
         ensures size { self.new.size ≡ size_after self.old.size (Wrote at bytes.now (is_ok result)) }
+        ensures failed { IfErr result (λ fault. fault ≡ SinkFault.Failed) }
     {
-        answer(self.file.write_all(at, bytes))?;
+        answer_of_file(self.file.write_all(at, bytes))?;
         self.size = self.size.max(at.saturating_add(bytes.len() as u64));
         Ok(())
     }
@@ -142,8 +158,9 @@ impl<F: EndFile + Drop> FileSink<F> {
     pub fn settle(&mut self) -> Result<(), SinkFault>
         ensures calls { F.calls self.new.file ≡ F.calls self.old.file ++ Synced (is_ok result) ∷ [] }
         ensures size { self.new.size ≡ self.old.size }
+        ensures failed { IfErr result (λ fault. fault ≡ SinkFault.Failed) }
     {
-        answer(self.file.sync())
+        answer_of_file(self.file.sync())
     }
 }
 

@@ -1,12 +1,15 @@
 //! The system's calls on the files of streams.
 
-ghost use Rattle.std.specs.Prelude.{◌≡◌, ◌≤◌, List, [], ◌∷◌, ◌++◌, length, is_ok, IfOk};
+ghost use Rattle.std.specs.Prelude.{◌≡◌, ◌≢◌, ◌≤◌, List, [], ◌∷◌, ◌++◌, length, is_ok, IfErr, IfOk};
+ghost use Rattle.std.specs.IoError.{error_kind};
 ghost use Rattle.tp_stream_files.specs.Told.{EndTold, Opened, SyncedFolder, Synced, Wrote};
 ghost use Rattle.tp_stream_files.specs.Trace.{measured, read};
 
 use crate::same::FileNumbers;
+use crate::standard::StandardStream;
 use std::fs::OpenOptions;
 use std::io;
+use std::io::ErrorKind;
 
 /// An open file, as an end uses it. No call of it cuts the file.
 pub trait EndFile {
@@ -17,9 +20,11 @@ pub trait EndFile {
     fn measure(&mut self) -> io::Result<u64>
         ensures { calls self.new ≡ calls self.old ++ measured result ∷ [] };
 
-    /// Reads bytes from a place on into `out`, and answers how many: fewer than `out` has where fewer are given, none at the end.
+    /// Reads bytes from a place on into `out`, and answers how many: fewer than `out` has where fewer are given, none at the end. A read that
+    /// was interrupted is made again.
     fn read_at(&mut self, at: u64, out: &mut [u8]) -> io::Result<usize>
         ensures few { IfOk result (λ count. count ≤ length out.new) }
+        ensures again { IfErr result (λ error. error_kind error ≢ ErrorKind.Interrupted) }
         ensures noted { calls self.new ≡ calls self.old ++ read at result out.new ∷ [] };
 
     /// Writes over what is there. Ok only where all bytes went.
@@ -54,11 +59,11 @@ pub trait EndFiles {
         ensures { calls self.new ≡ calls self.old ++ SyncedFolder folder.now (is_ok result) ∷ [] };
 }
 
-/// What says which file a path names. It is asked anew each time.
+/// What says which file a path names, and a standard stream is. It is asked anew each time.
 pub trait Looks {
     /// The numbers of the file that a path names. None where none is there, or the system says none.
     fn numbers_at(&self, path: &str) -> Option<FileNumbers>;
 
-    /// The numbers of the file that a standard stream goes to or comes from. None where that is no file but a terminal or a pipe.
-    fn numbers_behind(&self, stream: &str) -> Option<FileNumbers>;
+    /// The numbers of the regular file that a standard stream comes from or goes to. None where that is none, but a terminal or a pipe.
+    fn numbers_behind(&self, stream: StandardStream) -> Option<FileNumbers>;
 }

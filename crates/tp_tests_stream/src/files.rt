@@ -5,7 +5,7 @@ ghost use Rattle.std.specs.Prelude.{◌≡◌, ◌≤◌, [], ◌∷◌, ◌++�
 use std::fs::OpenOptions;
 use std::io;
 use std::io::ErrorKind;
-use tp_stream_files::{EndFile, EndFiles, FileNumbers, Looks, Trace};
+use tp_stream_files::{EndFile, EndFiles, FileNumbers, Looks, StandardStream, Trace};
 
 /// How many calls are done before one fails; none: no call fails.
 #[derive(Clone, Copy)]
@@ -31,6 +31,8 @@ pub(crate) struct FakeFile {
     pub(crate) bytes: Vec<u8>,
     pub(crate) writes: Left,
     pub(crate) syncs: Left,
+    /// What a call says that fails.
+    pub(crate) fails_as: ErrorKind,
     /// How many bytes were there when it was last synced.
     pub(crate) synced: usize,
     /// Whether it is a regular file, and no disk.
@@ -48,6 +50,7 @@ impl FakeFile {
             bytes,
             writes: Left(None),
             syncs: Left(None),
+            fails_as: ErrorKind::StorageFull,
             synced: 0,
             is_regular: true,
             is_known: true,
@@ -67,7 +70,7 @@ impl FakeFile {
     /// Writes bytes from a place on.
     fn write(&mut self, at: u64, bytes: &[u8]) -> io::Result<()> {
         if !self.writes.goes() {
-            return Err(io::Error::from(ErrorKind::StorageFull));
+            return Err(io::Error::from(self.fails_as));
         }
         for (number, byte) in bytes.iter().enumerate() {
             self.put((at as usize).saturating_add(number), *byte)?;
@@ -78,7 +81,7 @@ impl FakeFile {
     /// Notes how many bytes are there.
     fn force(&mut self) -> io::Result<()> {
         if !self.syncs.goes() {
-            return Err(io::Error::from(ErrorKind::StorageFull));
+            return Err(io::Error::from(self.fails_as));
         }
         self.synced = self.bytes.len();
         Ok(())
@@ -157,6 +160,10 @@ pub(crate) struct FakeFiles<'a> {
     pub(crate) device: Option<FileNumbers>,
     /// Those of the file that standard input comes from.
     pub(crate) input: Option<FileNumbers>,
+    /// Those of the file that standard output goes to.
+    pub(crate) output: Option<FileNumbers>,
+    /// Those of the file that standard error goes to.
+    pub(crate) error: Option<FileNumbers>,
     trace: Trace,
 }
 
@@ -169,6 +176,8 @@ impl<'a> FakeFiles<'a> {
             folders: 0,
             device: None,
             input: None,
+            output: None,
+            error: None,
             trace: Trace::new(),
         }
     }
@@ -210,11 +219,11 @@ impl<'a> Looks for FakeFiles<'a> {
         if path == "device" { self.device } else { None }
     }
 
-    fn numbers_behind(&self, stream: &str) -> Option<FileNumbers> {
-        if stream == "/dev/stdin" {
-            self.input
-        } else {
-            None
+    fn numbers_behind(&self, stream: StandardStream) -> Option<FileNumbers> {
+        match stream {
+            StandardStream::In => self.input,
+            StandardStream::Out => self.output,
+            StandardStream::Error => self.error,
         }
     }
 }

@@ -128,6 +128,34 @@ fn a_file_that_is_read_takes_no_output(rt: HostRuntime) -> Result<(), Fail> {
     Ok(())
 }
 
+/// Why standard output doesn't take the output of port 2 where it and standard error are files of these numbers, if they are files; none: it
+/// takes it.
+fn refusal_of_standard(
+    alloc: Global,
+    output: Option<FileNumbers>,
+    error: Option<FileNumbers>,
+) -> Result<Option<EndFault>, AllocError> {
+    let ends = outputs_to(alloc, &[(2, "-")])?;
+    let mut file = FakeFile::new(Vec::new(alloc));
+    let mut files = FakeFiles::new(&mut file, Left(None));
+    (files.output, files.error) = (output, error);
+    Ok(refusal_by(alloc, &ends, &mut files))
+}
+
+/// Nor does standard output take one where it and standard error are one file: what is said would stand between the bytes, or over them. Two
+/// files are no fault, nor is a terminal or a pipe.
+#[test]
+fn a_standard_output_that_is_said_over_takes_no_output(rt: HostRuntime) -> Result<(), Fail> {
+    let alloc = rt.alloc();
+    let one = refusal_of_standard(alloc, Some(ONE), Some(ONE))?;
+    let two = refusal_of_standard(alloc, Some(ONE), Some(OTHER))?;
+    let beside_a_terminal = refusal_of_standard(alloc, Some(ONE), None)?;
+    let terminal = refusal_of_standard(alloc, None, None)?;
+    assert!(rt; matches!(one, Some(EndFault::SameFile(2))));
+    assert!(rt; two.is_none() && beside_a_terminal.is_none() && terminal.is_none());
+    Ok(())
+}
+
 /// Where the system says no numbers one path is one file: an output's that is the device's, or another output's, isn't opened.
 #[test]
 fn one_path_takes_no_output_twice(rt: HostRuntime) -> Result<(), Fail> {

@@ -271,6 +271,10 @@ fn standard_output_is_flushed(rt: HostRuntime) -> Result<(), Fail> {
 fn standard_output_that_fails_has_a_front(rt: HostRuntime) -> Result<(), Fail> {
     for (kind, fault) in [
         (ErrorKind::BrokenPipe, SinkFault::Gone),
+        (ErrorKind::ConnectionReset, SinkFault::Gone),
+        (ErrorKind::ConnectionAborted, SinkFault::Gone),
+        (ErrorKind::NotConnected, SinkFault::Failed),
+        (ErrorKind::TimedOut, SinkFault::Failed),
         (ErrorKind::StorageFull, SinkFault::Failed),
     ] {
         let mut out = Buffered::new(rt.alloc());
@@ -280,4 +284,19 @@ fn standard_output_that_fails_has_a_front(rt: HostRuntime) -> Result<(), Fail> {
         assert!(rt; out.taken.as_slice() == b"lette".as_slice());
     }
     Ok(())
+}
+
+/// A file has no reader that could go, whatever its system says.
+#[test]
+fn a_file_that_fails_has_no_reader(rt: HostRuntime) {
+    for kind in [ErrorKind::BrokenPipe, ErrorKind::ConnectionAborted] {
+        let mut file = FakeFile::new(Vec::new(rt.alloc()));
+        (file.writes, file.fails_as) = (Left(Some(1)), kind);
+        let came = come_of(&mut file, NONE, 0, b"abc");
+        assert!(rt; came.last == Err(SinkFault::Failed) && came.size == Some(1));
+        let mut file = FakeFile::new(Vec::new(rt.alloc()));
+        (file.syncs, file.fails_as) = (Left(Some(2)), kind);
+        let came = come_of(&mut file, NONE, 0, b"abc");
+        assert!(rt; came.last == Err(SinkFault::Failed) && came.size == Some(2));
+    }
 }

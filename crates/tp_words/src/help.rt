@@ -138,7 +138,7 @@ Refusals (status 1):
   DeviceFailed  DEVICE can't be written or synced, or standard output can't: look at rights and room
   Memory        there is no memory left
 A --spare above a node's pages and a --port that isn't there end with status 2, once DEVICE is open; standard output that is the file
-of DEVICE or of --in does before.";
+of DEVICE or of --in, or one regular file with standard error, does before.";
 
 /// How `tpnet stop` asks, and what it refuses.
 pub const STOP_REFUSALS: &str =

@@ -5,12 +5,13 @@ mod holding;
 mod late;
 mod looking;
 mod stand_ins;
+mod system;
 mod watching;
 
 use holding::SystemLocks;
 use late::Late;
 use looking::Looker;
-use stand_ins::stand_in;
+use stand_ins::{ask_system, stand_in};
 use std::io::{IsTerminal, Write};
 use std::process::ExitCode;
 use std::rt::Env;
@@ -35,10 +36,22 @@ fn refuse_words<E: Write>(err: &mut E, error: &io::Error) -> ExitCode {
     ExitCode::from(2)
 }
 
+/// Says that it can't be told which files the standard streams are.
+fn refuse_streams<E: Write>(err: &mut E) -> ExitCode {
+    let _ = write!(
+        err,
+        "tpnet: it can't be told which files the standard streams are: let them be open, and a file be there that can be opened\n"
+    );
+    ExitCode::from(2)
+}
+
 fn main(rt: HostRuntime) -> ExitCode {
     let _stand_ins = (stand_in(&rt), stand_in(&rt), stand_in(&rt));
     let mut out = rt.stdout();
     let mut err = rt.stderr();
+    let Some(system) = ask_system(&rt) else {
+        return refuse_streams(&mut err);
+    };
     let words = match words_of(&rt) {
         Ok(words) => words,
         Err(error) => return refuse_words(&mut err, &error),
@@ -48,7 +61,7 @@ fn main(rt: HostRuntime) -> ExitCode {
     let mut feed = Late::new(rt);
     let mut looker = Looker::new(&rt, err.is_terminal(), out.is_terminal());
     let status = answer_locking(
-        &rt,
+        &system,
         locks,
         &mut watch,
         words.as_slice(),
