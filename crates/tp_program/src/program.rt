@@ -384,7 +384,8 @@ fn answer_untold<
     answer_over(rt, devices, watch, words, feed, out, err, onlooker)
 }
 
-/// Does what the words ask for, as `answer_over`, with the devices in files of the system, whose locks `locks` takes.
+/// Does what the words ask for, as `answer_over`, with the devices in files of the system, whose locks `locks` takes. They are let go once what
+/// was said is flushed: who waits for a device finds what was said of it. A failed flush is let go.
 pub fn answer_locking<
     R: Files<File = F> + StandardStreams + AllocGlobal + Threads + Wait + Sync,
     F: FileExt + OpenFile + Drop + Send,
@@ -409,5 +410,7 @@ pub fn answer_locking<
     ensures three { result ≡ 3 → has_word (codes "--stream") words.now ≡ true }
 {
     let mut devices = FileDevices::new(rt, locks);
-    answer_untold(rt, &mut devices, watch, words, feed, out, err, onlooker)
+    let status = answer_untold(rt, &mut devices, watch, words, feed, out, err, onlooker);
+    let _ = err.flush();
+    status
 }

@@ -565,6 +565,36 @@ has err /s\nnext 1 +0/s mark 1 area 0% generation 1 turns
 has err \x0D
 has err \x1B
 
+story unread
+# A node sends the letter A again and again. Each look at the clock is ten seconds behind the one before, and 1,024 turns lie between two looks, but
+# 928 in front of the last ones. While standard error hasn't taken what was said before, no line of progress is said. The next line says by how much
+# all grew since the last one that was said, or since the first look that found a time: 1,952 turns in 20 seconds. The last line is said all the same.
+text net.txt node a 4\nport h\nwire a.0 h\n
+image a.img 27 2F 2F 2F 2F 2F 6F 40 24 41 FE 60 02
+tpnet format device net.txt . 1048576
+copy device second
+copy device third
+looks 10000 stuck=1-1000 stderr
+tpnet run device --stream --quantum=64 --turns=4000 --discard 0 2>err
+has err %
+has err \x0D
+starts err next 
+ends err  turns\n
+looks 10000 stuck=4-4
+tpnet run second --stream --quantum=64 --turns=4000 --discard 0 --progress 2>err
+has err turns 1024 +102/s out 0 
+has err turns 2048 +102/s out 0 
+has err turns 3072
+has err turns 4000 +97/s out 0 
+ends err  turns\n
+looks 10000 stuck=1-2
+tpnet run third --stream --quantum=64 --turns=4000 --discard 0 --progress 2>err
+has err turns 1024
+has err turns 2048
+has err turns 3072 +102/s out 0 
+has err turns 4000 +92/s out 0 
+ends err  turns\n
+
 story shut
 # A standard output that takes nothing: on a full disk that is a fault, and that its reader has gone is none. Nothing is confirmed then, and the
 # next stream writes it.

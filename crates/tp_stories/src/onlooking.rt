@@ -4,26 +4,56 @@ use crate::typed::{malformed, number_of, parted};
 use std::io;
 use tp_stream_files::{Onlooker, Times};
 
-/// How many milliseconds go by between two looks at the time, where a stream says by time how far it has come, and whether standard error
-/// and standard output are terminals.
+/// How many milliseconds go by between two looks at the time, where a stream says by time how far it has come; which of the looks find that
+/// what was said before isn't taken; and whether standard error and standard output are terminals.
 #[derive(Clone, Copy)]
 pub(crate) struct Looks {
     pace: u64,
+    stuck: Stuck,
     is_terminal: bool,
     is_output_terminal: bool,
+}
+
+/// Looks that find what was said untaken: those from number `from` on, the first one being 1, that stand in front of number `until`.
+#[derive(Clone, Copy)]
+struct Stuck {
+    from: u64,
+    until: u64,
+}
+
+impl Stuck {
+    /// What words begin with, as `stuck=3-5`, the last one said, too; and the words behind. Where they don't no look is such.
+    fn read(words: &str) -> io::Result<(Stuck, &str)> {
+        let Some(rest) = words.strip_prefix("stuck=") else {
+            return Ok((Stuck { from: 0, until: 0 }, words));
+        };
+        let (range, rest) = parted(rest);
+        let Some((from, last)) = range.split_once('-') else {
+            return Err(malformed());
+        };
+        let (from, until) = (number_of(from)?, number_of(last)?.saturating_add(1));
+        Ok((Stuck { from, until }, rest))
+    }
+
+    /// Whether the look of this number is such.
+    fn has(self, number: u64) -> bool {
+        self.from <= number && number < self.until
+    }
 }
 
 impl Looks {
     /// How it is where a story says nothing else.
     pub(crate) const PLAIN: Looks = Looks {
         pace: 250,
+        stuck: Stuck { from: 0, until: 0 },
         is_terminal: false,
         is_output_terminal: false,
     };
 
-    /// What words say: the milliseconds, and the streams that are terminals.
+    /// What words say: the milliseconds, the looks that find what was said untaken, and the streams that are terminals.
     pub(crate) fn read(words: &str) -> io::Result<Looks> {
-        let (pace, terminals) = parted(words);
+        let (pace, rest) = parted(words);
+        let (stuck, terminals) = Stuck::read(rest)?;
         let (is_terminal, is_output_terminal) = match terminals {
             "" => (false, false),
             "stderr" => (true, false),
@@ -33,6 +63,7 @@ impl Looks {
         };
         Ok(Looks {
             pace: number_of(pace)?,
+            stuck,
             is_terminal,
             is_output_terminal,
         })
@@ -43,6 +74,7 @@ impl Looks {
         Steps {
             looks: self,
             now: 0,
+            asked: 0,
             times: Times::new(),
         }
     }
@@ -53,6 +85,7 @@ impl Looks {
 pub(crate) struct Steps {
     looks: Looks,
     now: u64,
+    asked: u64,
     times: Times,
 }
 
@@ -63,10 +96,13 @@ impl Onlooker for Steps {
 
     ghost output_terminal = { λ steps. steps.looks.is_output_terminal };
 
-    fn now(&mut self) -> u64 {
+    fn now(&mut self) -> Option<u64> {
         self.now = self.now.saturating_add(self.looks.pace);
-        self.times = self.times.answered(self.now);
-        self.now
+        self.asked = self.asked.saturating_add(1);
+        let is_stuck = self.looks.stuck.has(self.asked);
+        let now = if is_stuck { None } else { Some(self.now) };
+        self.times = self.times.answered(now);
+        now
     }
 
     fn is_terminal(&self) -> bool {

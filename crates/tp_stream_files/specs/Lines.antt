@@ -29,6 +29,15 @@ last_behind every (Some last) at progress = if nat_lt (at - last.at) every then 
 abbrev pub heard : Meter → ℕ → Progress → Meter
 heard meter at progress = record { every = meter.every; last = last_behind meter.every meter.last at progress }
 
+-- Without a time no line is due, and the next one counts from where it did.
+abbrev pub line_then : Meter → Option ℕ → Progress → Option Line
+line_then meter None progress = None
+line_then meter (Some at) progress = line_due meter at progress
+
+abbrev pub heard_then : Meter → Option ℕ → Progress → Meter
+heard_then meter None progress = meter
+heard_then meter (Some at) progress = heard meter at progress
+
 -- by how much a number grew in a second, rounded down, where it was known before
 abbrev pub growth_part : ℕ → Option Since → List ℕ
 growth_part now None = []

@@ -2,7 +2,7 @@
 use Rattle.std.specs.Prelude.{◌≡◌, ℕ, Bool, not, ◌&&◌, ◌||◌, if◌then◌else◌, List, [], ◌∷◌, ◌++◌, take, Option, Some, None, is_none}
 use Rattle.std.specs.Io.KnownBytes.{Appends}
 use Rattle.tp_stream_files.specs.declared.listener.Progress.{Progress}
-use Rattle.tp_stream_files.specs.Lines.{heard, line_due, line_text}
+use Rattle.tp_stream_files.specs.Lines.{heard_then, line_text, line_then}
 use Rattle.tp_stream_files.specs.declared.lines.Line.{Line}
 use Rattle.tp_stream_files.specs.declared.lines.Meter.{Meter}
 
@@ -24,9 +24,10 @@ abbrev pub Said : Bool → Option Line → Option (List ℕ) → Option (List �
 Said is_over None was is = is ≡ was
 Said is_over (Some line) was is = AppendsFront was is (written is_over line)
 
--- How far a stream has come was heard once, at the time that was answered then, and a line was said just where one was due by that.
-pub record WasHeard (progress : Progress) (is_over : Bool) (times later : List ℕ) (old new : Meter) (was is : Option (List ℕ)) : Type 0 where
-  pub now : ℕ
+-- How far a stream has come was heard once, at the time that was answered then, and a line was said just where one was due by that. Where no
+-- time was answered none was said, and nothing counts as heard.
+pub record WasHeard (progress : Progress) (is_over : Bool) (times later : List (Option ℕ)) (old new : Meter) (was is : Option (List ℕ)) : Type 0 where
+  pub now : Option ℕ
   pub asked : later ≡ times ++ now ∷ []
-  pub meter : new ≡ heard old now progress
-  pub said : Said is_over (line_due old now progress) was is
+  pub meter : new ≡ heard_then old now progress
+  pub said : Said is_over (line_then old now progress) was is

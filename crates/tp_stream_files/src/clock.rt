@@ -1,22 +1,23 @@
 //! What is said by time stands beside: what time it is, and who looks at it.
 
-ghost use Rattle.std.specs.Prelude.{◌≡◌, ℕ, Bool, List, [], ◌∷◌, ◌++◌};
+ghost use Rattle.std.specs.Prelude.{◌≡◌, ℕ, Bool, List, [], ◌∷◌, ◌++◌, Option};
 ghost use Rattle.std.specs.Borrow.{ftrue};
 
 use std::marker::Model;
 
 /// Who looks at what is said of a stream: what time it is there, and what is a terminal.
 pub trait Onlooker {
-    /// The times that were answered, the oldest first.
-    ghost times: { Self → List ℕ };
+    /// The times that were answered, and where there was none, the oldest first.
+    ghost times: { Self → List (Option ℕ) };
 
     /// Whether what is said stands on a terminal, and whether standard output is one.
     ghost terminal: { Self → Bool };
 
     ghost output_terminal: { Self → Bool };
 
-    /// How many milliseconds have gone by since some start. It is asked anew each time.
-    fn now(&mut self) -> u64
+    /// How many milliseconds have gone by since some start. None while what was said before isn't taken yet: no line is said then that may
+    /// be left out. It is asked anew each time.
+    fn now(&mut self) -> Option<u64>
         ensures { times self.new ≡ times self.old ++ result ∷ [] };
 
     /// Whether what is said stands on a terminal, where a line may be written over.
@@ -31,7 +32,7 @@ pub trait Onlooker {
 /// A list of times without bytes: contracts alone see it, and no call reads it.
 #[derive(Drop)]
 pub struct Times {
-    pub ghost told: { List ℕ },
+    pub ghost told: { List (Option ℕ) },
 }
 
 impl Model for Times {
@@ -41,7 +42,7 @@ impl Model for Times {
 impl Times {
     /// Gives the ghost value `told`, which a contract says by what is lent as `_value`. It does nothing.
     pub(crate) fn of<T>(_value: &T) -> Times
-        ghost told: { List ℕ }
+        ghost told: { List (Option ℕ) }
         ensures { result.told ≡ told }
     {
         Times {}
@@ -54,8 +55,8 @@ impl Times {
         Times::of(&())
     }
 
-    /// A time was answered.
-    pub fn answered(&self, now: u64) -> Times
+    /// A time was answered, or none.
+    pub fn answered(&self, now: Option<u64>) -> Times
         ensures { result.told ≡ self.now.told ++ now ∷ [] }
     {
         Times::of(&(self, now))

@@ -1,7 +1,7 @@
 //! Lines of how far a stream has come: when one is due, and what it says.
 
 ghost use Rattle.std.specs.Prelude.{◌≡◌, ◌++◌, ◌*◌, None, IfOk, OnOk, string_bytes};
-ghost use Rattle.tp_stream_files.specs.Lines.{count_part, front_part, growth_part, heard, line_due, line_text, out_part, out_parts, put_before, since_put, standing_part, turns_part};
+ghost use Rattle.tp_stream_files.specs.Lines.{count_part, front_part, growth_part, heard, heard_then, line_due, line_text, line_then, out_part, out_parts, put_before, since_put, standing_part, turns_part};
 
 use crate::Progress;
 use std::alloc::{AllocError, Global};
@@ -70,6 +70,17 @@ impl Meter {
             before: last.progress,
             millis,
         })
+    }
+
+    /// Hears how far a stream has come, where there is a time. Else no line is due: the next one says what it would have said, too.
+    pub fn hear_then(&mut self, at: Option<u64>, progress: Progress) -> Option<Line>
+        ensures due { result ≡ line_then self.old at progress }
+        ensures left { self.new ≡ heard_then self.old at progress }
+    {
+        match at {
+            Some(at) => self.hear(at, progress),
+            None => None,
+        }
     }
 }
 

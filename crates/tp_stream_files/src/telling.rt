@@ -85,7 +85,7 @@ impl<'a, E: Write, W: Onlooker> Listener for Teller<'a, E, W> {
             self.old.meter self.new.meter (E.contents self.old.err.now) (E.contents self.new.err.now) }
     {
         let now = self.onlooker.now();
-        if let Some(line) = self.meter.hear(now, progress) {
+        if let Some(line) = self.meter.hear_then(now, progress) {
             say_line(self.alloc, self.err, self.is_over, &line);
             self.is_open = self.is_over;
         }

@@ -223,10 +223,11 @@ const CASES: &[Case] = &[
     },
 ];
 
-/// Who looks, at the times of the rows, one behind the other.
+/// Who looks, at the times of the rows, one behind the other; at one of them what was said before isn't taken, where there is such a one.
 #[derive(Drop)]
 struct Script {
     asked: usize,
+    untaken: Option<usize>,
     is_terminal: bool,
     is_output_terminal: bool,
     times: Times,
@@ -239,10 +240,10 @@ impl Onlooker for Script {
 
     ghost output_terminal = { λ script. script.is_output_terminal };
 
-    fn now(&mut self) -> u64 {
+    fn now(&mut self) -> Option<u64> {
         let now = match ROWS.get(self.asked) {
-            Some(row) => row.at,
-            None => 0,
+            Some(row) if self.untaken != Some(self.asked) => Some(row.at),
+            _ => None,
         };
         self.asked = self.asked.saturating_add(1);
         self.times = self.times.answered(now);
@@ -272,8 +273,8 @@ fn progress_of(row: &Row) -> Progress {
     }
 }
 
-/// What is said each second of the rows, and of a node behind them.
-fn said(alloc: Global, case: &Case) -> Vec<u8> {
+/// What is said each second of the rows, and of a node behind them. At row `untaken` what was said before isn't taken.
+fn said(alloc: Global, case: &Case, untaken: Option<usize>) -> Vec<u8> {
     let mut err = Taker {
         bytes: Vec::new(alloc),
         failed: case.failed,
@@ -282,6 +283,7 @@ fn said(alloc: Global, case: &Case) -> Vec<u8> {
     };
     let mut script = Script {
         asked: 0,
+        untaken,
         is_terminal: case.is_terminal,
         is_output_terminal: case.is_output_terminal,
         times: Times::new(),
@@ -321,9 +323,23 @@ fn wanted(alloc: Global, case: &Case) -> Result<String, AllocError> {
 fn lines_are_due_by_time(rt: HostRuntime) -> Result<(), Fail> {
     for case in CASES {
         let text = wanted(rt.alloc(), case)?;
-        assert!(rt; said(rt.alloc(), case).as_slice() == text.as_bytes());
+        assert!(rt; said(rt.alloc(), case, None).as_slice() == text.as_bytes());
     }
     Ok(())
+}
+
+/// The line that was due at the third row isn't said, and the next one says by how much a second all grew since the first row: 23 entries,
+/// 1,060 turns and 4 bytes in 3 seconds.
+const LINES_LEFT: &[u8] =
+    b"next 33 +7/s mark 33 area 0% generation 2 turns 1160 +353/s out 0 9 +1/s\n\
+    next 33 +0/s mark 33 area 0% generation 2 turns 1163 +2/s out 0 9 +0/s out 1 7\n\
+    next 34 +0/s mark 33 area 1% generation 2 turns 2164 +1000/s out 0 9 +0/s out 1 1008 +1000/s\n\
+    waits 0\n";
+
+/// A line that is due while what was said before isn't taken is left out; what comes at the end isn't.
+#[test]
+fn lines_are_left_out_where_nothing_is_taken(rt: HostRuntime) {
+    assert!(rt; said(rt.alloc(), &PLAIN, Some(2)).as_slice() == LINES_LEFT);
 }
 
 /// A port's output that is let go.

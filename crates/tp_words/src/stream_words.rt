@@ -10,6 +10,7 @@ Each port with a wire needs an --out or a --discard.
 Without --turns and --until-quiet it runs until its ends are gone: whoever reads standard output has ended, or nothing is left to do
 and each input has come to its end, or its port is full of bytes that no node takes.
 The last line on standard error is next M, and why it ended: quiet, turns, gone, stopped or halted (status 3).
+To end it call tpnet stop DEVICE in another terminal. Ctrl-C and kill end it without a last line; nothing that was shown is lost.
 Before it stands each node that has halted, as halted 1 BadAddress at 80000107, or that waits though there is input, as waits 2.
 Refusals (status 1):
   InUse         another tpnet runs, formats or compacts DEVICE: wait for it (--wait-lock), or end it

@@ -1,27 +1,36 @@
 //! Who looks at standard error, for lines by time.
 
-ghost use Rattle.std.specs.Prelude.{◌≡◌, []};
+ghost use Rattle.std.specs.Prelude.{◌≡◌, [], false, None};
 
+use crate::backlog::Backlog;
 use std::time::Clock;
 use tp_stream_files::{Onlooker, Times};
 
-/// Goes by the system's clock, and was told whether standard error and standard output are terminals.
+/// Goes by the system's clock, and was told whether standard error and standard output are terminals. While what was said isn't written it has
+/// no time: a line that may be left out would only be kept behind it.
 #[derive(Drop)]
 pub(crate) struct Looker<'a, R> {
     rt: &'a R,
+    backlog: Backlog,
     is_terminal: bool,
     is_output_terminal: bool,
     times: Times,
 }
 
 impl<'a, R> Looker<'a, R> {
-    /// No time was asked for.
-    pub(crate) fn new(rt: &'a R, is_terminal: bool, is_output_terminal: bool) -> Looker<'a, R>
+    /// No time was asked for. `backlog` counts what was said and isn't written.
+    pub(crate) fn new(
+        rt: &'a R,
+        backlog: Backlog,
+        is_terminal: bool,
+        is_output_terminal: bool,
+    ) -> Looker<'a, R>
         ensures terminals { (result.is_terminal ≡ is_terminal) × (result.is_output_terminal ≡ is_output_terminal) }
         ensures times { result.times.told ≡ [] }
     {
         Looker {
             rt,
+            backlog,
             is_terminal,
             is_output_terminal,
             times: Times::new(),
@@ -37,6 +46,13 @@ fn millis<R: Clock>(rt: &R) -> u64 {
     }
 }
 
+/// The time that lines go by: none while what was said isn't written.
+fn time_of<R: Clock>(rt: &R, is_written: bool) -> Option<u64>
+    ensures { is_written ≡ false → result ≡ None }
+{
+    if is_written { Some(millis(rt)) } else { None }
+}
+
 impl<'a, R: Clock> Onlooker for Looker<'a, R> {
     ghost times = { λ looker. looker.times.told };
 
@@ -44,8 +60,8 @@ impl<'a, R: Clock> Onlooker for Looker<'a, R> {
 
     ghost output_terminal = { λ looker. looker.is_output_terminal };
 
-    fn now(&mut self) -> u64 {
-        let now = millis(self.rt);
+    fn now(&mut self) -> Option<u64> {
+        let now = time_of(self.rt, self.backlog.is_empty());
         self.times = self.times.answered(now);
         now
     }

@@ -1,22 +1,30 @@
 //! `tpnet`: the program.
 #![tactic(auto)]
 
+mod apart;
+mod backlog;
 mod holding;
 mod late;
 mod looking;
+mod printing;
 mod stand_ins;
 mod system;
+mod waiting;
 mod watching;
 
+use apart::Apart;
+use backlog::Backlog;
 use holding::SystemLocks;
 use late::Late;
 use looking::Looker;
+use printing::Printing;
 use stand_ins::{ask_system, stand_in};
 use std::io::{IsTerminal, Write};
 use std::process::ExitCode;
 use std::rt::Env;
 use std::{env, io};
 use tp_program::answer_locking;
+use waiting::Patient;
 use watching::Watcher;
 
 fn words_of<R: Env + AllocGlobal>(rt: &R) -> io::Result<Vec<String>> {
@@ -47,19 +55,21 @@ fn refuse_streams<E: Write>(err: &mut E) -> ExitCode {
 
 fn main(rt: HostRuntime) -> ExitCode {
     let _stand_ins = (stand_in(&rt), stand_in(&rt), stand_in(&rt));
-    let mut out = rt.stdout();
-    let mut err = rt.stderr();
     let Some(system) = ask_system(&rt) else {
-        return refuse_streams(&mut err);
+        return refuse_streams(&mut Patient::new(rt, rt.stderr()));
     };
     let words = match words_of(&rt) {
         Ok(words) => words,
-        Err(error) => return refuse_words(&mut err, &error),
+        Err(error) => return refuse_words(&mut Patient::new(rt, rt.stderr()), &error),
     };
+    let (out, err) = (rt.stdout(), rt.stderr());
+    let backlog = Backlog::new(rt.alloc());
+    let mut looker = Looker::new(&rt, backlog.shared(), err.is_terminal(), out.is_terminal());
+    let mut out = Printing::new(&rt, Patient::new(rt, out), backlog.shared());
+    let mut err = Apart::new(rt, err, backlog);
     let locks = SystemLocks::new(&rt);
     let mut watch = Watcher::new(&rt);
     let mut feed = Late::new(rt);
-    let mut looker = Looker::new(&rt, err.is_terminal(), out.is_terminal());
     let status = answer_locking(
         &system,
         locks,
@@ -70,5 +80,6 @@ fn main(rt: HostRuntime) -> ExitCode {
         &mut err,
         &mut looker,
     );
+    err.end();
     ExitCode::from(status)
 }
