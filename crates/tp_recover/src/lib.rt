@@ -7,6 +7,7 @@ mod copying;
 mod cut;
 mod device;
 mod fault;
+mod fetching;
 mod flights;
 mod front;
 mod groups;

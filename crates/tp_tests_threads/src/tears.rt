@@ -9,6 +9,9 @@ pub(crate) type Tear = (Ending, Torn, Torn);
 pub(crate) const SOME: &[Tear] = &[
     (Ending::Within, Torn::Filled(0xA5), Torn::Filled(0xA5)),
     (Ending::Fails, Torn::Drawn(1), Torn::Drawn(1)),
+    (Ending::Within, Torn::Old, Torn::Old),
+    (Ending::Within, Torn::Filled(0x00), Torn::Filled(0x00)),
+    (Ending::Within, Torn::Filled(0xFF), Torn::Filled(0xFF)),
 ];
 
 /// All ends and tears.

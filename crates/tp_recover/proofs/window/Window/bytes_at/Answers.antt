@@ -6,5 +6,5 @@ pub returns-clause-is : goal.returns-clause-is
 returns-clause-is c = λ bytes is.
     let start : ℕ = c.args.at - c.args.self.now.from in
     let many : start + c.args.count - start ≡ c.args.count = omega arith in
-    ap (λ n. take n (drop start c.args.self.now.bytes)) many
-    ∙ part_of_window c.args.self.now.from c.args.at c.args.count c.args.self.now.count c.args.self.now.bytes bytes is c.requires.has.from c.requires.has.to
+    ap (λ n. take n (drop start c.args.self.now.bytes.items)) many
+    ∙ part_of_window c.args.self.now.from c.args.at c.args.count c.args.self.now.count c.args.self.now.bytes.items bytes is c.requires.has.from c.requires.has.to
