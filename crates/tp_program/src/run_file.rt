@@ -5,7 +5,7 @@ ghost use Rattle.tp_run.specs.Ran.{History};
 ghost use Rattle.tp_words.specs.Args.{IsRun};
 ghost use Rattle.tp_program.specs.RunFile.{RanFile, RanWith};
 
-use crate::devices::{Devices, refuse_opening};
+use crate::devices::{Devices, refuse_opening, refuse_special};
 use crate::files::read_file;
 use crate::running::run_on;
 use std::fs::Files;
@@ -50,7 +50,7 @@ fn run_device<
     ensures ran { RanWith D.keeps history run.now input.now (S.calls devices.old) (S.calls devices.new) (O.contents out.old) (O.contents out.new) result }
 {
     if !is_device_file(rt, run.device.as_str()) {
-        return refuse(err, Refusal::ReadFailed);
+        return refuse_special(devices, run.device.as_str(), system, err);
     }
     let disk = match devices.open(run.device.as_str()) {
         Ok(disk) => disk,
