@@ -40,7 +40,7 @@ pub fn try_file<R: Files + AllocGlobal, O: Write, E: Write>(
 ) -> u8
     ensures { result ≤ 1 }
 {
-    match fs::read(rt, image) {
+    match read_source(rt, image) {
         Ok(bytes) => try_on(rt.alloc(), bytes.as_slice(), turns, out, err),
         Err(error) => refuse(err, read_refusal(&error)),
     }
@@ -56,7 +56,7 @@ pub fn trace_file<R: Files + AllocGlobal, O: Write, E: Write>(
 ) -> u8
     ensures { result ≤ 1 }
 {
-    match read_file(rt, image) {
+    match read_source(rt, image) {
         Ok(bytes) => trace_on(rt.alloc(), bytes.as_slice(), steps, out, err),
         Err(refusal) => refuse(err, refusal),
     }
@@ -67,6 +67,15 @@ pub(crate) fn read_file<R: Files + AllocGlobal>(rt: &R, path: &str) -> Result<Ve
     match fs::read(rt, path) {
         Ok(bytes) => Ok(bytes),
         Err(error) => Err(read_refusal(&error)),
+    }
+}
+
+/// Reads a whole image or topology. What is no regular file isn't opened: a FIFO would be waited for.
+pub(crate) fn read_source<R: Files + AllocGlobal>(rt: &R, path: &str) -> Result<Vec<u8>, Refusal> {
+    if is_device_file(rt, path) {
+        read_file(rt, path)
+    } else {
+        Err(Refusal::ReadFailed)
     }
 }
 
@@ -85,7 +94,7 @@ fn read_image<R: Files + AllocGlobal>(
     name: &str,
 ) -> Result<Vec<u8>, Refusal> {
     let path = image_path(rt.alloc(), folder, name)?;
-    read_file(rt, path.as_str())
+    read_source(rt, path.as_str())
 }
 
 /// Reads the image of a node, and appends it to others.
@@ -169,7 +178,7 @@ pub fn check_file<R: Files + AllocGlobal, O: Write, E: Write>(
 ) -> u8
     ensures { result ≤ 1 }
 {
-    match read_file(rt, topology) {
+    match read_source(rt, topology) {
         Ok(text) => check_text(rt, text.as_slice(), folder, json, out, err),
         Err(refusal) => refuse(err, refusal),
     }

@@ -8,7 +8,7 @@ ghost use Rattle.tp_words.specs.declared.args.TheConstants.{MAX_AREA};
 ghost use Rattle.tp_program.specs.Devices.{MadeAtMost, path_held};
 
 use crate::devices::{Devices, Made};
-use crate::files::{image_path, read_file, read_network};
+use crate::files::{image_path, read_network, read_source};
 use crate::folders::sync_folder;
 use crate::formatting::format_on;
 use crate::in_use::{changed, is_busy};
@@ -316,7 +316,7 @@ pub(crate) fn format_file<
     ensures few { result ≤ 2 }
     ensures made { MadeAtMost (string_bytes new.now.device) (S.calls devices.old) (S.calls devices.new) }
 {
-    match read_file(rt, new.topology.as_str()) {
+    match read_source(rt, new.topology.as_str()) {
         Ok(text) => format_text(rt, devices, new, text.as_slice(), system, out, err),
         Err(refusal) => refuse(err, refusal),
     }
