@@ -5,7 +5,7 @@ ghost use Rattle.std.specs.IoError.{error_kind};
 
 use crate::watching::Watch;
 use std::alloc::Global;
-use std::fs::{Files, OpenFile};
+use std::fs::{Files, OpenFile, OpenOptions};
 use std::io::{ErrorKind, Write};
 use std::os::unix::fs::FileExt;
 use std::thread::Threads;
@@ -42,7 +42,7 @@ pub fn try_file<R: Files + AllocGlobal, O: Write, E: Write>(
 {
     match read_source(rt, image) {
         Ok(bytes) => try_on(rt.alloc(), bytes.as_slice(), turns, out, err),
-        Err(error) => refuse(err, read_refusal(&error)),
+        Err(refusal) => refuse(err, refusal),
     }
 }
 
@@ -199,18 +199,37 @@ pub fn view_file<
     }
 }
 
+/// Opens a device's file to be read alone. What is no device's file isn't opened.
+pub(crate) fn file_to_read<R: Files<File = F>, F: OpenFile + Drop>(
+    rt: &R,
+    device: &str,
+) -> Result<F, Refusal> {
+    if !is_device_file(rt, device) {
+        return Err(Refusal::ReadFailed);
+    }
+    let mut how = OpenOptions::new();
+    match how.read(true).open(rt, device) {
+        Ok(file) => Ok(file),
+        Err(_) => Err(Refusal::ReadFailed),
+    }
+}
+
+/// The device in an open file.
+pub(crate) fn disk_in<F: FileExt + OpenFile + Drop>(
+    file: F,
+) -> Result<Counted<RawFile<NotedFile<F>>>, Refusal> {
+    let Ok(raw) = RawFile::new(NotedFile::new(file)) else {
+        return Err(Refusal::ReadFailed);
+    };
+    Ok(Counted::new(raw))
+}
+
 /// The device in a file that is there, to be read alone. What is no device's file isn't opened.
 pub(crate) fn disk_to_read<R: Files<File = F>, F: FileExt + OpenFile + Drop>(
     rt: &R,
     device: &str,
 ) -> Result<Counted<RawFile<NotedFile<F>>>, Refusal> {
-    if !is_device_file(rt, device) {
-        return Err(Refusal::ReadFailed);
-    }
-    match Counted::open_to_read(rt, device) {
-        Ok(disk) => Ok(disk),
-        Err(_) => Err(Refusal::ReadFailed),
-    }
+    disk_in(file_to_read(rt, device)?)
 }
 
 /// `tpnet recover`, on a device's file, which stays as it is.

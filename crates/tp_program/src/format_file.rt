@@ -207,12 +207,12 @@ fn format_network<
     ensures few { result ≤ 1 }
     ensures made { MadeAtMost (string_bytes new.now.device) (S.calls devices.old) (S.calls devices.new) }
 {
-    if !new.only_new && !is_device_file(rt, new.device.as_str()) {
-        return refuse(err, Refusal::DeviceFailed);
-    }
     if !devices.is_kept(new.device.as_str()) {
         *system = Some(changed());
         return refuse(err, Refusal::InUse);
+    }
+    if !new.only_new && !is_device_file(rt, new.device.as_str()) {
+        return refuse(err, Refusal::DeviceFailed);
     }
     match disk_of(rt, devices, new, topology) {
         Ok(mut disk) => {

@@ -20,6 +20,7 @@ mod locks;
 mod opening_again;
 mod program;
 mod request_file;
+mod rights;
 mod run_file;
 mod running;
 mod stop_file;
