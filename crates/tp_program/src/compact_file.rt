@@ -11,7 +11,7 @@ use std::io;
 use std::io::Write;
 use std::sync::Wait;
 use tp_disk::Disk;
-use tp_views::is_device_file;
+use tp_views::is_openable;
 
 /// `tpnet compact`, on a device's file, which is held. It is opened as it is, and keeps its length. What the system said of a call on it
 /// that failed is put into `system`.
@@ -34,7 +34,7 @@ pub(crate) fn compact_file<
     ensures few { result ≤ 1 }
     ensures compacted { CompactedFile D.keeps history (string_bytes device.now) (S.calls devices.old) (S.calls devices.new) (O.contents out.old) (O.contents out.new) result }
 {
-    if !is_device_file(rt, device.as_str()) {
+    if !is_openable(rt, device.as_str()) {
         return refuse_special(devices, device.as_str(), system, err);
     }
     let disk = match devices.open(device.as_str()) {

@@ -13,8 +13,8 @@ use std::{fs, io};
 use tp_disk::{Counted, NotedFile, RawFile};
 use tp_net::{Named, Topology};
 use tp_views::{
-    Refusal, Seen, check_on, is_device_file, recover_on, refuse, show_on, status_on, trace_on,
-    try_on, view_on,
+    Refusal, Seen, check_on, is_openable, recover_on, refuse, show_on, status_on, trace_on, try_on,
+    view_on,
 };
 use tp_words::View;
 
@@ -72,7 +72,7 @@ pub(crate) fn read_file<R: Files + AllocGlobal>(rt: &R, path: &str) -> Result<Ve
 
 /// Reads a whole image or topology. What is no regular file isn't opened: a FIFO would be waited for.
 pub(crate) fn read_source<R: Files + AllocGlobal>(rt: &R, path: &str) -> Result<Vec<u8>, Refusal> {
-    if is_device_file(rt, path) {
+    if is_openable(rt, path) {
         read_file(rt, path)
     } else {
         Err(Refusal::ReadFailed)
@@ -204,7 +204,7 @@ pub(crate) fn file_to_read<R: Files<File = F>, F: OpenFile + Drop>(
     rt: &R,
     device: &str,
 ) -> Result<F, Refusal> {
-    if !is_device_file(rt, device) {
+    if !is_openable(rt, device) {
         return Err(Refusal::ReadFailed);
     }
     let mut how = OpenOptions::new();

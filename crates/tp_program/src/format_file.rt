@@ -21,7 +21,7 @@ use tp_disk::{Disk, NewDisk};
 use tp_model::HeadVersion;
 use tp_net::{Named, Topology};
 use tp_stream_files::is_one_file;
-use tp_views::{Refusal, is_device_file, refuse};
+use tp_views::{Refusal, is_openable, refuse};
 use tp_words::NewDevice;
 
 /// The path of the first image whose file is the device's.
@@ -211,7 +211,7 @@ fn format_network<
         *system = Some(changed());
         return refuse(err, Refusal::InUse);
     }
-    if !new.only_new && !is_device_file(rt, new.device.as_str()) {
+    if !new.only_new && !is_openable(rt, new.device.as_str()) {
         return refuse(err, Refusal::DeviceFailed);
     }
     match disk_of(rt, devices, new, topology) {

@@ -41,7 +41,7 @@ pub use running::run_on;
 pub use stop_file::StopFault;
 pub use streaming::{FilesFault, Streamed, stream_on};
 pub use tp_views::{
-    Seen, TRY_QUANTUM, check_on, is_device_file, recover_on, show_on, status_on, trace_on, try_on,
+    Seen, TRY_QUANTUM, check_on, is_openable, recover_on, show_on, status_on, trace_on, try_on,
     view_on,
 };
 pub use tp_words::{

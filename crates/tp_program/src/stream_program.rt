@@ -19,7 +19,7 @@ use std::sync::Wait;
 use std::thread::Threads;
 use tp_disk::Disk;
 use tp_stream_files::{Feed, Onlooker};
-use tp_views::{Refusal, is_device_file, refuse};
+use tp_views::{Refusal, is_openable, refuse};
 use tp_words::StreamRun;
 
 /// What came of a command: its status, why a stream ended early, and what the system said of a call on the device that failed.
@@ -90,7 +90,7 @@ fn stream_file<
     ensures few { result.status ≤ 3 }
     ensures streamed { StreamedFile D.keeps history asked.now (S.calls devices.old) (S.calls devices.new) (O.contents out.old) (O.contents out.new) result.status }
 {
-    if !is_device_file(rt, asked.device.as_str()) {
+    if !is_openable(rt, asked.device.as_str()) {
         return unopened_special(devices, asked, err);
     }
     let disk = match devices.open(asked.device.as_str()) {
