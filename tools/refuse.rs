@@ -1,4 +1,4 @@
-//! A library that tools/refused-calls has loaded in front of the C library. It refuses calls of one kind.
+//! A library that tools/refused-calls and tools/edges have loaded in front of the C library. It refuses calls of one kind.
 //!
 //! REFUSE names the kind, the number of the first call that is refused, counted from 1, and `once` or `ever`. Each refusal
 //! writes a byte to the file descriptor 9.
@@ -22,8 +22,12 @@ const PWRITE: c_long = 18;
 const FSYNC: c_long = 74;
 const FDATASYNC: c_long = 75;
 const FTRUNCATE: c_long = 77;
+const FLOCK: c_long = 73;
 const NO_MEMORY: c_int = 12;
 const FAILED: c_int = 5;
+const INTERRUPTED: c_int = 4;
+const NO_LOCKS: c_int = 37;
+const UNSUPPORTED: c_int = 95;
 const TOLD: c_int = 9;
 
 static CALLS: AtomicU64 = AtomicU64::new(0);
@@ -110,6 +114,16 @@ pub extern "C" fn ftruncate(file: c_int, size: c_long) -> c_int {
         return -1;
     }
     unsafe { syscall(FTRUNCATE, file, size) as c_int }
+}
+
+#[no_mangle]
+pub extern "C" fn flock(file: c_int, how: c_int) -> c_int {
+    for (kind, error) in [("unlocked", NO_LOCKS), ("unsupported", UNSUPPORTED), ("interrupted", INTERRUPTED)] {
+        if is_refused(kind, error) {
+            return -1;
+        }
+    }
+    unsafe { syscall(FLOCK, file, how) as c_int }
 }
 
 #[no_mangle]

@@ -2,6 +2,7 @@ pub mod Formats
 pub mod Running
 pub mod Compacting
 pub mod Streaming
+pub mod Rights
 pub mod Backups
 pub mod Devices
 pub mod Stops

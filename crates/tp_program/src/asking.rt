@@ -17,7 +17,7 @@ use std::os::unix::fs::FileExt;
 use std::{fmt, io};
 use tp_recover::read_head;
 use tp_stream_files::StandardStreams;
-use tp_views::{Refusal, is_device_file, put, refuse};
+use tp_views::{Refusal, is_openable, put, refuse};
 use tp_words::StopRequest;
 
 /// Why a request to stop isn't made.
@@ -70,7 +70,7 @@ impl fmt::Display for Unasked {
 /// Opens the device's file as who runs it does, and lets it go: nothing of it is read or written. What the system said is put into
 /// `system`.
 fn look_at<R: Files>(rt: &R, device: &str, system: &mut Option<io::Error>) -> Result<(), Refusal> {
-    if !is_device_file(rt, device) {
+    if !is_openable(rt, device) {
         return Err(Refusal::ReadFailed);
     }
     let mut how = OpenOptions::new();

@@ -45,7 +45,7 @@ fn push_failed(text: &mut String, backup: &Backup, error: &io::Error) -> Result<
     push_file(text, copy, error)?;
     write!(
         text,
-        "  A copy is made as {copy}.part, in a folder that is there and that you may read and write, on a file system with hard links.\n  Mend that, and give the same command again: {device} is as it was.\n"
+        "  A copy is made as {copy}.part, in a folder that is there and that you may read and write, on a file system with hard links that keeps the rights of files.\n  Mend that, and give the same command again: {device} is as it was.\n"
     )
 }
 

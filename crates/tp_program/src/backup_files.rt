@@ -4,14 +4,15 @@ ghost use Rattle.std.specs.Prelude.{◌≡◌, IfOk, OnOk, string_bytes};
 ghost use Rattle.tp_program.specs.Backups.{IsCopiedLine, PrintsCopied};
 
 use crate::backing_up::{backup_on, copied_line};
-use crate::files::disk_to_read;
+use crate::files::{disk_in, file_to_read};
 use crate::folders::sync_folder;
+use crate::rights::Rights;
 use std::alloc::Global;
-use std::fs::{Files, OpenFile, OpenOptions};
+use std::fs::{Files, Metadata, OpenFile, OpenOptions};
 use std::io::Write;
-use std::os::unix::fs::FileExt;
+use std::os::unix::fs::{FileExt, OpenOptionsExt};
 use std::{fs, io};
-use tp_disk::{Counted, Disk, NewDisk, NewFile, NotedFile};
+use tp_disk::{Counted, Disk, NewDisk, NewFile, NotedFile, RawFile};
 use tp_stream_files::{FileNumbers, is_one_file, numbers_in};
 use tp_views::{Refusal, put, refuse};
 use tp_words::Backup;
@@ -23,7 +24,7 @@ pub(crate) enum Undone {
     CopyExists,
     /// Something stands at COPY.part.
     PartExists,
-    /// A call failed that looks for the copy's file, makes it or names it.
+    /// A call failed that looks for the copy's file, makes it, gives it its rights or names it.
     CopyFailed(io::Error),
     /// The device's file isn't opened, or the device isn't copied, and it was said why. The system said that of the copy's file, where a
     /// call on it failed.
@@ -89,28 +90,25 @@ fn ask_names<R: Files>(rt: &R, device: &str, names: &Names<'_>) -> Result<(), Un
     }
 }
 
-/// Makes the copy's file.
+/// Makes the copy's file, which nobody but its owner may read.
 fn make_part<R: Files<File = F>, F: FileExt + OpenFile + Drop>(
     rt: &R,
     names: &Names<'_>,
+    rights: Rights,
 ) -> Result<F, Undone> {
     let mut how = OpenOptions::new();
     let how = how.read(true).write(true).create_new(true);
-    match how.open(rt, names.part) {
+    match how.mode(rights.at_first()).open(rt, names.part) {
         Ok(file) => Ok(file),
         Err(error) if error.kind() == io::ErrorKind::AlreadyExists => Err(Undone::PartExists),
         Err(error) => Err(Undone::CopyFailed(error)),
     }
 }
 
-/// The numbers by which the system tells the copy's file from all others, none where it has none; the file is removed where it can't be asked.
-fn numbers_of<R: Files, F: OpenFile>(
-    rt: &R,
-    names: &Names<'_>,
-    file: &F,
-) -> Result<Option<FileNumbers>, Undone> {
+/// What the system keeps of the copy's file, which is removed where it can't be asked.
+fn kept_of<R: Files, F: OpenFile>(rt: &R, names: &Names<'_>, file: &F) -> Result<Metadata, Undone> {
     match file.metadata() {
-        Ok(kept) => Ok(numbers_in(&kept)),
+        Ok(kept) => Ok(kept),
         Err(error) => {
             let _left = fs::remove_file(rt, names.part);
             Err(Undone::CopyFailed(error))
@@ -118,7 +116,8 @@ fn numbers_of<R: Files, F: OpenFile>(
     }
 }
 
-/// Whether a path names the copy's file still, as far as the system says: somebody may have removed it, and made another there.
+/// Whether a path names the copy's file still, as far as the system says, by the numbers by which it tells that from all others: somebody may
+/// have removed it, and made another there.
 fn is_named<R: Files>(rt: &R, path: &str, numbers: Option<FileNumbers>) -> bool {
     let kept = fs::metadata(rt, path);
     matches!(kept, Ok(kept) if numbers_in(&kept) == numbers)
@@ -194,38 +193,44 @@ fn name_copy<R: Files<File = F>, F: FileExt + OpenFile + Drop>(
     }
 }
 
-/// Copies the device into the copy's file and names that. Answers what is to be printed.
+/// Gives the copy's file the device's rights, before any byte of that is in it, copies the device into it, and names it. Answers what is to be
+/// printed.
 fn fill_and_name<R: Files<File = F> + AllocGlobal, D: Disk, F: FileExt + OpenFile + Drop, E: Write>(
     rt: &R,
     source: &mut D,
+    rights: Rights,
     names: &Names<'_>,
-    numbers: Option<FileNumbers>,
-    copy: NewDisk<F>,
+    kept: &Metadata,
+    file: F,
     err: &mut E,
 ) -> Result<String, Undone>
     ensures { IfOk result (λ text. IsCopiedLine (string_bytes text)) }
 {
+    if let Err(error) = rights.give(&file, kept) {
+        return Err(Undone::CopyFailed(error));
+    }
+    let copy = Counted::new(NewFile::over(NotedFile::new(file), source.size()));
     let text = fill_part(rt.alloc(), source, copy, err)?;
-    name_copy(rt, names, numbers)?;
+    name_copy(rt, names, numbers_in(kept))?;
     Ok(text)
 }
 
-/// Makes the copy of a device. Answers what is to be printed. Where it isn't made, the file that was made for it is removed: it gets the length of
-/// the device with its first call as one.
+/// Makes the copy of a device, which has these rights. Answers what is to be printed. Where it isn't made, the file that was made for it is
+/// removed: it gets the length of the device with its first call as one.
 fn make_copy<R: Files<File = F> + AllocGlobal, F: FileExt + OpenFile + Drop, D: Disk, E: Write>(
     rt: &R,
     source: &mut D,
+    rights: Rights,
     names: &Names<'_>,
     err: &mut E,
 ) -> Result<String, Undone>
     ensures { IfOk result (λ text. IsCopiedLine (string_bytes text)) }
 {
-    let file = make_part(rt, names)?;
-    let numbers = numbers_of(rt, names, &file)?;
-    let copy = Counted::new(NewFile::over(NotedFile::new(file), source.size()));
-    let made = fill_and_name(rt, source, names, numbers, copy, err);
+    let file = make_part(rt, names, rights)?;
+    let kept = kept_of(rt, names, &file)?;
+    let made = fill_and_name(rt, source, rights, names, &kept, file, err);
     if made.is_err() {
-        let _left = remove_name(rt, names.part, numbers);
+        let _left = remove_name(rt, names.part, numbers_in(&kept));
     }
     made
 }
@@ -237,14 +242,33 @@ fn copy_and_print<
     D: Disk,
     O: Write,
     E: Write,
->(rt: &R, source: &mut D, names: &Names<'_>, out: &mut O, err: &mut E) -> Result<(), Undone>
+>(
+    rt: &R,
+    source: &mut D,
+    rights: Rights,
+    names: &Names<'_>,
+    out: &mut O,
+    err: &mut E,
+) -> Result<(), Undone>
     ensures { OnOk result (PrintsCopied (O.contents out.old) (O.contents out.new)) }
 {
-    let text = make_copy(rt, source, names, err)?;
+    let text = make_copy(rt, source, rights, names, err)?;
     match put(out, text.as_bytes()) {
         Ok(()) => Ok(()),
         Err(_) => Err(Undone::Unprinted),
     }
+}
+
+/// Opens a device's file to be read alone. Answers the device, and the rights of its file.
+fn source_of<R: Files<File = F>, F: FileExt + OpenFile + Drop>(
+    rt: &R,
+    device: &str,
+) -> Result<(Counted<RawFile<NotedFile<F>>>, Rights), Refusal> {
+    let file = file_to_read(rt, device)?;
+    let Ok(kept) = file.metadata() else {
+        return Err(Refusal::ReadFailed);
+    };
+    Ok((disk_in(file)?, Rights::of(&kept)))
 }
 
 /// Makes the copy of a device's file under these names, and prints that.
@@ -258,14 +282,14 @@ fn backup_as<R: Files<File = F> + AllocGlobal, F: FileExt + OpenFile + Drop, O: 
     ensures { OnOk result (PrintsCopied (O.contents out.old) (O.contents out.new)) }
 {
     ask_names(rt, device, names)?;
-    let mut source = match disk_to_read(rt, device) {
-        Ok(source) => source,
+    let (mut source, rights) = match source_of(rt, device) {
+        Ok(found) => found,
         Err(refusal) => {
             refuse(err, refusal);
             return Err(Undone::Uncopied(None));
         }
     };
-    copy_and_print(rt, &mut source, names, out, err)
+    copy_and_print(rt, &mut source, rights, names, out, err)
 }
 
 /// `tpnet backup`, on files. The copy's names are asked for before the device's file is opened, and its file is made before the

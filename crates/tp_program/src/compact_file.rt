@@ -5,13 +5,13 @@ ghost use Rattle.tp_run.specs.Ran.{History};
 ghost use Rattle.tp_program.specs.CompactFile.{CompactedFile};
 
 use crate::compacting::compact_on;
-use crate::devices::{Devices, refuse_opening};
+use crate::devices::{Devices, refuse_opening, refuse_special};
 use std::fs::Files;
 use std::io;
 use std::io::Write;
 use std::sync::Wait;
 use tp_disk::Disk;
-use tp_views::{Refusal, is_device_file, refuse};
+use tp_views::is_openable;
 
 /// `tpnet compact`, on a device's file, which is held. It is opened as it is, and keeps its length. What the system said of a call on it
 /// that failed is put into `system`.
@@ -34,8 +34,8 @@ pub(crate) fn compact_file<
     ensures few { result ≤ 1 }
     ensures compacted { CompactedFile D.keeps history (string_bytes device.now) (S.calls devices.old) (S.calls devices.new) (O.contents out.old) (O.contents out.new) result }
 {
-    if !is_device_file(rt, device.as_str()) {
-        return refuse(err, Refusal::ReadFailed);
+    if !is_openable(rt, device.as_str()) {
+        return refuse_special(devices, device.as_str(), system, err);
     }
     let disk = match devices.open(device.as_str()) {
         Ok(disk) => disk,

@@ -1,6 +1,7 @@
 //! The devices that commands write: who holds them, makes files for them, opens them, and takes them back.
 
-ghost use Rattle.std.specs.Prelude.{◌≡◌, ℕ, List, [], ◌∷◌, ◌++◌, Option, Some, None, is_ok, IfOk, OnOk, OnErr};
+ghost use Rattle.std.specs.Prelude.{◌≡◌, ℕ, true, false, List, [], ◌∷◌, ◌++◌, Option, Some, None, is_ok, IfOk, IsErrAnd, OnOk, OnErr};
+ghost use Rattle.std.specs.IoError.{error_kind};
 ghost use Rattle.std.specs.Option.{option_map};
 ghost use Rattle.tp_program.specs.Devices.{DeviceCall, Holds, Makes, Opens, Closes, path_held};
 
@@ -9,7 +10,7 @@ use crate::files::read_refusal;
 use crate::in_use::{changed, is_busy};
 use crate::locks::{Held, InUse, Locks};
 use std::fs::{Files, OpenFile, OpenOptions};
-use std::io::Write;
+use std::io::{ErrorKind, Write};
 use std::os::unix::fs::FileExt;
 use std::{fs, io};
 use tp_disk::{Counted, Disk, NotedFile, RawFile};
@@ -64,7 +65,8 @@ pub trait Devices {
         requires held { held self.now ≡ Some path.now }
         requires made { path_held made.noted.told ≡ path.now };
 
-    /// Opens the device at a path, which is held, as it is. Another file that stands there by now isn't opened.
+    /// Opens the device at a path, which is held, as it is. Where another file stands there by now, or none any more, that is said, whatever else
+    /// opening it says.
     fn open(&mut self, path: &str) -> io::Result<Self::Device>
         requires { held self.old ≡ Some path.now }
         ensures opened { IfOk result (λ device. calls self.new ≡ calls self.old ++ Opens path.now (Self.Device.state device) ∷ []) }
@@ -145,10 +147,8 @@ impl<
     }
 
     fn open(&mut self, path: &str) -> io::Result<Counted<RawFile<NotedFile<F>>>> {
-        let device = Counted::open(self.rt, path)?;
-        if !self.is_kept(path) {
-            return Err(changed());
-        }
+        let opened = Counted::open(self.rt, path);
+        let device = kept_only(opened, self.is_kept(path))?;
         self.noted = self.noted.opened(path, &device);
         Ok(device)
     }
@@ -175,6 +175,15 @@ fn made_file<R: Files<File = F>, F: OpenFile + Drop, L: Locks<F, Lock = K>, K: D
     }
 }
 
+/// What came of opening a device where what stands at its path is what stood there as it was asked for; else that another process has changed
+/// that, whatever came of it.
+fn kept_only<T: Drop>(opened: io::Result<T>, is_kept: bool) -> io::Result<T>
+    ensures kept { is_kept ≡ true → result ≡ opened }
+    ensures changed { is_kept ≡ false → IsErrAnd result (λ error. error_kind error ≡ ErrorKind.ResourceBusy) }
+{
+    if is_kept { opened } else { Err(changed()) }
+}
+
 /// Copies an error of the system.
 fn said_again(error: &io::Error) -> io::Error {
     match error.raw_os_error() {
@@ -189,6 +198,23 @@ pub(crate) fn opening_refusal(error: &io::Error) -> Refusal {
         Refusal::InUse
     } else {
         read_refusal(error)
+    }
+}
+
+/// Says why what is at the path of a device, which is held, isn't opened: it is no regular file. Where another process has put it there since the
+/// device was asked for, it says that, and puts it into `system`. Answers the status.
+pub(crate) fn refuse_special<S: Devices, E: Write>(
+    devices: &S,
+    path: &str,
+    system: &mut Option<io::Error>,
+    err: &mut E,
+) -> u8
+    ensures { result ≡ 1 }
+{
+    if devices.is_kept(path) {
+        refuse(err, Refusal::ReadFailed)
+    } else {
+        refuse_opening(changed(), system, err)
     }
 }
 

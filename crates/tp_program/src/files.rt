@@ -5,7 +5,7 @@ ghost use Rattle.std.specs.IoError.{error_kind};
 
 use crate::watching::Watch;
 use std::alloc::Global;
-use std::fs::{Files, OpenFile};
+use std::fs::{Files, OpenFile, OpenOptions};
 use std::io::{ErrorKind, Write};
 use std::os::unix::fs::FileExt;
 use std::thread::Threads;
@@ -13,8 +13,8 @@ use std::{fs, io};
 use tp_disk::{Counted, NotedFile, RawFile};
 use tp_net::{Named, Topology};
 use tp_views::{
-    Refusal, Seen, check_on, is_device_file, recover_on, refuse, show_on, status_on, trace_on,
-    try_on, view_on,
+    Refusal, Seen, check_on, is_openable, recover_on, refuse, show_on, status_on, trace_on, try_on,
+    view_on,
 };
 use tp_words::View;
 
@@ -40,9 +40,9 @@ pub fn try_file<R: Files + AllocGlobal, O: Write, E: Write>(
 ) -> u8
     ensures { result ≤ 1 }
 {
-    match fs::read(rt, image) {
+    match read_source(rt, image) {
         Ok(bytes) => try_on(rt.alloc(), bytes.as_slice(), turns, out, err),
-        Err(error) => refuse(err, read_refusal(&error)),
+        Err(refusal) => refuse(err, refusal),
     }
 }
 
@@ -56,7 +56,7 @@ pub fn trace_file<R: Files + AllocGlobal, O: Write, E: Write>(
 ) -> u8
     ensures { result ≤ 1 }
 {
-    match read_file(rt, image) {
+    match read_source(rt, image) {
         Ok(bytes) => trace_on(rt.alloc(), bytes.as_slice(), steps, out, err),
         Err(refusal) => refuse(err, refusal),
     }
@@ -67,6 +67,15 @@ pub(crate) fn read_file<R: Files + AllocGlobal>(rt: &R, path: &str) -> Result<Ve
     match fs::read(rt, path) {
         Ok(bytes) => Ok(bytes),
         Err(error) => Err(read_refusal(&error)),
+    }
+}
+
+/// Reads a whole image or topology. What is no regular file isn't opened: a FIFO would be waited for.
+pub(crate) fn read_source<R: Files + AllocGlobal>(rt: &R, path: &str) -> Result<Vec<u8>, Refusal> {
+    if is_openable(rt, path) {
+        read_file(rt, path)
+    } else {
+        Err(Refusal::ReadFailed)
     }
 }
 
@@ -85,7 +94,7 @@ fn read_image<R: Files + AllocGlobal>(
     name: &str,
 ) -> Result<Vec<u8>, Refusal> {
     let path = image_path(rt.alloc(), folder, name)?;
-    read_file(rt, path.as_str())
+    read_source(rt, path.as_str())
 }
 
 /// Reads the image of a node, and appends it to others.
@@ -169,7 +178,7 @@ pub fn check_file<R: Files + AllocGlobal, O: Write, E: Write>(
 ) -> u8
     ensures { result ≤ 1 }
 {
-    match read_file(rt, topology) {
+    match read_source(rt, topology) {
         Ok(text) => check_text(rt, text.as_slice(), folder, json, out, err),
         Err(refusal) => refuse(err, refusal),
     }
@@ -190,18 +199,37 @@ pub fn view_file<
     }
 }
 
+/// Opens a device's file to be read alone. What is no device's file isn't opened.
+pub(crate) fn file_to_read<R: Files<File = F>, F: OpenFile + Drop>(
+    rt: &R,
+    device: &str,
+) -> Result<F, Refusal> {
+    if !is_openable(rt, device) {
+        return Err(Refusal::ReadFailed);
+    }
+    let mut how = OpenOptions::new();
+    match how.read(true).open(rt, device) {
+        Ok(file) => Ok(file),
+        Err(_) => Err(Refusal::ReadFailed),
+    }
+}
+
+/// The device in an open file.
+pub(crate) fn disk_in<F: FileExt + OpenFile + Drop>(
+    file: F,
+) -> Result<Counted<RawFile<NotedFile<F>>>, Refusal> {
+    let Ok(raw) = RawFile::new(NotedFile::new(file)) else {
+        return Err(Refusal::ReadFailed);
+    };
+    Ok(Counted::new(raw))
+}
+
 /// The device in a file that is there, to be read alone. What is no device's file isn't opened.
 pub(crate) fn disk_to_read<R: Files<File = F>, F: FileExt + OpenFile + Drop>(
     rt: &R,
     device: &str,
 ) -> Result<Counted<RawFile<NotedFile<F>>>, Refusal> {
-    if !is_device_file(rt, device) {
-        return Err(Refusal::ReadFailed);
-    }
-    match Counted::open_to_read(rt, device) {
-        Ok(disk) => Ok(disk),
-        Err(_) => Err(Refusal::ReadFailed),
-    }
+    disk_in(file_to_read(rt, device)?)
 }
 
 /// `tpnet recover`, on a device's file, which stays as it is.

@@ -8,7 +8,7 @@ ghost use Rattle.tp_words.specs.declared.args.TheConstants.{MAX_AREA};
 ghost use Rattle.tp_program.specs.Devices.{MadeAtMost, path_held};
 
 use crate::devices::{Devices, Made};
-use crate::files::{image_path, read_file, read_network};
+use crate::files::{image_path, read_network, read_source};
 use crate::folders::sync_folder;
 use crate::formatting::format_on;
 use crate::in_use::{changed, is_busy};
@@ -21,7 +21,7 @@ use tp_disk::{Disk, NewDisk};
 use tp_model::HeadVersion;
 use tp_net::{Named, Topology};
 use tp_stream_files::is_one_file;
-use tp_views::{Refusal, is_device_file, refuse};
+use tp_views::{Refusal, is_openable, refuse};
 use tp_words::NewDevice;
 
 /// The path of the first image whose file is the device's.
@@ -207,12 +207,12 @@ fn format_network<
     ensures few { result ≤ 1 }
     ensures made { MadeAtMost (string_bytes new.now.device) (S.calls devices.old) (S.calls devices.new) }
 {
-    if !new.only_new && !is_device_file(rt, new.device.as_str()) {
-        return refuse(err, Refusal::DeviceFailed);
-    }
     if !devices.is_kept(new.device.as_str()) {
         *system = Some(changed());
         return refuse(err, Refusal::InUse);
+    }
+    if !new.only_new && !is_openable(rt, new.device.as_str()) {
+        return refuse(err, Refusal::DeviceFailed);
     }
     match disk_of(rt, devices, new, topology) {
         Ok(mut disk) => {
@@ -316,7 +316,7 @@ pub(crate) fn format_file<
     ensures few { result ≤ 2 }
     ensures made { MadeAtMost (string_bytes new.now.device) (S.calls devices.old) (S.calls devices.new) }
 {
-    match read_file(rt, new.topology.as_str()) {
+    match read_source(rt, new.topology.as_str()) {
         Ok(text) => format_text(rt, devices, new, text.as_slice(), system, out, err),
         Err(refusal) => refuse(err, refusal),
     }

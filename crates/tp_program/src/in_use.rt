@@ -1,9 +1,10 @@
 //! What is said where another process holds the device.
 
 ghost use Rattle.std.specs.Prelude.{◌≡◌};
+ghost use Rattle.std.specs.IoError.{error_kind};
 
 use std::io;
-use std::io::Write;
+use std::io::{ErrorKind, Write};
 use tp_views::{Refusal, refuse};
 
 /// Refuses what a command line asks for, since another process holds the device; says more of it where `explains`. Answers the status. A
@@ -22,13 +23,15 @@ pub fn refuse_in_use<E: Write>(explains: bool, err: &mut E) -> u8
 }
 
 /// That another file stands at the device's path than the one that stood there as the device was asked for.
-pub(crate) fn changed() -> io::Error {
-    io::Error::from(io::ErrorKind::ResourceBusy)
+pub(crate) fn changed() -> io::Error
+    ensures { error_kind result ≡ ErrorKind.ResourceBusy }
+{
+    io::Error::from(ErrorKind::ResourceBusy)
 }
 
 /// Whether the system, or [`changed`], says that something is in use.
 pub(crate) fn is_busy(error: &io::Error) -> bool {
-    error.kind() == io::ErrorKind::ResourceBusy
+    error.kind() == ErrorKind::ResourceBusy
 }
 
 /// Says more of a refusal since another file stands at the device's path. A failed write is let go.

@@ -20,6 +20,7 @@ mod locks;
 mod opening_again;
 mod program;
 mod request_file;
+mod rights;
 mod run_file;
 mod running;
 mod stop_file;
@@ -40,7 +41,7 @@ pub use running::run_on;
 pub use stop_file::StopFault;
 pub use streaming::{FilesFault, Streamed, stream_on};
 pub use tp_views::{
-    Seen, TRY_QUANTUM, check_on, is_device_file, recover_on, show_on, status_on, trace_on, try_on,
+    Seen, TRY_QUANTUM, check_on, is_openable, recover_on, show_on, status_on, trace_on, try_on,
     view_on,
 };
 pub use tp_words::{

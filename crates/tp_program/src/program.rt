@@ -30,7 +30,7 @@ use tp_disk::Disk;
 use tp_stream_files::{
     Feed, Onlooker, StandardStream, StandardStreams, is_output_said_over, is_standard_file,
 };
-use tp_views::{explain, is_device_file, print_help, tell_halted};
+use tp_views::{explain, is_openable, print_help, tell_halted};
 use tp_words::{Asked, Command, CommandLine};
 
 /// Does what was asked for. Answers the program's status: 0 where it was done, 1 where it was refused, 2 where a node or port
@@ -121,7 +121,7 @@ fn input_of(asked: &Asked) -> Option<&str> {
 /// Whether what a run prints would be written into the file of its input. What is no regular file has no bytes to lose, as a terminal.
 fn prints_into_input<R: Files + StandardStreams>(rt: &R, asked: &Asked) -> bool {
     match input_of(asked) {
-        Some(path) => is_device_file(rt, path) && prints_into(rt, path),
+        Some(path) => is_openable(rt, path) && prints_into(rt, path),
         None => false,
     }
 }

@@ -5,7 +5,7 @@ ghost use Rattle.tp_run.specs.Ran.{History};
 ghost use Rattle.tp_words.specs.Args.{IsRun};
 ghost use Rattle.tp_program.specs.RunFile.{RanFile, RanWith};
 
-use crate::devices::{Devices, refuse_opening};
+use crate::devices::{Devices, refuse_opening, refuse_special};
 use crate::files::read_file;
 use crate::running::run_on;
 use std::fs::Files;
@@ -14,7 +14,7 @@ use std::io::Write;
 use std::sync::Wait;
 use std::thread::Threads;
 use tp_disk::Disk;
-use tp_views::{Refusal, is_device_file, refuse};
+use tp_views::{Refusal, is_openable, refuse};
 use tp_words::Run;
 
 /// The input of a run, which has none where no file was named.
@@ -49,8 +49,8 @@ fn run_device<
     ensures few { result ≤ 2 }
     ensures ran { RanWith D.keeps history run.now input.now (S.calls devices.old) (S.calls devices.new) (O.contents out.old) (O.contents out.new) result }
 {
-    if !is_device_file(rt, run.device.as_str()) {
-        return refuse(err, Refusal::ReadFailed);
+    if !is_openable(rt, run.device.as_str()) {
+        return refuse_special(devices, run.device.as_str(), system, err);
     }
     let disk = match devices.open(run.device.as_str()) {
         Ok(disk) => disk,

@@ -6,7 +6,7 @@ ghost use Rattle.tp_words.specs.StreamArgs.{IsStreamRun};
 ghost use Rattle.tp_program.specs.Answers.{StreamedHeld};
 ghost use Rattle.tp_program.specs.StreamFile.{StreamedFile};
 
-use crate::devices::{Devices, opening_refusal};
+use crate::devices::{Devices, opening_refusal, refuse_special};
 use crate::in_use::{explain_changed, is_busy, refuse_in_use};
 use crate::locks::InUse;
 use crate::stream_explain::explain_stream;
@@ -19,7 +19,7 @@ use std::sync::Wait;
 use std::thread::Threads;
 use tp_disk::Disk;
 use tp_stream_files::{Feed, Onlooker, StandardStreams};
-use tp_views::{Refusal, is_device_file, refuse};
+use tp_views::{Refusal, is_openable, refuse};
 use tp_words::StreamRun;
 
 /// What came of a command: its status, why a stream ended early, and what the system said of a call on the device that failed.
@@ -52,6 +52,19 @@ fn unopened<E: Write>(err: &mut E, refusal: Refusal, system: Option<io::Error>) 
     }
 }
 
+/// The device's file isn't opened, since it is no regular file.
+fn unopened_special<S: Devices, E: Write>(devices: &S, asked: &StreamRun, err: &mut E) -> Outcome
+    ensures { result.status ≡ 1 }
+{
+    let mut system = None;
+    let status = refuse_special(devices, asked.device.as_str(), &mut system, err);
+    Outcome {
+        status,
+        fault: None,
+        system,
+    }
+}
+
 /// `tpnet run --stream`, on files. The device's file, which is held, is opened as it is, and keeps its length.
 fn stream_file<
     R: Files<File = F> + StandardStreams + AllocGlobal + Threads + Wait + Sync,
@@ -77,8 +90,8 @@ fn stream_file<
     ensures few { result.status ≤ 3 }
     ensures streamed { StreamedFile D.keeps history asked.now (S.calls devices.old) (S.calls devices.new) (O.contents out.old) (O.contents out.new) result.status }
 {
-    if !is_device_file(rt, asked.device.as_str()) {
-        return unopened(err, Refusal::ReadFailed, None);
+    if !is_openable(rt, asked.device.as_str()) {
+        return unopened_special(devices, asked, err);
     }
     let disk = match devices.open(asked.device.as_str()) {
         Ok(disk) => disk,

@@ -10,6 +10,8 @@ tpnet format device net.txt . 65536
 tpnet run device --turns 3 --workers 1 --in in
 keep device
 tpnet backup device copy
+# Its folder is synced behind the last name that is made or removed.
+asked names
 stay
 there copy.part
 length copy
@@ -155,6 +157,56 @@ tpnet backup place copy
 there copy
 there copy.part
 
+story rights
+# A copy has its device's rights, whatever the umask leaves of those that a new file gets.
+bring kept/one.dev device
+grant device 600
+tpnet backup device copy600
+rights copy600
+grant device 640
+tpnet backup device copy640
+rights copy640
+grant device 644
+tpnet backup device copy644
+rights copy644
+grant device 666
+tpnet backup device copy666
+rights copy666
+grant device 400
+tpnet backup device copy400
+rights copy400
+grant device 440
+tpnet backup device copy440
+rights copy440
+grant device 604
+tpnet backup device copy604
+rights copy604
+grant device 755
+tpnet backup device copy755
+rights copy755
+rights device
+# From the first byte on it has no more of them: here all calls fail from one on, and that tells when its file is made, when it gets them, and that
+# it has them as it is filled, as it has both names, and as it is COPY alone.
+grant device 640
+sweep onward all 30
+remove copy
+remove copy.part
+tpnet backup device copy 2>err
+rights copy.part
+rights copy
+end
+
+story usurped
+# Another process moves a file of its own over COPY.part, right before that gets its second name: it is neither taken for the copy nor removed.
+bring kept/one.dev device
+text theirs theirs
+copy theirs other
+keep device theirs
+rival links other
+tpnet backup device copy
+there other
+equal copy.part theirs
+stay
 story words
 # Words that are refused before any file is opened.
 bring kept/one.dev device

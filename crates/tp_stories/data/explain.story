@@ -399,7 +399,7 @@ has err device empties it and keeps all output
 equal device before
 tpnet try /dev/null --turns=4
 tpnet try /dev/null --turns=4 --explain 2>err
-starts err tpnet: BadImage\n
+starts err tpnet: ReadFailed\n
 has err /dev/null: it is no regular file, so it isn't looked at again
 equal device before
 

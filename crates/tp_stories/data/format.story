@@ -100,6 +100,19 @@ tpnet format nowhere/device net.txt . 16384
 # A topology that is not there.
 remove net.txt
 tpnet format device net.txt . 16384
+# An image and a topology are regular files: what else is at their paths isn't opened.
+text net.txt node a 4\nnode null 4\nport h\n
+symlink /dev/null null.img
+tpnet format device net.txt . 16384
+tpnet check net.txt .
+tpnet check net.txt . --explain 2>err
+has err ./null.img: it is no regular file
+tpnet format device /dev/null . 16384
+tpnet check /dev/null .
+tpnet format device /dev/null . 16384 --explain 2>err
+has err /dev/null: it is no regular file
+tpnet format device . . 16384
+there device
 
 story refused_old
 # What is refused leaves a device that is there as it was: a fault of the topology, of an image, of the area.

@@ -356,6 +356,22 @@ held 0 1 device
 tpnet format device net.txt . 16384
 there device
 held
+tpnet format kept net.txt . 16384
+copy kept device
+held 0 1 device
+tpnet run device --turns 4 --explain
+there device
+copy kept device
+tpnet run device --stream --turns 4 --discard 0 --explain
+there device
+copy kept device
+tpnet compact device --explain
+there device
+held
+# Where nothing was there, a command that needs a device says that.
+tpnet run device --turns 4
+tpnet run device --stream --turns 4 --discard 0
+tpnet compact device
 # It is asked whether the device stands there still once that is open: what comes there then is another's, and stays as it is.
 tpnet format device net.txt . 16384
 text given ab

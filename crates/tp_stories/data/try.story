@@ -35,6 +35,9 @@ tpnet try busy.img --turns 4
 tpnet try later.img --turns 4
 # A file that is not there can not be read.
 tpnet try a.img --turns 4
+# Nor is what is no regular file: it might have to be waited for.
+tpnet try /dev/null --turns 4
+tpnet trace /dev/null
 
 story halted
 # A node that loads a word which isn't there halts. Where it did is said with --explain alone.

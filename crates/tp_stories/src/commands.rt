@@ -174,6 +174,7 @@ pub(crate) fn play_command<
     let typed = Typed::read(rt.alloc(), words)?;
     let input = input_of(rt, &typed)?;
     files.redirect(stage.redirected(rt.alloc())?);
+    files.usurp(stage.rival.usurper(rt.alloc())?);
     let next = stage.next.take();
     files.faults().begin(next.unwrap_or(stage.plan));
     let done = carry_out(rt, files, stage, typed.words.as_slice(), input.as_slice());
@@ -184,8 +185,8 @@ pub(crate) fn play_command<
     tell(rt, stage, &typed, &done)
 }
 
-/// Prints what the last command asked for: whether `device` was to be opened to write it, how many other files and folders were synced,
-/// or whether its standard input was asked for something.
+/// Prints what the last command asked for: whether `device` was to be opened to write it, how many other files and folders were synced, how
+/// many names were made and removed behind the last sync of a folder, or whether its standard input was asked for something.
 pub(crate) fn tell_asked<S: Redirects>(files: &S, stage: &mut Stage, what: &str) -> io::Result<()> {
     match what {
         "write" => print_answer(&mut stage.transcript, files.faults().asked_write()),
@@ -193,6 +194,10 @@ pub(crate) fn tell_asked<S: Redirects>(files: &S, stage: &mut Stage, what: &str)
         "syncs" => {
             let synced = files.faults().synced();
             write!(stage.transcript, "= {synced}\n")
+        }
+        "names" => {
+            let named = files.faults().named();
+            write!(stage.transcript, "= {named}\n")
         }
         _ => Err(malformed()),
     }

@@ -1,6 +1,6 @@
 //! Calls on files that fail, or move few bytes.
 
-use std::fs::{Metadata, OpenFile};
+use std::fs::{Metadata, OpenFile, Permissions};
 use std::io;
 use std::io::{Read, Seek, SeekFrom, Write};
 use std::os::unix::fs::FileExt;
@@ -53,6 +53,7 @@ pub(crate) struct Faults {
     has_failed: AtomicBool,
     writable: AtomicBool,
     synced: AtomicU64,
+    named: AtomicU64,
 }
 
 impl Faults {
@@ -70,6 +71,7 @@ impl Faults {
             has_failed: AtomicBool::new(false),
             writable: AtomicBool::new(false),
             synced: AtomicU64::new(0),
+            named: AtomicU64::new(0),
         }
     }
 
@@ -87,6 +89,7 @@ impl Faults {
         self.has_failed.store(false, Ordering::SeqCst);
         self.writable.store(false, Ordering::SeqCst);
         self.synced.store(0, Ordering::SeqCst);
+        self.named.store(0, Ordering::SeqCst);
     }
 
     /// Whether a call has failed.
@@ -102,6 +105,16 @@ impl Faults {
     /// How many files that are no device, and folders, were synced.
     pub(crate) fn synced(&self) -> u64 {
         self.synced.load(Ordering::SeqCst)
+    }
+
+    /// How many names were made and removed since a folder was synced last.
+    pub(crate) fn named(&self) -> u64 {
+        self.named.load(Ordering::SeqCst)
+    }
+
+    /// Notes that a name was made or removed.
+    pub(crate) fn note_name(&self) {
+        self.named.fetch_add(1, Ordering::SeqCst);
     }
 
     /// Whether calls on all files count.
@@ -169,15 +182,23 @@ pub(crate) struct FaultyFile<'a, F: Drop> {
     faults: &'a Faults,
     /// Whether its calls count.
     counts: bool,
+    /// Whether it may be a folder, since it isn't opened to be written.
+    is_read: bool,
 }
 
 impl<'a, F: Drop> FaultyFile<'a, F> {
     /// That file.
-    pub(crate) fn new(file: F, faults: &'a Faults, counts: bool) -> FaultyFile<'a, F> {
+    pub(crate) fn new(
+        file: F,
+        faults: &'a Faults,
+        counts: bool,
+        is_read: bool,
+    ) -> FaultyFile<'a, F> {
         FaultyFile {
             file,
             faults,
             counts,
+            is_read,
         }
     }
 }
@@ -240,11 +261,19 @@ impl<'a, F: OpenFile + Drop> OpenFile for FaultyFile<'a, F> {
         if !self.counts {
             self.faults.synced.fetch_add(1, Ordering::SeqCst);
         }
+        if self.is_read {
+            self.faults.named.store(0, Ordering::SeqCst);
+        }
         self.file.sync_all()
     }
 
     fn sync_data(&self) -> io::Result<()> {
         self.faults.pass(self.counts)?;
         self.file.sync_data()
+    }
+
+    fn set_permissions(&self, perm: Permissions) -> io::Result<()> {
+        self.faults.pass(self.counts)?;
+        self.file.set_permissions(perm)
     }
 }

@@ -6,7 +6,7 @@ use crate::staying::{keep, stay};
 use crate::typed::{count_of, malformed, number_of, parted, text_of};
 use std::fs::{Files, OpenOptions};
 use std::io::Write;
-use std::os::unix::fs::FileExt;
+use std::os::unix::fs::{FileExt, PermissionsExt};
 use std::{fs, io};
 
 /// Reads bytes of a file from an offset on, just as many as are asked for.
@@ -39,6 +39,15 @@ fn show<R: Files<File = F> + AllocGlobal, F: FileExt + Drop>(
 fn tell_length<R: Files>(rt: &R, stage: &mut Stage, file: &str) -> io::Result<()> {
     let length = fs::metadata(rt, file)?.len();
     write!(stage.transcript, "= {length}\n")
+}
+
+/// Prints who may read, write and run a file, in three octal digits; or that it isn't there.
+fn tell_rights<R: Files>(rt: &R, stage: &mut Stage, file: &str) -> io::Result<()> {
+    let Ok(kept) = fs::metadata(rt, file) else {
+        return Ok(stage.transcript.extend_from_slice(b"= none\n")?);
+    };
+    let rights = kept.permissions().mode() & 0o777;
+    write!(stage.transcript, "= {rights:03o}\n")
 }
 
 /// Whether the bytes of two files are equal.
@@ -113,6 +122,7 @@ pub(crate) fn look<R: Files<File = F> + AllocGlobal, F: FileExt + Drop>(
     match verb {
         "show" => show(rt, stage, file, rest),
         "length" => tell_length(rt, stage, file),
+        "rights" => tell_rights(rt, stage, file),
         "there" | "equal" | "among" | "begins" | "has" | "starts" | "ends" | "empty" => {
             answer(rt, stage, verb, words)
         }

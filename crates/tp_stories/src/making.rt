@@ -3,8 +3,8 @@
 use crate::looking::read_part;
 use crate::typed::{bytes_of, count_of, malformed, number_of, parted, text_of};
 use std::alloc::Global;
-use std::fs::{Files, OpenFile, OpenOptions};
-use std::os::unix::fs::{FileExt, symlink};
+use std::fs::{Files, OpenFile, OpenOptions, Permissions};
+use std::os::unix::fs::{FileExt, PermissionsExt, symlink};
 use std::{fs, io};
 use tp_tests_fixtures::{HEAD, letter, place};
 
@@ -85,6 +85,14 @@ fn join<R: Files + AllocGlobal>(rt: &R, new: &str, files: &str) -> io::Result<()
     fs::write(rt, new, bytes)
 }
 
+/// Gives a file its rights, which are three octal digits.
+fn grant<R: Files>(rt: &R, file: &str, rights: &str) -> io::Result<()> {
+    match u32::from_str_radix(rights, 8) {
+        Ok(rights) => fs::set_permissions(rt, file, Permissions::from_mode(rights)),
+        Err(_) => Err(malformed()),
+    }
+}
+
 /// Removes a file, if it is there.
 fn remove<R: Files>(rt: &R, file: &str) -> io::Result<()> {
     let _missing = fs::remove_file(rt, file);
@@ -117,6 +125,7 @@ pub(crate) fn make<R: Files<File = F> + AllocGlobal, F: FileExt + OpenFile + Dro
         "image" | "text" | "bytes" | "fill" => write(rt, verb, file, rest),
         "set" => set(rt, file, rest),
         "cut" => cut(rt, file, rest),
+        "grant" => grant(rt, file, rest),
         "part" => part(rt, file, rest),
         "copy" => copy(rt, file, rest),
         "join" => join(rt, file, rest),

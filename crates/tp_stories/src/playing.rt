@@ -38,6 +38,7 @@ fn play_line<
         | "fill"
         | "set"
         | "cut"
+        | "grant"
         | "part"
         | "copy"
         | "join"

@@ -13,6 +13,9 @@ pub(crate) trait Redirects: StandardStreams {
     /// Takes these for the standard streams from now on.
     fn redirect(&self, streams: Vec<(StandardStream, String)>);
 
+    /// Has another process move a file of this path over one that is linked, right before it is, or none.
+    fn usurp(&self, file: Option<String>);
+
     /// What becomes of calls.
     fn faults(&self) -> &Faults;
 }
@@ -24,6 +27,7 @@ pub(crate) struct Redirected<'a, R> {
     below: &'a R,
     faults: &'a Faults,
     streams: Mutex<Vec<(StandardStream, String)>>,
+    usurper: Mutex<Option<String>>,
 }
 
 impl<'a, R: AllocGlobal> Redirected<'a, R> {
@@ -34,6 +38,7 @@ impl<'a, R: AllocGlobal> Redirected<'a, R> {
             below,
             faults,
             streams,
+            usurper: Mutex::new(None),
         }
     }
 }
@@ -51,6 +56,10 @@ fn path_behind(streams: &[(StandardStream, String)], stream: StandardStream) -> 
 impl<'a, R: Files + Wait> Redirects for Redirected<'a, R> {
     fn redirect(&self, streams: Vec<(StandardStream, String)>) {
         *self.streams.lock(self.below) = streams;
+    }
+
+    fn usurp(&self, file: Option<String>) {
+        *self.usurper.lock(self.below) = file;
     }
 
     fn faults(&self) -> &Faults {
@@ -109,8 +118,12 @@ impl<'a, R: Files + Wait> Files for Redirected<'a, R> {
         }
         self.faults.pass_path()?;
         let file = self.below.open_file(how, path)?;
+        if how.asks_create_new() {
+            self.faults.note_name();
+        }
         let counts = is_device || self.faults.is_everywhere();
-        Ok(FaultyFile::new(file, self.faults, counts))
+        let is_read = !how.asks_write();
+        Ok(FaultyFile::new(file, self.faults, counts, is_read))
     }
 
     fn open_dir(&self, path: &str) -> io::Result<R::Dir> {
@@ -139,11 +152,16 @@ impl<'a, R: Files + Wait> Files for Redirected<'a, R> {
 
     fn remove_file(&self, path: &str) -> io::Result<()> {
         self.faults.pass_path()?;
+        self.faults.note_name();
         self.below.remove_file(path)
     }
 
     fn hard_link(&self, original: &str, link: &str) -> io::Result<()> {
         self.faults.pass_path()?;
+        self.faults.note_name();
+        if let Some(file) = &*self.usurper.lock(self.below) {
+            let _moved = self.below.rename(file.as_str(), original);
+        }
         self.below.hard_link(original, link)
     }
 

@@ -11,6 +11,8 @@ use std::{fs, io};
 pub(crate) struct Rival {
     /// Whether it takes the lock of a file that was made there.
     pub(crate) locks: bool,
+    /// Whether it moves a file over one that is to get a second name, right before it gets that.
+    links: bool,
     /// Behind which of the questions that a command asks of the device which it holds a file is moved there; behind none for 0.
     behind: u64,
     /// That file.
@@ -22,12 +24,13 @@ impl Rival {
     pub(crate) fn none(alloc: Global) -> Rival {
         Rival {
             locks: false,
+            links: false,
             behind: 0,
             file: String::new(alloc),
         }
     }
 
-    /// What words say: `locks`, or `COUNT FILE`.
+    /// What words say: `locks`, `links FILE`, or `COUNT FILE`.
     pub(crate) fn read(alloc: Global, words: &str) -> io::Result<Rival> {
         let none = Rival::none(alloc);
         match parted(words) {
@@ -37,11 +40,25 @@ impl Rival {
                 ..none
             }),
             (_, "") => Err(malformed()),
+            ("links", file) => Ok(Rival {
+                links: true,
+                file: String::from_str(alloc, file)?,
+                ..none
+            }),
             (count, file) => Ok(Rival {
-                locks: false,
                 behind: number_of(count)?,
                 file: String::from_str(alloc, file)?,
+                ..none
             }),
+        }
+    }
+
+    /// The file that it moves over one that is to get a second name, where it does so.
+    pub(crate) fn usurper(&self, alloc: Global) -> io::Result<Option<String>> {
+        if self.links {
+            Ok(Some(String::from_str(alloc, self.file.as_str())?))
+        } else {
+            Ok(None)
         }
     }
 

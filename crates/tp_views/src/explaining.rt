@@ -1,9 +1,9 @@
 //! What `--explain` says of a refusal: which file, why, and the way out. It looks again at what the command looked at.
 
-use crate::device_file::is_device_file;
 use crate::full_journal::push_journal;
 use crate::looking::{is_regular, is_special, is_writable, push_file, push_rest, read_again};
 use crate::network_files::{push_image_file, push_network};
+use crate::openable::is_openable;
 use crate::reopening::push_opening;
 use std::alloc::AllocError;
 use std::fmt::Write as Push;
@@ -72,7 +72,7 @@ fn push_new<R: Files + AllocGlobal>(
     new: &NewDevice,
 ) -> Result<(), AllocError> {
     let device = new.device.as_str();
-    let can_be_made = is_device_file(rt, device);
+    let can_be_made = is_openable(rt, device);
     if !can_be_made {
         push_there(rt, text, device)?;
     }

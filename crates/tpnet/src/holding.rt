@@ -5,7 +5,7 @@ use std::os::unix::fs::MetadataExt;
 use std::thread::sleep;
 use std::time::{Clock, Duration};
 use std::{fs, io};
-use tp_program::{Held, InUse, Locks, is_device_file};
+use tp_program::{Held, InUse, Locks, is_openable};
 
 /// How many times a second a device is tried again that another process holds.
 const TRIES: u64 = 20;
@@ -44,7 +44,7 @@ fn hold_file<R: Files<File = File> + Clock>(
     device: &str,
     seconds: u32,
 ) -> Result<Found, InUse> {
-    if !is_device_file(rt, device) {
+    if !is_openable(rt, device) {
         return Ok(Found::Other);
     }
     let mut how = OpenOptions::new();

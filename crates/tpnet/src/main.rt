@@ -48,14 +48,14 @@ fn refuse_words<E: Write>(err: &mut E, error: &io::Error) -> ExitCode {
 fn refuse_streams<E: Write>(err: &mut E) -> ExitCode {
     let _ = write!(
         err,
-        "tpnet: it can't be told which files the standard streams are: let them be open, and a file be there that can be opened\n"
+        "tpnet: it can't be told which files the standard streams are: let /dev/stdout or /proc be there; nothing was opened\n"
     );
     ExitCode::from(2)
 }
 
 fn main(rt: HostRuntime) -> ExitCode {
     let _stand_ins = (stand_in(&rt), stand_in(&rt), stand_in(&rt));
-    let Some(system) = ask_system(&rt) else {
+    let Some(system) = ask_system(&rt, &rt.stdin(), &rt.stdout(), &rt.stderr()) else {
         return refuse_streams(&mut Patient::new(rt, rt.stderr()));
     };
     let words = match words_of(&rt) {

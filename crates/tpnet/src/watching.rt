@@ -3,7 +3,7 @@
 use std::fs::{File, Files, OpenOptions, TryLockError};
 use std::thread::sleep;
 use std::time::{Clock, Duration};
-use tp_program::{Watch, is_device_file};
+use tp_program::{Watch, is_openable};
 
 /// Looks at a device's lock by taking a shared one, which it gives back at once, and goes by the system's clock.
 #[derive(Drop)]
@@ -19,7 +19,7 @@ impl<'a, R> Watcher<'a, R> {
 
 impl<'a, R: Files<File = File> + Clock> Watch for Watcher<'a, R> {
     fn is_held(&mut self, device: &str) -> bool {
-        if !is_device_file(self.rt, device) {
+        if !is_openable(self.rt, device) {
             return false;
         }
         let mut how = OpenOptions::new();
