@@ -103,7 +103,7 @@ has out how many entries the journal takes
 tpnet help run >out
 has out --quantum <Q>
 tpnet --version >out
-has out tpnet 0.1.0\nproved in Rattle's logic 
+has out tpnet 0.1.0\nmade for Rattle's logic dac8208d650f15bf\nproved if rt run or rt ci built it\n
 
 story with_stream
 # Options that go with --stream alone, a number that is none, and a device that is no regular file, run and looked at: it isn't opened.
