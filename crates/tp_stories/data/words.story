@@ -252,7 +252,8 @@ tpnet stop device --wait 1 --wait 1 2>err
 empty err
 # A word behind the dashes is a name, but --stream is looked for among all words.
 tpnet stop -- --wait
-tpnet backup -- --explain copy 2>err
+tpnet backup -- --explain copy
+tpnet backup --explain -- --explain copy 2>err
 starts err tpnet: ReadFailed\n  --explain: 
 tpnet run -- --stream 2>err
 starts err error: the following required arguments were not provided:\n
