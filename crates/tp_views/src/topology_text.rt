@@ -32,7 +32,7 @@ fn first_lines(text: &[u8], count: usize) -> &[u8] {
 fn lines_above(text: &[u8], number: usize) -> &[u8] {
     match number {
         0 | 1 => &[],
-        _ => first_lines(text, number - 1),
+        _ => first_lines(text, number.saturating_sub(1)),
     }
 }
 
