@@ -9,7 +9,7 @@ use std::io;
 use std::io::Write;
 use std::os::unix::fs::FileExt;
 use tp_views::{Refusal, push_file};
-use tp_words::StopRequest;
+use tp_words::{Shown, StopRequest};
 
 /// Says why the device's file isn't opened.
 fn push_device(
@@ -18,12 +18,13 @@ fn push_device(
     refusal: Refusal,
     system: Option<&io::Error>,
 ) -> Result<(), AllocError> {
+    let shown = Shown::all(device);
     match (refusal, system) {
         (Refusal::Memory, _) => write!(text, "  memory is wanting\n"),
         (_, Some(error)) => push_file(text, device, error),
         (_, None) => write!(
             text,
-            "  {device}: it is no regular file. A device is a regular file.\n"
+            "  {shown}: it is no regular file. A device is a regular file.\n"
         ),
     }
 }
@@ -35,6 +36,7 @@ fn push_unmade(
     unmade: Unmade,
     system: Option<&io::Error>,
 ) -> Result<(), AllocError> {
+    let device = Shown::all(device);
     match (unmade, system) {
         (Unmade::StopExists, _) => write!(
             text,
@@ -50,6 +52,7 @@ fn push_unmade(
 
 /// Says that nobody else has the device.
 fn push_not_running(text: &mut String, device: &str) -> Result<(), AllocError> {
+    let device = Shown::all(device);
     write!(
         text,
         "  No other tpnet has {device}, as far as the system says: there is nobody to ask, and nothing was written to it.\n  Where an empty {device}.stop was left there, it is removed, as far as the system allows that.\n"
@@ -58,6 +61,7 @@ fn push_not_running(text: &mut String, device: &str) -> Result<(), AllocError> {
 
 /// Says that another process has the device still.
 fn push_still_running(text: &mut String, device: &str) -> Result<(), AllocError> {
+    let device = Shown::all(device);
     write!(
         text,
         "  It is asked to stop, by {device}.stop, and another tpnet has {device} still. A stream ends behind its next flush, and takes the file away;\n  run without --stream, compact and format never look for it.\n  Give the same command again, or end that process: a kill loses nothing that was shown.\n"

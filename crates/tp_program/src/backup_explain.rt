@@ -10,7 +10,7 @@ use std::io::Write;
 use std::os::unix::fs::FileExt;
 use tp_stream_files::is_one_file;
 use tp_views::push_file;
-use tp_words::Backup;
+use tp_words::{Backup, Shown};
 
 /// Says what stands in the way of the copy's name.
 fn push_there<R: Files + AllocGlobal>(
@@ -19,30 +19,32 @@ fn push_there<R: Files + AllocGlobal>(
     backup: &Backup,
 ) -> Result<(), AllocError> {
     let (device, copy) = (backup.device.as_str(), backup.copy.as_str());
+    let shown = Shown::all(copy);
     if is_one_file(rt, device, copy) {
         return write!(
             text,
-            "  {copy} is the file of the device itself\n  Name another path.\n"
+            "  {shown} is the file of the device itself\n  Name another path.\n"
         );
     }
     let part = format!(in rt.alloc(); "{copy}.part")?;
     if is_one_file(rt, device, part.as_str()) {
         write!(
             text,
-            "  {part} is the file of the device, and a copy is made under that name\n  Name another path.\n"
+            "  {shown}.part is the file of the device, and a copy is made under that name\n  Name another path.\n"
         )
     } else {
         write!(
             text,
-            "  {copy}: it is there already\n  Name another path, or remove what is there: a backup writes over nothing.\n"
+            "  {shown}: it is there already\n  Name another path, or remove what is there: a backup writes over nothing.\n"
         )
     }
 }
 
 /// Says what the system said of the copy's file or name.
 fn push_failed(text: &mut String, backup: &Backup, error: &io::Error) -> Result<(), AllocError> {
-    let (device, copy) = (backup.device.as_str(), backup.copy.as_str());
-    push_file(text, copy, error)?;
+    push_file(text, backup.copy.as_str(), error)?;
+    let device = Shown::all(backup.device.as_str());
+    let copy = Shown::all(backup.copy.as_str());
     write!(
         text,
         "  A copy is made as {copy}.part, in a folder that is there and that you may read and write, on a file system with hard links that keeps the rights of files.\n  Mend that, and give the same command again: {device} is as it was.\n"
@@ -58,6 +60,7 @@ fn push_uncopied<R: Files<File = F> + AllocGlobal, F: FileExt + OpenFile + Drop>
     if !opens(rt, text, device)? {
         return Ok(());
     }
+    let device = Shown::all(device);
     write!(
         text,
         "  {device} opens now. Of Busy: another process writes it so fast that no moment of it could be copied; try again, or stop that process.\n  Of DeviceFailed: the copy didn't open to what the device opened to. Else memory was wanting, or a read failed.\n"
@@ -66,6 +69,7 @@ fn push_uncopied<R: Files<File = F> + AllocGlobal, F: FileExt + OpenFile + Drop>
 
 /// Says that another backup makes the copy now, or was stopped.
 fn push_part(text: &mut String, copy: &str) -> Result<(), AllocError> {
+    let copy = Shown::all(copy);
     write!(
         text,
         "  {copy}.part: it is there already\n  A backup that was stopped left it: remove it, and give the same command again. Where another backup makes it now, wait until that ends.\n"
@@ -74,6 +78,7 @@ fn push_part(text: &mut String, copy: &str) -> Result<(), AllocError> {
 
 /// Says that the copy is there, and that this couldn't be printed.
 fn push_unprinted(text: &mut String, copy: &str) -> Result<(), AllocError> {
+    let copy = Shown::all(copy);
     write!(
         text,
         "  {copy}: it is made, whole and synced. Standard output can't be written.\n"

@@ -22,7 +22,7 @@ use tp_model::HeadVersion;
 use tp_net::{Named, Topology};
 use tp_stream_files::is_one_file;
 use tp_views::{Refusal, is_openable, refuse};
-use tp_words::NewDevice;
+use tp_words::{NewDevice, Shown};
 
 /// The path of the first image whose file is the device's.
 fn image_replaced<R: Files + AllocGlobal>(
@@ -43,6 +43,7 @@ fn image_replaced<R: Files + AllocGlobal>(
 fn refuse_source<E: Write>(err: &mut E, device: &str, what: &str, path: &str) -> u8
     ensures { result ≡ 2 }
 {
+    let (device, path) = (Shown::all(device), Shown::all(path));
     let _ = write!(
         err,
         "tpnet: DEVICE {device} is the file of the {what} {path}: name another file for the device; nothing was written\n"

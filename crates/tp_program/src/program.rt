@@ -31,7 +31,7 @@ use tp_stream_files::{
     Feed, Onlooker, StandardStream, StandardStreams, is_output_said_over, is_standard_file,
 };
 use tp_views::{explain, is_openable, print_help, tell_halted};
-use tp_words::{Asked, Command, CommandLine};
+use tp_words::{Asked, Command, CommandLine, More};
 
 /// Does what was asked for. Answers the program's status: 0 where it was done, 1 where it was refused, 2 where a node or port
 /// isn't there. The device that is to be written is held. What the system said of a call on a device that failed is put into `system`.
@@ -167,17 +167,18 @@ pub(crate) fn refuse_output<E: Write>(err: &mut E) -> u8
     2
 }
 
-/// Says more of what a command did.
+/// Says more of what a command did, where that is wanted.
 fn say_more<R: Files<File = F> + AllocGlobal, F: FileExt + OpenFile + Drop, E: Write>(
     rt: &R,
     asked: &Asked,
+    more: More,
     status: u8,
     system: Option<&io::Error>,
     err: &mut E,
 ) {
     match status {
-        0 => tell_halted(rt, asked, err),
-        1 => match system {
+        0 if more.of_halts => tell_halted(rt, asked, err),
+        1 if more.of_refusals => match system {
             Some(error) if is_busy(error) => explain_changed(err),
             _ => explain(rt, asked, system, err),
         },
@@ -186,7 +187,7 @@ fn say_more<R: Files<File = F> + AllocGlobal, F: FileExt + OpenFile + Drop, E: W
 }
 
 /// Does what was asked for, unless what is printed would be written over the device, or into the input, or what a run prints be written over;
-/// and says more of it where `explains`. The device that is to be written is held. Answers the program's status.
+/// and says more of it as `more` says. The device that is to be written is held. Answers the program's status.
 fn answer_held<
     R: Files<File = F> + StandardStreams + AllocGlobal + Threads + Wait + Sync,
     F: FileExt + OpenFile + Drop + Send,
@@ -195,15 +196,7 @@ fn answer_held<
     W: Watch,
     O: Write,
     E: Write,
->(
-    rt: &R,
-    devices: &mut S,
-    watch: &mut W,
-    asked: &Asked,
-    explains: bool,
-    out: &mut O,
-    err: &mut E,
-) -> u8
+>(rt: &R, devices: &mut S, watch: &mut W, asked: &Asked, more: More, out: &mut O, err: &mut E) -> u8
     ghost history: { History }
     requires range { IsInRange asked.now }
     requires held { HoldsWritten asked.now (S.held devices.old) }
@@ -221,9 +214,7 @@ fn answer_held<
     }
     let mut system = None;
     let status = carry_out(rt, devices, watch, asked, &mut system, out, err);
-    if explains {
-        say_more(rt, asked, status, system.as_ref(), err);
-    }
+    say_more(rt, asked, more, status, system.as_ref(), err);
     status
 }
 
@@ -256,27 +247,19 @@ fn answer_asked<
     W: Watch,
     O: Write,
     E: Write,
->(
-    rt: &R,
-    devices: &mut S,
-    watch: &mut W,
-    asked: &Asked,
-    explains: bool,
-    out: &mut O,
-    err: &mut E,
-) -> u8
+>(rt: &R, devices: &mut S, watch: &mut W, asked: &Asked, more: More, out: &mut O, err: &mut E) -> u8
     ghost history: { History }
     requires { IsInRange asked.now }
     ensures few { result ≤ 2 }
     ensures answered { AnsweredAs D.keeps history asked.now (S.calls devices.old) (S.calls devices.new) (O.contents out.old) (O.contents out.new) result }
 {
     match hold_written(devices, asked) {
-        Ok(()) => answer_held(rt, devices, watch, asked, explains, out, err),
-        Err(InUse) => refuse_in_use(explains, err),
+        Ok(()) => answer_held(rt, devices, watch, asked, more, out, err),
+        Err(InUse) => refuse_in_use(more.of_refusals, err),
     }
 }
 
-/// Does what a command asks for, and says more of it where `explains`. Answers the program's status.
+/// Does what a command asks for, and says more of it as `more` says. Answers the program's status.
 fn answer_command<
     R: Files<File = F> + StandardStreams + AllocGlobal + Threads + Wait + Sync,
     F: FileExt + OpenFile + Drop + Send,
@@ -292,7 +275,7 @@ fn answer_command<
     devices: &mut S,
     watch: &mut W,
     command: &Command,
-    explains: bool,
+    more: More,
     feed: &mut I,
     out: &mut O,
     err: &mut E,
@@ -305,11 +288,11 @@ fn answer_command<
 {
     match command {
         Command::Stream(run) => {
-            hold_and_stream(rt, devices, run, explains, feed, out, err, onlooker)
+            hold_and_stream(rt, devices, run, more.of_refusals, feed, out, err, onlooker)
         }
-        Command::Stop(request) => answer_stop(rt, devices, request, explains, out, err),
-        Command::Backup(backup) => answer_backup(rt, backup, explains, out, err),
-        Command::Other(asked) => answer_asked(rt, devices, watch, asked, explains, out, err),
+        Command::Stop(request) => answer_stop(rt, devices, request, more.of_refusals, out, err),
+        Command::Backup(backup) => answer_backup(rt, backup, more.of_refusals, out, err),
+        Command::Other(asked) => answer_asked(rt, devices, watch, asked, more, out, err),
     }
 }
 
@@ -317,7 +300,7 @@ fn answer_command<
 /// command, 3 where a stream ended since a node halted, or 2 where the words ask for nothing; no file is opened then. Asking for help is no
 /// fault. `devices` holds and opens a device that is written, and says whether another process has one whose stream is asked to stop;
 /// `watch` says who holds one that `status` looks at. `feed` is standard input, which a stream alone reads; `onlooker` looks at `err` and
-/// has the time.
+/// has the time; where it is a terminal, a refusal is explained, unless `--no-explain` is typed.
 pub fn answer_over<
     R: Files<File = F> + StandardStreams + AllocGlobal + Threads + Wait + Sync,
     F: FileExt + OpenFile + Drop + Send,
@@ -345,10 +328,9 @@ pub fn answer_over<
 {
     match CommandLine::read(rt.alloc(), words) {
         Ok(line) => {
-            let (command, explains) = (&line.command, line.explains);
-            answer_command(
-                rt, devices, watch, command, explains, feed, out, err, onlooker,
-            )
+            let more = line.explaining.more(onlooker.is_terminal());
+            let command = &line.command;
+            answer_command(rt, devices, watch, command, more, feed, out, err, onlooker)
         }
         Err(fault) => {
             let _ = write!(err, "{fault}");

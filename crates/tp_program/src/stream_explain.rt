@@ -11,7 +11,7 @@ use std::os::unix::fs::FileExt;
 use tp_stream::StreamFault;
 use tp_stream_files::{EndFault, FileSink, PortFile};
 use tp_views::{is_special, push_error, push_file};
-use tp_words::StreamRun;
+use tp_words::{Shown, StreamRun};
 
 /// The path that was typed for a port.
 fn path_of<'a>(files: &'a [PortFile], port: u8) -> &'a str {
@@ -30,6 +30,7 @@ fn push_standard(
     port: u8,
     is_input: bool,
 ) -> Result<(), AllocError> {
+    let path = Shown::all(path);
     if is_input {
         write!(
             text,
@@ -63,7 +64,8 @@ fn push_source<R: Files<File = F>, F: FileExt + OpenFile + Drop>(
     if path == "-" {
         return write!(text, "  port {port}: standard input can't be read\n");
     }
-    write!(text, "  port {port}, {path}: it can't be read\n")?;
+    let shown = Shown::all(path);
+    write!(text, "  port {port}, {shown}: it can't be read\n")?;
     if is_special(rt, path) {
         return push_standard(text, path, port, true);
     }
@@ -81,9 +83,10 @@ fn push_sink<R: Files<File = F>, F: FileExt + OpenFile + Drop>(
     port: u8,
 ) -> Result<(), AllocError> {
     let path = path_of(files, port);
+    let shown = Shown::all(path);
     write!(
         text,
-        "  port {port}, {path}: it can't be opened, made or synced\n"
+        "  port {port}, {shown}: it can't be opened, made or synced\n"
     )?;
     let error = match FileSink::open(rt, path) {
         Ok(_) if is_special(rt, path) => return push_standard(text, path, port, false),
@@ -121,9 +124,10 @@ fn push_unwritten<R: Files>(
             "  port {port}: standard output can't be written: has its reader ended, or is its disk full?\n"
         );
     }
+    let shown = Shown::all(path);
     write!(
         text,
-        "  port {port}, {path}: it can't be written or synced\n"
+        "  port {port}, {shown}: it can't be written or synced\n"
     )?;
     match sync_again(rt, path) {
         Ok(()) => write!(
@@ -157,7 +161,7 @@ fn push_short(
     has: u64,
     from: u64,
 ) -> Result<(), AllocError> {
-    let path = path_of(&asked.ends.outs, port);
+    let path = Shown::all(path_of(&asked.ends.outs, port));
     write!(
         text,
         "  {path} has {has} bytes, and {from} bytes of port {port} were confirmed: it was cut short, or is another file.\n  Restore it. The device hasn't those bytes any more; to go on without them, make the file {from} bytes long.\n"
@@ -172,8 +176,8 @@ fn push_long(
     has: u64,
     upto: u64,
 ) -> Result<(), AllocError> {
-    let path = path_of(&asked.ends.outs, port);
-    let device = asked.device.as_str();
+    let path = Shown::all(path_of(&asked.ends.outs, port));
+    let device = Shown::all(asked.device.as_str());
     write!(
         text,
         "  {path} has {has} bytes, and port {port} of {device} has put out {upto} in all: it is another file, or {device} is an older copy. It was left as it is.\n  Name the file that has this port's output or, where there is none yet, a new one.\n"
@@ -204,8 +208,8 @@ fn push_short_input(
     has: u64,
     accepted: u64,
 ) -> Result<(), AllocError> {
-    let path = path_of(&asked.ends.ins, port);
-    let device = asked.device.as_str();
+    let path = Shown::all(path_of(&asked.ends.ins, port));
+    let device = Shown::all(asked.device.as_str());
     write!(
         text,
         "  {path} has {has} bytes, and port {port} has accepted {accepted}: it was cut short, or isn't the port's input.\n  Name the file that is all of the port's input, from its first byte on: what was accepted is passed over.\n  tpnet show {device} says what was accepted: in and pending together.\n"
@@ -244,6 +248,7 @@ fn push_stream_fault<R: Files<File = F> + AllocGlobal, F: FileExt + OpenFile + D
     fault: StreamFault,
 ) -> Result<(), AllocError> {
     let device = asked.device.as_str();
+    let shown = Shown::all(device);
     match fault {
         StreamFault::Opening(_) => push_unopened(rt, text, device),
         StreamFault::InputFailed(port) => {
@@ -262,7 +267,7 @@ fn push_stream_fault<R: Files<File = F> + AllocGlobal, F: FileExt + OpenFile + D
         }
         StreamFault::JournalFull => write!(
             text,
-            "  {device}: its journal has no room, and no checkpoint frees any. Nothing that was acknowledged or shown is lost.\n  tpnet compact {device} empties it and keeps all output: then give the same command again.\n  Where it fills up again and again, make a device with a larger AREA: tpnet check says how large.\n"
+            "  {shown}: its journal has no room, and no checkpoint frees any. Nothing that was acknowledged or shown is lost.\n  tpnet compact {shown} empties it and keeps all output: then give the same command again.\n  Where it fills up again and again, make a device with a larger AREA: tpnet check says how large.\n"
         ),
         StreamFault::Memory => write!(text, "  memory is wanting\n"),
         _ => push_numbers(text, asked, fault),

@@ -239,11 +239,11 @@ text net.txt node a 4\n
 tpnet format device net.txt . 16384
 tpnet format device net.txt . 16384 --explain 2>err
 starts err tpnet: Syntax 0\n
-has err a node or a port is missing
+has err   net.txt: it has no port: a line port NAME is missing\n
 tpnet check net.txt .
 tpnet check net.txt . --explain 2>err
 starts err tpnet: Syntax 0\n
-has err a node or a port is missing
+has err   net.txt: it has no port: a line port NAME is missing\n
 text net.txt node a 4\nport h\nwire a.0 h\n
 text net.txt node a 4\nport h\nwire a.4 h\n
 tpnet format device net.txt . 16384
@@ -269,41 +269,41 @@ text net.txt node A 4\n
 tpnet format device net.txt . 16384
 tpnet format device net.txt . 16384 --explain 2>err
 starts err tpnet: Syntax 1\n
-has err 1 to 16 of a to z
+has err \n  A: a name begins with a letter from a to z\n
 tpnet check net.txt .
 tpnet check net.txt . --explain 2>err
 starts err tpnet: Syntax 1\n
-has err 1 to 16 of a to z
+has err \n  A: a name begins with a letter from a to z\n
 text net.txt node a 4\nport h\nwire a.0 h\n
 text net.txt node a 04\n
 tpnet format device net.txt . 16384
 tpnet format device net.txt . 16384 --explain 2>err
 starts err tpnet: Syntax 1\n
-has err without leading zeros
+has err \n  04: PAGES is a decimal number without a sign or leading zeros\n
 tpnet check net.txt .
 tpnet check net.txt . --explain 2>err
 starts err tpnet: Syntax 1\n
-has err without leading zeros
+has err \n  04: PAGES is a decimal number without a sign or leading zeros\n
 text net.txt node a 4\nport h\nwire a.0 h\n
 text net.txt port g\nport h\nwire h g\n
 tpnet format device net.txt . 16384
 tpnet format device net.txt . 16384 --explain 2>err
 starts err tpnet: Syntax 3\n
-has err one of the two is a node's
+has err \n  both ends are ports: one of them has to be a link of a node\n
 tpnet check net.txt .
 tpnet check net.txt . --explain 2>err
 starts err tpnet: Syntax 3\n
-has err one of the two is a node's
+has err \n  both ends are ports: one of them has to be a link of a node\n
 text net.txt node a 4\nport h\nwire a.0 h\n
 text net.txt node a 4 \n
 tpnet format device net.txt . 16384
 tpnet format device net.txt . 16384 --explain 2>err
 starts err tpnet: Syntax 1\n
-has err no space is before the first or behind the last
+has err \n  a space follows its last word: remove it\n
 tpnet check net.txt .
 tpnet check net.txt . --explain 2>err
 starts err tpnet: Syntax 1\n
-has err no space is before the first or behind the last
+has err \n  a space follows its last word: remove it\n
 text net.txt node a 4\nport h\nwire a.0 h\n
 text net.txt node a 4\nport h\nwire a.0 h\nwire a.0 a.1\n
 tpnet format device net.txt . 16384
@@ -358,6 +358,162 @@ tpnet try a.img --turns 4
 tpnet try a.img --turns 4 --explain 2>err
 starts err tpnet: BadImage\n
 has err a.img: it has 8 bytes
+
+story malformed
+# Which rule a malformed line of a topology breaks, and by which word: each rule once at least. The first one is told of several.
+text net.txt nod a 4\nport h\n
+tpnet check net.txt . --explain
+text net.txt Node a 4\nport h\n
+tpnet check net.txt . --explain
+text net.txt node a\nport h\n
+tpnet check net.txt . --explain
+text net.txt node a 4 # left\nport h\n
+tpnet check net.txt . --explain
+text net.txt node a 4\nport\n
+tpnet check net.txt . --explain
+text net.txt node a 4\nport h 0\n
+tpnet check net.txt . --explain
+text net.txt node a 4\nport h\nwire a.0\n
+tpnet check net.txt . --explain
+text net.txt node a 4\nport h\nwire a.0 h a.1\n
+tpnet check net.txt . --explain
+text net.txt  node a 4\nport h\n
+tpnet check net.txt . --explain
+text net.txt node a 4\nport h \x0D\n
+tpnet check net.txt . --explain
+text net.txt node a\x094\nport h\n
+tpnet check net.txt . --explain
+text net.txt node a 4\x0D\x0D\nport h\n
+tpnet check net.txt . --explain
+text net.txt node 1a 4\nport h\n
+tpnet check net.txt . --explain
+text net.txt node a_1 4\nport h\n
+tpnet check net.txt . --explain
+text net.txt node abcdefghijklmnopq 4\nport h\n
+tpnet check net.txt . --explain
+text net.txt node a 4\nport h.0\n
+tpnet check net.txt . --explain
+text net.txt node a 4\nport a\n
+tpnet check net.txt . --explain
+text net.txt port h\nnode a 4\nnode h 4\n
+tpnet check net.txt . --explain
+text net.txt node a four\nport h\n
+tpnet check net.txt . --explain
+text net.txt node a +4\nport h\n
+tpnet check net.txt . --explain
+text net.txt node a 3\nport h\n
+tpnet check net.txt . --explain
+text net.txt node a 1025\nport h\n
+tpnet check net.txt . --explain
+text net.txt node a 99999999999999999999\nport h\n
+tpnet check net.txt . --explain
+text net.txt node a 4\nport h\nwire a.4 h\n
+tpnet check net.txt . --explain
+text net.txt node a 4\nport h\nwire h a.00\n
+tpnet check net.txt . --explain
+text net.txt node a 4\nport h\nwire .0 h\n
+tpnet check net.txt . --explain
+text net.txt node a 4\nport h\nwire A.0 h\n
+tpnet check net.txt . --explain
+text net.txt node a 4\nport h\nwire a.0 h.0\n
+tpnet check net.txt . --explain
+text net.txt node a 4\nport h\nwire a h\n
+tpnet check net.txt . --explain
+text net.txt port g\nport h\nwire g h\n
+tpnet check net.txt . --explain
+text net.txt node a 4\x0D\nport h\x0D\nwire a h\x0D\n
+tpnet check net.txt . --explain
+# What is missing, where each line is sound; and a file that is no text at all.
+text net.txt \n# nothing\n
+tpnet check net.txt . --explain
+text net.txt port h\n
+tpnet check net.txt . --explain
+text net.txt node a 4\n
+tpnet check net.txt . --explain
+text net.txt \xFF\xFE\n
+tpnet check net.txt . --explain
+
+story on_a_terminal
+# Where standard error is a terminal, what --explain says of a refusal stands behind its line, which is as anywhere: unless --no-explain is typed.
+text net.txt node a 3\nport h\n
+looks 250 stderr
+tpnet check net.txt .
+tpnet check net.txt . --no-explain
+tpnet check net.txt . --explain
+# So it is with each kind of command.
+tpnet recover net.txt
+tpnet run net.txt --turns 1
+tpnet run net.txt --stream --discard 0
+tpnet run net.txt --stream --discard 0 --no-explain
+tpnet stop net.txt
+tpnet stop net.txt --no-explain
+tpnet backup net.txt copy
+tpnet backup net.txt copy --no-explain
+held 100
+tpnet compact net.txt
+tpnet compact net.txt --no-explain
+tpnet run net.txt --stream --discard 0
+held
+# A word behind the dashes is a name.
+tpnet recover -- --no-explain 2>err
+starts err tpnet: ReadFailed\n  --no-explain: 
+# Where it is none, the name stands alone, whatever standard output is.
+looks 250 stdout
+tpnet recover net.txt
+tpnet run net.txt --stream --discard 0
+tpnet recover net.txt --no-explain
+# Nodes that have halted are told by --explain alone.
+image a.img 40 30
+looks 250 stderr
+tpnet try a.img --turns 4
+tpnet try a.img --turns 4 --no-explain
+tpnet try a.img --turns 4 --explain
+# Both words are a fault of the words, on a terminal or not, but where help is asked for.
+tpnet check net.txt . --explain --no-explain
+looks 250
+tpnet recover net.txt --no-explain --explain
+tpnet run net.txt --stream --discard 0 --explain --no-explain
+tpnet stop net.txt --no-explain --explain
+tpnet backup net.txt copy --explain --no-explain
+tpnet recover --help --explain --no-explain >out
+has out --no-explain
+
+story shown_words
+# A control character of a word that was typed is shown by its number, wherever the word is: a new line in a name makes none, and a terminal obeys
+# none.
+text net.txt node a 4\nport h\nwire a.0 h\n
+image a.img
+tpnet format device net.txt . 16384
+tpnet show a\nb --explain 2>err
+starts err tpnet: ReadFailed\n  a\x5Cx0Ab: 
+tpnet stop a\x1B[2Jb --explain 2>err
+starts err tpnet: ReadFailed\n  a\x5Cx1B[2Jb: 
+tpnet check a\x0Db . --explain 2>err
+starts err tpnet: ReadFailed\n  a\x5Cx0Db: 
+tpnet check net.txt a\x7Fb --explain 2>err
+starts err tpnet: ReadFailed\n  a\x5Cx7Fb/a.img: 
+tpnet try \xC2\x9B1m --turns 1 --explain 2>err
+starts err tpnet: ReadFailed\n  \x5Cx9B1m: 
+tpnet run device --turns 1 --in a\nb --explain 2>err
+starts err tpnet: ReadFailed\n  a\x5Cx0Ab: 
+tpnet run device --stream --turns 1 --out 0=no\nne/out --explain 2>err
+starts err tpnet: DeviceFailed\n  port 0, no\x5Cx0Ane/out: it can't be opened, made or synced\n
+tpnet run device --stream --turns 1 --discard 0 --in 0=no\nne --explain 2>err
+starts err tpnet: ReadFailed\n  port 0, no\x5Cx0Ane: it can't be read\n
+tpnet backup device c\nd
+tpnet backup device c\nd --explain
+# Other characters are shown as they are.
+tpnet show gr\xC3\xB6\xC3\x9Fe --explain 2>err
+starts err tpnet: ReadFailed\n  gr\xC3\xB6\xC3\x9Fe: 
+# So it is where the words ask for nothing.
+tpnet fl\ny 2>err
+starts err error: unrecognized subcommand 'fl\x5Cx0Ay'\n
+tpnet show device --js\x1Bon 2>err
+starts err error: unexpected argument '--js\x5Cx1Bon' found\n
+tpnet show device a\nb 2>err
+starts err error: unexpected argument 'a\x5Cx0Ab' found\n
+tpnet run device --stream --discard 0 a\nb 2>err
+starts err error: unexpected argument 'a\x5Cx0Ab' found\n
 
 story run
 # What run refuses; the device stays as it was.

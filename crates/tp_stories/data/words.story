@@ -103,7 +103,7 @@ has out how many entries the journal takes
 tpnet help run >out
 has out --quantum <Q>
 tpnet --version >out
-has out tpnet 0.1.0\nproved in Rattle's logic 
+has out tpnet 0.1.0\nmade for Rattle's logic dac8208d650f15bf\nproved if rt run or rt ci built it\n
 
 story with_stream
 # Options that go with --stream alone, a number that is none, and a device that is no regular file, run and looked at: it isn't opened.
@@ -252,7 +252,8 @@ tpnet stop device --wait 1 --wait 1 2>err
 empty err
 # A word behind the dashes is a name, but --stream is looked for among all words.
 tpnet stop -- --wait
-tpnet backup -- --explain copy 2>err
+tpnet backup -- --explain copy
+tpnet backup --explain -- --explain copy 2>err
 starts err tpnet: ReadFailed\n  --explain: 
 tpnet run -- --stream 2>err
 starts err error: the following required arguments were not provided:\n

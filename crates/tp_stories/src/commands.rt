@@ -4,7 +4,7 @@ use crate::hearing::Heard;
 use crate::printed::{print_answer, print_lines};
 use crate::redirected::Redirects;
 use crate::stage::Stage;
-use crate::typed::malformed;
+use crate::typed::{malformed, text_of};
 use std::alloc::Global;
 use std::fs::{Files, OpenFile};
 use std::io::{ErrorKind, Write};
@@ -24,8 +24,18 @@ struct Typed {
     err: Option<String>,
 }
 
+/// A word as it was typed: `''` is the empty one; in another one `\n` is an LF, and `\xNN` a byte.
+fn word_of(alloc: Global, word: &str) -> io::Result<String> {
+    let typed = if word == "''" { "" } else { word };
+    let bytes = text_of(alloc, typed)?;
+    match str::from_utf8(bytes.as_slice()) {
+        Ok(text) => Ok(String::from_str(alloc, text)?),
+        Err(_) => Err(malformed()),
+    }
+}
+
 impl Typed {
-    /// Takes a word: `<FILE`, `>FILE` and `2>FILE` redirect a stream, and `''` is the empty word.
+    /// Takes a word: `<FILE`, `>FILE` and `2>FILE` redirect a stream.
     fn take(&mut self, alloc: Global, word: &str) -> io::Result<()> {
         if let Some(file) = word.strip_prefix('<') {
             self.input = Some(String::from_str(alloc, file)?);
@@ -34,8 +44,7 @@ impl Typed {
         } else if let Some(file) = word.strip_prefix("2>") {
             self.err = Some(String::from_str(alloc, file)?);
         } else {
-            let text = if word == "''" { "" } else { word };
-            self.words.push(String::from_str(alloc, text)?)?;
+            self.words.push(word_of(alloc, word)?)?;
         }
         Ok(())
     }

@@ -11,7 +11,7 @@ use std::fs::{Files, OpenFile};
 use std::io;
 use std::io::Write;
 use std::os::unix::fs::FileExt;
-use tp_words::{Asked, NewDevice, Run};
+use tp_words::{Asked, NewDevice, Run, Shown};
 
 /// What is said of a run whose device's calls failed.
 const MEND_RUN: &str =
@@ -39,14 +39,16 @@ fn push_there<R: Files>(rt: &R, text: &mut String, device: &str) -> Result<(), A
             "Name another path.",
         )
     };
-    write!(text, "  {device}: {what}\n  {way}\n")
+    let shown = Shown::all(device);
+    write!(text, "  {shown}: {what}\n  {way}\n")
 }
 
 /// Says what may be left of a device that was there.
 fn push_old(text: &mut String, device: &str) -> Result<(), AllocError> {
+    let shown = Shown::all(device);
     write!(
         text,
-        "  A device that was in {device} before may be gone: format asks for the room that it lacks behind its end, and then writes over it.\n  Where there was no such room, all that was in it is there still.\n  Mend that, and format it again, or name a new path: an old device that has to stay needs one.\n"
+        "  A device that was in {shown} before may be gone: format asks for the room that it lacks behind its end, and then writes over it.\n  Where there was no such room, all that was in it is there still.\n  Mend that, and format it again, or name a new path: an old device that has to stay needs one.\n"
     )
 }
 
@@ -213,9 +215,10 @@ fn push_compact<R: Files<File = F> + AllocGlobal, F: FileExt + OpenFile + Drop>(
 
 /// Says that a device opens now.
 fn push_opens(text: &mut String, device: &str) -> Result<(), AllocError> {
+    let shown = Shown::all(device);
     write!(
         text,
-        "  {device} opens now. Of Busy: another process writes it so fast that no moment of it could be read; try again, or stop that process.\n  Else standard output can't be written, or memory is wanting.\n"
+        "  {shown} opens now. Of Busy: another process writes it so fast that no moment of it could be read; try again, or stop that process.\n  Else standard output can't be written, or memory is wanting.\n"
     )
 }
 

@@ -3,14 +3,12 @@
 ghost use Rattle.std.specs.Prelude.{◌≡◌, ◌↔◌, ◌<◌, ◌≤◌, ◌+◌, true, false, None, IfSome};
 
 use crate::looking::push_rest;
-use crate::parts::Part::{Number, Text};
-use crate::parts::push_parts;
 use std::alloc::AllocError;
 use std::fmt::Write;
 use tp_area::JournalRoom;
 use tp_model::limits::MAX_HELD;
 use tp_recover::Opened;
-use tp_words::Run;
+use tp_words::{Run, Shown};
 
 /// What is said of each journal that is full.
 const FILLS_UP: &str =
@@ -37,17 +35,10 @@ fn journal_entries(opened: &Opened) -> u64 {
 
 /// Says how many entries a journal has, and how many it has room for.
 fn push_full(text: &mut String, device: &str, entries: u64, most: u64) -> Result<(), AllocError> {
-    push_parts(
+    let shown = Shown::all(device);
+    write!(
         text,
-        &[
-            Text("  "),
-            Text(device),
-            Text(": its journal has "),
-            Number(entries),
-            Text(" entries since the checkpoint, and room for "),
-            Number(most),
-            Text(".\n"),
-        ],
+        "  {shown}: its journal has {entries} entries since the checkpoint, and room for {most}.\n"
     )
 }
 
@@ -61,25 +52,19 @@ fn push_too_much(text: &mut String, wanted: u64) -> Result<(), AllocError> {
 
 /// Says that the journal can be emptied.
 fn push_compact(text: &mut String, device: &str) -> Result<(), AllocError> {
+    let shown = Shown::all(device);
     write!(
         text,
-        "  tpnet compact {device} empties it and keeps all output: then give the same command again.\n"
+        "  tpnet compact {shown} empties it and keeps all output: then give the same command again.\n"
     )
 }
 
 /// Says that input can come by pieces.
 fn push_pieces(text: &mut String, device: &str, port: u64) -> Result<(), AllocError> {
-    push_parts(
+    let shown = Shown::all(device);
+    write!(
         text,
-        &[
-            Text("  tpnet run "),
-            Text(device),
-            Text(" --stream --in "),
-            Number(port),
-            Text(
-                "=FILE takes input by pieces, as the journal has room: see tpnet run --stream --help.\n",
-            ),
-        ],
+        "  tpnet run {shown} --stream --in {port}=FILE takes input by pieces, as the journal has room: see tpnet run --stream --help.\n"
     )
 }
 

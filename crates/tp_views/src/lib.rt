@@ -20,6 +20,7 @@ mod json_node;
 mod json_port;
 mod json_show;
 mod json_status;
+mod line_rules;
 mod looking;
 mod network_files;
 mod openable;

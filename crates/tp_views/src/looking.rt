@@ -4,10 +4,12 @@ use std::alloc::AllocError;
 use std::fmt::Write as Push;
 use std::fs::{Files, OpenOptions};
 use std::{fs, io};
+use tp_words::Shown;
 
 /// Says what the system said of a path.
 pub fn push_error(text: &mut String, path: &str, error: &io::Error) -> Result<(), AllocError> {
-    write!(text, "  {path}: {error}\n")
+    let shown = Shown::all(path);
+    write!(text, "  {shown}: {error}\n")
 }
 
 /// The way out of what the system said of a path.
@@ -59,9 +61,10 @@ pub fn is_special<R: Files>(rt: &R, path: &str) -> bool {
 
 /// Says that what is at a path isn't read again.
 fn push_unread(text: &mut String, path: &str) -> Result<(), AllocError> {
+    let shown = Shown::all(path);
     write!(
         text,
-        "  {path}: it is no regular file, so it isn't looked at again.\n  Save what comes from it in a file, and name that.\n"
+        "  {shown}: it is no regular file, so it isn't looked at again.\n  Save what comes from it in a file, and name that.\n"
     )
 }
 

@@ -8,6 +8,7 @@ use std::fmt::Write;
 use std::fs::Files;
 use tp_area::area_for;
 use tp_net::{Named, Topology};
+use tp_words::Shown;
 
 /// Says which rule an image breaks, where it breaks one: whether it does.
 fn push_image(
@@ -20,9 +21,10 @@ fn push_image(
     let Some(rule) = broken_rule(alloc, image, pages, true)? else {
         return Ok(false);
     };
+    let shown = Shown::all(path);
     let said = write!(
         text,
-        "  {path}: {rule}\n  Make the image anew, by tools/make-image or docs/FORMATS.md, section 1.\n"
+        "  {shown}: {rule}\n  Make the image anew, by tools/make-image or docs/FORMATS.md, section 1.\n"
     );
     match said {
         Ok(()) => Ok(true),

@@ -9,6 +9,7 @@ use std::fs::{Files, OpenFile};
 use std::os::unix::fs::FileExt;
 use tp_disk::{Counted, NotedFile, RawFile};
 use tp_recover::{Opened, Unopened};
+use tp_words::Shown;
 
 /// Says that a read of a device's file failed, and what the system said.
 fn push_failed_read<F: FileExt + OpenFile + Drop>(
@@ -16,9 +17,10 @@ fn push_failed_read<F: FileExt + OpenFile + Drop>(
     disk: &Counted<RawFile<NotedFile<F>>>,
     device: &str,
 ) -> Result<(), AllocError> {
+    let shown = Shown::all(device);
     match disk.raw().failure() {
         Some(error) => push_file(text, device, error),
-        None => write!(text, "  {device}: a read or a sync failed\n"),
+        None => write!(text, "  {shown}: a read or a sync failed\n"),
     }
 }
 
@@ -30,9 +32,10 @@ fn push_unopened<F: FileExt + OpenFile + Drop>(
     device: &str,
     unopened: Unopened,
 ) -> Result<(), AllocError> {
+    let shown = Shown::all(device);
     match unopened {
         Unopened::Fault(fault) => {
-            write!(text, "  {device}:\n")?;
+            write!(text, "  {shown}:\n")?;
             push_fault(alloc, text, disk, fault)
         }
         Unopened::ReadFailed => push_failed_read(text, disk, device),
@@ -42,9 +45,10 @@ fn push_unopened<F: FileExt + OpenFile + Drop>(
 
 /// Says that no moment of a device could be read.
 fn push_changed(text: &mut String, device: &str) -> Result<(), AllocError> {
+    let shown = Shown::all(device);
     write!(
         text,
-        "  {device}: another process writes it so fast that no moment of it could be read\n  Try again, or stop that process.\n"
+        "  {shown}: another process writes it so fast that no moment of it could be read\n  Try again, or stop that process.\n"
     )
 }
 
@@ -66,9 +70,10 @@ fn reopened<F: FileExt + OpenFile + Drop>(
 
 /// Says that what is at a path isn't looked at again.
 fn push_special(text: &mut String, device: &str) -> Result<(), AllocError> {
+    let shown = Shown::all(device);
     write!(
         text,
-        "  {device}: it is no regular file, so it isn't looked at again. A device is a regular file.\n"
+        "  {shown}: it is no regular file, so it isn't looked at again. A device is a regular file.\n"
     )
 }
 

@@ -1,10 +1,12 @@
 //! Where and why a text says no topology.
 
+use crate::line_rules::{broken_rule, missing};
 use std::alloc::{AllocError, Global};
 use std::fmt::Write;
 use tp_model::NetFault;
-use tp_model::limits::{MAX_NODES, MAX_PAGES, MAX_PORTS, MIN_PAGES};
+use tp_model::limits::{MAX_NODES, MAX_PORTS};
 use tp_net::Topology;
+use tp_words::Shown;
 
 /// What is shown in place of a line that isn't text.
 const NO_TEXT: &str = "(no text: is this file the topology? --help has the order of the words)";
@@ -24,6 +26,14 @@ fn first_lines(text: &[u8], count: usize) -> &[u8] {
         }
     }
     text
+}
+
+/// The lines of a text above the one with a number from 1 on, without the end of the last one.
+fn lines_above(text: &[u8], number: usize) -> &[u8] {
+    match number {
+        0 | 1 => &[],
+        _ => first_lines(text, number.saturating_sub(1)),
+    }
 }
 
 /// Whether the first lines of a text say `fault`, as many as `count`.
@@ -89,14 +99,6 @@ fn faulty_line(alloc: Global, text: &[u8], fault: NetFault) -> usize {
     }
 }
 
-/// Appends what a line has to be.
-fn push_form(text: &mut String) -> Result<(), AllocError> {
-    write!(
-        text,
-        "it has to be `node NAME PAGES`, `port NAME` or `wire END END`: a NAME is new and has 1 to 16 of a to z, 0 to 9 and -, a letter first; PAGES are {MIN_PAGES} to {MAX_PAGES}, without leading zeros; an END is a port's name, or a node's with .0 to .3 behind it, and one of the two is a node's; words are parted by spaces, and no space is before the first or behind the last"
-    )
-}
-
 /// Appends how many nodes and ports there may be.
 fn push_most(text: &mut String) -> Result<(), AllocError> {
     write!(
@@ -105,11 +107,30 @@ fn push_most(text: &mut String) -> Result<(), AllocError> {
     )
 }
 
-/// Appends which rule a topology breaks.
-fn push_reason(text: &mut String, fault: NetFault) -> Result<(), AllocError> {
+/// Appends which rule a line breaks, by those above it.
+fn push_broken(text: &mut String, above: &[u8], line: &[u8]) -> Result<(), AllocError> {
+    let broken = broken_rule(above, line);
+    if !broken.word.is_empty() {
+        push_line(text, broken.word)?;
+        text.push_str(": ")?;
+    }
+    text.push_str(broken.rule)
+}
+
+/// Appends which rule the topology of a text breaks, at its line with a number.
+fn push_reason(
+    text: &mut String,
+    bytes: &[u8],
+    number: usize,
+    fault: NetFault,
+) -> Result<(), AllocError> {
     match fault {
-        NetFault::Syntax(0) => text.push_str("a node or a port is missing"),
-        NetFault::Syntax(_) => push_form(text),
+        NetFault::Syntax(0) => text.push_str(missing(bytes)),
+        NetFault::Syntax(_) => push_broken(
+            text,
+            lines_above(bytes, number),
+            nth_line(bytes, number),
+        ),
         NetFault::TwoWires => {
             text.push_str("one of its ends has a wire already, or both are the same")
         }
@@ -119,33 +140,19 @@ fn push_reason(text: &mut String, fault: NetFault) -> Result<(), AllocError> {
     }
 }
 
-/// Appends a character, where a terminal would obey it, or shows nothing, by its number: `\x09` is a tab.
-fn push_character(text: &mut String, character: char) -> Result<(), AllocError> {
-    let number = character as u32;
-    if number < b' ' as u32 || (0x7F..0xA0).contains(&number) {
-        write!(text, "\\x{number:02X}")
-    } else {
-        text.push(character)
-    }
-}
-
-/// Appends a line, of a long one its first characters.
+/// Appends a line, or a word of one, of a long one its first characters.
 fn push_line(text: &mut String, line: &str) -> Result<(), AllocError> {
-    for (count, character) in line.chars().enumerate() {
-        if count == MOST_SHOWN {
-            return text.push_str(" ..");
-        }
-        push_character(text, character)?;
-    }
-    Ok(())
+    let shown = Shown::front(line, MOST_SHOWN);
+    write!(text, "{shown}")
 }
 
 /// Appends where the fault of a text at a path is: at its line with a number from 1 on, or, where that is 0, in all of it.
 fn push_where(text: &mut String, path: &str, number: usize, line: &[u8]) -> Result<(), AllocError> {
+    let shown = Shown::all(path);
     if number == 0 {
-        return write!(text, "  {path}: ");
+        return write!(text, "  {shown}: ");
     }
-    write!(text, "  {path}, line {number}: ")?;
+    write!(text, "  {shown}, line {number}: ")?;
     push_line(text, str::from_utf8(line).unwrap_or(NO_TEXT))?;
     text.push_str("\n  ")
 }
@@ -160,6 +167,6 @@ pub(crate) fn push_topology(
 ) -> Result<(), AllocError> {
     let number = faulty_line(alloc, bytes, fault);
     push_where(text, path, number, nth_line(bytes, number))?;
-    push_reason(text, fault)?;
+    push_reason(text, bytes, number, fault)?;
     text.push_str("\n")
 }

@@ -12,3 +12,4 @@ pub mod StreamRefused
 pub mod BackupArgs
 pub mod StopArgs
 pub mod Commands
+pub mod Explaining

@@ -1,5 +1,5 @@
 -- Words that `clap` doesn't take.
-use Rattle.std.specs.Prelude.{◌≢◌, ◌≤◌, ◌<◌, List, length}
+use Rattle.std.specs.Prelude.{◌≡◌, ◌≢◌, ◌⊎◌, ◌≤◌, ◌<◌, List, length}
 use Rattle.std.specs.declared.alloc.Global.{Global}
 use Rattle.std.specs.declared.string.String.{String}
 use Rattle.clap.specs.Words.{kind_of}
@@ -12,6 +12,10 @@ use Rattle.tp_words.specs.declared.args.TheConstants.{MAX_WORDS}
 -- what is said is neither help nor the version
 abbrev pub IsMistake : Error → Type 0
 IsMistake error = (kind_of error ≢ DisplayHelp) × (kind_of error ≢ DisplayVersion)
+
+-- why words aren't taken that are few: memory is refused, or `clap` says so
+abbrev pub IsUntaken : ArgFault → Type 0
+IsUntaken fault = (fault ≡ Memory) ⊎ ((error : Error) × (fault ≡ Words error) × IsMistake error)
 
 -- Why words aren't taken. First they are counted; then `clap` reads them, or memory is refused.
 abbrev pub IsUnparsed : List (String Global) → ArgFault → Type 0

@@ -30,6 +30,8 @@ pub enum ArgFault {
     Many,
     /// This option goes with `--stream`.
     Stream(&'static str),
+    /// Both `--explain` and `--no-explain` are there.
+    BothExplain,
     /// `clap` found other words than those that were typed, or none where one has to be; or the words are those of a command that is read
     /// by a function of its own.
     Missing,
@@ -94,6 +96,9 @@ impl fmt::Display for ArgFault {
             ArgFault::Stream(id) => write!(
                 f,
                 "tpnet: --{id} goes with --stream; see tpnet run --stream --help\n"
+            ),
+            ArgFault::BothExplain => f.write_str(
+                "tpnet: --explain and --no-explain are both there: leave one of them\n",
             ),
             ArgFault::Missing => f.write_str("tpnet: a word is missing; see tpnet --help\n"),
             ArgFault::Memory => f.write_str("tpnet: Memory\n"),

@@ -2,6 +2,7 @@
 
 ghost use Rattle.std.specs.Prelude.{◌≡◌, true, IfErr, IfOk, codes};
 ghost use Rattle.tp_words.specs.Commands.{IsCommandInRange, WasCommandTyped};
+ghost use Rattle.tp_words.specs.Explaining.{SaysExplaining, is_help};
 ghost use Rattle.tp_words.specs.StreamRefused.{IsStreamRefused};
 ghost use Rattle.tp_words.specs.Typed.{has_word};
 ghost use Rattle.tp_words.specs.declared.command.CommandFault.TheVariants.{Arg, Ends};
@@ -9,6 +10,7 @@ ghost use Rattle.tp_words.specs.declared.command.CommandFault.TheVariants.{Arg, 
 use crate::arg_fault::ArgFault;
 use crate::args::{Asked, asked_by};
 use crate::backup_args::{Backup, backup_of};
+use crate::explaining::{Explaining, explaining_of};
 use crate::numbers::has_word;
 use crate::parsing::{Parsed, parse};
 use crate::stop_args::{StopRequest, request_of};
@@ -37,8 +39,8 @@ pub enum Command {
 #[derive(Drop)]
 pub struct CommandLine {
     pub command: Command,
-    /// Whether more is to be said of a refusal, and of nodes that have halted.
-    pub explains: bool,
+    /// What was typed of explanations.
+    pub explaining: Explaining,
 }
 
 /// Why a command line asks for nothing. Each ends the program with status 2.
@@ -146,18 +148,30 @@ fn read_command(alloc: Global, words: &[String]) -> Result<Command, CommandFault
     }
 }
 
+/// Whether it is asked how to call the program, or which version it is.
+fn is_help(command: &Command) -> bool
+    ensures { result ≡ is_help command.now }
+{
+    matches!(command, Command::Other(Asked::Help(_)))
+}
+
 impl CommandLine {
     /// Reads a command line, the program's name first. Each number is the decimal that was typed, and in its range; each text is one of
     /// the words.
     pub fn read(alloc: Global, words: &[String]) -> Result<CommandLine, CommandFault>
         ensures range { IfOk result (λ line. IsCommandInRange line.command) }
         ensures typed { IfOk result (λ line. WasCommandTyped words.now line.command) }
-        ensures explains { IfOk result (λ line. line.explains ≡ has_word (codes "--explain") words.now) }
+        ensures explains { IfOk result (λ line. SaysExplaining words.now line.command line.explaining) }
     {
         let command = read_command(alloc, words)?;
+        let explaining = match explaining_of(words) {
+            Some(explaining) => explaining,
+            None if is_help(&command) => Explaining::Never,
+            None => return Err(CommandFault::Arg(ArgFault::BothExplain)),
+        };
         Ok(CommandLine {
             command,
-            explains: has_word(words, "--explain"),
+            explaining,
         })
     }
 }

@@ -5,13 +5,19 @@ use crate::words::{Form, Word};
 /// Says more of a refusal.
 pub const EXPLAIN: Word = Word::Flag(
     "explain",
-    "after a refusal, say which file, why, and what to do",
+    "after a refusal, say which file, why, and what to do, as on a terminal in any case",
 );
 
-/// Says more of a refusal, and, where all was done, of nodes that have halted.
+/// Says more of a refusal, and, if all was done, of nodes that have halted.
 const EXPLAIN_HALTED: Word = Word::Flag(
     "explain",
-    "after a refusal, say which file, why, and what to do; else which nodes have halted",
+    "after a refusal, say which file, why, and what to do, as on a terminal in any case; else which nodes have halted",
+);
+
+/// Says no more than a refusal's name.
+pub const NO_EXPLAIN: Word = Word::Flag(
+    "no-explain",
+    "after a refusal, say its name alone, on a terminal too",
 );
 
 /// Prints for scripts.
@@ -44,6 +50,7 @@ pub const TRY: Form = Form {
     about: "Runs one node without a device, its link 0 wired to port 0, and prints what port 0 puts out",
     words: &[
         EXPLAIN_HALTED,
+        NO_EXPLAIN,
         Word::Place("IMAGE", "the node's image: 172 bytes and its memory"),
         Word::Needed("turns", "N", "how many turns: node, host, node, host .."),
     ],
@@ -54,6 +61,7 @@ pub const TRACE: Form = Form {
     about: "Runs one node without a device, with nobody at its links, and prints what each step does in a line, with the registers behind it",
     words: &[
         EXPLAIN,
+        NO_EXPLAIN,
         Word::Place("IMAGE", "the node's image: 172 bytes and its memory"),
         Word::Value(
             "steps",
@@ -66,7 +74,7 @@ pub const TRACE: Form = Form {
 pub const CHECK: Form = Form {
     name: "check",
     about: "Reads a topology and its images as format does, writes nothing, and says how large an area has to be",
-    words: &[EXPLAIN, JSON, TOPOLOGY, DIR],
+    words: &[EXPLAIN, NO_EXPLAIN, JSON, TOPOLOGY, DIR],
 };
 
 pub const FORMAT: Form = Form {
@@ -74,6 +82,7 @@ pub const FORMAT: Form = Form {
     about: "Makes a device from a topology and the nodes' images, over a file that is there unless --new is given",
     words: &[
         EXPLAIN,
+        NO_EXPLAIN,
         Word::Flag("new", "refuse a file that is there already"),
         WAIT_LOCK,
         Word::Value(
@@ -100,6 +109,7 @@ pub const RUN: Form = Form {
     about: "Opens a device, runs its network, keeps the journal on it, prints what the port puts out, and says next M on standard error",
     words: &[
         EXPLAIN_HALTED,
+        NO_EXPLAIN,
         WRITTEN,
         Word::Needed(
             "turns",
@@ -149,6 +159,7 @@ pub const STOP: Form = Form {
     about: "Asks the stream that another tpnet runs on a device to end, as it does by --stop-file, and prints asked; with --wait it waits for that, and prints ended",
     words: &[
         EXPLAIN,
+        NO_EXPLAIN,
         Word::Place("DEVICE", "the device's file, to which nothing is written"),
         Word::Value(
             "wait",
@@ -161,7 +172,7 @@ pub const STOP: Form = Form {
 pub const COMPACT: Form = Form {
     name: "compact",
     about: "Writes all of a device's network into its other area, which empties the journal, and prints the generation, the number of the next entry and how many entries the journal takes",
-    words: &[EXPLAIN, WRITTEN, WAIT_LOCK],
+    words: &[EXPLAIN, NO_EXPLAIN, WRITTEN, WAIT_LOCK],
 };
 
 pub const BACKUP: Form = Form {
@@ -169,6 +180,7 @@ pub const BACKUP: Form = Form {
     about: "Opens a device, which may be run meanwhile, writes nothing to it, makes a copy of it, and prints the number of the copy's next entry",
     words: &[
         EXPLAIN,
+        NO_EXPLAIN,
         Word::Place("DEVICE", "the device's file, which is only read"),
         Word::Place(
             "COPY",
@@ -182,6 +194,7 @@ pub const RECOVER: Form = Form {
     about: "Opens a device, writes nothing, and prints the number of the next entry",
     words: &[
         EXPLAIN,
+        NO_EXPLAIN,
         DEVICE,
         Word::Value(
             "workers",
@@ -194,7 +207,7 @@ pub const RECOVER: Form = Form {
 pub const SHOW: Form = Form {
     name: "show",
     about: "Opens a device, writes nothing, and prints what it holds",
-    words: &[EXPLAIN, JSON, DEVICE],
+    words: &[EXPLAIN, NO_EXPLAIN, JSON, DEVICE],
 };
 
 pub const STATUS: Form = Form {
@@ -202,6 +215,7 @@ pub const STATUS: Form = Form {
     about: "Opens a device, writes nothing, and prints in one line whether it is run, and how far it is",
     words: &[
         EXPLAIN,
+        NO_EXPLAIN,
         Word::Flag("json", "print each look as one line of JSON, for scripts"),
         DEVICE,
         Word::Value(
@@ -215,13 +229,13 @@ pub const STATUS: Form = Form {
 pub const NODES: Form = Form {
     name: "node",
     about: "Prints a node's registers, queues and link ends, addresses in hexadecimal",
-    words: &[EXPLAIN, JSON, DEVICE, NODE],
+    words: &[EXPLAIN, NO_EXPLAIN, JSON, DEVICE, NODE],
 };
 
 pub const IMAGE: Form = Form {
     name: "image",
     about: "Prints a node's image, as bytes",
-    words: &[EXPLAIN, DEVICE, NODE],
+    words: &[EXPLAIN, NO_EXPLAIN, DEVICE, NODE],
 };
 
 pub const JOURNAL: Form = Form {
@@ -229,6 +243,7 @@ pub const JOURNAL: Form = Form {
     about: "Prints each entry behind the cut in a line, with its number",
     words: &[
         EXPLAIN,
+        NO_EXPLAIN,
         Word::Flag("json", "print each entry as one line of JSON, for scripts"),
         DEVICE,
         Word::Value("from", "N", "the first number that is shown"),
@@ -247,6 +262,7 @@ pub const PORT: Form = Form {
     about: "Prints a port's bytes as they are: the outputs that aren't confirmed, or the inputs that are pending",
     words: &[
         EXPLAIN,
+        NO_EXPLAIN,
         JSON,
         DEVICE,
         Word::Place("P", "the port's number"),

@@ -1,15 +1,15 @@
 //! What `clap` makes of words.
 
-ghost use Rattle.std.specs.Prelude.{◌≡◌, ◌⊎◌, ◌≤◌, IfErr, OnOk, length};
-ghost use Rattle.tp_words.specs.Parsing.{IsMistake, IsUnparsed};
-ghost use Rattle.tp_words.specs.declared.arg_fault.ArgFault.TheVariants.{Words, Memory};
+ghost use Rattle.std.specs.Prelude.{◌≤◌, IfErr, IfOk, IfSome, OnOk, length};
+ghost use Rattle.tp_words.specs.Parsing.{IsMistake, IsUnparsed, IsUntaken};
 ghost use Rattle.tp_words.specs.declared.args.TheConstants.{MAX_WORDS};
 
 use crate::arg_fault::ArgFault;
 use crate::args::MAX_WORDS;
+use crate::shown::shown_words;
 use crate::words::{Name, command};
 use clap::ArgMatches;
-use std::alloc::Global;
+use std::alloc::{AllocError, Global};
 
 /// What `clap` makes of words that it takes.
 #[derive(Drop)]
@@ -21,13 +21,53 @@ pub enum Parsed<'a> {
 }
 
 /// What is told where `clap` finds nothing: its text, which is no fault where help or the version was asked for.
-fn unfound<'a>(alloc: Global, error: clap::Error) -> Result<Parsed<'a>, ArgFault>
-    ensures { IfErr result (λ fault. (fault ≡ Memory) ⊎ ((fault ≡ Words error) × IsMistake error)) }
+fn unfound<'a>(
+    alloc: Global,
+    words: &[String],
+    names: &[Name],
+    error: clap::Error,
+) -> Result<Parsed<'a>, ArgFault>
+    ensures { IfErr result IsUntaken }
 {
     if error.use_stderr() {
-        return Err(ArgFault::Words(error));
+        return Err(ArgFault::Words(shown_error(alloc, words, names, error)?));
     }
     Ok(Parsed::Help(format!(in alloc; "{error}")?))
+}
+
+/// What `clap` says of words that it doesn't take; `None`: it takes them, or they ask for help.
+fn mistake_in(
+    alloc: Global,
+    words: &[String],
+    names: &[Name],
+) -> Result<Option<clap::Error>, AllocError>
+    ensures { IfOk result (λ found. IfSome found IsMistake) }
+{
+    match command(alloc, names)?.try_get_matches_from(words) {
+        Ok(_matches) => Ok(None),
+        Err(error) if error.use_stderr() => Ok(Some(error)),
+        Err(_help) => Ok(None),
+    }
+}
+
+/// What `clap` says of words that it doesn't take, with each word as messages show it. It doesn't take the words as they are shown either, since no
+/// name of a command or an option has a character that isn't shown as it is.
+fn shown_error(
+    alloc: Global,
+    words: &[String],
+    names: &[Name],
+    error: clap::Error,
+) -> Result<clap::Error, AllocError>
+    requires { IsMistake error }
+    ensures { IfOk result IsMistake }
+{
+    let Some(shown) = shown_words(alloc, words)? else {
+        return Ok(error);
+    };
+    match mistake_in(alloc, shown.as_slice(), names)? {
+        Some(other) => Ok(other),
+        None => Ok(error),
+    }
 }
 
 /// Reads the words of a command line by `clap`, as those of a command of these names. Asking for help is no fault.
@@ -40,6 +80,6 @@ pub fn parse<'a>(alloc: Global, words: &'a [String], names: &[Name]) -> Result<P
     }
     match command(alloc, names)?.try_get_matches_from(words) {
         Ok(matches) => Ok(Parsed::Found(matches)),
-        Err(error) => unfound(alloc, error),
+        Err(error) => unfound(alloc, words, names, error),
     }
 }

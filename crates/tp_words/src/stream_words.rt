@@ -1,6 +1,6 @@
 //! The words that `clap` takes with `run --stream`.
 
-use crate::forms::{EXPLAIN, WAIT_LOCK, WRITTEN};
+use crate::forms::{EXPLAIN, NO_EXPLAIN, WAIT_LOCK, WRITTEN};
 use crate::words::{Form, Word};
 
 /// What `tpnet run --stream` refuses.
@@ -92,6 +92,7 @@ pub const STREAM: Form = Form {
     about: "Opens a device and runs its network, whose ports live on files, standard input and standard output for as long as it runs",
     words: &[
         EXPLAIN,
+        NO_EXPLAIN,
         WRITTEN,
         Word::Mark("stream", "ports live on streams"),
         WAIT_LOCK,

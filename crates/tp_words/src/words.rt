@@ -12,8 +12,10 @@ use crate::stream_words::{STREAM, STREAM_REFUSALS};
 use clap::{Arg, ArgAction, Command};
 use std::alloc::{AllocError, Global};
 
-/// The program's version, and the logic that it was proved in, which several kits have.
-const VERSION: &str = "0.1.0\nproved in Rattle's logic dac8208d650f15bf";
+/// The program's version, and the logic that it is made for, which several kits have. The last line is true of any build: `rt run` and `rt ci` prove
+/// what they build, and `rt try` doesn't. What builds without proofs may put another text, as long, in its place.
+const VERSION: &str =
+    "0.1.0\nmade for Rattle's logic dac8208d650f15bf\nproved if rt run or rt ci built it";
 
 /// A word of a command: its name, what its value is called where it has one, and what help says of it.
 pub enum Word {
