@@ -306,7 +306,7 @@ def main():
                 print("different: %s" % path)
     for kind in sorted(told):
         print("%-10s %6d images, %6d put something out" % (kind, told[kind][0], told[kind][1]))
-    print("%d images, %d differences" % (count - first, different))
+    print("%d tried, %d bad" % (count - first, different))
     sys.exit(1 if different else 0)
 
 

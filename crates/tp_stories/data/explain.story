@@ -604,14 +604,16 @@ end
 
 story failed_calls
 # Whichever call of the device fails, what the system said of it is told: of a run, a compaction and a stream. Behind a run that was done the device is
-# opened again, for nodes that have halted: where a call of that fails nothing is said.
+# opened again, for nodes that have halted: where a call of that fails nothing is said. The turns of this run make one entry, so its flusher, a thread of
+# its own, makes one group of it whenever it comes to that: with more entries the number of calls would depend on time.
 text net.txt node a 4\nport h\nwire a.0 h\n
 image a.img
 tpnet format device net.txt . 16384
 copy device old
+tpnet run old --turns 1 --workers 1 --quantum 16 2>err
 sweep alone device 2
 copy old device
-tpnet run device --turns 4 --workers 1 --quantum 16 --explain >out 2>err
+tpnet run device --turns 2 --workers 1 --quantum 16 --explain >out 2>err
 has err \n  device: 
 end
 sweep alone device 2
