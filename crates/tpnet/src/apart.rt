@@ -16,8 +16,8 @@ struct Writer {
     thread: JoinHandle<()>,
 }
 
-/// A writer whose thread takes all that is written at once, and hands it on in order. The thread is begun with the first piece; where there is
-/// no memory, or no thread, a piece is handed on here, behind all before it.
+/// A writer whose thread takes all that is written at once, and hands it on in order. Where there is no memory, or no thread, a piece is handed
+/// on here, behind all before it.
 #[derive(Drop)]
 pub(crate) struct Apart<R: Drop, W: Drop> {
     rt: R,
@@ -60,21 +60,21 @@ impl<
     R: Threads + Wait + Clock + AllocGlobal + Copy + Drop + Send + 'static,
     W: Write + Copy + Drop + Send + 'static,
 > Apart<R, W> {
-    /// Nothing was written. `backlog` counts what the thread hasn't handed on.
+    /// Nothing was written, and the thread is begun. `backlog` counts what it hasn't handed on.
     pub(crate) fn new(rt: R, to: W, backlog: Backlog) -> Apart<R, W> {
+        let writer = begin(rt, to, &backlog);
         Apart {
             rt,
             to,
             backlog,
-            writer: None,
+            writer,
         }
     }
+}
 
-    /// Hands a piece to the thread, which is begun where there is none yet. Whether that was done.
-    fn hand_over(&mut self, buf: &[u8]) -> bool {
-        if self.writer.is_none() {
-            self.writer = begin(self.rt, self.to, &self.backlog);
-        }
+impl<R: Threads + Wait + AllocGlobal + Drop, W: Drop> Apart<R, W> {
+    /// Hands a piece to the thread. Whether that was done.
+    fn hand_over(&self, buf: &[u8]) -> bool {
         let (Some(writer), Ok(piece)) = (&self.writer, Vec::from_slice(self.rt.alloc(), buf)) else {
             return false;
         };
@@ -88,17 +88,16 @@ impl<
 
     /// Waits until all was handed on.
     pub(crate) fn end(self) {
-        if let Some(Writer { pieces, thread }) = self.writer {
+        let Apart { rt, writer, .. } = self;
+        if let Some(Writer { pieces, thread }) = writer {
             drop(pieces);
-            thread.join(&self.rt);
+            thread.join(&rt);
         }
     }
 }
 
-impl<
-    R: Threads + Wait + Clock + AllocGlobal + Copy + Drop + Send + 'static,
-    W: Write + Copy + Drop + Send + 'static,
-> Write for Apart<R, W> {
+impl<R: Threads + Wait + Clock + AllocGlobal + Copy + Drop, W: Write + Copy + Drop> Write
+    for Apart<R, W> {
     fn write(&mut self, buf: &[u8]) -> io::Result<usize> {
         if self.hand_over(buf) {
             return Ok(buf.len());
