@@ -74,10 +74,13 @@ pub const STATUS_REFUSALS: &str = "The line:
   form F          turns, or plain: its journal holds no turns, as another program wrote it; the next checkpoint changes that
   next M          the number of the next journal entry
   entries E of R  the journal has E entries since that checkpoint, and room for R: how much of it that is, in percent
-  port P          and of each port: how many bytes it has accepted, and how many of these are pending, as no node has
-                  taken them; how many it has put out, and how many of these are unconfirmed
+  port P          and of each port:
+  accepted A      how many bytes it has accepted in all
+  pending Y       how many of these no node has taken yet
+  put_out Z       how many bytes it has put out in all
+  unconfirmed N   how many of these aren't confirmed
   halted I F at A node I has halted by the fault F at the address A, each node so; or none has
-  +N/s            with --every: how much next, accepted and out grew in a second since the look before
+  +N/s            with --every: how much next, accepted and put_out grew in a second since the look before
 DEVICE may be run meanwhile: what is printed is so at one moment of the call.
 Refusals (status 1), which end --every; nothing is written to DEVICE:
   ReadFailed    DEVICE can't be opened or read, or is no regular file: look at its path and its rights
