@@ -21,7 +21,7 @@ use tp_disk::{Disk, NewDisk};
 use tp_model::HeadVersion;
 use tp_net::{Named, Topology};
 use tp_stream_files::is_one_file;
-use tp_views::{Refusal, is_openable, refuse};
+use tp_views::{Refusal, is_openable, refuse, wanted_area};
 use tp_words::{NewDevice, Shown};
 
 /// The path of the first image whose file is the device's.
@@ -96,10 +96,11 @@ fn new_disk<R: Files<File = F>, F: FileExt + OpenFile + Drop, S: Devices>(
     new: &NewDevice,
     topology: &Topology,
 ) -> io::Result<NewDisk<F>>
-    requires area { new.now.area ≤ MAX_AREA }
+    requires area { IfSome new.now.area (λ area. area ≤ MAX_AREA) }
     requires held { S.held devices.now ≡ Some (string_bytes new.now.device) }
 {
-    let size = device_length(version_for(topology), new.area);
+    let area = wanted_area(topology, new.area);
+    let size = device_length(version_for(topology), area);
     let path = new.device.as_str();
     let disk = NewDisk::create_over(rt, path, size)?;
     if !devices.is_kept(path) {
@@ -137,7 +138,7 @@ fn filled_disk<R: Files<File = F>, F: FileExt + OpenFile + Drop, S: Devices>(
     new: &NewDevice,
     topology: &Topology,
 ) -> io::Result<NewDisk<F>>
-    requires area { new.now.area ≤ MAX_AREA }
+    requires area { IfSome new.now.area (λ area. area ≤ MAX_AREA) }
     requires held { S.held devices.now ≡ Some (string_bytes new.now.device) }
 {
     sync_folder(rt, new.device.as_str())?;
@@ -156,7 +157,7 @@ fn disk_made<R: Files<File = F>, F: FileExt + OpenFile + Drop, S: Devices>(
     topology: &Topology,
     made: Made,
 ) -> io::Result<NewDisk<F>>
-    requires area { new.now.area ≤ MAX_AREA }
+    requires area { IfSome new.now.area (λ area. area ≤ MAX_AREA) }
     requires held { S.held devices.now ≡ Some (string_bytes new.now.device) }
     requires made { path_held made.noted.told ≡ string_bytes new.now.device }
 {
@@ -174,7 +175,7 @@ fn disk_of<R: Files<File = F>, F: FileExt + OpenFile + Drop, S: Devices>(
     new: &NewDevice,
     topology: &Topology,
 ) -> io::Result<NewDisk<F>>
-    requires area { new.now.area ≤ MAX_AREA }
+    requires area { IfSome new.now.area (λ area. area ≤ MAX_AREA) }
     requires held { S.held devices.old ≡ Some (string_bytes new.now.device) }
     ensures { MadeAtMost (string_bytes new.now.device) (S.calls devices.old) (S.calls devices.new) }
 {
@@ -202,7 +203,7 @@ fn format_network<
     out: &mut O,
     err: &mut E,
 ) -> u8
-    requires area { new.now.area ≤ MAX_AREA }
+    requires area { IfSome new.now.area (λ area. area ≤ MAX_AREA) }
     requires held { S.held devices.old ≡ Some (string_bytes new.now.device) }
     requires valid { is_topology topology.now ≡ true }
     ensures few { result ≤ 1 }
@@ -246,7 +247,7 @@ fn format_named<
     out: &mut O,
     err: &mut E,
 ) -> u8
-    requires area { new.now.area ≤ MAX_AREA }
+    requires area { IfSome new.now.area (λ area. area ≤ MAX_AREA) }
     requires held { S.held devices.old ≡ Some (string_bytes new.now.device) }
     ensures few { result ≤ 2 }
     ensures made { MadeAtMost (string_bytes new.now.device) (S.calls devices.old) (S.calls devices.new) }
@@ -274,7 +275,7 @@ fn format_text<
     out: &mut O,
     err: &mut E,
 ) -> u8
-    requires area { new.now.area ≤ MAX_AREA }
+    requires area { IfSome new.now.area (λ area. area ≤ MAX_AREA) }
     requires held { S.held devices.old ≡ Some (string_bytes new.now.device) }
     ensures few { result ≤ 2 }
     ensures made { MadeAtMost (string_bytes new.now.device) (S.calls devices.old) (S.calls devices.new) }
@@ -312,7 +313,7 @@ pub(crate) fn format_file<
     out: &mut O,
     err: &mut E,
 ) -> u8
-    requires area { new.now.area ≤ MAX_AREA }
+    requires area { IfSome new.now.area (λ area. area ≤ MAX_AREA) }
     requires held { S.held devices.old ≡ Some (string_bytes new.now.device) }
     ensures few { result ≤ 2 }
     ensures made { MadeAtMost (string_bytes new.now.device) (S.calls devices.old) (S.calls devices.new) }

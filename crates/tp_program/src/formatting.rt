@@ -8,6 +8,7 @@ ghost use Rattle.tp_model.specs.Format.{start_of};
 ghost use Rattle.tp_model.specs.Head.{areas_of_length, version_for};
 ghost use Rattle.tp_model.specs.Topology.{is_topology};
 ghost use Rattle.tp_area.specs.Formatting.{Formatted, IsOldOrNew};
+ghost use Rattle.tp_views.specs.Checked.{wanted_area};
 ghost use Rattle.tp_views.specs.Front.{AppendsFront};
 ghost use Rattle.tp_program.specs.Formats.{formatted_text};
 
@@ -16,7 +17,7 @@ use std::io::Write;
 use tp_area::format;
 use tp_disk::Disk;
 use tp_net::Topology;
-use tp_views::{Refusal, put, refuse};
+use tp_views::{Refusal, put, refuse, wanted_area};
 
 /// Formats the device, and says so.
 fn make<D: Disk, O: Write>(
@@ -24,24 +25,25 @@ fn make<D: Disk, O: Write>(
     disk: &mut D,
     topology: &Topology,
     images: &[Vec<u8>],
-    area: u64,
+    area: Option<u64>,
     out: &mut O,
 ) -> Result<(), Refusal>
     requires valid { is_topology topology.now ≡ true }
-    ensures formatted { D.keeps → OnOk result (Formatted topology.now (map (λ image. image.items) images.now) (areas_of_length (version_for topology.now) area) (D.state disk.old) (D.state disk.new)) }
-    ensures fits { OnOk result (fits_device (D.size_of disk.old) topology.now (areas_of_length (version_for topology.now) area) ≡ true) }
+    ensures formatted { D.keeps → OnOk result (Formatted topology.now (map (λ image. image.items) images.now) (areas_of_length (version_for topology.now) (wanted_area topology.now area)) (D.state disk.old) (D.state disk.new)) }
+    ensures fits { OnOk result (fits_device (D.size_of disk.old) topology.now (areas_of_length (version_for topology.now) (wanted_area topology.now area)) ≡ true) }
     ensures printed { OnOk result (Appends (O.contents out.old) (O.contents out.new) formatted_text) }
     ensures refused { start_of topology.now (map (λ image. image.items) images.now) ≡ None → (IsErr result) × (disk.new ≡ disk.old) × (O.contents out.new ≡ O.contents out.old) }
-    ensures small { fits_device (D.size_of disk.old) topology.now (areas_of_length (version_for topology.now) area) ≡ false → (IsErr result) × (disk.new ≡ disk.old) × (O.contents out.new ≡ O.contents out.old) }
+    ensures small { fits_device (D.size_of disk.old) topology.now (areas_of_length (version_for topology.now) (wanted_area topology.now area)) ≡ false → (IsErr result) × (disk.new ≡ disk.old) × (O.contents out.new ≡ O.contents out.old) }
     ensures front { AppendsFront (O.contents out.old) (O.contents out.new) formatted_text }
-    ensures said { D.keeps → (O.contents out.new ≡ O.contents out.old) ⊎ Formatted topology.now (map (λ image. image.items) images.now) (areas_of_length (version_for topology.now) area) (D.state disk.old) (D.state disk.new) }
-    ensures leaves { D.keeps → LeavesOnly (D.state disk.old) (D.state disk.new) (IsOldOrNew topology.now (map (λ image. image.items) images.now) (areas_of_length (version_for topology.now) area) (D.state disk.old)) }
+    ensures said { D.keeps → (O.contents out.new ≡ O.contents out.old) ⊎ Formatted topology.now (map (λ image. image.items) images.now) (areas_of_length (version_for topology.now) (wanted_area topology.now area)) (D.state disk.old) (D.state disk.new) }
+    ensures leaves { D.keeps → LeavesOnly (D.state disk.old) (D.state disk.new) (IsOldOrNew topology.now (map (λ image. image.items) images.now) (areas_of_length (version_for topology.now) (wanted_area topology.now area)) (D.state disk.old)) }
 {
+    let area = wanted_area(topology, area);
     format(alloc, disk, topology, images, area)?;
     put(out, b"formatted\n")
 }
 
-/// `tpnet format`, on a device of the size that is asked for. Answers the program's status: 0 where the device is formatted,
+/// `tpnet format`, on a device of the size that is asked for, whose areas have as many bytes as are asked for, or the default. Answers the program's status: 0 where the device is formatted,
 /// all of it synced, and that is printed; else 1. Where the images don't fit the topology, or the device is too small, nothing
 /// has changed. Nothing is printed before the device is formatted. Whatever a crash on the way leaves is old outside the areas, or has both areas
 /// complete.
@@ -50,20 +52,20 @@ pub fn format_on<D: Disk, O: Write, E: Write>(
     disk: &mut D,
     topology: &Topology,
     images: &[Vec<u8>],
-    area: u64,
+    area: Option<u64>,
     out: &mut O,
     err: &mut E,
 ) -> u8
     requires valid { is_topology topology.now ≡ true }
     ensures status { result ≤ 1 }
-    ensures formatted { D.keeps → result ≡ 0 → Formatted topology.now (map (λ image. image.items) images.now) (areas_of_length (version_for topology.now) area) (D.state disk.old) (D.state disk.new) }
-    ensures fits { result ≡ 0 → fits_device (D.size_of disk.old) topology.now (areas_of_length (version_for topology.now) area) ≡ true }
+    ensures formatted { D.keeps → result ≡ 0 → Formatted topology.now (map (λ image. image.items) images.now) (areas_of_length (version_for topology.now) (wanted_area topology.now area)) (D.state disk.old) (D.state disk.new) }
+    ensures fits { result ≡ 0 → fits_device (D.size_of disk.old) topology.now (areas_of_length (version_for topology.now) (wanted_area topology.now area)) ≡ true }
     ensures printed { result ≡ 0 → Appends (O.contents out.old) (O.contents out.new) formatted_text }
     ensures refused { start_of topology.now (map (λ image. image.items) images.now) ≡ None → (result ≡ 1) × (disk.new ≡ disk.old) × (O.contents out.new ≡ O.contents out.old) }
-    ensures small { fits_device (D.size_of disk.old) topology.now (areas_of_length (version_for topology.now) area) ≡ false → (result ≡ 1) × (disk.new ≡ disk.old) × (O.contents out.new ≡ O.contents out.old) }
+    ensures small { fits_device (D.size_of disk.old) topology.now (areas_of_length (version_for topology.now) (wanted_area topology.now area)) ≡ false → (result ≡ 1) × (disk.new ≡ disk.old) × (O.contents out.new ≡ O.contents out.old) }
     ensures front { AppendsFront (O.contents out.old) (O.contents out.new) formatted_text }
-    ensures said { D.keeps → (O.contents out.new ≡ O.contents out.old) ⊎ Formatted topology.now (map (λ image. image.items) images.now) (areas_of_length (version_for topology.now) area) (D.state disk.old) (D.state disk.new) }
-    ensures leaves { D.keeps → LeavesOnly (D.state disk.old) (D.state disk.new) (IsOldOrNew topology.now (map (λ image. image.items) images.now) (areas_of_length (version_for topology.now) area) (D.state disk.old)) }
+    ensures said { D.keeps → (O.contents out.new ≡ O.contents out.old) ⊎ Formatted topology.now (map (λ image. image.items) images.now) (areas_of_length (version_for topology.now) (wanted_area topology.now area)) (D.state disk.old) (D.state disk.new) }
+    ensures leaves { D.keeps → LeavesOnly (D.state disk.old) (D.state disk.new) (IsOldOrNew topology.now (map (λ image. image.items) images.now) (areas_of_length (version_for topology.now) (wanted_area topology.now area)) (D.state disk.old)) }
 {
     match make(alloc, disk, topology, images, area, out) {
         Ok(()) => 0,

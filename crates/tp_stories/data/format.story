@@ -410,8 +410,48 @@ tpnet format --new --area=-16K one net.txt . 2>err
 tpnet format --new --area=1.5M one net.txt . 2>err
 tpnet format --new --area=16T one net.txt . 2>err
 tpnet format --new --area '' one net.txt . 2>err
-# The number is given once: by the option or by the word behind DIR.
+# The size is given once at most: by the option or by the word after DIR.
 tpnet format --new --area 16K one net.txt . 16384 2>err
 tpnet format --new --area 16K --area 16K one net.txt . 2>err
-tpnet format --new one net.txt . 2>err
 equal one three
+
+story area_word
+# The word after DIR is a size as --area takes one.
+text net.txt node a 4\nport h\nwire a.0 h\n
+image a.img
+tpnet format one net.txt . 16384
+tpnet format two net.txt . 16K
+equal one two
+tpnet format three net.txt . 1M
+length three
+tpnet format --new one net.txt . 1024G
+tpnet format --new one net.txt . 1025G 2>err
+has err tpnet: AREA takes a decimal
+tpnet format --new one net.txt . 17179869184G 2>err
+tpnet format --new one net.txt . 16k 2>err
+tpnet format --new one net.txt . 16KB 2>err
+tpnet format --new one net.txt . 016K 2>err
+tpnet format --new one net.txt . '' 2>err
+equal one two
+
+story default_area
+# Without AREA the areas are the least with room for 65536 entries between two checkpoints: 13002 + 32 * 65536 bytes each.
+text net.txt node a 4\nport h\nwire a.0 h\n
+image a.img
+tpnet format one net.txt .
+length one
+tpnet format two net.txt . 2110154
+equal one two
+tpnet status one
+tpnet compact two
+# One byte less has room for an entry less.
+tpnet format less net.txt . 2110153
+tpnet status less
+# What else is refused is refused as with an AREA: DeviceExists before BadImage.
+bytes bad.img 00
+text bad.txt node bad 4\nport h\nwire bad.0 h\n
+keep one
+tpnet format --new one bad.txt .
+tpnet format new bad.txt .
+tpnet format --new new bad.txt . 0
+stay

@@ -29,7 +29,7 @@ tpnet recover device
 tpnet show device >shown
 starts shown nodes 16 ports 8 area 
 has shown \nnode 15 halt 0\n
-ends shown \nport 7 in 0 pending 0 out 0 unconfirmed 0\n
+ends shown \nport 7 taken 0 pending 0 confirmed 0 unconfirmed 0\n
 # What the first and the last of them are, and one behind it.
 tpnet node device 15 >node
 starts node node 15 pages 256 halt 0 runs\n
@@ -124,7 +124,7 @@ tpnet recover device --workers 16
 tpnet show device >shown
 starts shown nodes 64 ports 8 area 1409782
 has shown \nnode 63 halt 0\n
-ends shown \nport 7 in 0 pending 0 out 0 unconfirmed 0\n
+ends shown \nport 7 taken 0 pending 0 confirmed 0 unconfirmed 0\n
 tpnet node device 63 >node
 starts node node 63 pages 1024 halt 0 runs\n
 tpnet node device 64 2>err

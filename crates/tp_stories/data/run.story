@@ -29,7 +29,7 @@ tpnet run device --turns 40 --workers 1 --in input 2>err
 text input a
 tpnet run device --turns 40 --workers 1 --in input 2>err
 tpnet show device >shown
-ends shown port 0 in 4 pending 0 out 4 unconfirmed 0\n
+ends shown port 0 taken 4 pending 0 confirmed 4 unconfirmed 0\n
 
 story room
 # More input than a port has room for is handed in by further runs, once the node takes what is pending: in nine turns four bytes, which it sends
@@ -40,14 +40,14 @@ tpnet format device net.txt . 262144
 fill input 5000 78
 tpnet run device --turns 0 --in input
 tpnet show device >shown
-ends shown port 0 in 0 pending 4096 out 0 unconfirmed 0\n
+ends shown port 0 taken 0 pending 4096 confirmed 0 unconfirmed 0\n
 tpnet run device --turns 0 --in input
 tpnet run device --turns 9 --workers 1 --in input
 tpnet show device >shown
-ends shown port 0 in 4 pending 4092 out 4 unconfirmed 0\n
+ends shown port 0 taken 4 pending 4092 confirmed 4 unconfirmed 0\n
 tpnet run device --turns 0 --in input
 tpnet show device >shown
-ends shown port 0 in 4 pending 4096 out 4 unconfirmed 0\n
+ends shown port 0 taken 4 pending 4096 confirmed 4 unconfirmed 0\n
 
 story refused
 # A byte over a place of the device, and a command line: what comes first is said, and the device stays as it is.
@@ -305,7 +305,7 @@ equal all wanted
 tpnet run let_go --stream --until-quiet --discard 0 2>err
 ends err  quiet\n
 tpnet show let_go >shown
-ends shown \nport 0 in 0 pending 0 out 4200 unconfirmed 0\nport 1 in 0 pending 0 out 0 unconfirmed 0\n
+ends shown \nport 0 taken 0 pending 0 confirmed 4200 unconfirmed 0\nport 1 taken 0 pending 0 confirmed 0 unconfirmed 0\n
 
 story long
 # 70,000 turns of one worker: every other one is the node's, which makes an entry, and the host takes the letter and confirms it. Then one turn

@@ -147,14 +147,14 @@ tpnet run device --stream --quantum=64 --turns 30000 --workers 1 --out 0=out >pr
 ends err  turns\n
 equal out letters
 tpnet show device >shown
-ends shown port 0 in 0 pending 0 out 10000 unconfirmed 0\n
+ends shown port 0 taken 0 pending 0 confirmed 10000 unconfirmed 0\n
 has shown generation 1 
 has shown generation 2 
 tpnet run other --stream --quantum=64 --turns 30000 --workers 3 --out 0=more >printed 2>err
 ends err  turns\n
 equal more letters
 tpnet show other >shown
-ends shown port 0 in 0 pending 0 out 10000 unconfirmed 0\n
+ends shown port 0 taken 0 pending 0 confirmed 10000 unconfirmed 0\n
 has shown generation 1 
 has shown generation 2 
 tpnet run device --stream --quantum=64 --turns 16000 --discard 0 >printed 2>err
@@ -283,7 +283,7 @@ tpnet format device net.txt . 17578
 tpnet run device --stream --until-quiet --spare 8 --quantum 1 --every 2 --discard 0 --in 0=in 2>err
 ends err  quiet\n
 tpnet show device >shown
-ends shown port 0 in 1 pending 6 out 0 unconfirmed 0\n
+ends shown port 0 taken 1 pending 6 confirmed 0 unconfirmed 0\n
 
 story two_inputs
 # A node hands on what port 0 gets to port 2, and takes nothing of port 1. A stream of both inputs ends once both have come to their end:
@@ -398,7 +398,7 @@ fill in 5000 78
 tpnet format device net.txt . 65536
 tpnet run device --stream --until-quiet --discard 0 --discard 1 --in 1=in
 tpnet show device >shown
-ends shown \nport 0 in 0 pending 0 out 0 unconfirmed 0\nport 1 in 0 pending 4096 out 0 unconfirmed 0\n
+ends shown \nport 0 taken 0 pending 0 confirmed 0 unconfirmed 0\nport 1 taken 0 pending 4096 confirmed 0 unconfirmed 0\n
 cut in 4096
 tpnet run device --stream --until-quiet --discard 0 --discard 1 --in 1=in
 cut in 4095

@@ -22,7 +22,7 @@ tpnet try a.img --turns 0004 2>err
 empty err
 tpnet try a.img --turns '' 2>err
 empty err
-tpnet format device net.txt . 2>err
+tpnet format device net.txt 2>err
 empty err
 tpnet format device net.txt . x 2>err
 empty err

@@ -41,7 +41,7 @@ pub(crate) fn format_one<D: Disk>(
     };
     let _rules = topology.pages();
     match images_of(alloc, count) {
-        Some(images) => format_on(alloc, disk, &topology, &images, area, out, err),
+        Some(images) => format_on(alloc, disk, &topology, &images, Some(area), out, err),
         None => NONE,
     }
 }

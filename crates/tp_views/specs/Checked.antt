@@ -1,5 +1,5 @@
 -- What `check` prints of a topology.
-use Rattle.std.specs.Prelude.{ℕ, ◌+◌, ◌*◌, List, [], ◌∷◌, ◌++◌, length, codes}
+use Rattle.std.specs.Prelude.{ℕ, ◌+◌, ◌*◌, List, [], ◌∷◌, ◌++◌, Option, Some, None, length, codes}
 use Rattle.std.specs.Fmt.{decimal}
 use Rattle.tp_model.specs.declared.form.Form.TheVariants.{Turns}
 use Rattle.tp_model.specs.declared.limits.TheConstants.{AREA_HEAD_BYTES}
@@ -12,6 +12,15 @@ use Rattle.tp_views.specs.Names.{form_name}
 abbrev pub area_for : Topology → ℕ → ℕ
 area_for t entries = cut_length t + (AREA_HEAD_BYTES + 1) + (reserve (line_count t) + entry_room * entries)
 
+-- the least with room for 65,536 entries, which an area has that nobody asked for
+abbrev pub default_area : Topology → ℕ
+default_area t = area_for t 65536
+
+-- how many bytes an area has: as many as were asked for, or the default
+abbrev pub wanted_area : Topology → Option ℕ → ℕ
+wanted_area t None = default_area t
+wanted_area t (Some area) = area
+
 -- how many nodes and ports there are, which version of the head would be written, and the form of the areas
 abbrev pub shape_line : ℕ → ℕ → ℕ → List ℕ
 shape_line nodes ports version =
@@ -20,6 +29,10 @@ shape_line nodes ports version =
 -- the least area
 abbrev pub least_line : ℕ → List ℕ
 least_line area = codes "least area " ++ (decimal area ++ 10 ∷ [])
+
+-- the area that a device gets where none is asked for
+abbrev pub default_line : ℕ → List ℕ
+default_line area = codes "default area " ++ (decimal area ++ 10 ∷ [])
 
 -- the area whose journal has room for that many entries
 abbrev pub area_line : ℕ → ℕ → List ℕ
@@ -34,4 +47,4 @@ area_lines t (entries ∷ journals) = area_line entries (area_for t entries) ++ 
 abbrev pub checked_text : Topology → List ℕ
 checked_text t =
     shape_line (length t.pages) t.ports (version_byte (version_for t))
-    ++ (least_line (area_for t 1) ++ area_lines t (4096 ∷ 65536 ∷ 1048576 ∷ []))
+    ++ (least_line (area_for t 1) ++ (default_line (default_area t) ++ area_lines t (4096 ∷ 65536 ∷ 1048576 ∷ [])))

@@ -4,7 +4,7 @@ use Rattle.std.specs.Fmt.{decimal}
 use Rattle.tp_model.specs.declared.form.Form.TheVariants.{Turns}
 use Rattle.tp_model.specs.Head.{version_byte, version_for}
 use Rattle.tp_model.specs.Topology.{Topology}
-use Rattle.tp_views.specs.Checked.{area_for, checked_text}
+use Rattle.tp_views.specs.Checked.{area_for, checked_text, default_area}
 use Rattle.tp_views.specs.Json.{json_items}
 use Rattle.tp_views.specs.Names.{form_name}
 
@@ -16,7 +16,11 @@ shape_json nodes ports version =
 
 -- the least area
 abbrev pub least_json : ℕ → List ℕ
-least_json area = codes ",\"least_area\":" ++ (decimal area ++ codes ",\"areas\":[")
+least_json area = codes ",\"least_area\":" ++ decimal area
+
+-- the area that a device gets where none is asked for
+abbrev pub default_json : ℕ → List ℕ
+default_json area = codes ",\"default_area\":" ++ (decimal area ++ codes ",\"areas\":[")
 
 -- the area whose journal has room for that many entries
 abbrev pub area_item : ℕ → ℕ → List ℕ
@@ -29,7 +33,7 @@ area_items t journals = map (λ entries. area_item entries (area_for t entries))
 abbrev pub checked_json : Topology → List ℕ
 checked_json t =
     shape_json (length t.pages) t.ports (version_byte (version_for t))
-    ++ (least_json (area_for t 1) ++ (json_items 0 (area_items t (4096 ∷ 65536 ∷ 1048576 ∷ [])) ++ codes "]}\n"))
+    ++ (least_json (area_for t 1) ++ (default_json (default_area t) ++ (json_items 0 (area_items t (4096 ∷ 65536 ∷ 1048576 ∷ [])) ++ codes "]}\n")))
 
 -- All that is printed of it, as JSON or not.
 abbrev pub topology_said : Bool → Topology → List ℕ

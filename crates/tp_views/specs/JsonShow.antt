@@ -12,13 +12,13 @@ use Rattle.tp_views.specs.declared.shown.Front.{Front}
 abbrev pub node_item : NodeState → List ℕ
 node_item node = codes "{\"halt\":" ++ (decimal (halt_byte node.cpu.halt) ++ codes "}")
 
--- a port's inputs: how many were taken off, and how many are pending
+-- a port's inputs: how many nodes have taken, and how many are pending
 abbrev pub input_fields : ℕ → ℕ → List ℕ
-input_fields taken pending = codes "{\"in\":" ++ (decimal taken ++ (codes ",\"pending\":" ++ decimal pending))
+input_fields taken pending = codes "{\"taken\":" ++ (decimal taken ++ (codes ",\"pending\":" ++ decimal pending))
 
 -- its outputs: how many are confirmed, and how many aren't
 abbrev pub output_fields : ℕ → ℕ → List ℕ
-output_fields confirmed unconfirmed = codes ",\"out\":" ++ (decimal confirmed ++ (codes ",\"unconfirmed\":" ++ (decimal unconfirmed ++ codes "}")))
+output_fields confirmed unconfirmed = codes ",\"confirmed\":" ++ (decimal confirmed ++ (codes ",\"unconfirmed\":" ++ (decimal unconfirmed ++ codes "}")))
 
 abbrev pub port_item : Port → List ℕ
 port_item port = input_fields port.in_base (length port.pending) ++ output_fields port.out_base (length port.outputs)

@@ -58,7 +58,7 @@ accepted_json now since pending = accepted_front now ++ (rate now since ++ pendi
 
 -- what it has put out, and how much of that isn't confirmed
 abbrev pub out_front : ℕ → List ℕ
-out_front now = codes ",\"out\":" ++ (decimal now ++ codes ",\"out_per_second\":")
+out_front now = codes ",\"put_out\":" ++ (decimal now ++ codes ",\"put_out_per_second\":")
 
 abbrev pub unconfirmed_part : ℕ → List ℕ
 unconfirmed_part unconfirmed = codes ",\"unconfirmed\":" ++ (decimal unconfirmed ++ codes "}")

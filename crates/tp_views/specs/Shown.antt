@@ -24,10 +24,10 @@ abbrev pub node_lines : ℕ → List NodeState → List ℕ
 node_lines number [] = []
 node_lines number (node ∷ nodes) = node_line number (halt_byte node.cpu.halt) ++ node_lines (number + 1) nodes
 
--- a port's inputs that were taken off and are pending, its outputs that are confirmed and that aren't
+-- how many of a port's inputs nodes have taken, and how many are pending; how many of its outputs are confirmed, and how many aren't
 abbrev pub port_line : ℕ → Port → List ℕ
 port_line number port =
-    codes "port " ++ (decimal number ++ (codes " in " ++ (decimal port.in_base ++ (codes " pending " ++ (decimal (length port.pending) ++ (codes " out " ++ (decimal port.out_base ++ (codes " unconfirmed " ++ (decimal (length port.outputs) ++ 10 ∷ [])))))))))
+    codes "port " ++ (decimal number ++ (codes " taken " ++ (decimal port.in_base ++ (codes " pending " ++ (decimal (length port.pending) ++ (codes " confirmed " ++ (decimal port.out_base ++ (codes " unconfirmed " ++ (decimal (length port.outputs) ++ 10 ∷ [])))))))))
 
 abbrev pub port_lines : ℕ → List Port → List ℕ
 port_lines number [] = []

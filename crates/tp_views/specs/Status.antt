@@ -89,7 +89,7 @@ accepted_part number now since pending =
 
 -- what it has put out, and how much of that isn't confirmed
 abbrev pub out_part : ℕ → Option Since → ℕ → List ℕ
-out_part now since unconfirmed = codes " out " ++ (count_part now since ++ (codes " unconfirmed " ++ decimal unconfirmed))
+out_part now since unconfirmed = codes " put_out " ++ (count_part now since ++ (codes " unconfirmed " ++ decimal unconfirmed))
 
 abbrev pub port_part : ℕ → ℕ → Option PortSeen → Port → List ℕ
 port_part number millis before port =

@@ -4,10 +4,11 @@ ghost use Rattle.std.specs.Prelude.{◌≡◌, ◌⊎◌, ◌≤◌, ◌++◌, I
 ghost use Rattle.std.specs.Io.KnownBytes.{Appends};
 ghost use Rattle.tp_model.specs.Format.{start_of};
 ghost use Rattle.tp_model.specs.Topology.{is_topology};
-ghost use Rattle.tp_views.specs.Checked.{area_for, area_line, area_lines, checked_text, least_line, shape_line};
+ghost use Rattle.tp_views.specs.Checked.{area_for, area_line, area_lines, checked_text, default_area, default_line, least_line, shape_line};
 ghost use Rattle.tp_views.specs.Front.{AppendsFront};
 ghost use Rattle.tp_views.specs.JsonChecked.{topology_said};
 
+use crate::areas::default_area;
 use crate::commands::{put, refuse};
 use crate::formats::{form_name, version_number};
 use crate::json_checked::checked_json;
@@ -66,6 +67,14 @@ fn push_least(text: &mut String, topology: &Topology) -> Result<(), AllocError>
     push_parts(text, &[Text("least area "), Number(least), Text("\n")])
 }
 
+/// Appends how large an area is where none is asked for.
+fn push_default(text: &mut String, topology: &Topology) -> Result<(), AllocError>
+    ensures { OnOk result (string_bytes text.new ≡ string_bytes text.old ++ default_line (default_area topology.now)) }
+{
+    let area = default_area(topology);
+    push_parts(text, &[Text("default area "), Number(area), Text("\n")])
+}
+
 /// Appends how large an area has to be whose journal has room for `entries`.
 fn push_area(text: &mut String, topology: &Topology, entries: u32) -> Result<(), AllocError>
     requires { is_topology topology.now ≡ true }
@@ -104,6 +113,7 @@ fn checked_text(alloc: Global, topology: &Topology) -> Result<String, AllocError
     let mut text = String::new(alloc);
     push_shape(&mut text, nodes, ports, version)?;
     push_least(&mut text, topology)?;
+    push_default(&mut text, topology)?;
     push_areas(&mut text, topology, &JOURNALS)?;
     Ok(text)
 }

@@ -121,7 +121,7 @@ fn push_check<R: Files + AllocGlobal>(
     topology: &str,
     images: &str,
 ) -> Result<(), AllocError> {
-    let is_said = push_network(rt, text, topology, images, u64::MAX)?;
+    let is_said = push_network(rt, text, topology, images, None)?;
     push_unless(text, is_said)
 }
 

@@ -2,10 +2,11 @@
 
 ghost use Rattle.std.specs.Prelude.{◌≡◌, ◌++◌, true, IfOk, OnOk, string_bytes};
 ghost use Rattle.tp_model.specs.Topology.{is_topology};
-ghost use Rattle.tp_views.specs.Checked.{area_for};
+ghost use Rattle.tp_views.specs.Checked.{area_for, default_area};
 ghost use Rattle.tp_views.specs.Json.{comma, json_items};
-ghost use Rattle.tp_views.specs.JsonChecked.{area_item, area_items, checked_json, least_json, shape_json};
+ghost use Rattle.tp_views.specs.JsonChecked.{area_item, area_items, checked_json, default_json, least_json, shape_json};
 
+use crate::areas::default_area;
 use crate::checking::JOURNALS;
 use crate::formats::{form_name, version_number};
 use crate::json::comma;
@@ -43,11 +44,19 @@ fn push_least(text: &mut String, topology: &Topology) -> Result<(), AllocError>
     ensures { OnOk result (string_bytes text.new ≡ string_bytes text.old ++ least_json (area_for topology.now 1)) }
 {
     let least = area_for(topology, 1);
+    push_parts(text, &[Text(",\"least_area\":"), Number(least)])
+}
+
+/// Appends how large an area is where none is asked for.
+fn push_default(text: &mut String, topology: &Topology) -> Result<(), AllocError>
+    ensures { OnOk result (string_bytes text.new ≡ string_bytes text.old ++ default_json (default_area topology.now)) }
+{
+    let area = default_area(topology);
     push_parts(
         text,
         &[
-            Text(",\"least_area\":"),
-            Number(least),
+            Text(",\"default_area\":"),
+            Number(area),
             Text(",\"areas\":["),
         ],
     )
@@ -105,6 +114,7 @@ pub(crate) fn checked_json(alloc: Global, topology: &Topology) -> Result<String,
     let mut text = String::new(alloc);
     push_shape(&mut text, nodes, ports, version)?;
     push_least(&mut text, topology)?;
+    push_default(&mut text, topology)?;
     push_areas(&mut text, topology, &JOURNALS)?;
     write!(text, "]}}\n")?;
     Ok(text)

@@ -42,11 +42,11 @@ fn push_counts(
     push_parts(
         text,
         &[
-            Text("{\"in\":"),
+            Text("{\"taken\":"),
             Number(taken),
             Text(",\"pending\":"),
             Number(pending as u64),
-            Text(",\"out\":"),
+            Text(",\"confirmed\":"),
             Number(confirmed),
             Text(",\"unconfirmed\":"),
             Number(unconfirmed as u64),

@@ -155,7 +155,11 @@ fn push_out_front(text: &mut String, now: u128) -> Result<(), AllocError>
 {
     push_parts(
         text,
-        &[Text(",\"out\":"), Large(now), Text(",\"out_per_second\":")],
+        &[
+            Text(",\"put_out\":"),
+            Large(now),
+            Text(",\"put_out_per_second\":"),
+        ],
     )
 }
 

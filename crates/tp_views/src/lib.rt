@@ -1,6 +1,7 @@
 //! The commands that write no device, over any device and two writers: what they print, and what is said of a refusal.
 #![tactic(auto)]
 
+mod areas;
 mod by_workers;
 mod checking;
 mod commands;
@@ -40,6 +41,7 @@ mod topology_text;
 mod tracing;
 mod view;
 
+pub use areas::wanted_area;
 pub use checking::check_on;
 pub use commands::{TRY_QUANTUM, print_help, put, refuse, try_on};
 pub use explaining::explain;

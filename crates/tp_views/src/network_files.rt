@@ -72,8 +72,15 @@ fn push_images<R: Files + AllocGlobal>(
     Ok(false)
 }
 
-/// Says that an area is too small for a topology, where it is: whether it is.
-fn push_small(text: &mut String, topology: &Topology, area: u64) -> Result<bool, AllocError> {
+/// Says that an area is too small for a topology, where it is: whether it is. One that nobody asked for isn't.
+fn push_small(
+    text: &mut String,
+    topology: &Topology,
+    area: Option<u64>,
+) -> Result<bool, AllocError> {
+    let Some(area) = area else {
+        return Ok(false);
+    };
     let least = area_for(topology, 1);
     if area >= least {
         return Ok(false);
@@ -91,7 +98,7 @@ fn push_named<R: Files + AllocGlobal>(
     text: &mut String,
     named: &Named<'_>,
     folder: &str,
-    area: u64,
+    area: Option<u64>,
 ) -> Result<bool, AllocError> {
     if push_images(rt, text, named, folder)? {
         return Ok(true);
@@ -106,7 +113,7 @@ fn push_text<R: Files + AllocGlobal>(
     topology: &str,
     bytes: &[u8],
     folder: &str,
-    area: u64,
+    area: Option<u64>,
 ) -> Result<bool, AllocError> {
     let fault = match Topology::read_named(rt.alloc(), bytes) {
         Ok(named) => return push_named(rt, text, &named, folder, area),
@@ -122,7 +129,7 @@ pub(crate) fn push_network<R: Files + AllocGlobal>(
     text: &mut String,
     topology: &str,
     folder: &str,
-    area: u64,
+    area: Option<u64>,
 ) -> Result<bool, AllocError> {
     let Some(bytes) = read_again(rt, text, topology)? else {
         text.push_str("  It was named as the topology: --help has the order of the words.\n")?;

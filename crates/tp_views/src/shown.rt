@@ -97,11 +97,11 @@ fn push_port(text: &mut String, number: usize, port: &HostPort) -> Result<(), Al
         &[
             Text("port "),
             Number(number as u64),
-            Text(" in "),
+            Text(" taken "),
             Number(in_base),
             Text(" pending "),
             Number(pending as u64),
-            Text(" out "),
+            Text(" confirmed "),
             Number(out_base),
             Text(" unconfirmed "),
             Number(unconfirmed as u64),

@@ -260,7 +260,7 @@ fn push_out(
     requires { now < 2 ^ 65 }
     ensures { OnOk result (string_bytes text.new ≡ string_bytes text.old ++ out_part now since unconfirmed) }
 {
-    write!(text, " out ")?;
+    write!(text, " put_out ")?;
     push_count(text, now, since)?;
     write!(text, " unconfirmed {unconfirmed}")
 }

@@ -44,7 +44,7 @@ abbrev pub IsInRange : Asked → Type 0
 IsInRange (Help text) = Unit {0}
 IsInRange (Try image turns) = turns < 2 ^ 32
 IsInRange (Trace image steps) = (0 < steps) × (steps < 2 ^ 32)
-IsInRange (Format new) = new.area ≤ MAX_AREA
+IsInRange (Format new) = IfSome new.area (λ area. area ≤ MAX_AREA)
 IsInRange (Runs run) = IsRun run
 IsInRange (Compact device wait_lock) = Unit {0}
 IsInRange (Recover device workers) = (0 < workers) × (workers ≤ MAX_WORKERS)

@@ -1,9 +1,9 @@
 -- A number of bytes that was typed, as a decimal or with a letter behind it.
-use Rattle.std.specs.Prelude.{◌≡◌, ◌*◌, ◌++◌, ℕ, true, List, [], Option, Some, None, codes}
+use Rattle.std.specs.Prelude.{◌≡◌, ◌*◌, ◌++◌, ℕ, true, List, [], Option, Some, None, IfSome, IsSomeAnd, codes}
 use Rattle.std.specs.Fmt.{decimal}
 use Rattle.std.specs.declared.alloc.Global.{Global}
 use Rattle.std.specs.declared.string.String.{String}
-use Rattle.tp_words.specs.Typed.{was_typed}
+use Rattle.tp_words.specs.Typed.{has_word}
 use Rattle.tp_words.specs.declared.sizes.Measure.{Measure}
 use Rattle.tp_words.specs.declared.sizes.Measure.TheVariants.{Bytes, Kilo, Mega, Giga}
 
@@ -28,7 +28,13 @@ pub record IsSize (text : List ℕ) (size : ℕ) : Type 0 where
   pub spelt : text ≡ decimal number ++ letter measure
   pub is : size ≡ number * bytes_each measure
 
--- an area has the bytes that were typed for its option, and where none were the decimal of a word
-abbrev pub IsArea : List (String Global) → ℕ → Option (List ℕ) → Type 0
-IsArea words area None = was_typed words (decimal area) ≡ true
-IsArea words area (Some text) = IsSize text area
+-- one of the words says the size
+pub record IsWordSize (words : List (String Global)) (size : ℕ) : Type 0 where
+  pub text : List ℕ
+  pub there : has_word text words ≡ true
+  pub is : IsSize text size
+
+-- an area has the bytes that were typed for its option; where none were it has those of a word, or no area is asked for
+abbrev pub IsArea : List (String Global) → Option ℕ → Option (List ℕ) → Type 0
+IsArea words area None = IfSome area (IsWordSize words)
+IsArea words area (Some text) = IsSomeAnd area (IsSize text)

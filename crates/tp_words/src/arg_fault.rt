@@ -18,10 +18,8 @@ pub enum ArgFault {
         least: u64,
         most: u64,
     },
-    /// The number of bytes of an area is no decimal in its range.
-    Area,
-    /// What was typed for `--area` is no size in its range.
-    Size,
+    /// What was typed for AREA, or for `--area`, is no size in its range.
+    Size(&'static str),
     /// The number of a node, a port or an entry is no decimal.
     Number,
     /// The last entry that is asked for is before the first one.
@@ -80,11 +78,9 @@ impl fmt::Display for ArgFault {
         match self {
             ArgFault::Words(error) => write!(f, "{error}"),
             ArgFault::Range { id, least, most } => say_range(f, id, *least, *most),
-            ArgFault::Area => f.write_str(
-                "tpnet: AREA takes a decimal from 0 to 1099511627776, without a sign or leading zeros\n",
-            ),
-            ArgFault::Size => f.write_str(
-                "tpnet: --area takes a decimal without a sign or leading zeros, or one with K, M or G right behind it, of at most 1099511627776 bytes\n",
+            ArgFault::Size(name) => write!(
+                f,
+                "tpnet: {name} takes a decimal without a sign or leading zeros, or one with K, M or G right after it, of at most 1099511627776 bytes\n"
             ),
             ArgFault::Number => f.write_str(
                 "tpnet: a number of a node or a port is a decimal below 2^64, without a sign or leading zeros\n",

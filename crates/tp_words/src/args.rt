@@ -65,13 +65,14 @@ pub enum Asked {
     },
 }
 
-/// A device that is to be made: its file, the file of its topology, the folder of the images, and the bytes of an area.
+/// A device that is to be made: its file, the file of its topology, the folder of the images, and the bytes of an area; `None`: as many as
+/// `tpnet check` says for it.
 #[derive(Drop)]
 pub struct NewDevice {
     pub device: String,
     pub topology: String,
     pub images: String,
-    pub area: u64,
+    pub area: Option<u64>,
     /// Whether a file that is there is refused.
     pub only_new: bool,
     /// How many seconds another process is waited for that holds it.

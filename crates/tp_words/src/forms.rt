@@ -85,11 +85,7 @@ pub const FORMAT: Form = Form {
         NO_EXPLAIN,
         Word::Flag("new", "refuse a file that is there already"),
         WAIT_LOCK,
-        Word::Value(
-            "area",
-            "SIZE",
-            "the bytes of each area in place of AREA: a decimal, or one with K, M or G behind it (64K is 65536)",
-        ),
+        Word::Value("area", "SIZE", "AREA, as an option"),
         Word::Place(
             "DEVICE",
             "the file that is made, with 512 + 2 AREA bytes, or 1024 + 2 AREA for more than 16 nodes, or more than 256 pages in one",
@@ -99,7 +95,7 @@ pub const FORMAT: Form = Form {
         Word::Instead(
             "AREA",
             "area",
-            "how many bytes each of the two areas has, up to 2^40",
+            "the bytes of each of the two areas, up to 2^40: a decimal, or one with K, M or G after it, as 64K (the least with room for 65536 journal entries between two checkpoints, as tpnet check says)",
         ),
     ],
 };

@@ -5,8 +5,8 @@ ghost use Rattle.std.specs.Fmt.{decimal};
 ghost use Rattle.std.specs.Option.{option_map};
 ghost use Rattle.tp_words.specs.Given.{given, has_flag, IsGivenOr};
 ghost use Rattle.tp_words.specs.Numbers.{Fits, FoundOther, IsNumberFault};
-ghost use Rattle.tp_words.specs.Size.{IsArea, IsSize};
-ghost use Rattle.tp_words.specs.StreamRefused.{FoundNoWord};
+ghost use Rattle.tp_words.specs.Size.{IsArea, IsSize, IsWordSize};
+ghost use Rattle.tp_words.specs.StreamRefused.{FoundNoWord, FoundNothing};
 ghost use Rattle.tp_words.specs.Typed.{has_word, was_typed};
 ghost use Rattle.tp_words.specs.declared.arg_fault.ArgFault.TheVariants.{Missing, Memory};
 
@@ -16,29 +16,6 @@ use crate::numbers::{given, has_flag, has_word, number_of, was_typed};
 use crate::sizes::size_of;
 use clap::ArgMatches;
 use std::alloc::Global;
-
-/// The number that was typed for `id`, which has to be at most `most`.
-fn number_in(
-    alloc: Global,
-    words: &[String],
-    found: &ArgMatches,
-    id: &str,
-    most: u64,
-) -> Result<Option<u64>, ArgFault>
-    ensures range { IfOk result (λ found. IfSome found (λ number. number ≤ most)) }
-    ensures typed { IfOk result (λ found. IfSome found (λ number. was_typed words.now (decimal number) ≡ true)) }
-{
-    let Some(text) = found.get_str(id) else {
-        return Err(ArgFault::Missing);
-    };
-    if !was_typed(alloc, words, text)? {
-        return Err(ArgFault::Missing);
-    }
-    match number_of(alloc, text)? {
-        Some(number) if number <= most => Ok(Some(number)),
-        _ => Ok(None),
-    }
-}
 
 /// What was typed for an option, by the words themselves. `clap` has to have found that too.
 fn option_text<'a>(
@@ -154,35 +131,40 @@ pub fn turns_of(alloc: Global, words: &[String], found: &ArgMatches) -> Result<u
     }
 }
 
-/// How many bytes an area has, by the word of it.
-fn word_area(alloc: Global, words: &[String], found: &ArgMatches) -> Result<u64, ArgFault>
-    ensures range { IfOk result (λ area. area ≤ MAX_AREA) }
-    ensures typed { IfOk result (λ area. was_typed words.now (decimal area) ≡ true) }
-{
-    match number_in(alloc, words, found, "AREA", MAX_AREA)? {
-        Some(area) => Ok(area),
-        None => Err(ArgFault::Area),
-    }
-}
-
-/// How many bytes an area has, by a size that was typed.
-fn size_area(alloc: Global, text: &str) -> Result<u64, ArgFault>
+/// How many bytes an area has, by the size that was typed for `name`.
+fn size_area(alloc: Global, text: &str, name: &'static str) -> Result<u64, ArgFault>
     ensures range { IfOk result (λ area. area ≤ MAX_AREA) }
     ensures typed { IfOk result (IsSize text.now) }
 {
     match size_of(alloc, text)? {
         Some(size) if size <= MAX_AREA => Ok(size),
-        _ => Err(ArgFault::Size),
+        _ => Err(ArgFault::Size(name)),
     }
 }
 
-/// How many bytes an area has: by `--area`, and where that isn't given by the word of it.
-pub fn area_of(alloc: Global, words: &[String], found: &ArgMatches) -> Result<u64, ArgFault>
-    ensures range { IfOk result (λ area. area ≤ MAX_AREA) }
+/// How many bytes an area has, by the word of it, where there is one.
+fn word_area(alloc: Global, words: &[String], found: &ArgMatches) -> Result<Option<u64>, ArgFault>
+    ensures range { IfOk result (λ area. IfSome area (λ area. area ≤ MAX_AREA)) }
+    ensures typed { IfOk result (λ area. IfSome area (IsWordSize words.now)) }
+    ensures none { IfOk result (λ area. area ≡ None → FoundNothing found.now (codes "AREA")) }
+{
+    let Some(text) = found.get_str("AREA") else {
+        return Ok(None);
+    };
+    if !has_word(words, text) {
+        return Err(ArgFault::Missing);
+    }
+    Ok(Some(size_area(alloc, text, "AREA")?))
+}
+
+/// How many bytes an area has: by `--area`, and where that isn't given by the word of it; `None`: neither is.
+pub fn area_of(alloc: Global, words: &[String], found: &ArgMatches) -> Result<Option<u64>, ArgFault>
+    ensures range { IfOk result (λ area. IfSome area (λ area. area ≤ MAX_AREA)) }
     ensures typed { IfOk result (λ area. IsArea words.now area (given (codes "area") words.now)) }
+    ensures none { IfOk result (λ area. area ≡ None → FoundNothing found.now (codes "AREA")) }
 {
     match option_text(alloc, words, found, "area")? {
-        Some(text) => size_area(alloc, text),
+        Some(text) => Ok(Some(size_area(alloc, text, "--area")?)),
         None => word_area(alloc, words, found),
     }
 }
@@ -215,7 +197,13 @@ pub fn place_of(
 ) -> Result<u64, ArgFault>
     ensures { IfOk result (λ number. was_typed words.now (decimal number) ≡ true) }
 {
-    match number_in(alloc, words, found, id, u64::MAX)? {
+    let Some(text) = found.get_str(id) else {
+        return Err(ArgFault::Missing);
+    };
+    if !was_typed(alloc, words, text)? {
+        return Err(ArgFault::Missing);
+    }
+    match number_of(alloc, text)? {
         Some(number) => Ok(number),
         None => Err(ArgFault::Number),
     }

@@ -25,7 +25,8 @@ Refusals (status 1):
 /// What the lines of `tpnet check` mean, and what it refuses.
 pub const CHECK_REFUSALS: &str =
     "It says which version of the head format would write, 1 for at most 16 nodes of at most 256 pages each, and else 2, and the form
-of its areas; then the least AREA, and AREAs with room for so many entries between two checkpoints.
+of its areas; then the least AREA, the one that format takes by default, and AREAs with room for 4096, 65536 and 1048576 entries
+between two checkpoints.
 Refusals (status 1):
   ReadFailed    TOPOLOGY or an image can't be read: look at its path and its rights
   Syntax L      line L of TOPOLOGY is malformed; at 0 a node or a port is missing
@@ -50,7 +51,7 @@ Refusals (status 1); all but DeviceFailed leave a file that is there as it was:
   DeviceFailed  DEVICE can't be made or written, or standard output can't: look at rights and room; once there is room
                 for it what was there is written over, and may be gone: --new or a new path keeps an old device
   BadImage      an image is none, has other pages than its node, or a link of it is at work
-  AreaFull      AREA is too small: tpnet check says how large it has to be
+  AreaFull      AREA is too small: tpnet check says how large it has to be, and without AREA it is large enough
   Memory        there is no memory left
 A DEVICE that is the file of TOPOLOGY or of an image, under whatever name, ends with status 2, and stays as it was.";
 
@@ -74,10 +75,13 @@ pub const STATUS_REFUSALS: &str = "The line:
   form F          turns, or plain: its journal holds no turns, as another program wrote it; the next checkpoint changes that
   next M          the number of the next journal entry
   entries E of R  the journal has E entries since that checkpoint, and room for R: how much of it that is, in percent
-  port P          and of each port: how many bytes it has accepted, and how many of these are pending, as no node has
-                  taken them; how many it has put out, and how many of these are unconfirmed
+  port P          and of each port:
+  accepted A      how many bytes it has accepted in all
+  pending Y       how many of these no node has taken yet
+  put_out Z       how many bytes it has put out in all
+  unconfirmed N   how many of these aren't confirmed
   halted I F at A node I has halted by the fault F at the address A, each node so; or none has
-  +N/s            with --every: how much next, accepted and out grew in a second since the look before
+  +N/s            with --every: how much next, accepted and put_out grew in a second since the look before
 DEVICE may be run meanwhile: what is printed is so at one moment of the call.
 Refusals (status 1), which end --every; nothing is written to DEVICE:
   ReadFailed    DEVICE can't be opened or read, or is no regular file: look at its path and its rights

@@ -21,7 +21,7 @@ const VERSION: &str =
 pub enum Word {
     /// A word that has to be there.
     Place(&'static str, &'static str),
-    /// A word that has to be there just where the option of the second name isn't.
+    /// A word that may be there, but not beside the option of the second name.
     Instead(&'static str, &'static str, &'static str),
     /// An option without a value.
     Flag(&'static str, &'static str),
@@ -147,17 +147,6 @@ fn option<'a>(alloc: Global, id: &'a str, value: &'a str, help: &'a str) -> Arg<
         .help(help)
 }
 
-/// A word that has to be there just where an option isn't.
-fn instead<'a>(
-    alloc: Global,
-    id: &'a str,
-    other: &'a str,
-    help: &'a str,
-) -> Result<Arg<'a>, AllocError> {
-    let arg = Arg::new(alloc, id).action(ArgAction::Set).help(help);
-    arg.conflicts_with(other)?.required_unless_present(other)
-}
-
 /// A word as `clap` takes it.
 fn arg_of<'a>(alloc: Global, word: &Word) -> Result<Arg<'a>, AllocError> {
     match *word {
@@ -167,7 +156,12 @@ fn arg_of<'a>(alloc: Global, word: &Word) -> Result<Arg<'a>, AllocError> {
                 .action(ArgAction::Set)
                 .help(help),
         ),
-        Word::Instead(id, other, help) => instead(alloc, id, other, help),
+        Word::Instead(id, other, help) => {
+            Arg::new(alloc, id)
+                .action(ArgAction::Set)
+                .help(help)
+                .conflicts_with(other)
+        }
         Word::Flag(id, help) => Ok(flag(alloc, id, help)),
         Word::Mark(id, help) => Ok(flag(alloc, id, help).required(true)),
         Word::Unless(id, other, help) => flag(alloc, id, help).conflicts_with(other),

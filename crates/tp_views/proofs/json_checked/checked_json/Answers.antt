@@ -1,8 +1,8 @@
 use Rattle.std.proofs.Common.{◌≡◌, ◌∙◌, ◌++◌, ◌∷◌, [], List, ℕ, ap, append_assoc, codes, length, string_bytes}
 use Rattle.tp_model.specs.Head.{version_byte, version_for}
-use Rattle.tp_views.specs.Checked.{area_for}
+use Rattle.tp_views.specs.Checked.{area_for, default_area}
 use Rattle.tp_views.specs.Json.{json_items}
-use Rattle.tp_views.specs.JsonChecked.{area_items, least_json, shape_json}
+use Rattle.tp_views.specs.JsonChecked.{area_items, default_json, least_json, shape_json}
 use Rattle.tp_views.proofs.json_checked.checked_json.Goals as goal
 
 pub returns : goal.returns
@@ -11,6 +11,7 @@ returns c =
     let version = c.version_number-version.ensures ∙ ap version_byte c.version_for.ensures.value in
     let shape : List ℕ = shape_json (length t.pages) t.ports (version_byte (version_for t)) in
     let least : List ℕ = least_json (area_for t 1) in
+    let default : List ℕ = default_json (default_area t) in
     let areas : List ℕ = json_items 0 (area_items t (4096 ∷ 65536 ∷ 1048576 ∷ [])) in
     let end : List ℕ = codes "]}\n" in
     let shaped : string_bytes c.push_shape.new.text ≡ shape =
@@ -18,6 +19,8 @@ returns c =
     ∙ (λ i. c.new-text.ensures.bytes i ++ shape_json (length (c.pages.ensures.value i)) (c.port_count-ports.ensures.value i) (version i)) in
     c.in_ok-write.ensures.bytes
     ∙ ap (λ bytes. bytes ++ end) (c.in_ok-push_areas.ensures
-    ∙ ap (λ bytes. bytes ++ areas) (c.in_ok-push_least.ensures ∙ ap (λ bytes. bytes ++ least) shaped))
-    ∙ append_assoc (shape ++ least) areas end
-    ∙ append_assoc shape least (areas ++ end)
+    ∙ ap (λ bytes. bytes ++ areas) (c.in_ok-push_default.ensures
+    ∙ ap (λ bytes. bytes ++ default) (c.in_ok-push_least.ensures ∙ ap (λ bytes. bytes ++ least) shaped)))
+    ∙ append_assoc ((shape ++ least) ++ default) areas end
+    ∙ append_assoc (shape ++ least) default (areas ++ end)
+    ∙ append_assoc shape least (default ++ (areas ++ end))
