@@ -8,6 +8,7 @@ pub mod Parts
 pub mod Played
 pub mod Ports
 pub mod Reading
+pub mod Room
 pub mod RowsAnswers
 pub mod RowsInside
 pub mod RowsRead

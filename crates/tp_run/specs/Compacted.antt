@@ -12,7 +12,8 @@ use Rattle.tp_model.specs.DiskHistory.{State, LeavesOnly}
 use Rattle.tp_book.specs.declared.refusal.Refusal.{Refusal}
 use Rattle.tp_book.specs.declared.refusal.Refusal.TheVariants as refusal
 use Rattle.tp_flush.specs.Follows.{Follows}
-use Rattle.tp_area.specs.Capacity.{capacity, journal_of}
+use Rattle.tp_area.specs.Capacity.{journal_of}
+use Rattle.tp_recover.specs.Room.{entries_left}
 use Rattle.tp_flush.specs.declared.fault.FlushFault.{FlushFault}
 use Rattle.tp_flush.specs.declared.fault.FlushFault.TheVariants as flush
 use Rattle.tp_run.specs.Answered.{IsUnopened, OpenedWith}
@@ -21,9 +22,9 @@ use Rattle.tp_run.specs.declared.compacting.Compaction.{Compaction}
 use Rattle.tp_run.specs.declared.compacting.CompactFault.{CompactFault}
 use Rattle.tp_run.specs.declared.compacting.CompactFault.TheVariants.{Opening, NoGeneration, DeviceFailed, NotWhole, Memory}
 
--- how many entries the journal of an area takes behind a cut
-abbrev pub room_behind : Topology → ℕ → ℕ
-room_behind t area = capacity (journal_of t area)
+-- how many entries the journal of an area takes behind a cut, where the next one gets the number `next`
+abbrev pub room_behind : Topology → ℕ → ℕ → ℕ
+room_behind t area next = entries_left 0 next (journal_of t area)
 
 -- the device isn't written
 abbrev pub StaysUnopened : {A : Type 0} → Result A CompactFault → Type 0
@@ -78,12 +79,12 @@ begin_fault refusal.PortFull = Some NotWhole
 abbrev pub IsBeginFault : CompactFault → Type 0
 IsBeginFault fault = (fault ≡ Memory) ⊎ (fault ≡ NotWhole)
 
--- The device opened, its generation is one more, and its journal takes no more entries than fit into its areas.
+-- The device opened, its generation is one more, and its journal takes no more entries than fit into its areas, and than numbers are left.
 pub record GrewByOne (given : Result Opened OpenFault) (done : Compaction) : Type 0 where
   pub opened : Opened
   pub is : given ≡ Ok opened
   pub generation : done.generation ≡ opened.generation + 1
-  pub room : done.room ≤ room_behind opened.head.topology opened.head.areas.length
+  pub room : done.room ≤ room_behind opened.head.topology opened.head.areas.length done.next
 
 -- A crash at any moment leaves what one just before might have left, or what opens to where a prefix of the journal leads, with all that
 -- the device had as it was opened: that is the journal's beginning, and the next number is no less than it was. Once it was done, the

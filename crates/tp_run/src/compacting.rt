@@ -6,7 +6,7 @@ ghost use Rattle.tp_area.specs.Places.{place_at};
 ghost use Rattle.tp_flush.specs.Flushing.{IsSameProcess, Walked};
 ghost use Rattle.tp_flush.specs.Known.{Began};
 ghost use Rattle.tp_law_machine.specs.NodeOfBytes.{IsNodeOfBytes};
-ghost use Rattle.tp_area.specs.Capacity.{capacity};
+ghost use Rattle.tp_recover.specs.Room.{entries_left};
 ghost use Rattle.tp_model.specs.DiskHistory.{IsSynced};
 ghost use Rattle.tp_model.specs.Journal.{is_full_for_snapshot, is_roomy, room};
 ghost use Rattle.tp_model.specs.Node.{t414_ends};
@@ -35,7 +35,7 @@ use tp_flush::{FlushFault, Flusher, topology_of};
 use tp_model::limits::NUMBER_LIMIT;
 use tp_net::Topology;
 use tp_ready::Raiser;
-use tp_recover::{Opened, Unopened, open};
+use tp_recover::{Opened, Unopened, entries_left, open};
 use tp_shared::{Naming, Parts, Shared};
 
 /// What is so of a device that was compacted: the number that its next entry gets, the generation of its cut, and how many entries
@@ -84,13 +84,13 @@ impl fmt::Debug for CompactFault {
 
 impl Error for CompactFault {}
 
-/// How many entries `journal` takes behind those that were made since the kept cut.
-fn left_in<J: Naming, R: Wait>(rt: &R, shared: &Shared<J>, journal: JournalRoom) -> u64
-    ensures { result ≤ capacity journal }
+/// How many entries `journal` takes behind those that were made since the kept cut, where the next one gets the number `next`.
+fn left_in<J: Naming, R: Wait>(rt: &R, shared: &Shared<J>, journal: JournalRoom, next: u64) -> u64
+    ensures { result ≤ entries_left 0 next journal }
 {
     let held = shared.book().lock(rt);
     let made = held.book().next().saturating_sub(held.book().base());
-    journal.left(made)
+    entries_left(journal, made, next)
 }
 
 /// Whether no generation is left behind this one.
@@ -172,7 +172,7 @@ fn switch_all<J: Naming, D: Disk, R: Wait>(
     ensures last { SaysLast result (is_full_for_snapshot flusher.old.place.generation) }
     ensures stored { IfOk result (λ done. done.next ≡ flusher.new.world.mark) }
     ensures switched { IfOk result (λ done. done.generation ≡ flusher.old.place.generation + 1) }
-    ensures room { IfOk result (λ done. done.room ≤ capacity journal) }
+    ensures room { IfOk result (λ done. done.room ≤ entries_left 0 done.next journal) }
 {
     flusher.known();
     if is_last(flusher.generation()) {
@@ -192,7 +192,7 @@ fn switch_all<J: Naming, D: Disk, R: Wait>(
     Ok(Compaction {
         next: flushed.mark,
         generation: flusher.generation(),
-        room: left_in(rt, shared, journal),
+        room: left_in(rt, shared, journal, flushed.mark),
     })
 }
 
@@ -220,7 +220,7 @@ fn compact_parts<J: Naming, D: Disk, R: Wait>(
     ensures size { D.size_of result.0 ≡ D.size_of store.disk }
     ensures kept { D.keeps → Began J.formatted J.before (D.state store.disk).now.bytes → Compacted J.formatted result.1 (D.state store.disk) (D.state result.0) }
     ensures switched { IfOk result.1 (λ done. done.generation ≡ store.place.generation + 1) }
-    ensures room { IfOk result.1 (λ done. done.room ≤ room_behind topology store.place.areas.length) }
+    ensures room { IfOk result.1 (λ done. done.room ≤ room_behind topology store.place.areas.length done.next) }
     ensures failures { D.failures_of result.0 ≡ failures_after (has_failed_in result.1) (D.failures_of store.disk) }
     ensures last { SaysLast result.1 (is_full_for_snapshot store.place.generation) }
 {

@@ -147,6 +147,19 @@ symlink /dev/null null_device
 tpnet compact null_device
 asked write
 
+story last_numbers
+# Ten numbers are left below 2^48, so ten entries are what the journal takes, though it has room for 105.
+text net.txt node a 4\nport h\nwire a.0 h\n
+image a.img
+tpnet format device net.txt . 16384
+set device 525 F5 FF FF FF FF FF
+tpnet status device
+tpnet compact device
+tpnet run device --turns 4 --workers 1 --quantum 16
+tpnet status device
+tpnet compact device
+tpnet status device
+
 story last_generation
 # Behind the last generation but one there is one cut more; behind the last one there is none, and the device stays as it is.
 text net.txt node a 4\nport h\nwire a.0 h\n

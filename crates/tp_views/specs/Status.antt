@@ -2,12 +2,13 @@
 use Rattle.std.specs.Prelude.{◌≡◌, ℕ, ◌+◌, ◌-◌, ◌*◌, ◌/◌, ◌==◌, Bool, if◌then◌else◌, List, [], ◌∷◌, ◌++◌, length, map, codes, Option, Some, None, slice_get}
 use Rattle.std.specs.Fmt.{decimal}
 use Rattle.std.specs.Option.{option_map}
-use Rattle.tp_area.specs.Capacity.{capacity, journal_of}
+use Rattle.tp_area.specs.Capacity.{journal_of}
 use Rattle.tp_model.specs.NodeState.{NodeState}
 use Rattle.tp_model.specs.Network.{Port}
 use Rattle.tp_model.specs.Opening.{Opened, next_of}
 use Rattle.tp_model.specs.declared.form.Form.{Form}
 use Rattle.tp_node.specs.Standing.{standing}
+use Rattle.tp_recover.specs.Room.{entries_left}
 use Rattle.tp_node.specs.declared.standing.Standing.{Standing}
 use Rattle.tp_node.specs.declared.standing.Standing.TheVariants.{Halted, Waits, Free}
 use Rattle.tp_trace.specs.Hex.{hex_word}
@@ -116,9 +117,9 @@ abbrev pub halted_or_none : List ℕ → List ℕ
 halted_or_none [] = codes " halted none"
 halted_or_none (byte ∷ bytes) = byte ∷ bytes
 
--- How many entries the journal has room for.
+-- How many entries the journal has room for, the first one behind its cut.
 abbrev pub entries_room : Opened → ℕ
-entries_room o = capacity (journal_of o.head.topology o.head.areas.length)
+entries_room o = entries_left 0 o.base (journal_of o.head.topology o.head.areas.length)
 
 -- The line of a device that opened, where a process held it or none did, at a time in milliseconds, behind what a look before saw.
 abbrev pub status_line : Bool → ℕ → Option Seen → Opened → List ℕ

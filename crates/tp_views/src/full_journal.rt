@@ -3,9 +3,9 @@
 ghost use Rattle.std.specs.Prelude.{◌≡◌, ◌↔◌, ◌<◌, ◌≤◌, ◌+◌, true, false, None, IfSome};
 
 use crate::looking::push_rest;
+use crate::status::room_of;
 use std::alloc::AllocError;
 use std::fmt::Write;
-use tp_area::JournalRoom;
 use tp_model::limits::MAX_HELD;
 use tp_recover::Opened;
 use tp_words::{Run, Shown};
@@ -25,12 +25,6 @@ fn offered(run: &Run, opened: &Opened, input: usize) -> u64 {
         }
         None => 0,
     }
-}
-
-/// How many entries a device's journal takes.
-fn journal_entries(opened: &Opened) -> u64 {
-    let head = opened.head();
-    JournalRoom::of(head.topology(), head.areas().length).capacity()
 }
 
 /// Says how many entries a journal has, and how many it has room for.
@@ -108,7 +102,7 @@ pub(crate) fn push_journal(
         Some(length) => Some(offered(run, opened, length)),
         None => None,
     };
-    let (entries, most) = (opened.kept().len() as u64, journal_entries(opened));
+    let (entries, most) = (opened.kept().len() as u64, room_of(opened));
     if has_room(entries, most, wanted) {
         return push_rest(text);
     }

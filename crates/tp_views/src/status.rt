@@ -13,7 +13,7 @@ use tp_area::JournalRoom;
 use tp_book::HostPort;
 use tp_model::Form;
 use tp_node::{Node, Standing};
-use tp_recover::Opened;
+use tp_recover::{Opened, entries_left};
 use tp_trace::fault_name;
 
 /// What a look sees of a port: how many bytes it has accepted, and how many it has put out.
@@ -352,7 +352,8 @@ pub(crate) fn room_of(opened: &Opened) -> u64
     ensures { result ≡ entries_room opened.now }
 {
     let head = opened.head();
-    JournalRoom::of(head.topology(), head.areas().length).capacity()
+    let journal = JournalRoom::of(head.topology(), head.areas().length);
+    entries_left(journal, 0, opened.base())
 }
 
 /// The line of an opened device: `held` says whether a process holds it, and `before` what a look before saw; it is `at` milliseconds.

@@ -5,7 +5,7 @@ use Rattle.std.specs.declared.alloc.Global.{Global}
 use Rattle.std.specs.declared.string.String.{String}
 use Rattle.clap.specs.declared.parser.matches.ArgMatches.{ArgMatches}
 use Rattle.tp_words.specs.declared.arg_fault.ArgFault.{ArgFault}
-use Rattle.tp_words.specs.declared.arg_fault.ArgFault.TheVariants.{Words, Range, Area, Size, Number, Order, Many, Stream, Missing, Memory}
+use Rattle.tp_words.specs.declared.arg_fault.ArgFault.TheVariants.{Words, Range, Size, Number, Order, Many, Stream, Missing, Memory}
 use Rattle.tp_words.specs.declared.args.TheConstants.{MAX_WORDS}
 use Rattle.tp_words.specs.declared.command.CommandFault.{CommandFault}
 use Rattle.tp_words.specs.declared.command.CommandFault.TheVariants.{Arg, Ends}
@@ -22,8 +22,7 @@ on_told (Err fault) told P is holds = subst P (sym is) holds
 pub unparsed : (words : List (String Global)) (fault : ArgFault) → IsUnparsed words fault → IsStreamRefused words (Arg fault)
 unparsed words (Words error) is = is
 unparsed words (Range id least most) is = absurd (is)
-unparsed words Area is = absurd (is)
-unparsed words Size is = absurd (is)
+unparsed words (Size name) is = absurd (is)
 unparsed words Number is = absurd (is)
 unparsed words Order is = absurd (is)
 unparsed words Many is = is
@@ -52,10 +51,8 @@ of_match words (Arg (Words error)) few (inl missing) = absurd (cc)
 of_match words (Arg (Words error)) few (inr at) = absurd (never at.0 words (Words error) (λ option is. is) (λ is. is) at.1)
 of_match words (Arg (Range id least most)) few (inl missing) = absurd (cc)
 of_match words (Arg (Range id least most)) few (inr at) = (few, at.0, at.1)
-of_match words (Arg Area) few (inl missing) = absurd (cc)
-of_match words (Arg Area) few (inr at) = (few, at.0, at.1)
-of_match words (Arg Size) few (inl missing) = absurd (cc)
-of_match words (Arg Size) few (inr at) = (few, at.0, at.1)
+of_match words (Arg (Size name)) few (inl missing) = absurd (cc)
+of_match words (Arg (Size name)) few (inr at) = (few, at.0, at.1)
 of_match words (Arg Number) few (inl missing) = absurd (cc)
 of_match words (Arg Number) few (inr at) = (few, at.0, at.1)
 of_match words (Arg Order) few (inl missing) = absurd (cc)

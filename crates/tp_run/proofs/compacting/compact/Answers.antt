@@ -50,12 +50,12 @@ returns-clause-grown g c k =
     let opened = c.in-Ok.opened in
     let topology = c.topology_of-topology.result in
     let area = ap (λ (p : Place). p.areas.length) c.store-store.ensures.place in
-    if_both c.compact_parts.result.1 (λ done. done.generation ≡ c.store-store.result.place.generation + 1) (λ done. done.room ≤ room_behind topology c.store-store.result.place.areas.length) _
+    if_both c.compact_parts.result.1 (λ done. done.generation ≡ c.store-store.result.place.generation + 1) (λ done. done.room ≤ room_behind topology c.store-store.result.place.areas.length done.next) _
     (λ done grown room. record {
       opened = opened;
       is = c.in-Ok.ensures.is k;
       generation = grown ∙ ap (λ (p : Place). p.generation + 1) c.store-store.ensures.place;
-      room = subst (λ (t : Topology). done.room ≤ room_behind t opened.head.areas.length) c.topology_of-topology.ensures (subst (λ (bytes : ℕ). done.room ≤ room_behind topology bytes) area room);
+      room = subst (λ (t : Topology). done.room ≤ room_behind t opened.head.areas.length done.next) c.topology_of-topology.ensures (subst (λ (bytes : ℕ). done.room ≤ room_behind topology bytes done.next) area room);
     })
     c.compact_parts.ensures.switched c.compact_parts.ensures.room
 
