@@ -2,13 +2,13 @@ pub mod AfterGroups
 pub mod Chosen
 pub mod Copies
 pub mod Cuts
+pub mod EntriesLeft
 pub mod Nodes
 pub mod Opens
 pub mod Parts
 pub mod Played
 pub mod Ports
 pub mod Reading
-pub mod Room
 pub mod RowsAnswers
 pub mod RowsInside
 pub mod RowsRead

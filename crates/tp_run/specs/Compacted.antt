@@ -13,7 +13,7 @@ use Rattle.tp_book.specs.declared.refusal.Refusal.{Refusal}
 use Rattle.tp_book.specs.declared.refusal.Refusal.TheVariants as refusal
 use Rattle.tp_flush.specs.Follows.{Follows}
 use Rattle.tp_area.specs.Capacity.{journal_of}
-use Rattle.tp_recover.specs.Room.{entries_left}
+use Rattle.tp_recover.specs.EntriesLeft.{entries_left}
 use Rattle.tp_flush.specs.declared.fault.FlushFault.{FlushFault}
 use Rattle.tp_flush.specs.declared.fault.FlushFault.TheVariants as flush
 use Rattle.tp_run.specs.Answered.{IsUnopened, OpenedWith}

@@ -6,7 +6,7 @@ ghost use Rattle.tp_area.specs.Places.{place_at};
 ghost use Rattle.tp_flush.specs.Flushing.{IsSameProcess, Walked};
 ghost use Rattle.tp_flush.specs.Known.{Began};
 ghost use Rattle.tp_law_machine.specs.NodeOfBytes.{IsNodeOfBytes};
-ghost use Rattle.tp_recover.specs.Room.{entries_left};
+ghost use Rattle.tp_recover.specs.EntriesLeft.{entries_left};
 ghost use Rattle.tp_model.specs.DiskHistory.{IsSynced};
 ghost use Rattle.tp_model.specs.Journal.{is_full_for_snapshot, is_roomy, room};
 ghost use Rattle.tp_model.specs.Node.{t414_ends};

@@ -8,7 +8,7 @@ use Rattle.tp_model.specs.Network.{Port}
 use Rattle.tp_model.specs.Opening.{Opened, next_of}
 use Rattle.tp_model.specs.declared.form.Form.{Form}
 use Rattle.tp_node.specs.Standing.{standing}
-use Rattle.tp_recover.specs.Room.{entries_left}
+use Rattle.tp_recover.specs.EntriesLeft.{entries_left}
 use Rattle.tp_node.specs.declared.standing.Standing.{Standing}
 use Rattle.tp_node.specs.declared.standing.Standing.TheVariants.{Halted, Waits, Free}
 use Rattle.tp_trace.specs.Hex.{hex_word}
