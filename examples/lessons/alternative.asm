@@ -1,6 +1,6 @@
 # Takes a character from whichever of two channels has one; if both have one, from the one that `disc` names first. One process sends
 # ten `q`, another one three `S`. The characters are put out in the order in which they were taken.
-include "io.asm"
+include "io.inc"
     process choose chooser
     process quick one
     process slow two

@@ -2,7 +2,7 @@
 #   0       an address and a word: the word goes there
 #   1       an address: the word there is sent back
 #   2..255  so many bytes of code: they go to 80000048, and begin there, with the workspace at the next word behind them
-include "io.asm"
+include "io.inc"
     process start main
 
 first = 1

@@ -1,6 +1,6 @@
 # Prints 1! to 12!, with two procedures that call themselves. `call` puts the return address and the stack of three into four new words
 # of the workspace: word 1 is the A of the caller.
-include "io.asm"
+include "io.inc"
     process start main
 
 number = 1

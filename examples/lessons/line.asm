@@ -1,5 +1,5 @@
 # Reads lines from link 0, and puts each out backwards. A line has at most 80 characters; a longer one is parted there.
-include "io.asm"
+include "io.inc"
     process start main
 
 character = 1           # words of the workspace

@@ -1,6 +1,6 @@
 # A process of low priority hands a byte to one of high priority, which goes on at once: it notes `H` before the low one notes `l` again.
 # At the end the notes are put out.
-include "io.asm"
+include "io.inc"
     process low main
     process high above high
 

@@ -6,7 +6,7 @@ use std::io::Write;
 use std::time::Clock;
 
 /// A writer that waits before its first byte until what was said is written: where a port's output begins is said first. But it waits for
-/// some seconds at most, and never again: whoever reads nothing of what is said gets each byte all the same.
+/// some seconds at most, and never again: whoever reads nothing of what is said still gets each byte.
 #[derive(Drop)]
 pub(crate) struct Printing<'a, R, W: Drop> {
     rt: &'a R,
