@@ -5,7 +5,7 @@ use Rattle.std.specs.declared.alloc.Global.{Global}
 use Rattle.std.specs.declared.string.String.{String}
 use Rattle.clap.specs.declared.parser.matches.ArgMatches.{ArgMatches}
 use Rattle.tp_words.specs.declared.arg_fault.ArgFault.{ArgFault}
-use Rattle.tp_words.specs.declared.arg_fault.ArgFault.TheVariants.{Words, Range, Size, Number, Order, Many, Stream, Missing, Memory}
+use Rattle.tp_words.specs.declared.arg_fault.ArgFault.TheVariants.{Words, Range, Size, Number, Order, Many, Stream, BothExplain, Missing, Memory}
 use Rattle.tp_words.specs.declared.args.TheConstants.{MAX_WORDS}
 use Rattle.tp_words.specs.declared.command.CommandFault.{CommandFault}
 use Rattle.tp_words.specs.declared.command.CommandFault.TheVariants.{Arg, Ends}
@@ -27,6 +27,7 @@ unparsed words Number is = absurd (is)
 unparsed words Order is = absurd (is)
 unparsed words Many is = is
 unparsed words (Stream id) is = absurd (is)
+unparsed words BothExplain is = absurd (is)
 unparsed words Missing is = absurd (is)
 unparsed words Memory is = is
 
@@ -59,5 +60,7 @@ of_match words (Arg Order) few (inl missing) = absurd (cc)
 of_match words (Arg Order) few (inr at) = (few, at.0, at.1)
 of_match words (Arg (Stream id)) few (inl missing) = absurd (cc)
 of_match words (Arg (Stream id)) few (inr at) = (few, at.0, at.1)
+of_match words (Arg BothExplain) few (inl missing) = absurd (cc)
+of_match words (Arg BothExplain) few (inr at) = (few, at.0, at.1)
 of_match words (Ends fault) few (inl missing) = absurd (cc)
 of_match words (Ends fault) few (inr at) = (few, at.0, at.1)
