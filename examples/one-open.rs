@@ -1,0 +1,112 @@
+//! A library that is loaded in front of the C library when `tpnet` runs a device on a volume with replicas (docs/RUNNING.md, part 9).
+//!
+//! `tpnet` opens a device twice: once for the lock, and once to read and write it. A volume that gives a lost lock to another host can refuse
+//! only what comes through the file that had the lock. So here
+//!
+//! - `open` of the file that this process has locked, to read and write it, gives the open file of the lock once more;
+//! - `flock` that is refused for whatever reason is refused as one that another process has: a volume without a quorum isn't one without locks;
+//! - `flock` that is done opens the file's name anew, reads each byte by that, writes it back and syncs it, before it answers. A host that
+//!   stopped within a write may have reached some replicas only: from then on all of them have what was read. And a file that was opened
+//!   before may be read from a replica that has fallen behind since; only what asks for the name again is told so.
+//!
+//! Build it with `rustc -O --edition 2021 --crate-type cdylib -o one-open.so one-open.rs`. It is for x86_64.
+
+use std::ffi::{c_char, c_int, c_long, CStr, OsStr};
+use std::fs::{metadata, read_link, File};
+use std::io;
+use std::mem::ManuallyDrop;
+use std::os::fd::FromRawFd;
+use std::os::unix::ffi::OsStrExt;
+use std::os::unix::fs::{FileExt, MetadataExt};
+use std::sync::atomic::{AtomicI32, Ordering};
+
+extern "C" {
+    fn syscall(number: c_long, ...) -> c_long;
+    fn __errno_location() -> *mut c_int;
+}
+
+const OPEN: c_long = 2;
+const FCNTL: c_long = 72;
+const FLOCK: c_long = 73;
+const ACCESS: c_int = 3;
+const READ_WRITE: c_int = 2;
+const CREATES: c_int = 64;
+const DUPLICATES: c_int = 1030;
+const EXCLUSIVE: c_int = 2;
+const UNLOCKS: c_int = 8;
+const FAILED: c_int = 5;
+const IS_ANOTHERS: c_int = 11;
+const PIECE: usize = 1 << 20;
+
+/// The file that has the lock, by its number, or -1.
+static LOCKED: AtomicI32 = AtomicI32::new(-1);
+
+fn refuse(error: c_int) -> c_int {
+    unsafe { *__errno_location() = error };
+    -1
+}
+
+fn file_of(number: c_int) -> ManuallyDrop<File> {
+    ManuallyDrop::new(unsafe { File::from_raw_fd(number) })
+}
+
+/// Whether a path names the file of that number; an error where the volume can't say.
+fn is_named(number: c_int, path: *const c_char) -> io::Result<bool> {
+    let path = OsStr::from_bytes(unsafe { CStr::from_ptr(path) }.to_bytes());
+    let locked = file_of(number).metadata()?;
+    Ok(metadata(path).is_ok_and(|other| (other.dev(), other.ino()) == (locked.dev(), locked.ino())))
+}
+
+/// The locked file, opened anew by its name.
+fn opened_anew(number: c_int) -> io::Result<File> {
+    let anew = File::open(read_link(format!("/proc/self/fd/{number}"))?)?;
+    let (one, other) = (anew.metadata()?, file_of(number).metadata()?);
+    if (one.dev(), one.ino()) == (other.dev(), other.ino()) {
+        return Ok(anew);
+    }
+    Err(io::Error::from_raw_os_error(IS_ANOTHERS))
+}
+
+/// Writes each byte of the locked file back as it is read, and syncs it.
+fn write_back(number: c_int) -> io::Result<()> {
+    let (anew, locked) = (opened_anew(number)?, file_of(number));
+    let mut bytes = vec![0; PIECE];
+    let mut at = 0;
+    loop {
+        let count = anew.read_at(&mut bytes, at)?;
+        if count == 0 {
+            return locked.sync_all();
+        }
+        locked.write_all_at(&bytes[..count], at)?;
+        at += count as u64;
+    }
+}
+
+#[no_mangle]
+pub extern "C" fn open(path: *const c_char, flags: c_int, mode: c_int) -> c_int {
+    let locked = LOCKED.load(Ordering::Acquire);
+    if locked >= 0 && flags & (ACCESS | CREATES) == READ_WRITE {
+        match is_named(locked, path) {
+            Ok(true) => return unsafe { syscall(FCNTL, locked, DUPLICATES, 3) as c_int },
+            Ok(false) => {}
+            Err(_) => return refuse(FAILED),
+        }
+    }
+    unsafe { syscall(OPEN, path, flags, mode) as c_int }
+}
+
+#[no_mangle]
+pub extern "C" fn flock(number: c_int, how: c_int) -> c_int {
+    let is_done = unsafe { syscall(FLOCK, number, how) } == 0;
+    if how & EXCLUSIVE == 0 {
+        return if is_done { 0 } else { -1 };
+    }
+    if is_done && write_back(number).is_ok() {
+        LOCKED.store(number, Ordering::Release);
+        return 0;
+    }
+    if is_done {
+        unsafe { syscall(FLOCK, number, UNLOCKS) };
+    }
+    refuse(IS_ANOTHERS)
+}
