@@ -12,13 +12,14 @@
 //!
 //! Build it with `rustc -O --edition 2021 --crate-type cdylib -o one-open.so one-open.rs`. It is for x86_64.
 
-use std::ffi::{c_char, c_int, c_long, CStr, OsStr};
+use std::ffi::{c_char, c_int, c_long, CStr, OsStr, OsString};
 use std::fs::{metadata, read_link, File, OpenOptions};
 use std::io;
 use std::mem::ManuallyDrop;
 use std::os::fd::{AsRawFd, FromRawFd};
-use std::os::unix::ffi::OsStrExt;
+use std::os::unix::ffi::{OsStrExt, OsStringExt};
 use std::os::unix::fs::{FileExt, MetadataExt};
+use std::path::PathBuf;
 use std::sync::atomic::{AtomicI32, Ordering};
 
 extern "C" {
@@ -60,17 +61,23 @@ fn is_named(number: c_int, path: *const c_char) -> io::Result<bool> {
     Ok(metadata(path).is_ok_and(|other| (other.dev(), other.ino()) == (locked.dev(), locked.ino())))
 }
 
+/// The name of an open file. The system calls it deleted, too, when the volume didn't find the name for a moment.
+fn name_of(number: c_int) -> io::Result<PathBuf> {
+    let name = read_link(format!("/proc/self/fd/{number}"))?.into_os_string().into_vec();
+    let name = name.strip_suffix(b" (deleted)").map(<[u8]>::to_vec).unwrap_or(name);
+    Ok(PathBuf::from(OsString::from_vec(name)))
+}
+
 /// Puts the file, opened anew by its name, in the place of one that has no lock and can't get one any more.
 fn renew(number: c_int) -> io::Result<()> {
-    let path = read_link(format!("/proc/self/fd/{number}"))?;
-    let anew = OpenOptions::new().read(true).write(true).open(path)?;
+    let anew = OpenOptions::new().read(true).write(true).open(name_of(number)?)?;
     unsafe { syscall(DUP3, anew.as_raw_fd(), number, CLOSES_IN_OTHERS) };
     Ok(())
 }
 
 /// The locked file, opened anew by its name.
 fn opened_anew(number: c_int) -> io::Result<File> {
-    let anew = File::open(read_link(format!("/proc/self/fd/{number}"))?)?;
+    let anew = File::open(name_of(number)?)?;
     let (one, other) = (anew.metadata()?, file_of(number).metadata()?);
     if (one.dev(), one.ino()) == (other.dev(), other.ino()) {
         return Ok(anew);
