@@ -13,10 +13,13 @@ const TRIES: u64 = 20;
 /// How many milliseconds lie between two of them.
 const PAUSE: u64 = 1000 / TRIES;
 
-/// Takes the lock of a file, and tries again for `seconds` while another process has it, once at least: one that only looks at it has
-/// it for less than the pause. A file of a system that knows no locks has none.
+/// How many times it is tried again at least: `status` and `stop` hold a device for a moment, and a script may call them without a pause.
+const LEAST: u64 = 5;
+
+/// Takes the lock of a file. While another process has it, tries again for `seconds`, and `LEAST` times at least.
+/// A file of a system that knows no locks has none.
 fn lock_file<R: Clock>(rt: &R, file: &File, seconds: u32) -> Result<(), InUse> {
-    for turn in 0..=(u64::from(seconds) * TRIES).max(1) {
+    for turn in 0..=(u64::from(seconds) * TRIES).max(LEAST) {
         if turn > 0 {
             sleep(rt, Duration::from_millis(PAUSE));
         }
