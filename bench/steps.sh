@@ -25,9 +25,9 @@ fi
 for listing in "$top"/examples/{compute,talk}.txt "$top"/bench/loops/*.txt; do
     loop=$(basename "$listing" .txt)
     "$top/tools/make-image" "$listing" "$work/$loop.img"
-    python3 - "$proved" "$work" "$loop" "$rounds" <<'PY'
+    python3 - "$proved" "$work" "$loop" "$rounds" "$listing" <<'PY'
 import os, re, resource, shutil, subprocess, sys
-proved, work, loop, rounds = sys.argv[1:5]
+proved, work, loop, rounds, listing = sys.argv[1:6]
 shutil.copy(os.path.join(work, loop + ".img"), os.path.join(work, "node.img"))
 
 def command(kind, count):
@@ -45,6 +45,11 @@ def instructions(kind, count):
     return int(re.search(r"Collected : (\d+)", said).group(1))
 
 KINDS = ("proved", "plain", "plain_fast")
+result = re.search(r"# After (\d+) steps A is ([0-9A-F]{8})", open(listing).read())
+for kind in KINDS if result else ():
+    ended = subprocess.run(command(kind, result.group(1)), cwd=work, capture_output=True, text=True, check=True).stdout.split()
+    if ended[2] != result.group(2):
+        sys.exit("%s: after %s steps A is %s by %s, and not %s" % (loop, result.group(1), ended[2], kind, result.group(2)))
 each = [(instructions(kind, 100000) - instructions(kind, 50000)) / 50000 for kind in KINDS]
 print("%-9s instructions a step: proved %.1f, plain %.1f, at its best %.1f; proved over the best %.2f" % (loop, *each, each[0] / each[2]), flush=True)
 times = {kind: [] for kind in KINDS}
