@@ -1,5 +1,5 @@
 #!/bin/bash
-# Steps per second of the proved interpreter beside the plain ones, interleaved in one run, and instructions a step of all three by
+# Steps per second of the proved interpreter beside the plain ones, interleaved in one run, and instructions a step of all of them by
 # callgrind, which load doesn't change, outside the gate.
 # usage: bench/steps.sh [ROUNDS]      5 rounds by default; 10^8 steps a round. With 0 rounds nothing is timed
 # BUILT=FOLDER names where what is built is kept, and taken from if it is there
@@ -12,7 +12,7 @@ mkdir -p "$work"
 
 proved=$work/crates/bench_steps/out/bench_steps
 if [ ! -e "$work/built" ]; then
-    for name in plain plain_fast; do rustc -O --edition 2021 -o "$work/$name" "$top/bench/$name.rs"; done
+    for name in plain plain_fast plain_runs; do rustc -O --edition 2021 -o "$work/$name" "$top/bench/$name.rs"; done
     tar -C "$top" -c --exclude=incremental crates crates.txt HANDLES | tar -C "$work" -x
     mkdir -p "$work/crates/bench_steps/src"
     cp "$top/bench/steps.rattle" "$work/crates/bench_steps/src/main.rt"
@@ -25,9 +25,9 @@ fi
 for listing in "$top"/examples/{compute,talk}.txt "$top"/bench/loops/*.txt; do
     loop=$(basename "$listing" .txt)
     "$top/tools/make-image" "$listing" "$work/$loop.img"
-    python3 - "$proved" "$work" "$loop" "$rounds" <<'PY'
+    python3 - "$proved" "$work" "$loop" "$rounds" "$listing" <<'PY'
 import os, re, resource, shutil, subprocess, sys
-proved, work, loop, rounds = sys.argv[1:5]
+proved, work, loop, rounds, listing = sys.argv[1:6]
 shutil.copy(os.path.join(work, loop + ".img"), os.path.join(work, "node.img"))
 
 def command(kind, count):
@@ -44,9 +44,14 @@ def instructions(kind, count):
                           cwd=work, capture_output=True, text=True, check=True).stderr
     return int(re.search(r"Collected : (\d+)", said).group(1))
 
-KINDS = ("proved", "plain", "plain_fast")
+KINDS = ("proved", "plain", "plain_fast", "plain_runs")
+result = re.search(r"# After (\d+) steps A is ([0-9A-F]{8})", open(listing).read())
+for kind in KINDS if result else ():
+    ended = subprocess.run(command(kind, result.group(1)), cwd=work, capture_output=True, text=True, check=True).stdout.split()
+    if ended[2] != result.group(2):
+        sys.exit("%s: after %s steps A is %s by %s, and not %s" % (loop, result.group(1), ended[2], kind, result.group(2)))
 each = [(instructions(kind, 100000) - instructions(kind, 50000)) / 50000 for kind in KINDS]
-print("%-9s instructions a step: proved %.1f, plain %.1f, at its best %.1f; proved over the best %.2f" % (loop, *each, each[0] / each[2]), flush=True)
+print("%-9s instructions a step: proved %.1f, plain %.1f, at its best %.1f, by runs %.1f; proved over the best %.2f" % (loop, *each, each[0] / each[2]), flush=True)
 times = {kind: [] for kind in KINDS}
 for _ in range(int(rounds)):
     ends = []
@@ -54,11 +59,11 @@ for _ in range(int(rounds)):
         took, ended = seconds(kind)
         times[kind].append(took)
         ends.append(ended)
-    if ends != ends[:1] * 3:
+    if ends != ends[:1] * len(KINDS):
         sys.exit("%s: the registers differ: %s" % (loop, ends))
 if times["proved"]:
-    mine, other, fast = (min(times[kind]) for kind in KINDS)
-    print("%-9s million steps a second: proved %.1f, plain %.1f, at its best %.1f; ratios %.2f, %.2f (best of %s)" % (
-        loop, 100 / mine, 100 / other, 100 / fast, other / mine, fast / mine, rounds), flush=True)
+    mine, other, fast, known = (min(times[kind]) for kind in KINDS)
+    print("%-9s million steps a second: proved %.1f, plain %.1f, at its best %.1f, by runs %.1f; ratios %.2f, %.2f (best of %s)" % (
+        loop, 100 / mine, 100 / other, 100 / fast, 100 / known, other / mine, fast / mine, rounds), flush=True)
 PY
 done
