@@ -4,7 +4,7 @@ use Rattle.std.specs.Io.KnownBytes.{Appends}
 use Rattle.std.specs.declared.alloc.Global.{Global}
 use Rattle.std.specs.declared.string.String.{String}
 use Rattle.tp_run.specs.Ran.{History}
-use Rattle.tp_words.specs.Commands.{WasCommandTyped}
+use Rattle.tp_words.specs.Commands.{HasCommandPlaces, WasCommandTyped}
 use Rattle.tp_words.specs.declared.args.Asked.{Asked}
 use Rattle.tp_words.specs.declared.args.Asked.TheVariants.{Help, Format, Run as Runs, Compact}
 use Rattle.tp_words.specs.declared.command.Command.{Command}
@@ -81,6 +81,7 @@ most_status (Other asked) = 2
 pub record DidCommand (keeps : Type 0) (history : History) (unread : Type 0) (words : List (String Global)) (old new : List DeviceCall) (was now : Option (List ℕ)) (status : ℕ) : Type 0 where
   pub command : Command
   pub typed : WasCommandTyped words command
+  pub places : HasCommandPlaces words command
   pub few : status ≤ most_status command
   pub done : CommandDone keeps history unread command old new was now status
 

@@ -1,13 +1,16 @@
 -- What a command line asks for, whatever its command.
-use Rattle.std.specs.Prelude.{◌≡◌, true, List, codes}
+use Rattle.std.specs.Prelude.{◌≡◌, true, List, [], ◌∷◌, codes, string_bytes}
 use Rattle.std.specs.declared.alloc.Global.{Global}
 use Rattle.std.specs.declared.string.String.{String}
 use Rattle.tp_words.specs.declared.command.Command.{Command}
 use Rattle.tp_words.specs.declared.command.Command.TheVariants.{Stream, Stop, Backup, Other}
+use Rattle.tp_words.specs.declared.stream_args.StreamRun.{StreamRun}
 use Rattle.tp_words.specs.Args.{IsInRange, WasTyped}
-use Rattle.tp_words.specs.BackupArgs.{WasBackupTyped}
+use Rattle.tp_words.specs.BackupArgs.{HasBackupPlaces, WasBackupTyped}
 use Rattle.tp_words.specs.Ends.{AreEnds}
-use Rattle.tp_words.specs.StopArgs.{IsWait, WasStopTyped}
+use Rattle.tp_words.specs.Given.{has_flag}
+use Rattle.tp_words.specs.Places.{HasPlaces, places}
+use Rattle.tp_words.specs.StopArgs.{HasStopPlaces, IsWait, WasStopTyped}
 use Rattle.tp_words.specs.StreamArgs.{IsStreamRun, IsTypedStream}
 use Rattle.tp_words.specs.Typed.{has_word}
 
@@ -24,3 +27,17 @@ WasCommandTyped words (Stream run) = IsTypedStream words run × (has_word (codes
 WasCommandTyped words (Stop request) = WasStopTyped words request
 WasCommandTyped words (Backup backup) = WasBackupTyped words backup
 WasCommandTyped words (Other asked) = WasTyped words asked
+
+-- The command of a stream is `run`, and its one other place is the device. Each flag is what was typed.
+abbrev pub HasStreamPlaces : List (String Global) → StreamRun → Type 0
+HasStreamPlaces words run = (places words ≡ codes "run" ∷ string_bytes run.device ∷ [])
+    × (run.until_quiet ≡ has_flag (codes "--until-quiet") words)
+    × (run.stop_on_halt ≡ has_flag (codes "--stop-on-halt") words)
+    × (run.has_progress ≡ has_flag (codes "--progress") words)
+
+-- The command is the one that was typed, and so is each of its places and flags.
+abbrev pub HasCommandPlaces : List (String Global) → Command → Type 0
+HasCommandPlaces words (Stream run) = HasStreamPlaces words run
+HasCommandPlaces words (Stop request) = HasStopPlaces words request
+HasCommandPlaces words (Backup backup) = HasBackupPlaces words backup
+HasCommandPlaces words (Other asked) = HasPlaces words asked

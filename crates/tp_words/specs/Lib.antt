@@ -1,5 +1,6 @@
 pub mod Typed
 pub mod Given
+pub mod Places
 pub mod Size
 pub mod Args
 pub mod Numbers

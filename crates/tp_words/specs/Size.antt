@@ -38,3 +38,8 @@ pub record IsWordSize (words : List (String Global)) (size : ℕ) : Type 0 where
 abbrev pub IsArea : List (String Global) → Option ℕ → Option (List ℕ) → Type 0
 IsArea words area None = IfSome area (IsWordSize words)
 IsArea words area (Some text) = IsSomeAnd area (IsSize text)
+
+-- the size is that of this text; there is none if there is no text
+abbrev pub IsSizeOf : Option (List ℕ) → Option ℕ → Type 0
+IsSizeOf None size = size ≡ None
+IsSizeOf (Some text) size = IsSomeAnd size (IsSize text)

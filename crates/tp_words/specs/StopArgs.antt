@@ -1,5 +1,5 @@
 -- The words of a command line of `stop`.
-use Rattle.std.specs.Prelude.{◌≡◌, ◌≤◌, ◌<◌, ℕ, true, List, Option, Some, None, codes, string_bytes}
+use Rattle.std.specs.Prelude.{◌≡◌, ◌≤◌, ◌<◌, ℕ, true, List, [], ◌∷◌, Option, Some, None, codes, string_bytes}
 use Rattle.std.specs.Fmt.{decimal}
 use Rattle.std.specs.Option.{option_map}
 use Rattle.std.specs.declared.alloc.Global.{Global}
@@ -7,6 +7,7 @@ use Rattle.std.specs.declared.string.String.{String}
 use Rattle.tp_words.specs.declared.args.TheConstants.{MAX_WAIT}
 use Rattle.tp_words.specs.declared.stop_args.StopRequest.{StopRequest}
 use Rattle.tp_words.specs.Given.{given}
+use Rattle.tp_words.specs.Places.{places}
 use Rattle.tp_words.specs.Typed.{has_word}
 
 -- the seconds for which it is waited are in their range, where some were typed
@@ -17,3 +18,7 @@ IsWait (Some seconds) = (0 < seconds) × (seconds ≤ MAX_WAIT)
 -- the device's file is a word that was typed, and it is waited for just where seconds were typed, for as many
 abbrev pub WasStopTyped : List (String Global) → StopRequest → Type 0
 WasStopTyped words request = (has_word (string_bytes request.device) words ≡ true) × (given (codes "wait") words ≡ option_map decimal request.wait)
+
+-- the command is `stop`, and its one other place is the device
+abbrev pub HasStopPlaces : List (String Global) → StopRequest → Type 0
+HasStopPlaces words request = places words ≡ codes "stop" ∷ string_bytes request.device ∷ []

@@ -1,5 +1,5 @@
 -- Why the words of a stream ask for nothing, and what is told of them where several things are wrong.
-use Rattle.std.specs.Prelude.{◌≡◌, ◌⊎◌, ◌≤◌, ◌<◌, ℕ, false, List, [], ◌∷◌, None, IfSome, codes, length}
+use Rattle.std.specs.Prelude.{◌≡◌, ◌⊎◌, ◌≤◌, ◌<◌, ℕ, false, List, [], ◌∷◌, IfSome, codes, length}
 use Rattle.std.specs.declared.alloc.Global.{Global}
 use Rattle.std.specs.declared.string.String.{String}
 use Rattle.clap.specs.Words.{first_value, found_of}
@@ -27,10 +27,6 @@ number_options =
     ∷ every_option
     ∷ wait_option
     ∷ []
-
--- `clap` found nothing for a word
-abbrev pub FoundNothing : ArgMatches → List ℕ → Type 0
-FoundNothing found id = first_value (found_of found) id ≡ None
 
 -- what `clap` found for a word, where it found something, is none of the words
 abbrev pub FoundNoWord : ArgMatches → List (String Global) → List ℕ → Type 0

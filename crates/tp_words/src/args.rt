@@ -2,6 +2,7 @@
 
 ghost use Rattle.std.specs.Prelude.{IfOk};
 ghost use Rattle.tp_words.specs.Args.{IsInRange, WasTyped};
+ghost use Rattle.tp_words.specs.Places.{HasPlaces};
 
 use crate::arg_fault::ArgFault;
 use crate::device_args::{asked_compact, asked_format, asked_run};
@@ -128,6 +129,7 @@ pub fn asked_by(
 ) -> Result<Asked, ArgFault>
     ensures range { IfOk result IsInRange }
     ensures typed { IfOk result (WasTyped words.now) }
+    ensures places { IfOk result (HasPlaces words.now) }
 {
     match name {
         "try" => asked_try(alloc, words, found),

@@ -1,7 +1,7 @@
 //! What a command line asks for, whatever its command.
 
 ghost use Rattle.std.specs.Prelude.{◌≡◌, true, IfErr, IfOk, codes};
-ghost use Rattle.tp_words.specs.Commands.{IsCommandInRange, WasCommandTyped};
+ghost use Rattle.tp_words.specs.Commands.{HasCommandPlaces, HasStreamPlaces, IsCommandInRange, WasCommandTyped};
 ghost use Rattle.tp_words.specs.Explaining.{SaysExplaining, is_help};
 ghost use Rattle.tp_words.specs.StreamRefused.{IsStreamRefused};
 ghost use Rattle.tp_words.specs.Typed.{has_word};
@@ -11,8 +11,9 @@ use crate::arg_fault::ArgFault;
 use crate::args::{Asked, asked_by};
 use crate::backup_args::{Backup, backup_of};
 use crate::explaining::{Explaining, explaining_of};
-use crate::numbers::has_word;
+use crate::numbers::{has_flag, has_word};
 use crate::parsing::{Parsed, parse};
+use crate::places::has_places;
 use crate::stop_args::{StopRequest, request_of};
 use crate::stream_args::{StreamAsked, StreamRun, read_stream_args};
 use crate::stream_ends::EndsFault;
@@ -82,15 +83,32 @@ fn are_of_a_stream(words: &[String]) -> bool
     are_of_run(words) && has_word(words, "--stream")
 }
 
+/// Tests that the words of a stream are at their places, and its flags what was typed. `clap` has found them.
+fn stream_placed(words: &[String], run: &StreamRun) -> Result<(), ArgFault>
+    ensures { IfOk result (λ done. HasStreamPlaces words.now run.now) }
+{
+    if run.until_quiet != has_flag(words, "--until-quiet")
+        || run.stop_on_halt != has_flag(words, "--stop-on-halt")
+        || run.has_progress != has_flag(words, "--progress")
+    {
+        return Err(ArgFault::Missing);
+    }
+    has_places(words, &["run", run.device.as_str()])
+}
+
 /// Reads the words of a stream.
 fn read_stream(alloc: Global, words: &[String]) -> Result<Command, CommandFault>
     requires { has_word (codes "--stream") words.now ≡ true }
     ensures range { IfOk result IsCommandInRange }
     ensures typed { IfOk result (WasCommandTyped words.now) }
+    ensures places { IfOk result (HasCommandPlaces words.now) }
     ensures refused { IfErr result (IsStreamRefused words.now) }
 {
     match read_stream_args(alloc, words) {
-        Ok(StreamAsked::Run(run)) => Ok(Command::Stream(run)),
+        Ok(StreamAsked::Run(run)) => match stream_placed(words, &run) {
+            Ok(()) => Ok(Command::Stream(run)),
+            Err(_) => Err(CommandFault::Arg(ArgFault::Missing)),
+        },
         Ok(StreamAsked::Help(text)) => Ok(Command::Other(Asked::Help(text))),
         Err(fault) => Err(fault),
     }
@@ -100,6 +118,7 @@ fn read_stream(alloc: Global, words: &[String]) -> Result<Command, CommandFault>
 fn command_in(alloc: Global, words: &[String], matches: &ArgMatches) -> Result<Command, ArgFault>
     ensures range { IfOk result IsCommandInRange }
     ensures typed { IfOk result (WasCommandTyped words.now) }
+    ensures places { IfOk result (HasCommandPlaces words.now) }
 {
     let Some((name, found)) = matches.subcommand() else {
         return Err(ArgFault::Missing);
@@ -126,6 +145,7 @@ fn fault_in(words: &[String], fault: ArgFault) -> ArgFault {
 fn read_other(alloc: Global, words: &[String]) -> Result<Command, ArgFault>
     ensures range { IfOk result IsCommandInRange }
     ensures typed { IfOk result (WasCommandTyped words.now) }
+    ensures places { IfOk result (HasCommandPlaces words.now) }
 {
     match parse(alloc, words, COMMANDS) {
         Ok(Parsed::Help(text)) => Ok(Command::Other(Asked::Help(text))),
@@ -138,6 +158,7 @@ fn read_other(alloc: Global, words: &[String]) -> Result<Command, ArgFault>
 fn read_command(alloc: Global, words: &[String]) -> Result<Command, CommandFault>
     ensures range { IfOk result IsCommandInRange }
     ensures typed { IfOk result (WasCommandTyped words.now) }
+    ensures places { IfOk result (HasCommandPlaces words.now) }
 {
     if are_of_a_stream(words) {
         return read_stream(alloc, words);
@@ -161,6 +182,7 @@ impl CommandLine {
     pub fn read(alloc: Global, words: &[String]) -> Result<CommandLine, CommandFault>
         ensures range { IfOk result (λ line. IsCommandInRange line.command) }
         ensures typed { IfOk result (λ line. WasCommandTyped words.now line.command) }
+        ensures places { IfOk result (λ line. HasCommandPlaces words.now line.command) }
         ensures explains { IfOk result (λ line. SaysExplaining words.now line.command line.explaining) }
     {
         let command = read_command(alloc, words)?;

@@ -1,16 +1,20 @@
 //! What the commands ask for that write a device.
 
-ghost use Rattle.std.specs.Prelude.{◌≡◌, ◌≤◌, IfErr, IfOk, OnOk, codes};
+ghost use Rattle.std.specs.Prelude.{◌≡◌, ◌≤◌, ◌∷◌, IfErr, IfOk, OnOk, codes, string_bytes};
+ghost use Rattle.clap.specs.Words.{first_value, found_of};
 ghost use Rattle.std.specs.Fmt.{decimal};
 ghost use Rattle.std.specs.Option.{option_map};
 ghost use Rattle.tp_words.specs.Args.{IsEvery, IsInRange, WasTyped};
 ghost use Rattle.tp_words.specs.Given.{given, IsGivenOr};
+ghost use Rattle.tp_words.specs.Places.{HasFoundTexts, HasPlaces, area_places, places};
 ghost use Rattle.tp_words.specs.Numbers.{AllFit, Fits, IsFirstNumberFault, IsNumberFault, every_option, wait_option};
 ghost use Rattle.tp_words.specs.RunNumbers.{AreRunNumbers, AreTypedRunNumbers, IsPace, IsTypedPace, pace_options};
 
 use crate::arg_fault::ArgFault;
 use crate::args::{Asked, MAX_WAIT, MAX_WORKERS, NewDevice, QUANTUM, Run};
-use crate::found::{area_of, option_or, option_short, option_string, text_of, turns_of};
+use crate::found::{area_of, flag_of, option_or, option_short, option_string, text_of, turns_of};
+use crate::numbers::given;
+use crate::places::has_places;
 use clap::ArgMatches;
 use std::alloc::Global;
 use tp_model::limits::MAX_STEPS;
@@ -19,15 +23,35 @@ use tp_model::limits::MAX_STEPS;
 pub fn asked_format(alloc: Global, words: &[String], found: &ArgMatches) -> Result<Asked, ArgFault>
     ensures range { IfOk result IsInRange }
     ensures typed { IfOk result (WasTyped words.now) }
+    ensures places { IfOk result (HasPlaces words.now) }
+    ensures found { IfOk result (HasFoundTexts found.now) }
 {
-    Ok(Asked::Format(NewDevice {
+    let new = NewDevice {
         area: area_of(alloc, words, found)?,
-        only_new: found.get_flag("new"),
+        only_new: flag_of(words, found, "new", "--new")?,
         wait_lock: wait_of(alloc, words, found)?,
         device: text_of(alloc, words, found, "DEVICE")?,
         topology: text_of(alloc, words, found, "TOPOLOGY")?,
         images: text_of(alloc, words, found, "DIR")?,
-    }))
+    };
+    format_placed(words, found, &new)?;
+    Ok(Asked::Format(new))
+}
+
+/// Tests that the words of `format` are at their places. AREA is the last one, unless `--area` was typed.
+fn format_placed(words: &[String], found: &ArgMatches, new: &NewDevice) -> Result<(), ArgFault>
+    ensures { IfOk result (λ done. places words.now ≡ codes "format" ∷ string_bytes new.now.device ∷ string_bytes new.now.topology
+        ∷ string_bytes new.now.images ∷ area_places (given (codes "area") words.now) (first_value (found_of found.now) (codes "AREA"))) }
+{
+    let (device, topology, images) = (
+        new.device.as_str(),
+        new.topology.as_str(),
+        new.images.as_str(),
+    );
+    match (given(words, "--area", "--area="), found.get_str("AREA")) {
+        (None, Some(area)) => has_places(words, &["format", device, topology, images, area]),
+        _ => has_places(words, &["format", device, topology, images]),
+    }
 }
 
 /// The entries after which a snapshot begins, or the seconds after which a device is looked at again.
@@ -110,8 +134,14 @@ fn run_numbers(alloc: Global, words: &[String], found: &ArgMatches) -> Result<Ru
 pub fn asked_run(alloc: Global, words: &[String], found: &ArgMatches) -> Result<Asked, ArgFault>
     ensures range { IfOk result IsInRange }
     ensures typed { IfOk result (WasTyped words.now) }
+    ensures places { IfOk result (HasPlaces words.now) }
 {
+    if flag_of(words, found, "stream", "--stream")? {
+        return Err(ArgFault::Missing);
+    }
     let numbers = run_numbers(alloc, words, found)?;
+    let device = text_of(alloc, words, found, "DEVICE")?;
+    has_places(words, &["run", device.as_str()])?;
     Ok(Asked::Run(Run {
         turns: numbers.turns,
         workers: numbers.workers,
@@ -121,7 +151,7 @@ pub fn asked_run(alloc: Global, words: &[String], found: &ArgMatches) -> Result<
         port: numbers.port,
         wait_lock: numbers.wait_lock,
         input: option_string(alloc, words, found, "in")?,
-        device: text_of(alloc, words, found, "DEVICE")?,
+        device,
     }))
 }
 
@@ -129,10 +159,10 @@ pub fn asked_run(alloc: Global, words: &[String], found: &ArgMatches) -> Result<
 pub fn asked_compact(alloc: Global, words: &[String], found: &ArgMatches) -> Result<Asked, ArgFault>
     ensures range { IfOk result IsInRange }
     ensures typed { IfOk result (WasTyped words.now) }
+    ensures places { IfOk result (HasPlaces words.now) }
 {
     let wait_lock = wait_of(alloc, words, found)?;
-    Ok(Asked::Compact {
-        device: text_of(alloc, words, found, "DEVICE")?,
-        wait_lock,
-    })
+    let device = text_of(alloc, words, found, "DEVICE")?;
+    has_places(words, &["compact", device.as_str()])?;
+    Ok(Asked::Compact { device, wait_lock })
 }

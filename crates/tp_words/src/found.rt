@@ -1,12 +1,14 @@
 //! What `clap` found among the words, and that it was typed.
 
-ghost use Rattle.std.specs.Prelude.{◌≡◌, ◌≤◌, ◌<◌, ◌⊎◌, ◌^◌, true, Some, IfErr, IfOk, IfSome, OnOk, codes, string_bytes};
+ghost use Rattle.std.specs.Prelude.{◌≡◌, ◌≤◌, ◌<◌, ◌⊎◌, ◌^◌, true, None, Some, IfErr, IfOk, IfSome, OnOk, codes, string_bytes};
+ghost use Rattle.clap.specs.Words.{first_value, found_of};
 ghost use Rattle.std.specs.Fmt.{decimal};
 ghost use Rattle.std.specs.Option.{option_map};
 ghost use Rattle.tp_words.specs.Given.{given, has_flag, IsGivenOr};
 ghost use Rattle.tp_words.specs.Numbers.{Fits, FoundOther, IsNumberFault};
-ghost use Rattle.tp_words.specs.Size.{IsArea, IsSize, IsWordSize};
-ghost use Rattle.tp_words.specs.StreamRefused.{FoundNoWord, FoundNothing};
+ghost use Rattle.tp_words.specs.Places.{IsFound};
+ghost use Rattle.tp_words.specs.Size.{IsArea, IsSize, IsSizeOf, IsWordSize};
+ghost use Rattle.tp_words.specs.StreamRefused.{FoundNoWord};
 ghost use Rattle.tp_words.specs.Typed.{has_word, was_typed};
 ghost use Rattle.tp_words.specs.declared.arg_fault.ArgFault.TheVariants.{Missing, Memory};
 
@@ -146,7 +148,7 @@ fn size_area(alloc: Global, text: &str, name: &'static str) -> Result<u64, ArgFa
 fn word_area(alloc: Global, words: &[String], found: &ArgMatches) -> Result<Option<u64>, ArgFault>
     ensures range { IfOk result (λ area. IfSome area (λ area. area ≤ MAX_AREA)) }
     ensures typed { IfOk result (λ area. IfSome area (IsWordSize words.now)) }
-    ensures none { IfOk result (λ area. area ≡ None → FoundNothing found.now (codes "AREA")) }
+    ensures placed { IfOk result (IsSizeOf (first_value (found_of found.now) (codes "AREA"))) }
 {
     let Some(text) = found.get_str("AREA") else {
         return Ok(None);
@@ -161,7 +163,7 @@ fn word_area(alloc: Global, words: &[String], found: &ArgMatches) -> Result<Opti
 pub fn area_of(alloc: Global, words: &[String], found: &ArgMatches) -> Result<Option<u64>, ArgFault>
     ensures range { IfOk result (λ area. IfSome area (λ area. area ≤ MAX_AREA)) }
     ensures typed { IfOk result (λ area. IsArea words.now area (given (codes "area") words.now)) }
-    ensures none { IfOk result (λ area. area ≡ None → FoundNothing found.now (codes "AREA")) }
+    ensures placed { IfOk result (λ area. given (codes "area") words.now ≡ None → IsSizeOf (first_value (found_of found.now) (codes "AREA")) area) }
 {
     match option_text(alloc, words, found, "area")? {
         Some(text) => Ok(Some(size_area(alloc, text, "--area")?)),
@@ -177,6 +179,7 @@ pub fn text_of(
     id: &str,
 ) -> Result<String, ArgFault>
     ensures typed { IfOk result (λ text. has_word (string_bytes text) words.now ≡ true) }
+    ensures found { IfOk result (IsFound found.now id.now) }
     ensures refused { IfErr result (λ fault. (fault ≡ Memory) ⊎ ((fault ≡ Missing) × FoundNoWord found.now words.now id.now)) }
 {
     let Some(text) = found.get_str(id) else {
@@ -209,13 +212,20 @@ pub fn place_of(
     }
 }
 
-/// Whether `--json` was typed, by the words themselves. `clap` has to have found that too.
+/// Whether `--json` was typed.
 pub fn json_of(words: &[String], found: &ArgMatches) -> Result<bool, ArgFault>
     ensures { IfOk result (λ json. json ≡ has_flag (codes "--json") words.now) }
 {
-    let json = has_flag(words, "--json");
-    if json != found.get_flag("json") {
+    flag_of(words, found, "json", "--json")
+}
+
+/// Whether the flag `name` of `id` was typed, by the words themselves. `clap` has to have found that too.
+pub fn flag_of(words: &[String], found: &ArgMatches, id: &str, name: &str) -> Result<bool, ArgFault>
+    ensures { IfOk result (λ flag. flag ≡ has_flag name.now words.now) }
+{
+    let flag = has_flag(words, name);
+    if flag != found.get_flag(id) {
         return Err(ArgFault::Missing);
     }
-    Ok(json)
+    Ok(flag)
 }

@@ -2,6 +2,7 @@
 
 ghost use Rattle.std.specs.Prelude.{◌≡◌, ◌≤◌, ◌<◌, IfOk, IfSome};
 ghost use Rattle.tp_words.specs.Args.{HasTyped, IsTypedPart, IsView};
+ghost use Rattle.tp_words.specs.Places.{HasViewFlag};
 
 use crate::arg_fault::ArgFault;
 use crate::found::{json_of, option_number, option_or};
@@ -42,6 +43,7 @@ pub(crate) fn journal_view(
 ) -> Result<View, ArgFault>
     ensures range { IfOk result IsView }
     ensures typed { IfOk result (HasTyped words.now) }
+    ensures flag { IfOk result (HasViewFlag words.now) }
 {
     let part = options_of(alloc, words, found)?;
     Ok(View::Journal(in_order(part)?))

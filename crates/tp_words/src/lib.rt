@@ -13,6 +13,7 @@ mod help;
 mod journal_args;
 mod numbers;
 mod parsing;
+mod places;
 mod shown;
 mod sizes;
 mod stop_args;

@@ -10,7 +10,7 @@ ghost use Rattle.tp_words.specs.Typed.{has_value, has_word, is_value, is_word, w
 use std::alloc::{AllocError, Global};
 
 /// Whether a word is this one.
-fn is_word(word: &String, text: &str) -> bool
+pub fn is_word(word: &String, text: &str) -> bool
     ensures { result ≡ is_word text.now word.now }
 {
     word.as_bytes() == text.as_bytes()

@@ -4,11 +4,12 @@ ghost use Rattle.std.specs.Prelude.{◌≡◌, IfOk, codes};
 ghost use Rattle.std.specs.Fmt.{decimal};
 ghost use Rattle.std.specs.Option.{option_map};
 ghost use Rattle.tp_words.specs.Given.{given};
-ghost use Rattle.tp_words.specs.StopArgs.{IsWait, WasStopTyped};
+ghost use Rattle.tp_words.specs.StopArgs.{HasStopPlaces, IsWait, WasStopTyped};
 
 use crate::arg_fault::ArgFault;
 use crate::args::MAX_WAIT;
 use crate::found::{option_short, text_of};
+use crate::places::has_places;
 use clap::ArgMatches;
 use std::alloc::Global;
 
@@ -36,9 +37,10 @@ pub fn request_of(
 ) -> Result<StopRequest, ArgFault>
     ensures range { IfOk result (λ request. IsWait request.wait) }
     ensures typed { IfOk result (WasStopTyped words.now) }
+    ensures places { IfOk result (HasStopPlaces words.now) }
 {
-    Ok(StopRequest {
-        wait: seconds_of(alloc, words, found)?,
-        device: text_of(alloc, words, found, "DEVICE")?,
-    })
+    let wait = seconds_of(alloc, words, found)?;
+    let device = text_of(alloc, words, found, "DEVICE")?;
+    has_places(words, &["stop", device.as_str()])?;
+    Ok(StopRequest { device, wait })
 }

@@ -1,6 +1,7 @@
 //! What a command line with `--stream` asks for.
 
-ghost use Rattle.std.specs.Prelude.{IfErr, IfOk, OnOk};
+ghost use Rattle.std.specs.Prelude.{◌≤◌, IfErr, IfOk, OnOk, length};
+ghost use Rattle.tp_words.specs.declared.args.TheConstants.{MAX_WORDS};
 ghost use Rattle.tp_words.specs.Numbers.{AllFit, IsFirstNumberFault};
 ghost use Rattle.tp_words.specs.StreamArgs.{AreInRange, AreTyped, IsStreamInRange, WasStreamTyped};
 ghost use Rattle.tp_words.specs.StreamRefused.{IsMatchRefused, IsRunRefused, IsStreamRefused, number_options};
@@ -141,6 +142,7 @@ fn stream_in(
 /// Reads the words of a command line with `--stream`, the program's name first. Each number is the decimal that was typed, and in its
 /// range, the path of a file that ends it is what was typed for it, and the device is one of the words.
 pub fn read_stream_args(alloc: Global, words: &[String]) -> Result<StreamAsked, CommandFault>
+    ensures few { OnOk result (length words.now ≤ MAX_WORDS) }
     ensures range { IfOk result IsStreamInRange }
     ensures typed { IfOk result (WasStreamTyped words.now) }
     ensures refused { IfErr result (IsStreamRefused words.now) }

@@ -1,13 +1,15 @@
 //! What the commands ask for that write no device.
 
-ghost use Rattle.std.specs.Prelude.{IfOk};
+ghost use Rattle.std.specs.Prelude.{◌≡◌, ◌∷◌, IfOk, string_bytes};
 ghost use Rattle.tp_words.specs.Args.{HasTyped, IsInRange, IsView, WasTyped};
+ghost use Rattle.tp_words.specs.Places.{HasFoundTexts, HasPlaces, HasViewFlag, listed, places, view_command, view_places};
 
 use crate::arg_fault::ArgFault;
 use crate::args::{Asked, MAX_TURNS, MAX_WORKERS, STEPS};
 use crate::device_args::every_of;
-use crate::found::{json_of, option_or, place_of, text_of, turns_of};
+use crate::found::{flag_of, json_of, option_or, place_of, text_of, turns_of};
 use crate::journal_args::journal_view;
+use crate::places::has_places;
 use crate::views::View;
 use clap::ArgMatches;
 use std::alloc::Global;
@@ -16,40 +18,44 @@ use std::alloc::Global;
 pub fn asked_try(alloc: Global, words: &[String], found: &ArgMatches) -> Result<Asked, ArgFault>
     ensures range { IfOk result IsInRange }
     ensures typed { IfOk result (WasTyped words.now) }
+    ensures places { IfOk result (HasPlaces words.now) }
 {
-    Ok(Asked::Try {
-        turns: turns_of(alloc, words, found)?,
-        image: text_of(alloc, words, found, "IMAGE")?,
-    })
+    let turns = turns_of(alloc, words, found)?;
+    let image = text_of(alloc, words, found, "IMAGE")?;
+    has_places(words, &["try", image.as_str()])?;
+    Ok(Asked::Try { image, turns })
 }
 
 /// Steps of one node.
 pub fn asked_trace(alloc: Global, words: &[String], found: &ArgMatches) -> Result<Asked, ArgFault>
     ensures range { IfOk result IsInRange }
     ensures typed { IfOk result (WasTyped words.now) }
+    ensures places { IfOk result (HasPlaces words.now) }
 {
     let fallback = STEPS as u64;
-    Ok(Asked::Trace {
-        steps: option_or(alloc, words, found, "steps", 1, MAX_TURNS, fallback)? as u32,
-        image: text_of(alloc, words, found, "IMAGE")?,
-    })
+    let steps = option_or(alloc, words, found, "steps", 1, MAX_TURNS, fallback)? as u32;
+    let image = text_of(alloc, words, found, "IMAGE")?;
+    has_places(words, &["trace", image.as_str()])?;
+    Ok(Asked::Trace { image, steps })
 }
 
 fn asked_recover(alloc: Global, words: &[String], found: &ArgMatches) -> Result<Asked, ArgFault>
     ensures range { IfOk result IsInRange }
     ensures typed { IfOk result (WasTyped words.now) }
+    ensures places { IfOk result (HasPlaces words.now) }
 {
-    let workers = MAX_WORKERS as u64;
-    Ok(Asked::Recover {
-        workers: option_or(alloc, words, found, "workers", 1, workers, 1)? as u8,
-        device: text_of(alloc, words, found, "DEVICE")?,
-    })
+    let most = MAX_WORKERS as u64;
+    let workers = option_or(alloc, words, found, "workers", 1, most, 1)? as u8;
+    let device = text_of(alloc, words, found, "DEVICE")?;
+    has_places(words, &["recover", device.as_str()])?;
+    Ok(Asked::Recover { device, workers })
 }
 
 /// The form of a node that is shown.
 fn node_view(alloc: Global, words: &[String], found: &ArgMatches) -> Result<View, ArgFault>
     ensures range { IfOk result IsView }
     ensures typed { IfOk result (HasTyped words.now) }
+    ensures flag { IfOk result (HasViewFlag words.now) }
 {
     let node = place_of(alloc, words, found, "I")?;
     if json_of(words, found)? {
@@ -63,10 +69,12 @@ fn node_view(alloc: Global, words: &[String], found: &ArgMatches) -> Result<View
 fn port_view(alloc: Global, words: &[String], found: &ArgMatches) -> Result<View, ArgFault>
     ensures range { IfOk result IsView }
     ensures typed { IfOk result (HasTyped words.now) }
+    ensures flag { IfOk result (HasViewFlag words.now) }
 {
     let port = place_of(alloc, words, found, "P")?;
     let json = json_of(words, found)?;
-    Ok(match (found.get_flag("pending"), json) {
+    let pending = flag_of(words, found, "pending", "--pending")?;
+    Ok(match (pending, json) {
         (true, true) => View::PendingJson(port),
         (true, false) => View::Pending(port),
         (false, true) => View::OutputsJson(port),
@@ -83,6 +91,7 @@ fn view_of(
 ) -> Result<View, ArgFault>
     ensures range { IfOk result IsView }
     ensures typed { IfOk result (HasTyped words.now) }
+    ensures flag { IfOk result (HasViewFlag words.now) }
 {
     match name {
         "node" => node_view(alloc, words, found),
@@ -93,14 +102,64 @@ fn view_of(
     }
 }
 
+/// The command that shows the view.
+fn command_of_view(view: View) -> &'static str
+    ensures { result.now ≡ view_command view }
+{
+    match view {
+        View::Node(_) | View::NodeJson(_) => "node",
+        View::Image(_) => "image",
+        View::Journal(_) => "journal",
+        View::Pending(_) | View::PendingJson(_) | View::Outputs(_) | View::OutputsJson(_) => "port",
+    }
+}
+
+/// The number after the device; a journal has none.
+fn number_of_view(view: View) -> Option<u64>
+    ensures { view_places view ≡ listed result }
+{
+    match view {
+        View::Node(number)
+        | View::NodeJson(number)
+        | View::Image(number)
+        | View::Pending(number)
+        | View::PendingJson(number)
+        | View::Outputs(number)
+        | View::OutputsJson(number) => Some(number),
+        View::Journal(_) => None,
+    }
+}
+
+/// Tests that the words of a command that shows a view are at their places.
+fn view_placed(
+    alloc: Global,
+    words: &[String],
+    command: &str,
+    device: &str,
+    view: View,
+) -> Result<(), ArgFault>
+    ensures { IfOk result (λ done. places words.now ≡ command.now ∷ device.now ∷ view_places view) }
+{
+    let Some(number) = number_of_view(view) else {
+        return has_places(words, &[command, device]);
+    };
+    let text = format!(in alloc; "{number}")?;
+    has_places(words, &[command, device, text.as_str()])
+}
+
 fn asked_status(alloc: Global, words: &[String], found: &ArgMatches) -> Result<Asked, ArgFault>
     ensures range { IfOk result IsInRange }
     ensures typed { IfOk result (WasTyped words.now) }
+    ensures places { IfOk result (HasPlaces words.now) }
 {
+    let json = json_of(words, found)?;
+    let every = every_of(alloc, words, found)?;
+    let device = text_of(alloc, words, found, "DEVICE")?;
+    has_places(words, &["status", device.as_str()])?;
     Ok(Asked::Status {
-        json: json_of(words, found)?,
-        every: every_of(alloc, words, found)?,
-        device: text_of(alloc, words, found, "DEVICE")?,
+        device,
+        every,
+        json,
     })
 }
 
@@ -108,22 +167,29 @@ fn asked_status(alloc: Global, words: &[String], found: &ArgMatches) -> Result<A
 pub fn asked_check(alloc: Global, words: &[String], found: &ArgMatches) -> Result<Asked, ArgFault>
     ensures range { IfOk result IsInRange }
     ensures typed { IfOk result (WasTyped words.now) }
+    ensures places { IfOk result (HasPlaces words.now) }
+    ensures found { IfOk result (HasFoundTexts found.now) }
 {
+    let json = json_of(words, found)?;
+    let topology = text_of(alloc, words, found, "TOPOLOGY")?;
+    let images = text_of(alloc, words, found, "DIR")?;
+    has_places(words, &["check", topology.as_str(), images.as_str()])?;
     Ok(Asked::Check {
-        json: json_of(words, found)?,
-        topology: text_of(alloc, words, found, "TOPOLOGY")?,
-        images: text_of(alloc, words, found, "DIR")?,
+        topology,
+        images,
+        json,
     })
 }
 
 fn asked_show(alloc: Global, words: &[String], found: &ArgMatches) -> Result<Asked, ArgFault>
     ensures range { IfOk result IsInRange }
     ensures typed { IfOk result (WasTyped words.now) }
+    ensures places { IfOk result (HasPlaces words.now) }
 {
-    Ok(Asked::Show {
-        json: json_of(words, found)?,
-        device: text_of(alloc, words, found, "DEVICE")?,
-    })
+    let json = json_of(words, found)?;
+    let device = text_of(alloc, words, found, "DEVICE")?;
+    has_places(words, &["show", device.as_str()])?;
+    Ok(Asked::Show { device, json })
 }
 
 fn asked_view(
@@ -134,11 +200,12 @@ fn asked_view(
 ) -> Result<Asked, ArgFault>
     ensures range { IfOk result IsInRange }
     ensures typed { IfOk result (WasTyped words.now) }
+    ensures places { IfOk result (HasPlaces words.now) }
 {
-    Ok(Asked::View {
-        view: view_of(alloc, words, name, found)?,
-        device: text_of(alloc, words, found, "DEVICE")?,
-    })
+    let view = view_of(alloc, words, name, found)?;
+    let device = text_of(alloc, words, found, "DEVICE")?;
+    view_placed(alloc, words, command_of_view(view), device.as_str(), view)?;
+    Ok(Asked::View { device, view })
 }
 
 /// What a command of that name asks for that only reads a device.
@@ -150,6 +217,7 @@ pub fn asked_to_read(
 ) -> Result<Asked, ArgFault>
     ensures range { IfOk result IsInRange }
     ensures typed { IfOk result (WasTyped words.now) }
+    ensures places { IfOk result (HasPlaces words.now) }
 {
     match name {
         "recover" => asked_recover(alloc, words, found),

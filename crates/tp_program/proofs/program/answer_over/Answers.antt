@@ -14,6 +14,7 @@ pub returns-in-Ok-clause-answered : goal.returns-in-Ok-clause-answered
 returns-in-Ok-clause-answered g c = inr (record {
   command = c.in-Ok.line.command;
   typed = c.in-Ok.ensures.typed;
+  places = c.in-Ok.ensures.places;
   few = c.answer_command.ensures.few;
   done = c.answer_command.ensures.done;
 })
