@@ -10,4 +10,3 @@ mod Shown
 pub mod Slips
 pub mod Compacts
 pub mod Worked
-pub mod Composes

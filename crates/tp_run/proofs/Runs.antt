@@ -1,5 +1,5 @@
 -- What runs leave of a device.
-use Rattle.std.proofs.Common.{◌≡◌, ℕ, ◌≤◌, inl, inr, List, [], Option, Result, Ok, Err, refl, ap, subst, arith}
+use Rattle.std.proofs.Common.{◌≡◌, ℕ, ◌≤◌, inl, inr, List, [], Option, Result, Ok, Err, refl, ap, subst, ◌∙◌, arith}
 use Rattle.std.specs.Prelude.{IfOk}
 use Rattle.std.proofs.lemmas.Result.{IfOk-weaker}
 use Rattle.tp_model.specs.declared.entry.Entry.{Entry}
@@ -19,7 +19,7 @@ use Rattle.tp_flush.specs.Known.{Began}
 use Rattle.tp_flush.specs.Flushing.{Flushing, Walked}
 use Rattle.tp_flush.specs.Follows.{Follows}
 use Rattle.tp_flush.specs.Settled.{RecoversWith, SlipsStand}
-use Rattle.tp_flush.proofs.Follows.{read_alone, read_first, stored_follows, walked_either, walked_follows}
+use Rattle.tp_flush.proofs.Follows.{number_is, read_alone, read_first, stored_follows, walked_either, walked_follows}
 use Rattle.tp_run.specs.declared.fault.RunFault.{RunFault}
 use Rattle.tp_run.specs.declared.job.Job.{Job}
 use Rattle.tp_run.specs.Input.{input_slips}
@@ -40,12 +40,13 @@ SlipsAreRecovered =
     → RecoversTo t414 device_areas start journal least bytes → AreBelow least slips → SlipsStand journal slips → RecoversWith start journal least slips bytes
 
 -- what was printed between two moments of a flusher whose device opened
-abbrev printed_in : (start : Network NodeState) (opened : Opened) (old new : Flushing) (port : ℕ) (was now : OutletValue) (result : Result ℕ RunFault) → verdict old.state.now.bytes ≡ Ok opened
-    → HasPrinted start old new port (outset_in opened port).confirmed was now result → IsPrinted start new.world.journal port was.taken now.taken result old.state new.state
-printed_in start opened old new port was now result reads H = record {
+abbrev printed_in : (start : Network NodeState) (before : World NodeState) (opened : Opened) (old new : Flushing) (port : ℕ) (was now : OutletValue) (result : Result ℕ RunFault) → verdict old.state.now.bytes ≡ Ok opened
+    → old.world ≡ reopened before old.state.now.bytes (held_of opened) opened.now → HasPrinted start old new port (outset_in opened port).confirmed was now result → IsPrinted start new.world.journal port was.taken now.taken result old.state new.state
+printed_in start before opened old new port was now result reads first H = record {
   opened = opened;
   reads = reads;
   number = H.number;
+  behind = subst (λ n. n ≤ H.number) (ap (λ (w : World NodeState). w.mark) first ∙ number_is opened) H.behind;
   outputs = H.outputs;
   shows = H.shows;
   printed = H.printed.prints;
@@ -86,12 +87,12 @@ served_ran law start before opened job input was now old new result began reads 
             }) stored settled;
         printed = elim shown [
           | inl same ↦ inl (ap (λ (v : OutletValue). v.taken) same.0, same.1)
-          | inr H ↦ inr (printed_in start opened old new job.port was now result reads H)
+          | inr H ↦ inr (printed_in start before opened old new job.port was now result reads first H)
         ];
       };
       called = elim shown [
         | inl same ↦ inl same.0
-        | inr H ↦ inr (record { printed = printed_in start opened old new job.port was now result reads H; called = H.printed.called })
+        | inr H ↦ inr (record { printed = printed_in start before opened old new job.port was now result reads first H; called = H.printed.called })
       ];
     }
 
@@ -117,6 +118,7 @@ printed_since start journal port was now result old read new L same P = record {
   opened = P.opened;
   reads = subst (λ bytes. verdict bytes ≡ Ok P.opened) same P.reads;
   number = P.number;
+  behind = P.behind;
   outputs = P.outputs;
   shows = P.shows;
   printed = P.printed;

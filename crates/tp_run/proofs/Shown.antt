@@ -133,7 +133,17 @@ pub may_show : {A : Type 0} (start : Network NodeState) (w : World NodeState) (b
 may_show start w b port mark confirmed there was now r A at (inl same) = inl same
 may_show start w b port mark confirmed there was now r A at (inr (S, F)) =
     let shows = shows_book start w b port mark confirmed (next_in_book b) A S at refl in
-    inr (record { number = next_in_book b; few = shows.0; outputs = (port_in b port).outputs; shows = shows.1; printed = F })
+    let many = A.many in
+    let long = length-append w.journal A.more in
+    let marked = A.marked in
+    inr (record {
+      number = next_in_book b;
+      few = shows.0;
+      behind = omega (arith, many, long, marked);
+      outputs = (port_in b port).outputs;
+      shows = shows.1;
+      printed = F;
+    })
 
 -- the outputs that a receipt is for are shown
 pub output_shown : (keeps began : Type 0) (start : Network NodeState) (w : World NodeState) (b : BookValue) (port mark confirmed : ℕ) (was now : Option (List ℕ)) (held host : List (ℕ × Entry)) (r : Result ReceiptValue RunFault)
@@ -197,8 +207,11 @@ pub may_print : {A B : Type 0} (start : Network NodeState) (old at new : Flushin
 may_print start old at new R W V port confirmed was now r s says (inl (same, silent)) = inl (same, says.silent silent)
 may_print start old at new R W V port confirmed was now r s says (inr H) =
     let reached = walked_reached start old at R W in
+    let up = (walked_stays start old at R W).0 in
+    let behind = H.behind in
     inr (record {
       number = H.number;
+      behind = omega (arith, up, behind);
       outputs = H.outputs;
       shows = (shows_on start at new reached V port confirmed H.number H.outputs (H.few, H.shows)).1;
       there = at.state;
@@ -215,14 +228,17 @@ pub may_print_last : {A B : Type 0} (start : Network NodeState) (old at : Flushi
 may_print_last start old at R W port confirmed was now r s says shown = may_print start old at at R W (walked_nowhere at W.now) port confirmed was now r s says shown
 
 -- and from an earlier one on
-pub may_print_since : {A : Type 0} (start : Network NodeState) (first old new : Flushing) → Walked first old → (port confirmed : ℕ) (was now : OutletValue) (r : Result A RunFault)
+pub may_print_since : {A : Type 0} (start : Network NodeState) (first old new : Flushing) → Reached start first.world → Walked first old → (port confirmed : ℕ) (was now : OutletValue) (r : Result A RunFault)
     → MayPrint start old new port confirmed was now r → MayPrint start first new port confirmed was now r
-may_print_since start first old new W port confirmed was now r (inl same) = inl same
-may_print_since start first old new W port confirmed was now r (inr H) =
+may_print_since start first old new R W port confirmed was now r (inl same) = inl same
+may_print_since start first old new R W port confirmed was now r (inr H) =
     let up = walked_later first old W in
     let later = H.later in
+    let raised = (walked_stays start first old R W).0 in
+    let behind = H.behind in
     inr (record {
       number = H.number;
+      behind = omega (arith, raised, behind);
       outputs = H.outputs;
       shows = H.shows;
       there = H.there;

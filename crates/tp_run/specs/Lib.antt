@@ -1,5 +1,4 @@
 pub mod Compacted
-pub mod Composed
 pub mod Accounted
 pub mod Answered
 pub mod Every

@@ -68,11 +68,13 @@ pub record Carried (start : Network NodeState) (journal : List Entry) (job : Job
 
 -- What was printed, however the run ended: the device opened; where the first `number` entries of the journal lead, the port has some
 -- outputs behind those that were confirmed as it was opened, and a front of them was printed, while the device stood somewhere since:
--- fewer where the output can't be written, else all. And whatever a crash leaves at any moment from then on has each of those entries.
+-- fewer where the output can't be written, else all. They are no fewer entries than the device had as it was opened. And whatever a crash
+-- leaves at any moment from then on has each of them.
 pub record IsPrinted (start : Network NodeState) (journal : List Entry) (port : ℕ) (was now : Option (List ℕ)) (result : Result ℕ RunFault) (old new : State) : Type 0 where
   pub opened : Opened
   pub reads : verdict old.now.bytes ≡ Ok opened
   pub number : ℕ
+  pub behind : next_of opened ≤ number
   pub outputs : List ℕ
   pub shows : LeadsToOutputs start journal number port (outset_in opened port).confirmed outputs
   pub printed : PrintsSo result was now outputs

@@ -30,10 +30,11 @@ abbrev pub AreShownIn : Network NodeState → World NodeState → ℕ → ℕ �
 AreShownIn start w port confirmed number outputs = (number ≤ w.mark) × LeadsToOutputs start w.journal number port confirmed outputs
 
 -- What was appended to an outlet is a front of a port's outputs behind those confirmed, as many as the answer says, where the first
--- entries of the journal lead; there are at most `least` of those entries. Each call of it was for them, while the device stood so.
+-- entries of the journal lead; there are just `least` of those entries. Each call of it was for them, while the device stood so.
 pub record HasShown {A : Type 0} (start : Network NodeState) (journal : List Entry) (least port confirmed : ℕ) (there : State) (was now : OutletValue) (r : Result A RunFault) : Type 0 where
   pub number : ℕ
   pub few : number ≤ least
+  pub behind : least ≤ number
   pub outputs : List ℕ
   pub shows : LeadsToOutputs start journal number port confirmed outputs
   pub printed : PrintsAt there r was now outputs
@@ -46,6 +47,7 @@ MayShow start journal least port confirmed there was now r = ((now ≡ was) × M
 -- the answer says, where the first entries of the journal lead; and whatever a crash leaves from then on has each of those entries.
 pub record HasPrinted {A : Type 0} (start : Network NodeState) (old new : Flushing) (port confirmed : ℕ) (was now : OutletValue) (r : Result A RunFault) : Type 0 where
   pub number : ℕ
+  pub behind : old.world.mark ≤ number
   pub outputs : List ℕ
   pub shows : LeadsToOutputs start new.world.journal number port confirmed outputs
   pub there : State

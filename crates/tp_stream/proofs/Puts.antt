@@ -123,11 +123,13 @@ pub book_stands : (start : Network NodeState) (w : World NodeState) (b : BookVal
 book_stands start w b A stored =
     let all = all_in_journal start w b A stored in
     let many = all.1 in
+    let marked = A.marked in
     let whole : take (next_in_book b) w.journal ≡ w.journal = take_all (next_in_book b) w.journal (omega (arith, many)) in
     let front : take (next_in_book b) w.journal ≡ w.journal ++ A.more = whole ∙ sym (append-nil w.journal) ∙ ap (λ es. w.journal ++ es) (sym all.0) in
     record {
       number = next_in_book b;
       few = stored;
+      all = omega (arith, many, marked);
       state = plain_network (world_of b).live;
       leads = ap (after t414 start) front ∙ A.leads;
       left = λ p. left_still (port_in b p);

@@ -1,5 +1,5 @@
 -- What streams leave of a device.
-use Rattle.std.proofs.Common.{◌≡◌, ◌≤◌, ◌+◌, inl, inr, List, [], ◌∷◌, length, map, ℕ, Result, Ok, Err, refl, ap, subst, ◌∙◌, arith}
+use Rattle.std.proofs.Common.{◌≡◌, ◌≤◌, ◌+◌, inl, inr, List, [], ◌∷◌, length, map, ℕ, Result, Ok, Err, refl, sym, ap, subst, ◌∙◌, arith}
 use Rattle.std.specs.Prelude.{IfErr, IfOk}
 use Rattle.std.proofs.lemmas.Result.{IfOk-weaker}
 use Rattle.tp_model.specs.declared.entry.Entry.{Entry}
@@ -7,13 +7,13 @@ use Rattle.tp_model.specs.NodeState.{NodeState}
 use Rattle.tp_model.specs.Network.{Network}
 use Rattle.tp_model.specs.Disk.{MayBe}
 use Rattle.tp_model.specs.DiskHistory.{State, moment}
-use Rattle.tp_model.specs.Opening.{Opened, held_of, verdict}
+use Rattle.tp_model.specs.Opening.{Opened, held_of, next_of, verdict}
 use Rattle.tp_model.specs.Runs.{World, reopened}
 use Rattle.tp_recover.specs.Reading.{LeavesNothingNew}
 use Rattle.tp_flush.specs.Known.{Began, Reached}
 use Rattle.tp_flush.specs.Flushing.{Flushing, Walked}
 use Rattle.tp_flush.specs.Follows.{Follows}
-use Rattle.tp_flush.proofs.Follows.{read_alone, read_first, stored_follows, walked_either, walked_follows}
+use Rattle.tp_flush.proofs.Follows.{number_is, read_alone, read_first, stored_follows, walked_either, walked_follows}
 use Rattle.tp_recover.proofs.Leaving.{none_leaves}
 use Rattle.tp_stream_files.specs.Held.{HasPut}
 use Rattle.tp_stream_files.specs.Outputs.{Given, OutputValue, given_of}
@@ -34,7 +34,7 @@ pub served : (start : Network NodeState) (before : World NodeState) (o : Opened)
     → verdict old.state.now.bytes ≡ Ok o → old.world ≡ reopened before old.state.now.bytes (held_of o) o.now → Reached start old.world → Walked old new
     → IfOk result (λ ended. ended.next ≤ new.world.mark) → IfOk result (λ ended. ended.next ≡ length new.world.journal) → (was now : List OutputValue)
     → AllStepped start old new was now → IfOk result (λ ended. EndsPut start new.world.journal ended.why now)
-    → ServedInto start result was now old.state new.state
+    → ServedInto start (next_of o) result was now old.state new.state
 served start before o old new result began reads first reached W stored last was now stepped ends =
     let bytes = old.state.now.bytes in record {
       streamed = record {
@@ -43,7 +43,7 @@ served start before o old new result began reads first reached W stored last was
         stored = IfOk-weaker result (λ ended. ended.next ≤ new.world.mark) _ (λ ended low left may. stored_follows start before bytes o began reads old new first W ended.next low left may) stored;
         last = last;
       };
-      outputs = all_got start old new reached was now stepped;
+      outputs = all_got start old new reached (next_of o) (subst (λ n. next_of o ≤ n) (sym (ap (λ (w : World NodeState). w.mark) first ∙ number_is o)) (omega arith)) was now stepped;
       ends = ends;
     }
 
@@ -57,28 +57,28 @@ pub unput : (start : Network NodeState) (fault : StreamFault) (was now : List Ou
 unput start fault was now old new L same = record { streamed = unwritten start fault old new L; outputs = inl same; ends = tt }
 
 -- where nothing was begun, and nothing was put
-pub unserved : (start : Network NodeState) (fault : StreamFault) (outputs : List OutputValue) (old : State) → ServedInto start (Err fault) outputs outputs old old
-unserved start fault outputs old = record {
+pub unserved : (start : Network NodeState) (least : ℕ) (fault : StreamFault) (outputs : List OutputValue) (old : State) → ServedInto start least (Err fault) outputs outputs old old
+unserved start least fault outputs old = record {
   streamed = record { journal = []; leaves = read_alone start [] old old (none_leaves old); stored = tt; last = tt };
   outputs =
-      each_same (λ a b. Got start [] a.next old old a b)
+      each_same (λ a b. Got start [] least a.next old old a b)
       (λ a. let none : a.next ≡ a.next + 0 = omega arith in record { port = refl; pieces = []; each = tt; next = none; holds = none_put a.next [] a.held refl }) outputs;
   ends = tt;
 }
 
 -- ## A device that was read first
 
-put_earlier : (start : Network NodeState) (journal : List Entry) (port from : ℕ) (old read new : State) → moment old ≤ moment read → (ps : List PutPiece) → ArePut start journal port from read new ps
-    → ArePut start journal port from old new ps
-put_earlier start journal port from old read new up [] each = tt
-put_earlier start journal port from old read new up (p ∷ ps) each =
+put_earlier : (start : Network NodeState) (journal : List Entry) (least port from : ℕ) (old read new : State) → moment old ≤ moment read → (ps : List PutPiece) → ArePut start journal least port from read new ps
+    → ArePut start journal least port from old new ps
+put_earlier start journal least port from old read new up [] each = tt
+put_earlier start journal least port from old read new up (p ∷ ps) each =
     let P = each.0 in
-    (record { shows = P.shows; later = let then = P.later in omega (arith, up, then); since = P.since }, each.1)
+    (record { behind = P.behind; shows = P.shows; later = let then = P.later in omega (arith, up, then); since = P.since }, each.1)
 
 -- an output that was set out before
-got_set : (start : Network NodeState) (journal : List Entry) (stands : ℕ → Standing) (old read new : State) → moment old ≤ moment read → (x y z : OutputValue) → IsSetOut stands x y
-    → Got start journal y.next read new y z → Got start journal (from_of (stands x.port) (given_of x)) old new x z
-got_set start journal stands old read new up x y z I G =
+got_set : (start : Network NodeState) (journal : List Entry) (least : ℕ) (stands : ℕ → Standing) (old read new : State) → moment old ≤ moment read → (x y z : OutputValue) → IsSetOut stands x y
+    → Got start journal least y.next read new y z → Got start journal least (from_of (stands x.port) (given_of x)) old new x z
+got_set start journal least stands old read new up x y z I G =
     let port : y.port ≡ x.port = ap (λ (g : Given). g.port) I.given in
     let held : y.held ≡ x.held = ap (λ (g : Given). g.held) I.given in
     let from = from_of (stands x.port) (given_of x) in
@@ -86,15 +86,15 @@ got_set start journal stands old read new up x y z I G =
       port = G.port ∙ port;
       pieces = G.pieces;
       each =
-          put_earlier start journal x.port from old read new up G.pieces
-          (subst (λ n. ArePut start journal x.port n read new G.pieces) I.next (subst (λ p. ArePut start journal p y.next read new G.pieces) port G.each));
+          put_earlier start journal least x.port from old read new up G.pieces
+          (subst (λ n. ArePut start journal least x.port n read new G.pieces) I.next (subst (λ p. ArePut start journal least p y.next read new G.pieces) port G.each));
       next = G.next ∙ ap (λ n. n + length (bytes_put G.pieces)) I.next;
       holds = subst (λ n. HasPut n (bytes_put G.pieces) x.held z.held) I.next (subst (λ h. HasPut y.next (bytes_put G.pieces) h z.held) held G.holds);
     }
 
 -- a device was read, which left its bytes as they are, and was then written, with outputs set out where their ports stand
 pub into : (start : Network NodeState) (result : Result Ended StreamFault) (o : Opened) (was set now : List OutputValue) (old read new : State) → LeavesNothingNew old read
-    → read.now.bytes ≡ old.now.bytes → verdict old.now.bytes ≡ Ok o → EachWith (IsSetOut (stands_opened o)) was set → ServedInto start result set now read new
+    → read.now.bytes ≡ old.now.bytes → verdict old.now.bytes ≡ Ok o → EachWith (IsSetOut (stands_opened o)) was set → ServedInto start (next_of o) result set now read new
     → StreamedInto start result was now old new
 into start result o was set now old read new L same reads sets S =
     let R = S.streamed in record {
@@ -110,8 +110,8 @@ into start result o was set now old read new L same reads sets S =
         opened = o;
         reads = reads;
         each =
-            each_then (IsSetOut (stands_opened o)) (λ a b. Got start R.journal a.next read new a b)
-            (λ a b. Got start R.journal (from_of (stands_opened o a.port) (given_of a)) old new a b) (got_set start R.journal (stands_opened o) old read new L.later) was set now sets S.outputs;
+            each_then (IsSetOut (stands_opened o)) (λ a b. Got start R.journal (next_of o) a.next read new a b)
+            (λ a b. Got start R.journal (next_of o) (from_of (stands_opened o a.port) (given_of a)) old new a b) (got_set start R.journal (next_of o) (stands_opened o) old read new L.later) was set now sets S.outputs;
       });
       ends = S.ends;
     }

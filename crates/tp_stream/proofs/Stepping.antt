@@ -49,7 +49,7 @@ steps_since : (start : Network NodeState) (first old new : Flushing) → Walked 
 steps_since start first old new W port from [] each = tt
 steps_since start first old new W port from (s ∷ ss) each =
     let S = each.0 in
-    (record { before = walked_then first old s.at W S.before; behind = S.behind; few = S.few; shows = S.shows }, each.1)
+    (record { before = walked_then first old s.at W S.before; behind = S.behind; few = S.few; all = S.all; shows = S.shows }, each.1)
 
 steps_then : (start : Network NodeState) (old mid new : Flushing) → Walked old mid → Walked mid new → (port from : ℕ) (ss ts : List PutStep) → AreSteps start old mid port from ss
     → AreSteps start mid new port (from + length (put_by ss)) ts → AreSteps start old new port from (ss ++ ts)
@@ -60,7 +60,7 @@ steps_then start old mid new W V port from (s ∷ ss) ts first then =
     let S = first.0 in
     let long = length-append s.bytes (put_by ss) in
     let all : from + length (s.bytes ++ put_by ss) ≡ from + length s.bytes + length (put_by ss) = omega (arith, long) in (
-      record { before = S.before; behind = walked_then s.at mid new S.behind V; few = S.few; shows = S.shows },
+      record { before = S.before; behind = walked_then s.at mid new S.behind V; few = S.few; all = S.all; shows = S.shows },
       steps_then start s.at mid new S.behind V port (from + length s.bytes) ss ts first.1 (subst (λ n. AreSteps start mid new port n ts) all then),
     )
 
@@ -113,7 +113,7 @@ one_step start f b mark W S x y P = elim P.puts [
       record {
         port = E.port;
         steps = record { bytes = bytes; number = S.number; at = f } ∷ [];
-        each = (record { before = W; behind = W; few = S.few; shows = shows_left start f.world b P.now mark x.port x.next S P.left low }, tt);
+        each = (record { before = W; behind = W; few = S.few; all = S.all; shows = shows_left start f.world b P.now mark x.port x.next S P.left low }, tt);
         next = E.next ∙ ap (λ l. x.next + length l) (sym (append-nil bytes));
         holds = subst (λ l. HasPut x.next l x.held y.held) (sym (append-nil bytes)) E.put;
       }
@@ -147,33 +147,36 @@ same_bytes : (ss : List PutStep) → bytes_put (pieces_of ss) ≡ put_by ss
 same_bytes [] = refl
 same_bytes (s ∷ ss) = ap (λ l. s.bytes ++ l) (same_bytes ss)
 
-pieces_put : (start : Network NodeState) (old new : Flushing) → Reached start old.world → (port from : ℕ) (ss : List PutStep) → AreSteps start old new port from ss
-    → ArePut start new.world.journal port from old.state new.state (pieces_of ss)
-pieces_put start old new R port from [] each = tt
-pieces_put start old new R port from (s ∷ ss) each =
+pieces_put : (start : Network NodeState) (old new : Flushing) → Reached start old.world → (least : ℕ) → least ≤ old.world.mark → (port from : ℕ) (ss : List PutStep) → AreSteps start old new port from ss
+    → ArePut start new.world.journal least port from old.state new.state (pieces_of ss)
+pieces_put start old new R least low port from [] each = tt
+pieces_put start old new R least low port from (s ∷ ss) each =
     let S = each.0 in
+    let up = (walked_stays start old s.at R S.before).0 in
+    let all = S.all in
     let there = reached_at start old s.at R S.before in (
       record {
+        behind = omega (arith, low, up, all);
         shows = shows_on start s.at new there S.behind port from s.number s.bytes S.few S.shows;
         later = walked_later old s.at S.before;
         since =
             weaker s.at.state new.state (RecoversTo t414 device_areas start new.world.journal s.at.world.mark) _
             (λ left r. recovers_less start new.world.journal s.at.world.mark s.number left S.few r) (walked_recovers start s.at new there S.behind);
       },
-      pieces_put start s.at new there port (from + length s.bytes) ss each.1,
+      pieces_put start s.at new there least (omega (arith, low, up)) port (from + length s.bytes) ss each.1,
     )
 
-got : (start : Network NodeState) (old new : Flushing) → Reached start old.world → (a b : OutputValue) → Stepped start old new a b → Got start new.world.journal a.next old.state new.state a b
-got start old new R a b S =
+got : (start : Network NodeState) (old new : Flushing) → Reached start old.world → (least : ℕ) → least ≤ old.world.mark → (a b : OutputValue) → Stepped start old new a b → Got start new.world.journal least a.next old.state new.state a b
+got start old new R least low a b S =
     let same = sym (same_bytes S.steps) in
     record {
       port = S.port;
       pieces = pieces_of S.steps;
-      each = pieces_put start old new R a.port a.next S.steps S.each;
+      each = pieces_put start old new R least low a.port a.next S.steps S.each;
       next = S.next ∙ ap (λ l. a.next + length l) same;
       holds = subst (λ l. HasPut a.next l a.held b.held) same S.holds;
     }
 
-pub all_got : (start : Network NodeState) (old new : Flushing) → Reached start old.world → (xs ys : List OutputValue) → AllStepped start old new xs ys
-    → EachWith (λ a b. Got start new.world.journal a.next old.state new.state a b) xs ys
-all_got start old new R xs ys each = each_like (Stepped start old new) (λ a b. Got start new.world.journal a.next old.state new.state a b) (got start old new R) xs ys each
+pub all_got : (start : Network NodeState) (old new : Flushing) → Reached start old.world → (least : ℕ) → least ≤ old.world.mark → (xs ys : List OutputValue) → AllStepped start old new xs ys
+    → EachWith (λ a b. Got start new.world.journal least a.next old.state new.state a b) xs ys
+all_got start old new R least low xs ys each = each_like (Stepped start old new) (λ a b. Got start new.world.journal least a.next old.state new.state a b) (got start old new R least low) xs ys each

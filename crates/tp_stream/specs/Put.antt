@@ -8,7 +8,7 @@ use Rattle.tp_model.specs.Network.{Network, Port}
 use Rattle.tp_model.specs.Order.{after}
 use Rattle.tp_model.specs.DiskHistory.{LeavesOnly, State, moment}
 use Rattle.tp_model.specs.DeviceAreas.{device_areas}
-use Rattle.tp_model.specs.Opening.{Opened, verdict}
+use Rattle.tp_model.specs.Opening.{Opened, next_of, verdict}
 use Rattle.tp_model.specs.Walks.{RecoversTo}
 use Rattle.tp_book.specs.Ports.{fresh_value}
 use Rattle.tp_stream_files.specs.Held.{HasPut}
@@ -52,33 +52,35 @@ abbrev pub bytes_put : List PutPiece → List ℕ
 bytes_put [] = []
 bytes_put (p ∷ ps) = p.bytes ++ bytes_put ps
 
--- A piece of a port's outputs was put at a position: it is shown where the first entries of the journal lead, as many as it says; and
+-- A piece of a port's outputs was put at a position: it is shown where the first entries of the journal lead, as many as it says, `least` or more; and
 -- whatever a crash leaves from then on, up to `new`, has each of those entries.
-pub record IsPut (start : Network NodeState) (journal : List Entry) (port from : ℕ) (old new : State) (p : PutPiece) : Type 0 where
+pub record IsPut (start : Network NodeState) (journal : List Entry) (least port from : ℕ) (old new : State) (p : PutPiece) : Type 0 where
+  pub behind : least ≤ p.number
   pub shows : LeadsToBytes start journal p.number port from p.bytes
   pub later : moment old ≤ moment p.there
   pub since : LeavesOnly p.there new (RecoversTo t414 device_areas start journal p.number)
 
 -- Each piece of a list was put, one behind the other and none earlier than the one before it.
-abbrev pub ArePut : Network NodeState → List Entry → ℕ → ℕ → State → State → List PutPiece → Type 0
-ArePut start journal port from old new [] = Unit {0}
-ArePut start journal port from old new (p ∷ ps) =
-    IsPut start journal port from old new p × ArePut start journal port (from + length p.bytes) p.there new ps
+abbrev pub ArePut : Network NodeState → List Entry → ℕ → ℕ → ℕ → State → State → List PutPiece → Type 0
+ArePut start journal least port from old new [] = Unit {0}
+ArePut start journal least port from old new (p ∷ ps) =
+    IsPut start journal least port from old new p × ArePut start journal least port (from + length p.bytes) p.there new ps
 
 -- What an output's sink got, which was set out at `from`: behind the bytes in front of `from`, which are as they were, the pieces that
 -- steps put, up to where the output says that it was put.
-pub record Got (start : Network NodeState) (journal : List Entry) (from : ℕ) (old new : State) (was now : OutputValue) : Type 0 where
+pub record Got (start : Network NodeState) (journal : List Entry) (least from : ℕ) (old new : State) (was now : OutputValue) : Type 0 where
   pub port : now.port ≡ was.port
   pub pieces : List PutPiece
-  pub each : ArePut start journal was.port from old new pieces
+  pub each : ArePut start journal least was.port from old new pieces
   pub next : now.next ≡ from + length (bytes_put pieces)
   pub holds : HasPut from (bytes_put pieces) was.held now.held
 
--- What the sinks of all outputs got, over a device that opened: each was set out where its reader has it, or its port stood.
+-- What the sinks of all outputs got, over a device that opened: each was set out where its reader has it, or its port stood. No fewer entries lead to
+-- what was put than the device had as it was opened.
 pub record AreShown (start : Network NodeState) (journal : List Entry) (was now : List OutputValue) (old new : State) : Type 0 where
   pub opened : Opened
   pub reads : verdict old.now.bytes ≡ Ok opened
-  pub each : EachWith (λ a b. Got start journal (from_of (stands_opened opened a.port) (given_of a)) old new a b) was now
+  pub each : EachWith (λ a b. Got start journal (next_of opened) (from_of (stands_opened opened a.port) (given_of a)) old new a b) was now
 
 -- ## As a stream ends
 
@@ -108,7 +110,7 @@ pub record StreamedInto (start : Network NodeState) (result : Result Ended Strea
   pub ends : IfOk result (λ ended. EndsPut start streamed.journal ended.why now)
 
 -- What a stream leaves whose outputs are set out, and what they got in that journal, which are all where it says so; or none has changed.
-pub record ServedInto (start : Network NodeState) (result : Result Ended StreamFault) (was now : List OutputValue) (old new : State) : Type 0 where
+pub record ServedInto (start : Network NodeState) (least : ℕ) (result : Result Ended StreamFault) (was now : List OutputValue) (old new : State) : Type 0 where
   pub streamed : Streamed start result old new
-  pub outputs : EachWith (λ a b. Got start streamed.journal a.next old new a b) was now
+  pub outputs : EachWith (λ a b. Got start streamed.journal least a.next old new a b) was now
   pub ends : IfOk result (λ ended. EndsPut start streamed.journal ended.why now)

@@ -47,10 +47,11 @@ pub record PutsLeft (b : BookValue) (mark : ℕ) (old new : OutputValue) : Type 
   pub left : AreLeft b now
   pub puts : PutsShown now mark old new
 
--- The first entries of a world's journal, all of them below its mark, lead to a network that a book's ports are what is left of.
+-- The first entries of a world's journal, just those below its mark, lead to a network that a book's ports are what is left of.
 pub record PortsStand (start : Network NodeState) (w : World NodeState) (b : BookValue) : Type 0 where
   pub number : ℕ
   pub few : number ≤ w.mark
+  pub all : w.mark ≤ number
   pub state : Network NodeState
   pub leads : after t414 start (take number w.journal) ≡ Some state
   pub left : (p : ℕ) → IsPartConfirmed (port_or_fresh state p) (port_in b p)
@@ -69,11 +70,12 @@ put_by [] = []
 put_by (s ∷ ss) = s.bytes ++ put_by ss
 
 -- A step put outputs of a port at a position, between two moments of the flusher: they are shown where the first entries of the journal
--- that it had by then lead, all of them stored.
+-- that it had by then lead, just those that were stored.
 pub record IsPutStep (start : Network NodeState) (old new : Flushing) (port from : ℕ) (s : PutStep) : Type 0 where
   pub before : Walked old s.at
   pub behind : Walked s.at new
   pub few : s.number ≤ s.at.world.mark
+  pub all : s.at.world.mark ≤ s.number
   pub shows : LeadsToBytes start s.at.world.journal s.number port from s.bytes
 
 -- So did each, one behind the other and none earlier than the one before.

@@ -9,7 +9,7 @@ ghost use Rattle.tp_model.specs.DiskHistory.{IsSynced};
 ghost use Rattle.tp_law_machine.specs.NodeOfBytes.{IsNodeOfBytes};
 ghost use Rattle.tp_model.specs.Journal.{is_roomy, room};
 ghost use Rattle.tp_model.specs.Node.{t414_ends};
-ghost use Rattle.tp_model.specs.Opening.{Opened as OpenedValue, verdict};
+ghost use Rattle.tp_model.specs.Opening.{Opened as OpenedValue, next_of, verdict};
 ghost use Rattle.tp_model.specs.Spelling.{IsCut};
 ghost use Rattle.tp_model.specs.Topology.{node_count};
 ghost use Rattle.tp_model.specs.declared.limits.TheConstants.{MAX_STEPS};
@@ -132,7 +132,7 @@ fn stream_parts<
     requires synced { D.keeps → IsSynced (D.state device.store.disk) }
     ensures size { D.size_of result.0 ≡ D.size_of device.store.disk }
     ensures streamed { D.keeps → Began J.formatted J.before (D.state device.store.disk).now.bytes
-        → ServedInto J.formatted result.1 streams.old.outputs.items streams.new.outputs.items (D.state device.store.disk) (D.state result.0) }
+        → ServedInto J.formatted (next_of device.opened.value) result.1 streams.old.outputs.items streams.new.outputs.items (D.state device.store.disk) (D.state result.0) }
     ensures why { IfOk result.1 (λ ended. IsAsked task ended.why) }
     ensures looks { IfOk result.1 (λ ended. HaveLooked task (P.answers stop.old) (P.answers stop.new) (Some ended.why)) }
     ensures over { IfOk result.1 (λ ended. LeavesNoInput (list_all (λ i. is_over i.ended i.is_blocked) streams.new.inputs.items) ended.why) }

@@ -3,7 +3,7 @@ use Rattle.std.specs.Prelude.{IfOk}
 use Rattle.tp_model.specs.Disk.{Moment}
 use Rattle.tp_model.specs.Topology.{node_count}
 use Rattle.tp_flush.specs.Known.{Began}
-use Rattle.tp_model.specs.Opening.{Opened}
+use Rattle.tp_model.specs.Opening.{Opened, next_of}
 use Rattle.tp_stream_files.specs.declared.ending.Ended.{Ended}
 use Rattle.tp_stream.specs.declared.fault.StreamFault.TheVariants.{Opening}
 use Rattle.tp_stream.specs.Failures.{answer_failed, calls_failed, fault_failed}
@@ -69,8 +69,9 @@ returns-clause-put g c k began =
     let same : (g.D.Disk.state c.store-store.result.disk).now.bytes ≡ (g.D.Disk.state c.args.disk).now.bytes = ap (λ d. (g.D.Disk.state d).now.bytes) c.store-store.ensures.disk ∙ kept in
     into start done c.in-Ok.opened was set now (g.D.Disk.state c.args.disk) (g.D.Disk.state c.open.new.disk) (g.D.Disk.state c.stream_parts.result.0) (c.open.ensures.leaves k) kept
     (c.in-Ok.ensures.is k) c.in-Ok-parts_of.ensures.set
-    (subst (λ d. ServedInto start done set now (g.D.Disk.state d) (g.D.Disk.state c.stream_parts.result.0)) c.store-store.ensures.disk
-    (c.stream_parts.ensures.streamed k (subst (Began start g.history.before) (sym same) began)))
+    (subst (λ d. ServedInto start (next_of c.in-Ok.opened) done set now (g.D.Disk.state d) (g.D.Disk.state c.stream_parts.result.0)) c.store-store.ensures.disk
+    (subst (λ o. ServedInto start (next_of o) done set now (g.D.Disk.state c.store-store.result.disk) (g.D.Disk.state c.stream_parts.result.0)) (c.of-known.ensures)
+    (c.stream_parts.ensures.streamed k (subst (Began start g.history.before) (sym same) began))))
 
 pub returns-clause-streamed : goal.returns-clause-streamed
 returns-clause-streamed g c k began = (returns-clause-put g c k began).streamed

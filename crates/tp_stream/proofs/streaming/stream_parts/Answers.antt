@@ -2,7 +2,7 @@ use Rattle.std.proofs.Common.{◌≡◌, Ok, Err, Some, false, refl, sym, ap, su
 use Rattle.tp_model.specs.NodeState.{NodeState}
 use Rattle.std.specs.Prelude.{IfOk}
 use Rattle.tp_model.specs.DiskHistory.{State}
-use Rattle.tp_model.specs.Opening.{held_of, verdict}
+use Rattle.tp_model.specs.Opening.{held_of, next_of, verdict}
 use Rattle.tp_model.specs.Runs.{World, reopened}
 use Rattle.tp_model.specs.Topology.{node_count}
 use Rattle.tp_flush.specs.Known.{Began}
@@ -35,8 +35,8 @@ returns-clause-streamed g c k began =
     let was = c.args.streams.now.outputs.items in
     let now = c.serve-flusher.new.streams.outputs.items in
     let S = c.serve-flusher.ensures in
-    subst (λ s. ServedInto start done was now (g.D.Disk.state c.args.device.store.disk) s) (sym c.into_disk-2.ensures.state)
-    (subst (λ s. ServedInto start done was now s new.state) c.over-flusher.ensures.device.0
+    subst (λ s. ServedInto start (next_of o) done was now (g.D.Disk.state c.args.device.store.disk) s) (sym c.into_disk-2.ensures.state)
+    (subst (λ s. ServedInto start (next_of o) done was now s new.state) c.over-flusher.ensures.device.0
     (served start before o old new done there reads world (c.known.ensures.reached k first) (S.served.walks k first) S.stored (S.last k first) was now (S.served.put k first) (S.put k first)))
 
 pub returns-clause-why : goal.returns-clause-why
@@ -81,8 +81,8 @@ serve-flusher-requires-clause-seats g c κs within k d there =
 pub returns-in_default-clause-streamed : goal.returns-in_default-clause-streamed
 returns-in_default-clause-streamed g c k began =
     let outputs = c.args.streams.now.outputs.items in
-    subst (λ d. ServedInto g.J.Naming.formatted (Err Memory) outputs outputs (g.D.Disk.state c.args.device.store.disk) (g.D.Disk.state d)) (sym c.into_disk.ensures)
-    (unserved g.J.Naming.formatted Memory outputs (g.D.Disk.state c.args.device.store.disk))
+    subst (λ d. ServedInto g.J.Naming.formatted (next_of c.args.device.opened.value) (Err Memory) outputs outputs (g.D.Disk.state c.args.device.store.disk) (g.D.Disk.state d)) (sym c.into_disk.ensures)
+    (unserved g.J.Naming.formatted (next_of c.args.device.opened.value) Memory outputs (g.D.Disk.state c.args.device.store.disk))
 
 pub returns-in_default-clause-told : goal.returns-in_default-clause-told
 returns-in_default-clause-told g c = later_none (node_count c.args.device.topology) (g.L.Listener.told c.args.listener.now)

@@ -1,0 +1,69 @@
+-- Ports of a device that was formatted have put out nothing.
+use Rattle.std.proofs.Common.{◌≡◌, ℕ, zero, suc, ◌+◌, true, List, [], ◌∷◌, length, drop, Some, Ok, subst, arith}
+use Rattle.std.specs.Prelude.{◌&&◌, nat_le, slice_get}
+use Rattle.std.specs.List.{AllByRecursion}
+use Rattle.std.proofs.lemmas.Bool.{and_parts, leb-true}
+use Rattle.std.proofs.lemmas.List.{nil_from_length}
+use Rattle.tp_model.specs.declared.limits.TheConstants.{MAX_HELD}
+use Rattle.tp_model.specs.NodeState.{NodeState}
+use Rattle.tp_model.specs.Node.{t414, t414_ends}
+use Rattle.tp_model.specs.Network.{Machine, Network, Port}
+use Rattle.tp_model.specs.Sound.{EndsSeen}
+use Rattle.tp_model.specs.Topology.{Topology, line_count}
+use Rattle.tp_model.specs.Areas.{Held}
+use Rattle.tp_model.specs.CutImage.{is_port_of, lines_in, nodes_in, ports_in}
+use Rattle.tp_model.specs.Device.{area_start, content_of}
+use Rattle.tp_model.specs.DeviceAreas.{device_areas}
+use Rattle.tp_model.specs.Flight.{flights_in}
+use Rattle.tp_model.specs.Opening.{Opened, base_of, cut_in, lines_place, network_of, nodes_place, opening, ports_place, verdict}
+use Rattle.tp_model.specs.Runs.{World, BeginsFormatted}
+use Rattle.tp_law_device.proofs.AreaReads.{area_parts}
+use Rattle.tp_law_device.proofs.Faults.{bind_ok}
+use Rattle.tp_law_device.proofs.Opens.{held_opened, reads_of}
+use Rattle.tp_law_device.proofs.ReadCuts.{ports_read}
+
+-- ports of a cut with so many entries in it
+abbrev ArePortsOf : ℕ → Network NodeState → Type 0
+ArePortsOf base s = AllByRecursion (λ port. is_port_of base port ≡ true) s.ports
+
+cut_ports : (E : EndsSeen NodeState) (t : Topology) (at : ℕ) (content : List ℕ) (s : Network NodeState) → cut_in E t at content ≡ Ok s → ArePortsOf (base_of content) s
+unfolding cut_in
+cut_ports E t at content s is =
+    let a = bind_ok (nodes_in (at + nodes_place) t.pages (drop nodes_place content)) _ s is in
+    let b = bind_ok (lines_in (at + lines_place t) t.wires (drop (lines_place t) content)) _ s a.2 in
+    let c = bind_ok (ports_in (base_of content) (at + ports_place t) t.ports (drop (ports_place t) content)) _ s b.2 in
+    let network = network_of t a.0 b.0 c.0 in
+    let d = bind_ok (flights_in E network (at + lines_place t) 0 (line_count t)) _ s c.2 in
+    let same : network ≡ s = let both = d.2 in cc in
+    subst (ArePortsOf (base_of content)) same (ports_read (base_of content) (at + ports_place t) t.ports (drop (ports_place t) content) c.0 c.1).are_ports
+
+opening_ports : (M : Machine NodeState) (E : EndsSeen NodeState) (bytes : List ℕ) (o : Opened) → opening M E bytes ≡ Ok o → ArePortsOf o.base o.cut
+opening_ports M E bytes o is =
+    let R = reads_of M E bytes o is in
+    let content = content_of o.head.areas o.second bytes in
+    let A = area_parts M E o.head o.second content o R.area in
+    subst (λ (p : Opened). ArePortsOf p.base p.cut) A.is (cut_ports E o.head.topology (area_start o.head.areas o.second + 1) content A.cut A.cut_is)
+
+formatted_ports : (start : Network NodeState) (w : World NodeState) → BeginsFormatted t414 device_areas start w → ArePortsOf 0 start
+unfolding verdict
+formatted_ports start w F =
+    let H = held_opened (opening t414 t414_ends w.disk.bytes) (record { network = start; entries = []; base = 0 }) F.reads in
+    subst (λ (h : Held NodeState). ArePortsOf h.base h.network) H.2 (opening_ports t414 t414_ends w.disk.bytes H.0 H.1)
+
+-- ## One of them
+
+port_empty : (port : Port) → is_port_of 0 port ≡ true → (port.out_base ≡ 0) × (port.outputs ≡ [])
+port_empty port is =
+    let parts = and_parts (nat_le (length port.pending) MAX_HELD && nat_le (length port.outputs) MAX_HELD) (nat_le port.in_base 0 && nat_le (port.out_base + length port.outputs) 0) is in
+    let out = (and_parts (nat_le port.in_base 0) (nat_le (port.out_base + length port.outputs) 0) parts.1).1 in
+    let few = leb-true (port.out_base + length port.outputs) 0 out in
+    (omega (arith, few), nil_from_length port.outputs (omega (arith, few)))
+
+port_there : (ports : List Port) (p : ℕ) (port : Port) → AllByRecursion (λ x. is_port_of 0 x ≡ true) ports → slice_get ports p ≡ Some port → is_port_of 0 port ≡ true
+port_there [] p port all at = cc
+port_there (x ∷ ports) zero port all at = let same : x ≡ port = cc in subst (λ q. is_port_of 0 q ≡ true) same all.0
+port_there (x ∷ ports) (suc p) port all at = port_there ports p port all.1 at
+
+pub formatted_port : (start : Network NodeState) (w : World NodeState) → BeginsFormatted t414 device_areas start w → (p : ℕ) (port : Port) → slice_get start.ports p ≡ Some port
+    → (port.out_base ≡ 0) × (port.outputs ≡ [])
+formatted_port start w F p port at = port_empty port (port_there start.ports p port (formatted_ports start w F) at)

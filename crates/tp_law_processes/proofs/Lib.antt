@@ -1,0 +1,7 @@
+mod FreshPorts
+mod Histories
+mod Joined
+mod Outputs
+mod Parts
+mod Shows
+mod Stops

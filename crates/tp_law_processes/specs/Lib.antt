@@ -1,0 +1,3 @@
+pub mod OneHistory
+pub mod Outputs
+pub mod Processes

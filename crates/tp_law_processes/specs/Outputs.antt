@@ -1,0 +1,29 @@
+-- All that a port has put out, by the entries alone.
+use Rattle.std.specs.Prelude.{◌≡◌, ℕ, ◌+◌, if◌then◌else◌, List, [], ◌∷◌, ◌++◌, length, Option}
+use Rattle.tp_model.specs.declared.link.Token.TheVariants.{Data, Ack, Marker}
+use Rattle.tp_model.specs.declared.wire.WireEnd.{WireEnd}
+use Rattle.tp_model.specs.declared.entry.Entry.{Entry}
+use Rattle.tp_model.specs.declared.entry.Entry.TheVariants.{Run, Take, HostIn, Confirm, Turn}
+use Rattle.tp_model.specs.Network.{Port, receiver}
+use Rattle.tp_model.specs.Counted.{is_at}
+
+-- the byte that comes out of port p by an entry, where one does
+abbrev pub byte_out : List (Option WireEnd) → ℕ → Entry → List ℕ
+byte_out wires p (Run i k) = []
+byte_out wires p (Take line (Data b)) = if is_at p (receiver wires line) then b ∷ [] else []
+byte_out wires p (Take line Ack) = []
+byte_out wires p (Take line Marker) = []
+byte_out wires p (HostIn q x) = []
+byte_out wires p (Confirm q upto) = []
+byte_out wires p (Turn i links k) = []
+
+-- all bytes that come out of port p by entries, in order
+unfoldable pub bytes_out : List (Option WireEnd) → ℕ → List Entry → List ℕ
+bytes_out wires p [] = []
+bytes_out wires p (e ∷ es) = byte_out wires p e ++ bytes_out wires p es
+
+-- Bytes came out of a port, behind those that it had; some of the first ones are confirmed, and the others are there.
+pub record Grew (more : List ℕ) (before later : Port) : Type 0 where
+  pub gone : List ℕ
+  pub base : later.out_base ≡ before.out_base + length gone
+  pub are : before.outputs ++ more ≡ gone ++ later.outputs

@@ -1,0 +1,112 @@
+-- Processes over one device, one after the other: what each did by the clause of its call, what it showed, and what it acknowledged.
+use Rattle.std.specs.Prelude.{◌≡◌, ◌≤◌, ◌⊎◌, ℕ, ◌+◌, List, [], ◌∷◌, ◌++◌, length, map, Result, Ok, Err}
+use Rattle.std.proofs.Common.{inl, inr}
+use Rattle.tp_model.specs.declared.entry.Entry.{Entry}
+use Rattle.tp_model.specs.NodeState.{NodeState}
+use Rattle.tp_model.specs.Network.{Network}
+use Rattle.tp_model.specs.DiskHistory.{IsSynced, MayHaveLeft, State, moment}
+use Rattle.tp_model.specs.Opening.{Opened, next_of}
+use Rattle.tp_recover.specs.Reading.{LeavesNothingNew}
+use Rattle.tp_run.specs.declared.compacting.CompactFault.{CompactFault}
+use Rattle.tp_run.specs.declared.compacting.Compaction.{Compaction}
+use Rattle.tp_run.specs.declared.fault.RunFault.{RunFault}
+use Rattle.tp_run.specs.declared.job.Job.{Job}
+use Rattle.tp_run.specs.Compacted.{Compacted}
+use Rattle.tp_run.specs.Outlet.{OutletValue}
+use Rattle.tp_run.specs.Outset.{outset_in}
+use Rattle.tp_run.specs.Ran.{IsCalled, RanInto}
+use Rattle.tp_stream_files.specs.Outputs.{OutputValue, given_of}
+use Rattle.tp_stream_files.specs.declared.ending.Ended.{Ended}
+use Rattle.tp_stream.specs.declared.fault.StreamFault.{StreamFault}
+use Rattle.tp_stream.specs.Put.{AreShown, EachWith, Got, PutPiece, StreamedInto}
+use Rattle.tp_stream.specs.Standing.{from_of, stands_opened}
+
+-- What a process did between two states of its device, by the clause of its call: a run, a stream, a compaction, or a call that wrote nothing.
+pub data Did (start : Network NodeState) (old new : State) : Type 0 where
+  ByRun : (job : Job) → (input : List ℕ) → (was : OutletValue) → (now : OutletValue) → (result : Result ℕ RunFault) → RanInto start job input was now result old new → Did start old new
+  ByStream : (result : Result Ended StreamFault) → (was : List OutputValue) → (now : List OutputValue) → StreamedInto start result was now old new → Did start old new
+  ByCompaction : (result : Result Compaction CompactFault) → Compacted start result old new → Did start old new
+  ByReading : LeavesNothingNew old new → Did start old new
+
+-- the journal that the clause speaks of
+abbrev pub journal_of : {start : Network NodeState} {old new : State} → Did start old new → List Entry
+journal_of (ByRun job input was now result clause) = clause.ran.journal
+journal_of (ByStream result was now clause) = clause.streamed.journal
+journal_of (ByCompaction result clause) = clause.journal
+journal_of (ByReading clause) = []
+
+-- the number that the call answered, below which each entry is acknowledged; 0 if it answered none
+abbrev pub answered : {start : Network NodeState} {old new : State} → Did start old new → ℕ
+answered (ByRun job input was now (Ok next) clause) = next
+answered (ByRun job input was now (Err fault) clause) = 0
+answered (ByStream (Ok ended) was now clause) = ended.next
+answered (ByStream (Err fault) was now clause) = 0
+answered (ByCompaction (Ok done) clause) = done.next
+answered (ByCompaction (Err fault) clause) = 0
+answered (ByReading clause) = 0
+
+-- Bytes that were shown of a port, the first of them at this position among all that the port puts out, when its device had come to a moment.
+pub record Showing : Type 0 where
+  pub port : ℕ
+  pub from : ℕ
+  pub bytes : List ℕ
+  pub there : ℕ
+
+-- what an outlet was called for
+abbrev pub outlet_showings : (start : Network NodeState) (journal : List Entry) (port : ℕ) (was now : OutletValue) (result : Result ℕ RunFault) (old new : State)
+    → (now ≡ was) ⊎ IsCalled start journal port was now result old new → List Showing
+outlet_showings start journal port was now result old new (inl silent) = []
+outlet_showings start journal port was now result old new (inr called) =
+    record { port = port; from = (outset_in called.printed.opened port).confirmed; bytes = called.printed.outputs; there = moment called.printed.there } ∷ []
+
+-- the pieces that were put of a port, the first of them at this position
+abbrev pub piece_showings : ℕ → ℕ → List PutPiece → List Showing
+piece_showings port from [] = []
+piece_showings port from (p ∷ ps) = record { port = port; from = from; bytes = p.bytes; there = moment p.there } ∷ piece_showings port (from + length p.bytes) ps
+
+-- what the sinks of outputs got, each from where it was set out
+abbrev pub got_showings : (start : Network NodeState) (journal : List Entry) (least : ℕ) (from : OutputValue → ℕ) (old new : State) (was now : List OutputValue)
+    → EachWith (λ a b. Got start journal least (from a) old new a b) was now → List Showing
+got_showings start journal least from old new [] now each = []
+got_showings start journal least from old new (a ∷ was) [] each = []
+got_showings start journal least from old new (a ∷ was) (b ∷ now) each =
+    piece_showings a.port (from a) each.0.pieces ++ got_showings start journal least from old new was now each.1
+
+-- none, or what they got over a device that opened
+abbrev pub set_out_at : Opened → OutputValue → ℕ
+set_out_at opened output = from_of (stands_opened opened output.port) (given_of output)
+
+abbrev pub sink_showings : (start : Network NodeState) (journal : List Entry) (was now : List OutputValue) (old new : State)
+    → (map given_of now ≡ map given_of was) ⊎ AreShown start journal was now old new → List Showing
+sink_showings start journal was now old new (inl same) = []
+sink_showings start journal was now old new (inr shown) =
+    got_showings start journal (next_of shown.opened) (set_out_at shown.opened) old new was now shown.each
+
+-- all that a process showed, as the clause of its call says
+abbrev pub showings : (start : Network NodeState) (old new : State) → Did start old new → List Showing
+showings start old new (ByRun job input was now result clause) = outlet_showings start clause.ran.journal job.port was now result old new clause.called
+showings start old new (ByStream result was now clause) = sink_showings start clause.streamed.journal was now old new clause.outputs
+showings start old new (ByCompaction result clause) = []
+showings start old new (ByReading clause) = []
+
+-- A process: the device that it began with, all of it synced, and the one that it would end with; what it did; and what was left of the device as it
+-- ended there, or as a crash stopped it at some moment from `at` on.
+pub record Process (start : Network NodeState) : Type 0 where
+  pub old : State
+  pub new : State
+  pub synced : IsSynced old
+  pub did : Did start old new
+  pub at : ℕ
+  pub begun : moment old ≤ at
+  pub left : List ℕ
+  pub may : MayHaveLeft new at left
+
+-- Each process begins with the bytes that the one before it left, the first one with `was`.
+abbrev pub AreInOrder : (start : Network NodeState) → List ℕ → List (Process start) → Type 0
+AreInOrder start was [] = Unit {0}
+AreInOrder start was (p ∷ ps) = (p.old.now.bytes ≡ was) × AreInOrder start p.left ps
+
+-- what the last one left
+abbrev pub last_left : (start : Network NodeState) → List ℕ → List (Process start) → List ℕ
+last_left start was [] = was
+last_left start was (p ∷ ps) = last_left start p.left ps

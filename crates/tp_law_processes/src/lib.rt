@@ -1,0 +1,34 @@
+//! Laws of processes over one device, one after the other. The functions do nothing; their contracts are the laws.
+#![tactic(auto)]
+
+ghost use Rattle.std.specs.Prelude.{◌≡◌, ℕ, List, Some, Ok, slice_get};
+ghost use Rattle.tp_model.specs.declared.entry.Entry.{Entry};
+ghost use Rattle.tp_model.specs.NodeState.{NodeState};
+ghost use Rattle.tp_model.specs.Node.{t414};
+ghost use Rattle.tp_model.specs.Network.{Network, Port};
+ghost use Rattle.tp_model.specs.Order.{after};
+ghost use Rattle.tp_model.specs.DeviceAreas.{device_areas};
+ghost use Rattle.tp_model.specs.Opening.{Opened, next_of, verdict};
+ghost use Rattle.tp_model.specs.Runs.{World, BeginsFormatted};
+ghost use Rattle.tp_flush.specs.Known.{Began};
+ghost use Rattle.tp_law_processes.specs.Processes.{AreInOrder, Process};
+ghost use Rattle.tp_law_processes.specs.OneHistory.{OneHistory};
+ghost use Rattle.tp_law_processes.specs.Outputs.{Grew, bytes_out};
+
+/// What comes out of a port is what the entries say, in order: after what it had there come the bytes of the entries. The first ones of all these are
+/// confirmed, as many as its confirmed number has grown by, and the others are there.
+pub fn ports_put_out()
+    ensures { (s t : Network NodeState) (es : List Entry) → after t414 s es ≡ Some t → (p : ℕ) (port : Port) → slice_get s.ports p ≡ Some port
+        → (later : Port) × (slice_get t.ports p ≡ Some later) × Grew (bytes_out s.wires p es) port later }
+{}
+
+/// However many processes open a device one after the other, each what the one before it left as it ended, or as a crash stopped it at any moment: there
+/// is one journal of one-thread steps. Each process finds the first entries of it. What each has shown of a port by then is, from its position on, part of
+/// what comes out of that port by this journal; and of one that was done, all entries below the number that it answered are in it. What is left in
+/// the end stands for all of it. On a device that was formatted the first process begins with the number 0.
+pub fn processes_show_one_history()
+    ensures history { (start : Network NodeState) (before : World NodeState) (was : List ℕ) → Began start before was
+        → (processes : List (Process start)) → AreInOrder start was processes → OneHistory start was processes }
+    ensures formatted { (start : Network NodeState) (w : World NodeState) → BeginsFormatted t414 device_areas start w
+        → (opened : Opened) → verdict w.disk.bytes ≡ Ok opened → next_of opened ≡ 0 }
+{}
