@@ -1,6 +1,7 @@
 pub mod Answered
 pub mod Before
 pub mod Changes
+pub mod Clearing
 pub mod Collected
 pub mod Commit
 pub mod Committed

@@ -2,6 +2,7 @@ pub mod Acts
 pub mod Bare
 pub mod Book
 pub mod Calls
+pub mod Clear
 pub mod Copies
 pub mod Counted
 pub mod Covered

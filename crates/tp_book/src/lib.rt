@@ -4,6 +4,7 @@
 mod backlog;
 mod begins;
 mod book;
+mod clear;
 mod commits;
 mod confirm;
 mod count;

@@ -33,7 +33,7 @@ lacking_frozen node ranges lacks = kept_some node.frozen lacks.frozen
     kept_some (Some n) is = refl
 
 -- a node that has halted makes no step
-halted_rests : (node : NodeState) → IsSome node.cpu.halt → node_step node ≡ None
+pub halted_rests : (node : NodeState) → IsSome node.cpu.halt → node_step node ≡ None
 unfolding node_step step_of
 halted_rests node halted = rw halted refl
 

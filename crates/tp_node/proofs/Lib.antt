@@ -8,6 +8,7 @@ pub mod Images
 pub mod Keeps
 pub mod OneMore
 pub mod Pieces
+pub mod Resting
 pub mod Room
 pub mod Runs
 pub mod Taken

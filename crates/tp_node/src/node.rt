@@ -10,6 +10,7 @@ ghost use Rattle.tp_mem.specs.Contents.{page_of};
 ghost use Rattle.tp_node.specs.FromImage.{ReadsImage, HasFrames};
 ghost use Rattle.tp_node.specs.LinkEnds.{kept_done};
 ghost use Rattle.tp_node.specs.NodeContents.{memory_kept};
+ghost use Rattle.tp_node.specs.Rest.{LeavesNoStep, rest_of};
 ghost use Rattle.tp_node.specs.RunEnd.{IsWhy};
 ghost use Rattle.tp_node.specs.Standing.{standing, waits_at_end};
 ghost use Rattle.tp_node.specs.Takes.{Takes};
@@ -18,6 +19,7 @@ use crate::fault::{ImageFault, NoFrame};
 use crate::head::Head;
 use crate::image::{read_head, read_image};
 use crate::memory::{Memory, reserve, take_over};
+use crate::rest::{Rest, rest_of};
 use crate::run::{Ran, run};
 use crate::standing::Standing;
 use crate::take::{take_ack, take_data};
@@ -158,6 +160,14 @@ impl Node {
             fault,
             at: self.head.cpu.iptr,
         }
+    }
+
+    /// What is left to do for it by itself. Tokens that may be under way to it don't count.
+    pub fn rest(&self) -> Rest
+        ensures value { result ≡ rest_of self.now.live }
+        ensures steps { LeavesNoStep result self.now.live }
+    {
+        rest_of(&self.head, &self.memory)
     }
 
     /// How many pages its memory has.

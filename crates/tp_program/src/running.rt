@@ -14,7 +14,7 @@ use std::io::Write;
 use std::sync::Wait;
 use std::thread::Threads;
 use tp_disk::Disk;
-use tp_run::{Job, Outlet, RunFault, run};
+use tp_run::{Job, Outlet, Rest, RunFault, run};
 use tp_words::Run;
 
 /// What the threads are asked. A number that no device has is the greatest of its kind.
@@ -51,13 +51,22 @@ fn refuse_run<E: Write>(err: &mut E, fault: RunFault) -> u8
     1
 }
 
+/// What is said behind the number of the next entry, by what is left to do.
+fn word_of(rest: Rest) -> &'static str {
+    match rest {
+        Rest::Halted => " halted",
+        Rest::Quiet => " quiet",
+        Rest::Busy => "",
+    }
+}
+
 /// Says on standard error what came of a run. Answers the status. A failed write of that is let go.
-fn report<E: Write>(err: &mut E, done: Result<u64, RunFault>) -> u8
+fn report<E: Write>(err: &mut E, done: Result<u64, RunFault>, rest: Rest) -> u8
     ensures { result ≡ status_of done }
 {
     match done {
         Ok(next) => {
-            let _ = write!(err, "next {next}\n");
+            let _ = write!(err, "next {next}{}\n", word_of(rest));
             0
         }
         Err(RunFault::Spare) => is_not_there(
@@ -70,7 +79,8 @@ fn report<E: Write>(err: &mut E, done: Result<u64, RunFault>) -> u8
 }
 
 /// `tpnet run`, on a device: hands in what the port hasn't accepted of `input`, lets workers make the turns, keeps the journal, prints
-/// and confirms what the port shows, and says on standard error which number the next entry gets. Answers the device, and the
+/// and confirms what the port shows, and says on standard error which number the next entry gets, and whether each node has halted, or
+/// nothing is left to do. Answers the device, and the
 /// program's status: 0 where that was done, 2 where `--spare` is above a node's pages or the port isn't there, else 1. A device
 /// that doesn't open is left as it is, and so it is at status 2; nothing is printed then.
 pub fn run_on<D: Disk + Drop + Send, O: Outlet, E: Write, R: Threads + Wait + Sync>(
@@ -91,6 +101,6 @@ pub fn run_on<D: Disk + Drop + Send, O: Outlet, E: Write, R: Threads + Wait + Sy
     ensures unopened { D.keeps → IsErr (verdict (D.state disk).now.bytes) → (result.1 ≡ 1) × LeavesNothingNew (D.state disk) (D.state result.0) × (O.value out.new ≡ O.value out.old) }
 {
     let job = job_of(asked);
-    let (disk, done) = run(rt, alloc, job, disk, input, out);
-    (disk, report(err, done))
+    let (disk, done, rest) = run(rt, alloc, job, disk, input, out);
+    (disk, report(err, done, rest))
 }

@@ -6,6 +6,7 @@ pub mod Made
 pub mod Called
 pub mod Runs
 pub mod Reasons
+pub mod Rested
 mod Shown
 pub mod Slips
 pub mod Compacts

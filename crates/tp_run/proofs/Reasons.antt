@@ -15,7 +15,7 @@ use Rattle.tp_work.specs.declared.host_fault.ConfirmFault.{ConfirmFault}
 use Rattle.tp_work.specs.declared.host_fault.ConfirmFault.TheVariants as confirm
 use Rattle.tp_run.specs.declared.fault.RunFault.{RunFault}
 use Rattle.tp_run.specs.declared.fault.RunFault.TheVariants.{OfferRefused, ConfirmRefused, Unaccounted, Memory}
-use Rattle.tp_run.specs.Input.{rest_fault, rest_of}
+use Rattle.tp_run.specs.Input.{rest_fault, input_rest}
 use Rattle.tp_run.specs.Output.{unconfirmed_fault}
 
 -- ## Input
@@ -51,13 +51,13 @@ rest_reason A false false false false false false already gap room (Err fault) n
 -- an offer of just the bytes that a port hasn't accepted and has room for, from the first of them on
 pub rest_refused : (A : Type 0) (b : BookValue) (port at room : ℕ) (input bytes : List ℕ) (r : Result A OfferFault) → at ≡ accepted_of (port_in b port) → room ≡ room_of (port_in b port)
     → bytes ≡ take room (drop at input) → RefusesFor offer.Memory (offer_fault b port at (length bytes)) r
-    → RefusesFor Memory (rest_fault b (length (rest_of b port input))) (told_rest A r)
+    → RefusesFor Memory (rest_fault b (length (input_rest b port input))) (told_rest A r)
 rest_refused A b port at room input bytes r at_is room_is bytes_are is =
     let accepted = accepted_of (port_in b port) in
     let left = room_of (port_in b port) in
-    let same : bytes ≡ rest_of b port input = bytes_are ∙ ap (λ n. take n (drop at input)) room_is ∙ ap (λ n. take left (drop n input)) at_is in
+    let same : bytes ≡ input_rest b port input = bytes_are ∙ ap (λ n. take n (drop at input)) room_is ∙ ap (λ n. take left (drop n input)) at_is in
     let long = length-take left (drop accepted input) in
-    let count = length (rest_of b port input) in
+    let count = length (input_rest b port input) in
     let few : count ≤ left = omega (arith, long) in
     let none_more : at ≤ accepted = omega (arith, at_is) in
     let none_fewer : accepted ≤ at = omega (arith, at_is) in

@@ -21,7 +21,7 @@ use Rattle.tp_work.specs.Receipts.{IsFor}
 use Rattle.tp_run.specs.Accounted.{Accounted}
 use Rattle.tp_run.specs.declared.job.Job.{Job}
 use Rattle.tp_run.specs.declared.outset.Outset.{Outset}
-use Rattle.tp_run.specs.Input.{IsForInput, rest_at, rest_of}
+use Rattle.tp_run.specs.Input.{IsForInput, rest_at, input_rest}
 use Rattle.tp_run.specs.Outset.{StandsIn}
 use Rattle.tp_run.specs.Output.{IsForOutput, confirms}
 use Rattle.tp_run.specs.Ran.{Settled, output_slips}
@@ -60,14 +60,14 @@ confirms_shown b port mark each =
 next_after : (b : BookValue) (port : ℕ) (bytes : List ℕ) → next_in_book (after_inputs b port bytes) ≡ next_in_book b + length (map (HostIn port) bytes)
 next_after b port bytes = let long = length-append b.state.entries (map (HostIn port) bytes) in omega (arith, long)
 
-pub rest_is : (b : BookValue) (outset : Outset) (input : List ℕ) → StandsIn outset b → rest_of b outset.port input ≡ rest_at outset input
+pub rest_is : (b : BookValue) (outset : Outset) (input : List ℕ) → StandsIn outset b → input_rest b outset.port input ≡ rest_at outset input
 rest_is b outset input S = ap (λ n. take n (drop (accepted_of (port_in b outset.port)) input)) S.2 ∙ ap (λ n. take outset.room (drop n input)) S.1
 
 input_offered : (b new : BookValue) (outset : Outset) (input : List ℕ) (was now : List (ℕ × Entry)) (receipt : ReceiptValue) → StandsIn outset b
-    → new ≡ after_inputs b outset.port (rest_of b outset.port input) → receipt.number ≡ next_in_book new → IsFor (map (HostIn outset.port) (rest_of b outset.port input)) was now receipt
+    → new ≡ after_inputs b outset.port (input_rest b outset.port input) → receipt.number ≡ next_in_book new → IsFor (map (HostIn outset.port) (input_rest b outset.port input)) was now receipt
     → IsForInput outset input was now receipt
 input_offered b new outset input was now receipt S after number F =
-    let bytes = rest_of b outset.port input in
+    let bytes = input_rest b outset.port input in
     let rest = rest_is b outset input S in
     let next = ap next_in_book after in
     let many = next_after b outset.port bytes in
@@ -84,8 +84,8 @@ input_offered b new outset input was now receipt S after number F =
 
 -- the receipt of the rest of the input, where the port stands as it did
 pub offered_at : {E : Type 0} (b new : BookValue) (outset : Outset) (input : List ℕ) (was now : List (ℕ × Entry)) (r : Result ReceiptValue E) → StandsIn outset b
-    → IfOk r (λ receipt. new ≡ after_inputs b outset.port (rest_of b outset.port input)) → IfOk r (λ receipt. receipt.number ≡ next_in_book new)
-    → IfOk r (IsFor (map (HostIn outset.port) (rest_of b outset.port input)) was now) → IfOk r (IsForInput outset input was now)
+    → IfOk r (λ receipt. new ≡ after_inputs b outset.port (input_rest b outset.port input)) → IfOk r (λ receipt. receipt.number ≡ next_in_book new)
+    → IfOk r (IsFor (map (HostIn outset.port) (input_rest b outset.port input)) was now) → IfOk r (IsForInput outset input was now)
 offered_at b new outset input was now (Ok receipt) S after number F = input_offered b new outset input was now receipt S after number F
 offered_at b new outset input was now (Err e) S after number F = tt
 

@@ -12,8 +12,8 @@ use Rattle.tp_run.specs.declared.fault.RunFault.TheVariants.{OfferRefused, Unacc
 use Rattle.tp_run.specs.declared.outset.Outset.{Outset}
 
 -- of a port's whole input, the bytes that it hasn't accepted, as many as it has room for
-abbrev pub rest_of : BookValue → ℕ → List ℕ → List ℕ
-rest_of b port input = take (room_of (port_in b port)) (drop (accepted_of (port_in b port)) input)
+abbrev pub input_rest : BookValue → ℕ → List ℕ → List ℕ
+input_rest b port input = take (room_of (port_in b port)) (drop (accepted_of (port_in b port)) input)
 
 -- Why `count` bytes that a port has room for aren't handed in: where there are any, the store is broken, the journal has no room for them, told
 -- in this order.

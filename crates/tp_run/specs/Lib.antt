@@ -11,5 +11,6 @@ pub mod Outlet
 pub mod Output
 pub mod Prints
 pub mod Ran
+pub mod Rested
 pub mod Shown
 pub mod Worked

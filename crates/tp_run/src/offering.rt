@@ -5,7 +5,7 @@ ghost use Rattle.tp_book.specs.Book.{next_in_book};
 ghost use Rattle.tp_book.specs.Host.{after_inputs};
 ghost use Rattle.tp_work.specs.Receipts.{IsFor};
 ghost use Rattle.tp_model.specs.declared.entry.Entry.TheVariants.{HostIn};
-ghost use Rattle.tp_run.specs.Input.{IsForInput, rest_at, rest_fault, rest_of};
+ghost use Rattle.tp_run.specs.Input.{IsForInput, rest_at, rest_fault, input_rest};
 ghost use Rattle.tp_work.specs.Answers.{RefusesFor};
 ghost use Rattle.tp_run.specs.Faults.{IsOfferFault};
 
@@ -36,12 +36,12 @@ pub(crate) fn offer_rest<J: Naming>(
     input: &[u8],
 ) -> Result<Receipt, RunFault>
     requires there { port < length held.old.book.state.ports }
-    ensures answer { RefusesFor RunFault.Memory (rest_fault held.old.book (length (rest_of held.old.book port input.now))) result }
-    ensures book { IfOk result (λ receipt. held.new.book ≡ after_inputs held.old.book port (rest_of held.old.book port input.now)) }
+    ensures answer { RefusesFor RunFault.Memory (rest_fault held.old.book (length (input_rest held.old.book port input.now))) result }
+    ensures book { IfOk result (λ receipt. held.new.book ≡ after_inputs held.old.book port (input_rest held.old.book port input.now)) }
     ensures number { IfOk result (λ receipt. receipt.number ≡ next_in_book held.new.book) }
-    ensures receipt { IfOk result (IsFor (map (HostIn port) (rest_of held.old.book port input.now)) seat.old seat.new) }
+    ensures receipt { IfOk result (IsFor (map (HostIn port) (input_rest held.old.book port input.now)) seat.old seat.new) }
     ensures refused { IfErr result IsOfferFault }
-    ensures some { IfErr result (λ fault. fault ≡ RunFault.OfferRefused → 0 < length (rest_of held.old.book port input.now)) }
+    ensures some { IfErr result (λ fault. fault ≡ RunFault.OfferRefused → 0 < length (input_rest held.old.book port input.now)) }
     ensures err { OnErr result ((held.new ≡ held.old) × (seat.new ≡ seat.old)) }
 {
     held.known();

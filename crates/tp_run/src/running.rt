@@ -1,7 +1,7 @@
 //! A run, from a device to a device.
 
 ghost use Rattle.std.specs.List.{AllByRecursion};
-ghost use Rattle.std.specs.Prelude.{◌≡◌, ◌<◌, ◌≤◌, true, false, Ok, Err, Some, length, IfErr, IsErr};
+ghost use Rattle.std.specs.Prelude.{◌≡◌, ◌<◌, ◌≤◌, true, false, Ok, Err, Some, length, IfErr, IfOk, IsErr};
 ghost use Rattle.tp_area.specs.Places.{place_at};
 ghost use Rattle.tp_flush.specs.Known.{Began};
 ghost use Rattle.tp_model.specs.DiskHistory.{IsSynced};
@@ -19,6 +19,7 @@ ghost use Rattle.tp_run.specs.Input.{rest_at};
 ghost use Rattle.tp_flush.specs.Made.{IsMadeOf};
 ghost use Rattle.tp_run.specs.Outset.{outset_in};
 ghost use Rattle.tp_run.specs.Ran.{History, Ran, RanInto};
+ghost use Rattle.tp_run.specs.Rested.{RestsAt};
 ghost use Rattle.tp_recover.specs.declared.unopened.Unopened.{Unopened};
 ghost use Rattle.tp_work.specs.declared.start.TheConstants.{MAX_WORKERS};
 ghost use Rattle.tp_shared.specs.Named.{Names};
@@ -29,6 +30,7 @@ use crate::job::Job;
 use crate::opening::{job_fault, parts_of};
 use crate::outlet::Outlet;
 use crate::outset::Outset;
+use crate::resting::rest_after;
 use crate::serving::serve;
 use std::alloc::Global;
 use std::marker::Brand;
@@ -39,6 +41,7 @@ use tp_area::Store;
 use tp_disk::Disk;
 use tp_flush::{Flusher, stored_slips_are_recovered, topology_of};
 use tp_net::Topology;
+use tp_node::Rest;
 use tp_ready::Raiser;
 use tp_recover::{Opened, open};
 use tp_shared::{Naming, NoGate, Parts};
@@ -57,7 +60,7 @@ fn run_parts<J: Naming + Send + Sync, D: Disk + Send + Drop, O: Outlet, R: Threa
     store: Store<D>,
     input: &[u8],
     out: &mut O,
-) -> (D, Result<u64, RunFault>)
+) -> (D, Result<u64, RunFault>, Rest)
     requires workers { (0 < job.workers) × (job.workers ≤ MAX_WORKERS) }
     requires quantum { (0 < job.quantum) × (job.quantum ≤ MAX_STEPS) }
     requires port { job.port < opened.value.head.topology.ports }
@@ -77,6 +80,8 @@ fn run_parts<J: Naming + Send + Sync, D: Disk + Send + Drop, O: Outlet, R: Threa
     ensures size { D.size_of result.0 ≡ D.size_of store.disk }
     ensures called { D.keeps → Began J.formatted J.before (D.state store.disk).now.bytes
         → RanInto J.formatted job input.now (O.value out.old) (O.value out.new) result.1 (D.state store.disk) (D.state result.0) }
+    ensures rest { D.keeps → Began J.formatted J.before (D.state store.disk).now.bytes
+        → IfOk result.1 (λ next. RestsAt J.formatted result.2 next (D.state store.disk) (D.state result.0)) }
     ensures silent { IsSilent result.1 → O.value out.new ≡ O.value out.old }
     ensures failures { D.failures_of result.0 ≡ failures_after (has_failed result.1) (D.failures_of store.disk) }
     ensures some { IfErr result.1 (λ fault. fault ≡ RunFault.OfferRefused → 0 < length (rest_at outset input.now)) }
@@ -90,21 +95,23 @@ fn run_parts<J: Naming + Send + Sync, D: Disk + Send + Drop, O: Outlet, R: Threa
         job.workers,
         NoGate,
     ) else {
-        return (store.into_disk(), Err(RunFault::Memory));
+        return (store.into_disk(), Err(RunFault::Memory), Rest::Busy);
     };
     let host = net.seat();
     let every = every_of(job.every, &topology, store.place.areas.length);
     let flusher = Flusher::over(opened, topology, store, key, raiser);
     flusher.known();
     stored_slips_are_recovered();
-    let (flusher, done) = serve(
+    let (mut flusher, done) = serve(
         rt, alloc, job, every, outset, &net, seats, host, flusher, input, out,
     );
-    (flusher.into_disk(), done)
+    let rest = rest_after(rt, net.shared(), &mut flusher, &done);
+    (flusher.into_disk(), done, rest)
 }
 
 /// Opens a device, hands in what its port hasn't accepted of `input`, lets workers make turns, stores what they did, and prints and
-/// confirms what the port shows. Answers the device, and the number that the next entry gets.
+/// confirms what the port shows. Answers the device, the number that the next entry gets, and what is left to do in the network: it
+/// says that each node has halted, or that nothing is left, only where that is so where the entries below that number lead.
 ///
 /// Whatever a crash leaves at any moment of the call is what one just before might have left, or opens to where a prefix of the journal
 /// leads, with all that the device had. After a run that was done it has each entry below the number that is answered: among them are
@@ -121,7 +128,7 @@ pub fn run<D: Disk + Send + Drop, O: Outlet, R: Threads + Wait + Sync>(
     disk: D,
     input: &[u8],
     out: &mut O,
-) -> (D, Result<u64, RunFault>)
+) -> (D, Result<u64, RunFault>, Rest)
     ghost history: { History }
     requires workers { (0 < job.workers) × (job.workers ≤ MAX_WORKERS) }
     requires quantum { (0 < job.quantum) × (job.quantum ≤ MAX_STEPS) }
@@ -130,6 +137,8 @@ pub fn run<D: Disk + Send + Drop, O: Outlet, R: Threads + Wait + Sync>(
         → Ran history.formatted job input.now (O.value out.old).taken (O.value out.new).taken result.1 (D.state disk) (D.state result.0) }
     ensures called { D.keeps → Began history.formatted history.before (D.state disk).now.bytes
         → RanInto history.formatted job input.now (O.value out.old) (O.value out.new) result.1 (D.state disk) (D.state result.0) }
+    ensures rest { D.keeps → Began history.formatted history.before (D.state disk).now.bytes
+        → IfOk result.1 (λ next. RestsAt history.formatted result.2 next (D.state disk) (D.state result.0)) }
     ensures unwritten { D.keeps → IsUnbegun result.1 → LeavesNothingNew (D.state disk) (D.state result.0) }
     ensures silent { IsSilent result.1 → O.value out.new ≡ O.value out.old }
     ensures unopened { D.keeps → IsErr (verdict (D.state disk).now.bytes) → (unopened : Unopened) × (result.1 ≡ Err (RunFault.Opening unopened)) }
@@ -139,10 +148,10 @@ pub fn run<D: Disk + Send + Drop, O: Outlet, R: Threads + Wait + Sync>(
     let mut disk = disk;
     let opened = match open(alloc, &mut disk) {
         Ok(opened) => opened,
-        Err(unopened) => return (disk, Err(RunFault::Opening(unopened))),
+        Err(unopened) => return (disk, Err(RunFault::Opening(unopened)), Rest::Busy),
     };
     if let Some(fault) = job_fault(job, opened.head().topology()) {
-        return (disk, Err(fault));
+        return (disk, Err(fault), Rest::Busy);
     }
     opened.known();
     let known = Snapshot::of(&opened);
@@ -150,7 +159,7 @@ pub fn run<D: Disk + Send + Drop, O: Outlet, R: Threads + Wait + Sync>(
     let _areas = opened.head().areas();
     let store = opened.store(disk);
     let Ok((parts, raiser, outset)) = parts_of(alloc, opened, job.spare, job.port) else {
-        return (store.into_disk(), Err(RunFault::Memory));
+        return (store.into_disk(), Err(RunFault::Memory), Rest::Busy);
     };
     run_parts::<Brand, D, O, R>(
         rt, alloc, job, known, topology, parts, raiser, outset, store, input, out,

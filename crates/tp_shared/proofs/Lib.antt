@@ -13,6 +13,7 @@ pub mod Frozen
 pub mod Cuts
 pub mod Thawing
 pub mod Resealing
+pub mod RestSoFar
 pub mod Copying
 pub mod Trims
 pub mod Closing

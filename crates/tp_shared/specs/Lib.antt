@@ -10,6 +10,7 @@ pub mod SlipCount
 pub mod Gains
 pub mod Below
 pub mod Cells
+pub mod Resting
 pub mod Rows
 pub mod Hands
 pub mod Holds

@@ -22,6 +22,7 @@ mod pieces;
 mod place;
 mod recorded;
 mod recording;
+mod resting;
 mod row;
 mod row_pieces;
 mod run;

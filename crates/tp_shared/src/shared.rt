@@ -45,7 +45,7 @@ fn host_hold<J: Naming, R: Wait>(
 }
 
 /// The book under its lock, the nodes under sixteen others, node `i` in cell `i` mod 16, and the mark. Where a thread holds two
-/// locks, the first is a cell's, and the second the book's.
+/// locks, the first is a cell's, and the second the book's; but `rest` takes a cell's while the book's is held.
 #[derive(Drop)]
 pub struct Shared<J: Naming> {
     book: Mutex<Locked<J>>,

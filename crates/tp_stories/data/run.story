@@ -401,6 +401,38 @@ tpnet node device 0 >node
 has node halt 1 BadAddress
 has node in 0 idle held 61
 
+story quiet
+# A node sends back each byte that it gets. Once it waits and nothing is under way a run says quiet, and not while a byte or an Ack still is: on the way to
+# the node, to the port, and back to the node.
+text net.txt node a 4\nport h\nwire a.0 h\n
+image a.img 11 24 F2 54 41 F7 11 24 F2 41 FB 60 03
+tpnet format device net.txt . 65536
+tpnet run device --turns 0
+tpnet run device --turns 1 --workers 1
+text input a
+tpnet run device --turns 0 --in input
+tpnet run device --turns 1 --workers 1
+tpnet run device --turns 2 --workers 1
+tpnet run device --turns 1 --workers 1
+tpnet run device --turns 8 --workers 4 --in input
+
+story all_halted
+# A run says halted once each node has, and not before; a byte that is under way to one changes nothing of that.
+text net.txt node a 4\nnode b 4\nport h\nwire a.0 h\n
+image a.img 40 30
+image b.img 22 F2
+tpnet format device net.txt . 65536
+tpnet run device --turns 1 --workers 1
+tpnet run device --turns 2 --workers 1
+text input a
+tpnet run device --turns 0 --in input
+tpnet run device --turns 0 --explain
+# Where the other node waits nothing is left to do.
+image b.img 11 24 F2 54 41 F7 11 24 F2 41 FB 60 03
+remove device
+tpnet format device net.txt . 65536
+tpnet run device --turns 2 --workers 1
+
 story shut
 # A standard output that takes nothing, as on a full disk, is a fault, and the letter isn't confirmed: the next run prints it.
 text net.txt node a 4\nport h\nwire a.0 h\n

@@ -43,7 +43,8 @@ fn run_within<D: Disk + Send + Drop, R: Threads + Wait + Sync, O: Outlet>(
     requires workers { (0 < job.workers) × (job.workers ≤ MAX_WORKERS) }
     requires quantum { (0 < job.quantum) × (job.quantum ≤ MAX_STEPS) }
 {
-    run(rt, alloc, job, disk, input, out)
+    let (disk, done, _rest) = run(rt, alloc, job, disk, input, out);
+    (disk, done)
 }
 
 /// A run.

@@ -4,7 +4,7 @@ use Rattle.tp_book.specs.Host.{accepted_of, port_in, room_of}
 use Rattle.tp_work.specs.Answers.{RefusesFor}
 use Rattle.tp_work.specs.declared.host_fault.OfferFault.{OfferFault}
 use Rattle.tp_run.specs.declared.fault.RunFault.TheVariants.{Memory}
-use Rattle.tp_run.specs.Input.{rest_fault, rest_of}
+use Rattle.tp_run.specs.Input.{rest_fault, input_rest}
 use Rattle.tp_run.proofs.Reasons.{rest_refused, told_rest}
 use Rattle.tp_run.proofs.offering.offer_rest.Goals as goal
 
@@ -19,7 +19,7 @@ pub returns-in-Err-JournalFull-clause-answer : goal.returns-in-Err-JournalFull-c
 returns-in-Err-JournalFull-clause-answer g c =
     let b = c.args.held.now.book in
     let port = c.args.port in
-    subst (λ (fault : OfferFault). RefusesFor Memory (rest_fault b (length (rest_of b port c.args.input.now))) (told_rest ReceiptValue (Err fault))) c.in-Err-JournalFull.field-0-is
+    subst (λ (fault : OfferFault). RefusesFor Memory (rest_fault b (length (input_rest b port c.args.input.now))) (told_rest ReceiptValue (Err fault))) c.in-Err-JournalFull.field-0-is
     (rest_refused ReceiptValue b port c.accepted-accepted.result c.room-room.result c.args.input.now c.front_from-bytes.result.now (Err c.in-Err-JournalFull.field-0)
     (c.accepted-accepted.ensures ∙ ap (λ d. accepted_of (port_in d port)) c.book.ensures) (c.room-room.ensures ∙ ap (λ d. room_of (port_in d port)) c.book-2.ensures)
     c.front_from-bytes.ensures c.in-Err-JournalFull.ensures.answer)
@@ -28,7 +28,7 @@ pub returns-in-Err-Memory-clause-answer : goal.returns-in-Err-Memory-clause-answ
 returns-in-Err-Memory-clause-answer g c =
     let b = c.args.held.now.book in
     let port = c.args.port in
-    subst (λ (fault : OfferFault). RefusesFor Memory (rest_fault b (length (rest_of b port c.args.input.now))) (told_rest ReceiptValue (Err fault))) c.in-Err-Memory.field-0-is
+    subst (λ (fault : OfferFault). RefusesFor Memory (rest_fault b (length (input_rest b port c.args.input.now))) (told_rest ReceiptValue (Err fault))) c.in-Err-Memory.field-0-is
     (rest_refused ReceiptValue b port c.accepted-accepted.result c.room-room.result c.args.input.now c.front_from-bytes.result.now (Err c.in-Err-Memory.field-0)
     (c.accepted-accepted.ensures ∙ ap (λ d. accepted_of (port_in d port)) c.book.ensures) (c.room-room.ensures ∙ ap (λ d. room_of (port_in d port)) c.book-2.ensures)
     c.front_from-bytes.ensures c.in-Err-Memory.ensures.answer)
@@ -37,7 +37,7 @@ pub returns-in-Err-StoreBroken-clause-answer : goal.returns-in-Err-StoreBroken-c
 returns-in-Err-StoreBroken-clause-answer g c =
     let b = c.args.held.now.book in
     let port = c.args.port in
-    subst (λ (fault : OfferFault). RefusesFor Memory (rest_fault b (length (rest_of b port c.args.input.now))) (told_rest ReceiptValue (Err fault))) c.in-Err-StoreBroken.field-0-is
+    subst (λ (fault : OfferFault). RefusesFor Memory (rest_fault b (length (input_rest b port c.args.input.now))) (told_rest ReceiptValue (Err fault))) c.in-Err-StoreBroken.field-0-is
     (rest_refused ReceiptValue b port c.accepted-accepted.result c.room-room.result c.args.input.now c.front_from-bytes.result.now (Err c.in-Err-StoreBroken.field-0)
     (c.accepted-accepted.ensures ∙ ap (λ d. accepted_of (port_in d port)) c.book.ensures) (c.room-room.ensures ∙ ap (λ d. room_of (port_in d port)) c.book-2.ensures)
     c.front_from-bytes.ensures c.in-Err-StoreBroken.ensures.answer)

@@ -1,5 +1,5 @@
 use Rattle.std.proofs.Common.{◌≡◌, ◌<◌, length, Err, Some, None, false, refl, sym, ap, subst, ◌∙◌}
-use Rattle.std.specs.Prelude.{nat_lt, IfErr}
+use Rattle.std.specs.Prelude.{nat_lt, IfErr, IfOk}
 use Rattle.tp_model.specs.Disk.{Moment}
 use Rattle.tp_model.specs.Head.{Head}
 use Rattle.tp_model.specs.Topology.{Topology}
@@ -16,6 +16,8 @@ use Rattle.tp_run.proofs.Answered.{answered, none_of, wrong_is, wrong_told}
 use Rattle.tp_run.proofs.Failures.{opening_counted, uncounted}
 use Rattle.tp_run.proofs.Faults.{begun_written}
 use Rattle.tp_run.proofs.Made.{shape_is}
+use Rattle.tp_run.specs.Rested.{RestsAt}
+use Rattle.tp_run.proofs.Rested.{opened_rests}
 use Rattle.tp_run.proofs.Runs.{opened_into, ran_silent, unwritten_ran}
 use Rattle.tp_run.proofs.running.run.Goals as goal
 
@@ -75,6 +77,17 @@ returns-clause-called g c k began =
     opened_into start job input was now done (g.D.Disk.state c.args.disk) (g.D.Disk.state c.open.new.disk) (g.D.Disk.state c.run_parts.result.0) (c.open.ensures.leaves k) kept
     (subst (λ d. RanInto start job input was now done (g.D.Disk.state d) (g.D.Disk.state c.run_parts.result.0)) c.store-store.ensures.disk
     (c.run_parts.ensures.called k (subst (Began start g.history.before) (sym same) began)))
+
+pub returns-clause-rest : goal.returns-clause-rest
+returns-clause-rest g c k began =
+    let start = g.history.formatted in
+    let done = c.run_parts.result.1 in
+    let rest = c.run_parts.result.2 in
+    let kept : (g.D.Disk.state c.open.new.disk).now.bytes ≡ (g.D.Disk.state c.args.disk).now.bytes = ap (λ (m : Moment). m.bytes) (c.in-Ok.ensures.kept k) in
+    let same : (g.D.Disk.state c.store-store.result.disk).now.bytes ≡ (g.D.Disk.state c.args.disk).now.bytes = ap (λ d. (g.D.Disk.state d).now.bytes) c.store-store.ensures.disk ∙ kept in
+    opened_rests start rest done (g.D.Disk.state c.args.disk) (g.D.Disk.state c.open.new.disk) (g.D.Disk.state c.run_parts.result.0) kept
+    (subst (λ d. IfOk done (λ next. RestsAt start rest next (g.D.Disk.state d) (g.D.Disk.state c.run_parts.result.0))) c.store-store.ensures.disk
+    (c.run_parts.ensures.rest k (subst (Began start g.history.before) (sym same) began)))
 
 pub returns-clause-ran : goal.returns-clause-ran
 returns-clause-ran g c k began = (returns-clause-called g c k began).ran

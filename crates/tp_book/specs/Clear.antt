@@ -1,0 +1,9 @@
+-- Lines on which nothing is under way.
+use Rattle.std.specs.Prelude.{Bool, true, false, if◌then◌else◌, List, [], ◌∷◌}
+use Rattle.tp_model.specs.declared.link.Token.{Token}
+use Rattle.tp_model.specs.Markers.{is_marker}
+
+-- a line has no token but Markers
+abbrev pub is_clear : List Token → Bool
+is_clear [] = true
+is_clear (t ∷ ts) = if is_marker t then is_clear ts else false

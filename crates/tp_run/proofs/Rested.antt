@@ -1,0 +1,57 @@
+-- What is left to do where the flusher's journal leads.
+use Rattle.std.proofs.Common.{◌≡◌, ℕ, ◌≤◌, List, [], ◌++◌, length, take, refl, sym, ap, ◌∙◌, arith, append-nil, length-append, subst}
+use Rattle.std.specs.Prelude.{Result, Ok, Err, IfOk}
+use Rattle.std.proofs.lemmas.List.{take_all}
+use Rattle.tp_model.specs.NodeState.{NodeState}
+use Rattle.tp_model.specs.Node.{t414}
+use Rattle.tp_model.specs.Network.{Network}
+use Rattle.tp_model.specs.Markers.{plain_network}
+use Rattle.tp_model.specs.Order.{after}
+use Rattle.tp_model.specs.Disk.{MayBe}
+use Rattle.tp_model.specs.DiskHistory.{State}
+use Rattle.tp_model.specs.Opening.{Opened, held_of, verdict}
+use Rattle.tp_model.specs.Runs.{World, reopened}
+use Rattle.tp_book.specs.Book.{BookValue, next_in_book, world_of}
+use Rattle.tp_flush.specs.Ahead.{IsAheadOf}
+use Rattle.tp_flush.specs.Flushing.{Flushing, Walked}
+use Rattle.tp_flush.specs.Follows.{Follows}
+use Rattle.tp_flush.specs.Known.{Began}
+use Rattle.tp_flush.proofs.Follows.{stored_follows}
+use Rattle.tp_node.specs.declared.rest.Rest.{Rest}
+use Rattle.tp_node.specs.declared.rest.Rest.TheVariants.{Halted, Quiet, Busy}
+use Rattle.tp_run.specs.declared.fault.RunFault.{RunFault}
+use Rattle.tp_run.specs.Rested.{LeadsToRest, RestsAt, SaysRest}
+use Rattle.tp_run.proofs.Shown.{nothing_in}
+use Rattle.tp_run.proofs.Runs.{if_both}
+use Rattle.tp_shared.specs.Resting.{rest_in}
+
+-- a book that the journal is all of
+leads_rest : (start : Network NodeState) (w : World NodeState) (b : BookValue) (next : ℕ) (rest : Rest) → IsAheadOf start w b → next ≤ w.mark → next_in_book b ≡ next → rest ≡ rest_in (plain_network (world_of b).live)
+    → LeadsToRest start w.journal next rest
+leads_rest start w b next rest A low at is =
+    let many = A.many in
+    let long = length-append w.journal A.more in
+    let marked = A.marked in
+    let nothing : A.more ≡ [] = nothing_in A.more (omega (arith, many, long, marked, low, at)) in
+    let whole : take next w.journal ≡ w.journal = take_all next w.journal (omega (arith, many, long, at)) in
+    let front : take next w.journal ≡ w.journal ++ A.more = whole ∙ sym (append-nil w.journal) ∙ ap (λ es. w.journal ++ es) (sym nothing) in
+    record { state = plain_network (world_of b).live; leads = ap (after t414 start) front ∙ A.leads; is = is }
+
+pub rest_said : (start : Network NodeState) (w : World NodeState) (b : BookValue) (next : ℕ) (rest : Rest) → IsAheadOf start w b → next ≤ w.mark → next_in_book b ≡ next → rest ≡ rest_in (plain_network (world_of b).live)
+    → SaysRest start w.journal next rest
+rest_said start w b next Halted A low at is = leads_rest start w b next Halted A low at is
+rest_said start w b next Quiet A low at is = leads_rest start w b next Quiet A low at is
+rest_said start w b next Busy A low at is = tt
+
+-- of a device that was opened, and whose flusher walked on from there
+pub served_rests : (start : Network NodeState) (before : World NodeState) (opened : Opened) (old new : Flushing) (rest : Rest) (result : Result ℕ RunFault) → Began start before old.state.now.bytes → verdict old.state.now.bytes ≡ Ok opened
+    → old.world ≡ reopened before old.state.now.bytes (held_of opened) opened.now → Walked old new → IfOk result (λ next. next ≤ new.world.mark) → IfOk result (λ next. SaysRest start new.world.journal next rest)
+    → IfOk result (λ next. RestsAt start rest next old.state new.state)
+served_rests start before opened old new rest result began reads first W =
+    if_both result (λ next. next ≤ new.world.mark) (λ next. SaysRest start new.world.journal next rest) (λ next. RestsAt start rest next old.state new.state)
+    (λ next low says. record { journal = new.world.journal; stored = λ left may. stored_follows start before old.state.now.bytes opened began reads old new first W next low left may; says = says })
+
+-- and that was read before, which left its bytes as they are
+pub opened_rests : (start : Network NodeState) (rest : Rest) (result : Result ℕ RunFault) (old read new : State) → read.now.bytes ≡ old.now.bytes → IfOk result (λ next. RestsAt start rest next read new) → IfOk result (λ next. RestsAt start rest next old new)
+opened_rests start rest (Ok next) old read new same R = record { journal = R.journal; stored = λ left may. subst (λ bytes. Follows start R.journal next bytes left) same (R.stored left may); says = R.says }
+opened_rests start rest (Err fault) old read new same R = tt

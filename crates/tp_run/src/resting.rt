@@ -1,0 +1,35 @@
+//! What a run leaves to do.
+
+ghost use Rattle.std.specs.Prelude.{◌≡◌, ◌≤◌, IfOk};
+ghost use Rattle.tp_flush.specs.Known.{Began};
+ghost use Rattle.tp_run.specs.Rested.{SaysRest};
+
+use crate::fault::RunFault;
+use std::sync::Wait;
+use tp_disk::Disk;
+use tp_flush::Flusher;
+use tp_node::Rest;
+use tp_shared::{Naming, Shared};
+
+/// What a run that was `done` leaves to do in the network as it stands, under the book's lock and each node's. Nobody else has one by then.
+/// Where the run wasn't done, or something was journalled behind it, that is something.
+pub(crate) fn rest_after<J: Naming, D: Disk, R: Wait>(
+    rt: &R,
+    shared: &Shared<J>,
+    flusher: &mut Flusher<J, D>,
+    done: &Result<u64, RunFault>,
+) -> Rest
+    requires stored { IfOk done.now (λ next. next ≤ flusher.old.world.mark) }
+    ensures same { flusher.new ≡ flusher.old }
+    ensures says { D.keeps → Began J.formatted J.before flusher.old.opened → IfOk done.now (λ next. SaysRest J.formatted flusher.old.world.journal next result) }
+{
+    let Ok(next) = done else {
+        return Rest::Busy;
+    };
+    let mut held = shared.book().lock(rt);
+    flusher.settle_book(&mut held);
+    if held.book().next() != *next {
+        return Rest::Busy;
+    }
+    shared.rest(rt, &mut held)
+}

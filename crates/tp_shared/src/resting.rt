@@ -1,0 +1,88 @@
+//! What is left to do in the network as it stands.
+
+ghost use Rattle.std.specs.Prelude.{◌≡◌, ◌<◌, ◌%◌, if◌then◌else◌, length};
+ghost use Rattle.tp_book.specs.Book.{world_of};
+ghost use Rattle.tp_model.specs.Markers.{plain_network};
+ghost use Rattle.tp_shared.specs.Resting.{IsRestAt, rest_in};
+ghost use Rattle.tp_shared.specs.Rows.{IsInRow};
+ghost use Rattle.tp_shared.specs.declared.cells.TheConstants.{CELLS};
+
+use crate::cell::Cell;
+use crate::cells::{CELLS, ROW, in_cell, in_row};
+use crate::locked::Locked;
+use crate::naming::Naming;
+use crate::row::Row;
+use crate::shared::Shared;
+use crate::soon::lock_soon;
+use std::sync::Wait;
+use tp_node::Rest;
+
+impl<const I: usize, J: Naming> Cell<I, J> {
+    /// What is left to do for the node `number`, which is one of the cell's, by itself.
+    pub(crate) fn rest(&mut self, held: &mut Locked<J>, number: u8) -> Rest
+        requires there { number < length J.start.nodes }
+        requires here { number % CELLS ≡ I }
+        ensures same { held.new ≡ held.old }
+        ensures rest { IsRestAt held.old.book number result }
+    {
+        let place = &mut self.places[number as usize / CELLS];
+        held.audit_frozen(place, number);
+        place.node.rest()
+    }
+}
+
+impl<const A: usize, const B: usize, const C: usize, const D: usize, J: Naming> Row<A, B, C, D, J> {
+    /// What is left to do for the node `number`, which is one of the row's, by itself.
+    pub(crate) fn rest<R: Wait>(&self, rt: &R, held: &mut Locked<J>, number: u8) -> Rest
+        requires there { number < length J.start.nodes }
+        requires here { IsInRow A B C D number }
+        ensures same { held.new ≡ held.old }
+        ensures rest { IsRestAt held.old.book number result }
+    {
+        in_cell!(self, number, cell => lock_soon(rt, cell).rest(held, number))
+    }
+}
+
+/// What is left to do in a network in which nothing is for any node by itself: all have halted, or the lines are clear, or neither is so.
+fn rest_of(have_halted: bool, is_clear: bool) -> Rest
+    ensures { result ≡ (if have_halted then Rest.Halted else (if is_clear then Rest.Quiet else Rest.Busy)) }
+{
+    if have_halted {
+        Rest::Halted
+    } else if is_clear {
+        Rest::Quiet
+    } else {
+        Rest::Busy
+    }
+}
+
+impl<J: Naming> Shared<J> {
+    /// What is left to do for the node `number` by itself.
+    fn rest_at<R: Wait>(&self, rt: &R, held: &mut Locked<J>, number: u8) -> Rest
+        requires there { number < length J.start.nodes }
+        ensures same { held.new ≡ held.old }
+        ensures rest { IsRestAt held.old.book number result }
+    {
+        in_row!(self, number, row => row.rest(rt, held, number))
+    }
+
+    /// What is left to do in the network as it stands, exactly: whether each node has halted; else whether no node has a step, and nothing
+    /// is under way on a line. It changes nothing. The book's lock is held, and each node's is taken behind it: so it is called once no other
+    /// thread makes turns, which take a node's lock first.
+    pub fn rest<R: Wait>(&self, rt: &R, held: &mut Locked<J>) -> Rest
+        ensures same { held.new ≡ held.old }
+        ensures rest { result ≡ rest_in (plain_network (world_of held.old.book).live) }
+    {
+        held.known();
+        held.book().known();
+        let mut have_halted = true;
+        for number in 0..self.nodes() {
+            match self.rest_at(rt, held, number) {
+                Rest::Halted => {}
+                Rest::Quiet => have_halted = false,
+                Rest::Busy => return Rest::Busy,
+            }
+        }
+        rest_of(have_halted, held.book().is_clear())
+    }
+}
