@@ -24,6 +24,7 @@ mod standing;
 mod step;
 mod take;
 mod transfer;
+mod waiter;
 
 pub use busy::LinkBusy;
 pub use code::halt_byte;
@@ -34,3 +35,4 @@ pub use link_output::OutEngine;
 pub use node::Node;
 pub use run::{Ran, Why};
 pub use standing::Standing;
+pub use waiter::{Deed, Waiter};

@@ -13,6 +13,7 @@ ghost use Rattle.tp_node.specs.NodeContents.{memory_kept};
 ghost use Rattle.tp_node.specs.RunEnd.{IsWhy};
 ghost use Rattle.tp_node.specs.Standing.{standing, waits_at_end};
 ghost use Rattle.tp_node.specs.Takes.{Takes};
+ghost use Rattle.tp_node.specs.Waiters.{listener, rests, sender};
 
 use crate::fault::{ImageFault, NoFrame};
 use crate::head::Head;
@@ -21,6 +22,7 @@ use crate::memory::{Memory, reserve, take_over};
 use crate::run::{Ran, run};
 use crate::standing::Standing;
 use crate::take::{take_ack, take_data};
+use crate::waiter::{Waiter, listener_at, rests_with, sender_at};
 use arrayvec::ArrayVec;
 use std::alloc::Global;
 use std::marker::Model;
@@ -158,6 +160,36 @@ impl Node {
             fault,
             at: self.head.cpu.iptr,
         }
+    }
+
+    /// Where its next instruction is.
+    pub fn iptr(&self) -> u32
+        ensures { result ≡ self.now.live.cpu.iptr }
+    {
+        self.head.cpu.iptr
+    }
+
+    /// The process that waits at the output end of a link, if one does.
+    pub fn sender(&self, link: u8) -> Option<Waiter>
+        requires { link < 4 }
+        ensures { result ≡ sender self.now.live link }
+    {
+        sender_at(&self.memory, self.head.outputs[link as usize].end())
+    }
+
+    /// The process that waits at the input end of a link, if one does.
+    pub fn listener(&self, link: u8) -> Option<Waiter>
+        requires { link < 4 }
+        ensures { result ≡ listener self.now.live link }
+    {
+        listener_at(&self.memory, self.head.inputs[link as usize].end())
+    }
+
+    /// Whether no process of it runs, none is ready, and none was interrupted.
+    pub fn rests(&self) -> bool
+        ensures { result ≡ rests self.now.live }
+    {
+        rests_with(&self.head.cpu, &self.memory)
     }
 
     /// How many pages its memory has.
