@@ -25,6 +25,7 @@ mod standing;
 mod step;
 mod take;
 mod transfer;
+mod waiter;
 
 pub use busy::LinkBusy;
 pub use code::halt_byte;
@@ -36,3 +37,4 @@ pub use node::Node;
 pub use rest::Rest;
 pub use run::{Ran, Why};
 pub use standing::Standing;
+pub use waiter::{Deed, Waiter};

@@ -10,19 +10,21 @@ ghost use Rattle.tp_mem.specs.Contents.{page_of};
 ghost use Rattle.tp_node.specs.FromImage.{ReadsImage, HasFrames};
 ghost use Rattle.tp_node.specs.LinkEnds.{kept_done};
 ghost use Rattle.tp_node.specs.NodeContents.{memory_kept};
-ghost use Rattle.tp_node.specs.Rest.{LeavesNoStep, rest_of};
+ghost use Rattle.tp_node.specs.Rest.{LeavesNoStep, has_nobody, rest_of};
 ghost use Rattle.tp_node.specs.RunEnd.{IsWhy};
 ghost use Rattle.tp_node.specs.Standing.{standing, waits_at_end};
 ghost use Rattle.tp_node.specs.Takes.{Takes};
+ghost use Rattle.tp_node.specs.Waiters.{listener, sender};
 
 use crate::fault::{ImageFault, NoFrame};
 use crate::head::Head;
 use crate::image::{read_head, read_image};
 use crate::memory::{Memory, reserve, take_over};
-use crate::rest::{Rest, rest_of};
+use crate::rest::{Rest, has_nobody, rest_of};
 use crate::run::{Ran, run};
 use crate::standing::Standing;
 use crate::take::{take_ack, take_data};
+use crate::waiter::{Waiter, listener_at, sender_at};
 use arrayvec::ArrayVec;
 use std::alloc::Global;
 use std::marker::Model;
@@ -168,6 +170,36 @@ impl Node {
         ensures steps { LeavesNoStep result self.now.live }
     {
         rest_of(&self.head, &self.memory)
+    }
+
+    /// Where its next instruction is.
+    pub fn iptr(&self) -> u32
+        ensures { result ≡ self.now.live.cpu.iptr }
+    {
+        self.head.cpu.iptr
+    }
+
+    /// The process that waits at the output end of a link, if one does.
+    pub fn sender(&self, link: u8) -> Option<Waiter>
+        requires { link < 4 }
+        ensures { result ≡ sender self.now.live link }
+    {
+        sender_at(&self.memory, self.head.outputs[link as usize].end())
+    }
+
+    /// The process that waits at the input end of a link, if one does.
+    pub fn listener(&self, link: u8) -> Option<Waiter>
+        requires { link < 4 }
+        ensures { result ≡ listener self.now.live link }
+    {
+        listener_at(&self.memory, self.head.inputs[link as usize].end())
+    }
+
+    /// Whether no process of it runs, none is ready, and none was interrupted.
+    pub fn has_nobody(&self) -> bool
+        ensures { result ≡ has_nobody self.now.live }
+    {
+        has_nobody(&self.head, &self.memory)
     }
 
     /// How many pages its memory has.

@@ -20,8 +20,8 @@ pub enum Rest {
     Busy,
 }
 
-/// Whether no process runs, none is queued, and none was interrupted.
-fn has_nobody<M: Mem>(head: &Head, mem: &M) -> bool
+/// Whether no process of it runs, none is queued, and none was interrupted.
+pub(crate) fn has_nobody<M: Mem>(head: &Head, mem: &M) -> bool
     ensures { result ≡ has_nobody (state_with head.now (M.bytes mem.now)) }
 {
     let is_idle = match head.cpu.state {

@@ -75,6 +75,13 @@ impl FlatNetwork {
         self.nodes.as_slice()
     }
 
+    /// The lines.
+    pub fn lines(&self) -> &Lines
+        ensures { result.now ≡ self.now.lines }
+    {
+        &self.lines
+    }
+
     /// The token that comes next on a line.
     pub fn front(&self, line: u16) -> Option<Token>
         requires { line < length self.now.lines }

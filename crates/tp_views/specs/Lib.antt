@@ -13,6 +13,11 @@ pub mod JsonPort
 pub mod Entries
 pub mod JsonEntries
 pub mod JournalText
+pub mod Scene
+pub mod Why
+pub mod Cycles
+pub mod Waits
+pub mod JsonWaits
 pub mod Views
 pub mod Checked
 pub mod JsonChecked

@@ -11,7 +11,7 @@ use Rattle.tp_words.specs.declared.args.Run.{Run}
 use Rattle.tp_words.specs.declared.args.TheConstants.{MAX_AREA, MAX_WORKERS, QUANTUM, STEPS}
 use Rattle.tp_words.specs.declared.views.JournalPart.{JournalPart}
 use Rattle.tp_words.specs.declared.views.View.{View}
-use Rattle.tp_words.specs.declared.views.View.TheVariants.{Node, Image, Journal, Pending, Outputs, NodeJson, PendingJson, OutputsJson}
+use Rattle.tp_words.specs.declared.views.View.TheVariants.{Node, Image, Journal, Pending, Outputs, NodeJson, PendingJson, OutputsJson, Waits, WaitsJson}
 use Rattle.tp_words.specs.Given.{given, has_flag, IsGivenOr}
 use Rattle.tp_words.specs.Size.{IsArea}
 use Rattle.tp_words.specs.Typed.{has_word, was_typed}
@@ -38,6 +38,8 @@ IsView (Outputs port) = Unit {0}
 IsView (NodeJson node) = Unit {0}
 IsView (PendingJson port) = Unit {0}
 IsView (OutputsJson port) = Unit {0}
+IsView Waits = Unit {0}
+IsView WaitsJson = Unit {0}
 
 -- each number is in its range
 abbrev pub IsInRange : Asked → Type 0
@@ -71,6 +73,8 @@ HasTyped words (Outputs port) = (was_typed words (decimal port) ≡ true) × (ha
 HasTyped words (NodeJson node) = (was_typed words (decimal node) ≡ true) × (has_flag (codes "--json") words ≡ true)
 HasTyped words (PendingJson port) = (was_typed words (decimal port) ≡ true) × (has_flag (codes "--json") words ≡ true)
 HasTyped words (OutputsJson port) = (was_typed words (decimal port) ≡ true) × (has_flag (codes "--json") words ≡ true)
+HasTyped words Waits = has_flag (codes "--json") words ≡ false
+HasTyped words WaitsJson = has_flag (codes "--json") words ≡ true
 
 -- each option of a run is what was typed for it, and else what docs/PROGRAM.md says
 abbrev pub IsTypedRun : List (String Global) → Run → Type 0

@@ -222,6 +222,12 @@ pub const STATUS: Form = Form {
     ],
 };
 
+pub const WAITS: Form = Form {
+    name: "waits",
+    about: "Prints of each node whether it rests, which of its processes wait at links, for whom and why, and what that adds up to",
+    words: &[EXPLAIN, NO_EXPLAIN, JSON, DEVICE],
+};
+
 pub const NODES: Form = Form {
     name: "node",
     about: "Prints a node's registers, queues and link ends, addresses in hexadecimal",

@@ -93,6 +93,40 @@ Refusals (status 1), which end --every; nothing is written to DEVICE:
   DeviceFailed  standard output can't be written
   Memory        there is no memory left";
 
+/// What the lines of `tpnet waits` mean, and what it refuses.
+pub const WAITS_REFUSALS: &str = "A line of each node I, in their order:
+  node I rests    no process of it does anything until a byte or an acknowledge comes
+  node I runs     a process of it runs, is ready to, or was interrupted
+  node I halted C F at A   it has halted by the fault F, of code C, at the address A
+  last M          the last entry of the journal that it made: since then it is as it is (none: it was so at the checkpoint)
+After it a line of each of its processes that waits at link K:
+  out K sends     bytes of it aren't acknowledged;   in K inputs   bytes of it are still to come;
+  in K chooses    it waits in an alternative that has enabled the link
+  left L          how many bytes;   process W   its descriptor;   at A   the instruction at which it goes on
+  to, from        the other end of the link's wire; after the colon, why it still waits:
+    under way        a byte or an acknowledge is on the wire: it goes on once the nodes have turns
+    both send        both ends of the link send, and neither inputs
+    both input       both ends of the link wait for a byte
+    waits elsewhere  that node rests, and none of its processes does at this link what would end the wait
+    runs             that node, or this one, doesn't rest: it may still end the wait
+    halted           that node has halted
+    full             the port has 4096 bytes of output that nobody has confirmed
+    no input         no byte is pending at the port
+    no wire          the link has no wire
+At the end, once more, what nobody in the network can end: both send and both input once for each wire, halted, full, no input, no wire;
+and cycle: nodes .., for those that wait for one another, directly or through others, where all rest and nothing is on the wires.
+Processes that wait at channels in memory aren't named: nothing in a node says which of its words are channels.
+DEVICE may be run meanwhile: what is printed is so at one moment of the call.
+Refusals (status 1); nothing is written to DEVICE:
+  ReadFailed    DEVICE can't be opened or read, or is no regular file: look at its path and its rights
+  NotFormatted  DEVICE is none: make one with tpnet format
+  BadVersion    DEVICE is of another version of tpnet
+  NoOpenArea    neither area is open: format was stopped, or the device was written over
+  Damaged AT    what stands at offset AT breaks its rule: restore a copy
+  Busy          another tpnet writes DEVICE so fast that no moment of it could be read: try again, or stop that one
+  DeviceFailed  standard output can't be written
+  Memory        there is no memory left";
+
 /// What `tpnet compact` refuses.
 pub const COMPACT_REFUSALS: &str =
     "Nothing runs, and nothing is lost: all output that isn't confirmed stays.

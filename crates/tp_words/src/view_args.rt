@@ -82,6 +82,18 @@ fn port_view(alloc: Global, words: &[String], found: &ArgMatches) -> Result<View
     })
 }
 
+/// The form in which it is shown who waits for whom.
+fn waits_view(words: &[String], found: &ArgMatches) -> Result<View, ArgFault>
+    ensures range { IfOk result IsView }
+    ensures typed { IfOk result (HasTyped words.now) }
+{
+    if json_of(words, found)? {
+        Ok(View::WaitsJson)
+    } else {
+        Ok(View::Waits)
+    }
+}
+
 /// The view of a device that a command of that name shows.
 fn view_of(
     alloc: Global,
@@ -98,6 +110,7 @@ fn view_of(
         "image" => Ok(View::Image(place_of(alloc, words, found, "I")?)),
         "journal" => journal_view(alloc, words, found),
         "port" => port_view(alloc, words, found),
+        "waits" => waits_view(words, found),
         _ => Err(ArgFault::Missing),
     }
 }

@@ -2,11 +2,11 @@
 
 use crate::forms::{
     BACKUP, CHECK, COMPACT, FORMAT, IMAGE, JOURNAL, NODES, PORT, RECOVER, RUN, SHOW, STATUS, STOP,
-    TRACE, TRY,
+    TRACE, TRY, WAITS,
 };
 use crate::help::{
     BACKUP_REFUSALS, CHECK_REFUSALS, COMPACT_REFUSALS, FORMAT_REFUSALS, OPENING_REFUSALS,
-    RUN_REFUSALS, STATUS_REFUSALS, STOP_REFUSALS, TRACE_REFUSALS, TRY_REFUSALS,
+    RUN_REFUSALS, STATUS_REFUSALS, STOP_REFUSALS, TRACE_REFUSALS, TRY_REFUSALS, WAITS_REFUSALS,
 };
 use crate::stream_words::{STREAM, STREAM_REFUSALS};
 use clap::{Arg, ArgAction, Command};
@@ -59,6 +59,7 @@ pub enum Name {
     Recover,
     Show,
     Status,
+    Waits,
     Node,
     Image,
     Journal,
@@ -80,6 +81,7 @@ pub const COMMANDS: &[Name] = &[
     Name::Recover,
     Name::Show,
     Name::Status,
+    Name::Waits,
     Name::Node,
     Name::Image,
     Name::Journal,
@@ -103,6 +105,7 @@ fn form_of(name: Name) -> Form {
         Name::Recover => RECOVER,
         Name::Show => SHOW,
         Name::Status => STATUS,
+        Name::Waits => WAITS,
         Name::Node => NODES,
         Name::Image => IMAGE,
         Name::Journal => JOURNAL,
@@ -123,6 +126,7 @@ fn refusals_of(name: Name) -> &'static str {
         Name::Compact => COMPACT_REFUSALS,
         Name::Backup => BACKUP_REFUSALS,
         Name::Status => STATUS_REFUSALS,
+        Name::Waits => WAITS_REFUSALS,
         Name::Stream => STREAM_REFUSALS,
         Name::Recover | Name::Show | Name::Node | Name::Image | Name::Journal | Name::Port => {
             OPENING_REFUSALS
