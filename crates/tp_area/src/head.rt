@@ -108,6 +108,7 @@ pub fn head_bytes(
 }
 
 /// Decodes the topology from the `bytes` of a head, if it keeps the rules of topologies and the limits of the version.
+#[inline(never)]
 fn topology_in(version: HeadVersion, bytes: &[u8]) -> Option<Topology>
     requires whole { length bytes.now ≡ head_length version }
     ensures { result ≡ topology_at version bytes.now }
@@ -136,6 +137,7 @@ fn topology_in(version: HeadVersion, bytes: &[u8]) -> Option<Topology>
 }
 
 /// Whether `bytes` are those of the head of version `version` for `topology`.
+#[inline(never)]
 fn spells(version: HeadVersion, bytes: &[u8], topology: &Topology, areas: TwoAreas) -> bool
     requires starts { areas.first ≡ head_length version }
     requires limits { keeps_limits version topology.now ≡ true }

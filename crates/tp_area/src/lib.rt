@@ -45,7 +45,7 @@ pub use laws::{
 pub use layout_place::{Places, area_start, areas_of_length, piece_place};
 pub use line::{LINES_BYTES, LineTokens, line_in, lines_bytes};
 pub use place::Place;
-pub use port::{PortRecord, port_bytes, port_in};
+pub use port::{PortRecord, port_in};
 pub use room::{cut_length, image_length, images_length, records_length};
 pub use store::Store;
 pub use version::{head_length, keeps_limits, version_for};

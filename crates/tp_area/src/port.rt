@@ -107,21 +107,20 @@ pub fn port_in(base: u64, bytes: &[u8]) -> Option<PortRecord<'_>>
     Some(record_in(held, shown, bytes))
 }
 
-/// The record of a port.
-pub fn port_bytes(port: PortRecord<'_>) -> ArrayVec<u8, PORT_BYTES>
+/// Writes the record of a port in place of what `out` has. So the record is on the stack once, and nobody moves it.
+pub(crate) fn put_port(port: PortRecord<'_>, out: &mut ArrayVec<u8, PORT_BYTES>)
     requires few { length port.pending.now ≤ MAX_HELD }
     requires few_outputs { length port.outputs.now ≤ MAX_HELD }
-    ensures bytes { result.items ≡ port_bytes (port_said port.entry) }
-    ensures len { array_vec_len result ≡ PORT_BYTES }
+    ensures bytes { out.new.items ≡ port_bytes (port_said port.entry) }
+    ensures len { array_vec_len out.new ≡ PORT_BYTES }
 {
-    let mut out = ArrayVec::new();
-    put(&port.in_base.to_le_bytes(), &mut out);
-    put(&port.out_base.to_le_bytes(), &mut out);
-    put(&(port.pending.len() as u16).to_le_bytes(), &mut out);
-    put(&(port.outputs.len() as u16).to_le_bytes(), &mut out);
-    put(port.pending, &mut out);
-    pad(OUTPUTS_PLACE, &mut out);
-    put(port.outputs, &mut out);
-    pad(PORT_BYTES, &mut out);
-    out
+    out.clear();
+    put(&port.in_base.to_le_bytes(), out);
+    put(&port.out_base.to_le_bytes(), out);
+    put(&(port.pending.len() as u16).to_le_bytes(), out);
+    put(&(port.outputs.len() as u16).to_le_bytes(), out);
+    put(port.pending, out);
+    pad(OUTPUTS_PLACE, out);
+    put(port.outputs, out);
+    pad(PORT_BYTES, out);
 }

@@ -60,6 +60,7 @@ fn add_ports(
 }
 
 /// The receivers of all lines, by the numbers of the ends to which the links of `nodes` nodes lead.
+#[inline(never)]
 pub(crate) fn wires_in(
     version: HeadVersion,
     nodes: u8,

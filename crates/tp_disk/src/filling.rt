@@ -11,6 +11,9 @@ use std::io;
 /// How many bytes 00 are written at once.
 pub(crate) const PIECE: usize = 65_536;
 
+/// These bytes. They lie in the program: on the stack they would be half of all that it has as the program begins.
+static ZEROS: [u8; PIECE] = [0; PIECE];
+
 /// What has to become of a file before it is a device.
 #[derive(Clone, Copy, Drop)]
 pub(crate) enum Making {
@@ -28,7 +31,7 @@ fn fill<F: SystemFile>(file: &mut F, at: u64, count: u64) -> io::Result<()>
     ensures filled { OnOk result (F.calls file.new ≡ F.calls file.old ++ filling at count) }
     ensures kept { OnErr result (KeepsFront at (F.calls file.old) (F.calls file.new)) }
 {
-    let zeros = [0; PIECE];
+    let zeros = &ZEROS;
     for piece in 0..count.div_ceil(PIECE as u64) {
         let before = piece * PIECE as u64;
         let size = (count - before).min(PIECE as u64);

@@ -212,6 +212,7 @@ impl<J: Naming, D: Disk> Flusher<J, D> {
 
     /// Copies the frozen images of all that have recorded, without waiting for the others, until enough pages were copied for a turn. Where
     /// each begins in the other area is known from where the one before did, so no page asks for a sum over the images before.
+    #[inline(never)]
     pub(crate) fn copy_images<R: Wait, G: Gate>(
         &mut self,
         rt: &R,

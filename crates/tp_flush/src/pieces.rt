@@ -25,6 +25,7 @@ use tp_shared::{Naming, Shared};
 
 impl<J: Naming, D: Disk> Flusher<J, D> {
     /// Closes the other area's gate where it is open, once for a snapshot. Where a call of the device fails, the book is told.
+    #[inline(never)]
     pub(crate) fn clear<R: Wait>(&mut self, rt: &R, shared: &Shared<J>) -> Result<(), FlushFault>
         requires rests { self.old.world.at ≡ Resting }
         ensures tried { Tried result self.old self.new }

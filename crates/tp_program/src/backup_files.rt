@@ -132,6 +132,7 @@ fn remove_name<R: Files>(rt: &R, path: &str, numbers: Option<FileNumbers>) -> io
 }
 
 /// Copies the device into the copy's file, which is closed then. Answers what is to be printed.
+#[inline(never)]
 fn fill_part<D: Disk, F: FileExt + OpenFile + Drop, E: Write>(
     alloc: Global,
     source: &mut D,
@@ -151,6 +152,7 @@ fn fill_part<D: Disk, F: FileExt + OpenFile + Drop, E: Write>(
 }
 
 /// Gives the copy its name, which nothing else may have.
+#[inline(never)]
 fn link_copy<R: Files>(
     rt: &R,
     names: &Names<'_>,

@@ -15,6 +15,7 @@ use tp_views::is_openable;
 
 /// `tpnet compact`, on a device's file, which is held. It is opened as it is, and keeps its length. What the system said of a call on it
 /// that failed is put into `system`.
+#[inline(never)]
 pub(crate) fn compact_file<
     R: Files + AllocGlobal + Wait,
     S: Devices<Device = D>,

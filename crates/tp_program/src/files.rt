@@ -31,6 +31,7 @@ pub(crate) fn read_refusal(error: &io::Error) -> Refusal
 }
 
 /// `tpnet try`, on the image's file.
+#[inline(never)]
 pub fn try_file<R: Files + AllocGlobal, O: Write, E: Write>(
     rt: &R,
     image: &str,
@@ -47,6 +48,7 @@ pub fn try_file<R: Files + AllocGlobal, O: Write, E: Write>(
 }
 
 /// `tpnet trace`, on the image's file.
+#[inline(never)]
 pub fn trace_file<R: Files + AllocGlobal, O: Write, E: Write>(
     rt: &R,
     image: &str,
@@ -168,6 +170,7 @@ fn check_text<R: Files + AllocGlobal, O: Write, E: Write>(
 }
 
 /// `tpnet check`, on files. Nothing is written.
+#[inline(never)]
 pub fn check_file<R: Files + AllocGlobal, O: Write, E: Write>(
     rt: &R,
     topology: &str,
@@ -185,6 +188,7 @@ pub fn check_file<R: Files + AllocGlobal, O: Write, E: Write>(
 }
 
 /// `tpnet node`, `image`, `journal` and `port`, on a device's file, which stays as it is.
+#[inline(never)]
 pub fn view_file<
     R: Files<File = F> + AllocGlobal,
     F: FileExt + OpenFile + Drop,
@@ -233,6 +237,7 @@ pub(crate) fn disk_to_read<R: Files<File = F>, F: FileExt + OpenFile + Drop>(
 }
 
 /// `tpnet recover`, on a device's file, which stays as it is.
+#[inline(never)]
 pub fn recover_file<
     R: Files<File = F> + AllocGlobal + Threads + Sync,
     F: FileExt + OpenFile + Drop,
@@ -248,6 +253,7 @@ pub fn recover_file<
 }
 
 /// `tpnet show`, on a device's file, which stays as it is.
+#[inline(never)]
 pub fn show_file<
     R: Files<File = F> + AllocGlobal,
     F: FileExt + OpenFile + Drop,
@@ -263,6 +269,7 @@ pub fn show_file<
 }
 
 /// A look at a device's file, which stays as it is. Answers what was seen, or the status.
+#[inline(never)]
 fn look_file<
     R: Files<File = F> + AllocGlobal,
     F: FileExt + OpenFile + Drop,

@@ -187,6 +187,7 @@ fn disk_of<R: Files<File = F>, F: FileExt + OpenFile + Drop, S: Devices>(
 
 /// Formats the device of this network, which is held: where another file stands at its path by now, or one where there was none, that is
 /// another's. What the system said of a call that failed is put into `system`.
+#[inline(never)]
 fn format_network<
     R: Files<File = F> + AllocGlobal,
     F: FileExt + OpenFile + Drop,
@@ -299,6 +300,7 @@ fn format_text<
 
 /// `tpnet format`, on files, where the device is held. A file that is there stays as it is until nothing is left to refuse; the topology's
 /// and the images' files always do.
+#[inline(never)]
 pub(crate) fn format_file<
     R: Files<File = F> + AllocGlobal,
     F: FileExt + OpenFile + Drop,

@@ -63,6 +63,7 @@ fn run_device<
 
 /// `tpnet run`, on files, where the device is held. The input is read first. The device's file is opened as it is, and keeps its length.
 /// What the system said of a call on it that failed is put into `system`.
+#[inline(never)]
 pub(crate) fn run_file<
     R: Files + AllocGlobal + Threads + Wait + Sync,
     S: Devices<Device = D>,

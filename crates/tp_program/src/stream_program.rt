@@ -66,6 +66,7 @@ fn unopened_special<S: Devices, E: Write>(devices: &S, asked: &StreamRun, err: &
 }
 
 /// `tpnet run --stream`, on files. The device's file, which is held, is opened as it is, and keeps its length.
+#[inline(never)]
 fn stream_file<
     R: Files<File = F> + StandardStreams + AllocGlobal + Threads + Wait + Sync,
     F: FileExt + OpenFile + Drop + Send,
@@ -102,6 +103,7 @@ fn stream_file<
 }
 
 /// Says more of a stream that was refused, or that ended early.
+#[inline(never)]
 fn say_why<R: Files<File = F> + AllocGlobal, F: FileExt + OpenFile + Drop, E: Write>(
     rt: &R,
     asked: &StreamRun,

@@ -207,6 +207,7 @@ fn report<E: Write>(err: &mut E, done: Result<Ended, FilesFault>) -> u8
 /// Streams a device's network on ends that are open. What is said of it goes to `err`: where standard output and standard input begin,
 /// how far it has come, at the end each node that has stopped, and `next M`, with how much standard output was given and how much of
 /// that is confirmed, and why it ended.
+#[inline(never)]
 fn stream_opened<
     R: Files + AllocGlobal + Threads + Wait + Sync,
     D: Disk + Drop + Send,
@@ -256,6 +257,7 @@ fn stream_opened<
 
 /// Opens the ends of a device's ports. The file that is to end the stream, and where it may be asked to stop, is looked at before, and behind,
 /// since it may be one of them that was made meanwhile.
+#[inline(never)]
 fn open_ports<
     'a,
     R: Files<File = F> + StandardStreams + AllocGlobal,

@@ -82,6 +82,7 @@ fn has_stayed<D: Disk>(source: &mut D, kept: Kept) -> Result<bool, CopyFault>
 }
 
 /// Opens a copy, which has to say what opening the device said.
+#[inline(never)]
 fn opens_as<K: Disk>(alloc: Global, copy: &mut K, kept: Kept) -> Result<(), CopyFault>
     ensures { K.keeps → OnOk result (OpensAs kept (K.state copy.old).now (K.state copy.new).now) }
 {
@@ -104,6 +105,7 @@ fn finish<K: Disk>(alloc: Global, copy: &mut K, kept: Kept) -> Result<(), CopyFa
 }
 
 /// Copies what of a device is copied. Answers whether that stayed as it was.
+#[inline(never)]
 fn copy_kept<D: Disk, K: Disk>(
     alloc: Global,
     source: &mut D,

@@ -48,6 +48,7 @@ fn read_wide<D: Disk>(disk: &mut D, len: u64) -> Result<Head, Unopened>
 }
 
 /// Reads the head of a device: the bytes of a narrow one, and where these say that it is a wide one, all bytes of that.
+#[inline(never)]
 pub fn read_head<D: Disk>(disk: &mut D) -> Result<Head, Unopened>
     ensures takes_none { TakesNone result }
     ensures counts { Counts (has_read result) (D.size_of disk.old) (D.size_of disk.new) (D.failures_of disk.old) (D.failures_of disk.new) }

@@ -46,6 +46,7 @@ fn copy_piece<D: Disk, K: Disk>(
 }
 
 /// Copies `count` bytes from `at` on, in pieces.
+#[inline(never)]
 pub(crate) fn copy_range<D: Disk, K: Disk>(
     source: &mut D,
     copy: &mut K,

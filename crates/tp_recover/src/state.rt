@@ -22,6 +22,7 @@ impl Opened {
     /// as the node goes, and the entries are moved.
     ///
     /// It can be opened whatever the device was, also where it doesn't keep the model.
+    #[inline(never)]
     pub fn into_state(self, alloc: Global) -> Result<NetState, AllocError>
         ensures opened { IfOk result (λ state. IsWellOpen state) }
         ensures cut { IfOk result (λ state. cut_of state ≡ self.cut) }

@@ -197,6 +197,7 @@ fn switch_all<J: Naming, D: Disk, R: Wait>(
 }
 
 /// Makes one cut of the network of an opened device, by the parts that were made of it, and switches the areas of its store.
+#[inline(never)]
 fn compact_parts<J: Naming, D: Disk, R: Wait>(
     rt: &R,
     alloc: Global,
@@ -240,6 +241,7 @@ fn compact_parts<J: Naming, D: Disk, R: Wait>(
 /// that isn't open alone until its cut is whole and synced. After a call that was done, the prefix has each entry below the number that is
 /// answered, which is no less than the device's next number was, and the generation is one more than before. A fault tells its reason:
 /// what opening answers; that the device's generation is the last one; and that a call of the device failed, just where one has.
+#[inline(never)]
 pub fn compact<D: Disk, R: Wait>(
     rt: &R,
     alloc: Global,

@@ -53,6 +53,7 @@ pub(crate) fn job_fault(job: Job, topology: &Topology) -> Option<RunFault>
 }
 
 /// The parts of an opened book and its nodes, each with `spare` frames, and the raiser of their mark.
+#[inline(never)]
 fn parts_with(
     alloc: Global,
     state: NetState,
@@ -73,6 +74,7 @@ fn parts_with(
 
 /// The book and the nodes of what was opened, the raiser of their mark, and where the port `port` stands. Each node has `spare` frames
 /// for pages that it writes while it is frozen.
+#[inline(never)]
 pub(crate) fn parts_of(
     alloc: Global,
     opened: Opened,

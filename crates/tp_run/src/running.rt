@@ -48,6 +48,7 @@ use tp_shared::{Naming, NoGate, Parts};
 use tp_work::Net;
 
 /// A run over the store of a device that was opened, with the parts that were made of it.
+#[inline(never)]
 fn run_parts<J: Naming + Send + Sync, D: Disk + Send + Drop, O: Outlet, R: Threads + Wait + Sync>(
     rt: &R,
     alloc: Global,
@@ -121,6 +122,7 @@ fn run_parts<J: Naming + Send + Sync, D: Disk + Send + Drop, O: Outlet, R: Threa
 /// output can't be written. Each call of `out` is for all of them that it hasn't taken, while the device stands so, until it has taken all
 /// or a call has failed. A fault tells its reason: what opening answers, or what is wrong with the job; and a call of the device has failed
 /// just where that is told.
+#[inline(never)]
 pub fn run<D: Disk + Send + Drop, O: Outlet, R: Threads + Wait + Sync>(
     rt: &R,
     alloc: Global,

@@ -106,6 +106,7 @@ fn print<J: Naming, D: Disk, O: Outlet, R: Wait>(
 
 /// Lets workers make turns, and the flusher its own in a thread of its own meanwhile, where one can be made, and else behind them. Answers
 /// the flusher, and the seats with the slips of what the turns made.
+#[inline(never)]
 fn work<J: Naming + Send + Sync, D: Disk + Send + Drop, R: Threads + Wait + Sync>(
     rt: &R,
     alloc: Global,
@@ -168,6 +169,7 @@ fn settle<J: Naming, D: Disk, R: Wait>(
 /// Flushes, prints what is shown, confirms it, and flushes again. Answers the number that the next entry gets. What the host's seat has,
 /// which has the slips of the input, and what confirms the output is then in the journal, and with what the workers made it is all of it
 /// since the opening; and what was printed are outputs of the port where it leads, however it ends.
+#[inline(never)]
 fn finish<J: Naming, D: Disk, O: Outlet, R: Wait>(
     rt: &R,
     alloc: Global,
@@ -208,6 +210,7 @@ fn finish<J: Naming, D: Disk, O: Outlet, R: Wait>(
 
 /// Hands in the input, lets the workers make their turns, and prints and confirms what is shown then. Answers the number that the
 /// next entry gets. The seat `host` gets the slips of what is handed in and confirmed.
+#[inline(never)]
 pub(crate) fn serve<
     J: Naming + Send + Sync,
     D: Disk + Send + Drop,

@@ -98,6 +98,7 @@ fn work_all<J: Naming + Send + Sync, R: Threads + Wait + Sync>(
 
 /// Does work in this thread while a worker at each seat stays, in threads of their own where some can be made; else they come behind it.
 /// The work has to say in the end that no more shifts will be opened.
+#[inline(never)]
 pub(crate) fn go_with_workers<
     J: Naming + Send + Sync,
     W: Lent<Back = B> + Drop,

@@ -60,6 +60,7 @@ impl<'r, 's, 'u, 'v, 'w, J: Naming, D: Disk, S: Sink, I: Source, L: Listener, P:
         × (back.3.ghost_name ≡ work.listener.ghost_name)
         × (back.4.ghost_name ≡ work.stop.ghost_name) };
 
+    #[inline(never)]
     fn go(self) -> Self::Back {
         let Leading {
             ground,
@@ -90,6 +91,7 @@ impl<'r, 's, 'u, 'v, 'w, J: Naming, D: Disk, S: Sink, I: Source, L: Listener, P:
 }
 
 /// All laps; beside them, where there is more than one, workers that stay until they end.
+#[inline(never)]
 pub(crate) fn lead<
     J: Naming + Send + Sync,
     D: Disk + Send + Drop,

@@ -26,6 +26,7 @@ use tp_stream_files::{Listener, Sink, Source, Streams};
 use tp_work::nodes_of;
 
 /// The parts of an opened book and its nodes, each with `spare` frames, and the raiser of their mark.
+#[inline(never)]
 fn parts_with(
     alloc: Global,
     state: NetState,
@@ -45,6 +46,7 @@ fn parts_with(
 }
 
 /// The book and the nodes of what was opened, and the raiser of their mark. Each stream is set out where its port stands, and told.
+#[inline(never)]
 pub(crate) fn parts_of<S: Sink, I: Source, L: Listener>(
     alloc: Global,
     opened: Opened,

@@ -293,6 +293,7 @@ fn lap<J: Naming, D: Disk, S: Sink, I: Source, L: Listener, P: Stop, R: Wait>(
 }
 
 /// All laps, until nothing more is to be done or one is refused.
+#[inline(never)]
 pub(crate) fn laps<J: Naming, D: Disk, S: Sink, I: Source, L: Listener, P: Stop, R: Wait>(
     ground: Ground<'_, J, R>,
     shift: &Shift,
@@ -324,6 +325,7 @@ pub(crate) fn laps<J: Naming, D: Disk, S: Sink, I: Source, L: Listener, P: Stop,
 
 /// Makes turns, and lets each stream make its steps, until that ends. Answers the number that the next entry gets, all below
 /// being stored, and why it is over; which nodes have stopped is told before.
+#[inline(never)]
 pub(crate) fn serve<
     J: Naming + Send + Sync,
     D: Disk + Send + Drop,

@@ -101,6 +101,7 @@ struct Device<D: Disk> {
 }
 
 /// A stream over the store of a device that was opened, with the parts that were made of it.
+#[inline(never)]
 fn stream_parts<
     J: Naming + Send + Sync,
     D: Disk + Send + Drop,
@@ -185,6 +186,7 @@ fn stream_parts<
 /// confirmed. That all that was put is safe, and no more is confirmed, is said by `Output`, of each moment. It ends as
 /// stopped just where the last look whether it is asked to stop has answered yes, and no look before that has. A fault of the opening is
 /// what that answers, and that a call of the device failed, as it was opened or in a flush, is answered just where one has.
+#[inline(never)]
 pub fn stream<
     D: Disk + Send + Drop,
     S: Sink,

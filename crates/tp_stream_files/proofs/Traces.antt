@@ -1,7 +1,7 @@
 -- What a list of calls comes to, once a call more was made.
 use Rattle.std.proofs.Common.{◌≡◌, ◌≤◌, ◌-◌, take, drop, arith, ℕ, ◌+◌, Bool, true, false, ◌||◌, List, [], ◌∷◌, ◌++◌, length, refl, sym, ap, ◌∙◌, append_assoc, append-nil, length-append}
 use Rattle.std.proofs.Math.Seq.{drop-append_seam}
-use Rattle.std.proofs.lemmas.List.{drop-drop, drop-take, length-take-le, take-append-le, take-take}
+use Rattle.std.proofs.lemmas.List.{drop_all, drop-drop, drop-take, length-take-le, take-append-le, take-take}
 use Rattle.tp_stream_files.specs.Told.{EndTold, Opened, SyncedFolder, Measured, MeasureFailed, HasRead, ReadFailed, Wrote, Synced, Gave, GiveFailed}
 use Rattle.tp_stream_files.specs.Trace.{size_after, size_told, bytes_given, is_none, says_end, says_failed, GrewAlike}
 
@@ -97,6 +97,10 @@ behind_bytes calls bytes behind is = sym (rw (bytes_of_gave calls bytes) (rw is 
 
 pub behind_length : (calls : List EndTold) (bytes : List ℕ) (behind : ℕ) → behind ≡ length (bytes_given calls) → behind + length bytes ≡ length (bytes_given (calls ++ Gave bytes ∷ []))
 behind_length calls bytes behind is = let all = ap length (bytes_of_gave calls bytes) ∙ length-append (bytes_given calls) bytes in omega (arith, is, all)
+
+-- behind all that came before nothing is kept yet
+pub none_behind : (calls : List EndTold) (kept : List ℕ) (behind : ℕ) → behind ≡ length (bytes_given calls) → take 0 kept ≡ drop behind (bytes_given calls)
+none_behind calls kept behind is = sym (rw is (drop_all (length (bytes_given calls)) (bytes_given calls) (omega arith)))
 
 -- the end was said before, or just now
 pub end_before : (calls : List EndTold) (bytes : List ℕ) → says_end calls ≡ true → says_end (calls ++ Gave bytes ∷ []) ≡ true

@@ -2,9 +2,10 @@
 
 ghost use Rattle.std.specs.Prelude.{◌≡◌, ◌+◌, ◌<◌, ◌≤◌, ◌⊎◌, ◌∷◌, [], ◌++◌, true, length, take, drop, is_err, IfOk, IfSome, OnErr, OnOk};
 ghost use Rattle.tp_stream_files.specs.Told.{Gave, GiveFailed};
-ghost use Rattle.tp_stream_files.specs.Trace.{bytes_given, gave, says_end, says_failed};
+ghost use Rattle.tp_stream_files.specs.Trace.{GrewAlike, bytes_given, says_end, says_failed};
 
 use crate::SourceFailed;
+use crate::feeds::Feed;
 use crate::trace::Trace;
 use tp_model::limits::MAX_HELD;
 
@@ -60,34 +61,29 @@ impl Held {
         self.has_failed = true;
     }
 
-    /// Takes what a feed gave in place of the bytes that are kept; `behind` is the position behind them.
-    pub(crate) fn take_piece(
-        &mut self,
-        behind: u64,
-        done: Result<usize, SourceFailed>,
-        kept: &[u8; MAX_HELD],
-    )
-        requires few { IfOk done (λ count. count ≤ length kept.now) }
-        requires behind { behind ≡ length (bytes_given self.old.trace.told) }
-        ensures { self.new.trace.told ≡ self.old.trace.told ++ gave done kept.now ∷ [] }
+    /// Takes what a feed gives next in place of the bytes that are kept; `behind` is the position behind them.
+    #[tactic(auto, using(crate::proofs::Traces::none_behind))]
+    pub(crate) fn take_next<I: Feed>(&mut self, behind: u64, feed: &mut I)
+        requires { behind ≡ length (bytes_given self.old.trace.told) }
+        ensures { GrewAlike (I.given feed.old) (I.given feed.new) self.old.trace.told self.new.trace.told }
     {
-        match done {
-            Ok(count) => self.take_bytes(behind, count, kept),
+        self.from = behind;
+        self.count = 0;
+        match feed.next(&mut self.kept) {
+            Ok(count) => self.take_bytes(count),
             Err(SourceFailed) => self.take_failure(),
         }
     }
 
-    /// Takes the bytes that a feed gave; none at its end.
+    /// Takes the bytes that a feed gave, which are the first ones of `kept`, of which none counted before; none came at the feed's end.
     #[tactic(auto, using(crate::proofs::Traces::bytes_of_gave, crate::proofs::Traces::says_end_gave, crate::proofs::Traces::says_failed_gave))]
-    fn take_bytes(&mut self, behind: u64, count: usize, kept: &[u8; MAX_HELD])
-        requires few { count ≤ length kept.now }
-        requires behind { behind ≡ length (bytes_given self.old.trace.told) }
-        ensures { self.new.trace.told ≡ self.old.trace.told ++ Gave (take count kept.now) ∷ [] }
+    fn take_bytes(&mut self, count: usize)
+        requires few { count ≤ length self.old.kept }
+        requires none { self.old.count ≡ 0 }
+        ensures { self.new.trace.told ≡ self.old.trace.told ++ Gave (take count self.old.kept) ∷ [] }
     {
-        self.trace = self.trace.gave(&kept[..count]);
-        self.from = behind;
+        self.trace = self.trace.gave(&self.kept[..count]);
         self.count = count;
-        self.kept = *kept;
         self.has_ended = self.has_ended || count == 0;
     }
 

@@ -304,6 +304,7 @@ fn outputs_of<'a, S: EndFiles<File = F> + Looks, F: EndFile + Drop, O: Write>(
 }
 
 /// Adds where the input of `port` comes from to `inputs`.
+#[inline(never)]
 fn add_input<'a, F: EndFile + Drop, I: Feed>(
     port: u8,
     source: AnySource<'a, F, I>,
@@ -319,6 +320,7 @@ fn add_input<'a, F: EndFile + Drop, I: Feed>(
 }
 
 /// Opens where an input comes from, and adds it to `inputs`.
+#[inline(never)]
 fn push_input<'a, S: EndFiles<File = F> + Looks, F: EndFile + Drop, I: Feed>(
     files: &mut S,
     end: &PortFile,

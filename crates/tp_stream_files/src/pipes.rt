@@ -6,15 +6,12 @@ ghost use Rattle.tp_stream_files.specs.Trace.{GrewAlike, bytes_given, says_end, 
 use crate::SourceFailed;
 use crate::feeds::Feed;
 use crate::held::Held;
-use tp_model::limits::MAX_HELD;
 
 /// A port's whole input, from a feed.
 #[derive(Drop)]
 pub struct Pipe<'a, I> {
     feed: &'a mut I,
     held: Held,
-    /// Where the feed puts the next bytes, which are kept behind that.
-    piece: [u8; MAX_HELD],
 }
 
 impl<'a, I: Feed> Pipe<'a, I> {
@@ -25,7 +22,6 @@ impl<'a, I: Feed> Pipe<'a, I> {
         Pipe {
             feed,
             held: Held::new(),
-            piece: [0u8; MAX_HELD],
         }
     }
 
@@ -37,8 +33,7 @@ impl<'a, I: Feed> Pipe<'a, I> {
             self.held.stop();
             return;
         };
-        let done = self.feed.next(&mut self.piece);
-        self.held.take_piece(behind, done, &self.piece);
+        self.held.take_next(behind, self.feed);
     }
 
     /// Takes bytes until one at a position is kept, or none comes any more.

@@ -25,6 +25,7 @@ fn push_failed_read<F: FileExt + OpenFile + Drop>(
 }
 
 /// Says why a device's file wasn't opened, which was looked at again.
+#[inline(never)]
 fn push_unopened<F: FileExt + OpenFile + Drop>(
     alloc: Global,
     text: &mut String,
@@ -53,6 +54,7 @@ fn push_changed(text: &mut String, device: &str) -> Result<(), AllocError> {
 }
 
 /// Opens a device's file, and says why it wasn't opened, where it isn't.
+#[inline(never)]
 fn reopened<F: FileExt + OpenFile + Drop>(
     alloc: Global,
     text: &mut String,

@@ -178,6 +178,7 @@ fn arg_of<'a>(alloc: Global, word: &Word) -> Result<Arg<'a>, AllocError> {
 }
 
 /// A command as `clap` takes it; its help ends with what it refuses.
+#[inline(never)]
 fn command_of<'a>(
     alloc: Global,
     form: &Form,

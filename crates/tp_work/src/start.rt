@@ -48,6 +48,7 @@ impl<J: Naming, G: Gate + Drop> Net<J, G> {
     /// Puts `parts` under locks, fills the ready queue with the numbers of all processes, the nodes' in order and then the
     /// host's, and gives `seats` seats. A node's turn may have `quantum` steps. The key is the flusher's, and shows
     /// what is told of the book as it is.
+    #[inline(never)]
     pub fn start<R: Wait>(
         rt: &R,
         alloc: Global,

@@ -59,6 +59,18 @@ impl<R: Wait + Clock + Drop, I: Read + Drop> Read for Gated<R, I> {
     }
 }
 
+/// Standard input that reads nothing before it is told to, and who tells it. None if there is no memory for it: the reader has a buffer of 8 kB,
+/// which is too large to be handed from call to call.
+#[inline(never)]
+fn gated<R: Input<Reader = I> + AllocGlobal + Drop, I: Read + Drop>(
+    rt: R,
+) -> Option<(Sender<()>, Gated<R, Box<I>>)> {
+    let reader = Box::new(rt.alloc(), rt.reader()).ok()?;
+    let (to_tell, told) = bounded(rt.alloc(), 1).ok()?;
+    let told = Some(told);
+    Some((to_tell, Gated { rt, told, reader }))
+}
+
 /// Standard input, whose thread reads from the first call on: a stream that is refused before it makes one reads nothing of it.
 #[derive(Drop)]
 pub(crate) struct Late<R: Drop> {
@@ -77,13 +89,9 @@ impl<
     pub(crate) fn new(rt: R) -> Late<R>
         ensures { result.trace.told ≡ [] }
     {
-        let (to_tell, reader) = match bounded(rt.alloc(), 1) {
-            Ok((to_tell, told)) => {
-                let told = Some(told);
-                let reader = rt.reader();
-                (Some(to_tell), Some(Gated { rt, told, reader }))
-            }
-            Err(_) => (None, None),
+        let (to_tell, reader) = match gated(rt) {
+            Some((to_tell, reader)) => (Some(to_tell), Some(reader)),
+            None => (None, None),
         };
         Late {
             rt,

@@ -51,6 +51,3 @@ overflow_sub-count g c = omega arith
 
 pub overflow_add-at : goal.overflow_add-at
 overflow_add-at g c = omega arith
-
-pub slice_bounds-zeros-end : goal.slice_bounds-zeros-end
-slice_bounds-zeros-end g c = omega arith
