@@ -18,11 +18,11 @@ use Rattle.tp_shared.specs.Resting.{IsRestAt, leaves_nothing, is_empty, is_halte
 
 empty_clear : (line : List Token) → is_empty (plain line) ≡ is_clear line
 empty_clear [] = refl
-empty_clear (t ∷ ts) = by_marker (is_marker t)
+empty_clear (t ∷ ts) = by_marker (is_marker t) (empty_clear ts)
   where
-    by_marker : (b : Bool) → is_empty (cond b (plain ts) (t ∷ plain ts)) ≡ cond b (is_clear ts) false
-    by_marker true = empty_clear ts
-    by_marker false = refl
+    by_marker : (b : Bool) → is_empty (plain ts) ≡ is_clear ts → is_empty (cond b (plain ts) (t ∷ plain ts)) ≡ cond b (is_clear ts) false
+    by_marker true rest = rest
+    by_marker false rest = refl
 
 pub lines_clear : (lines : List (List Token)) → list_all is_empty (map plain lines) ≡ list_all is_clear lines
 lines_clear [] = refl
