@@ -4,14 +4,26 @@
 usage: bench/compare.py TPNET PLAIN [COUNT [SEED [FIRST]]]      10,000 images by default, from image FIRST on
        bench/compare.py --whole FAST PLAIN [COUNT [SEED [FIRST]]]  all that a node has after 2,000 steps, by two plain interpreters
        bench/compare.py --cases FOLDER PLAIN [COUNT [SEED]]
+       bench/compare.py --sweep TPNET PLAIN [SET]               no random images: each instruction, and groups that may be done as one
+       bench/compare.py --sweep --whole FAST PLAIN [SET]
 
 Each image's program ends by putting out its registers, the error flag and a block of its memory on link 0. A difference
 is kept as an image in the working folder, and the exit status is then 1. Each run has 120 seconds of processor, however busy the
 machine is; one that is killed counts as a difference.
 
+A third of the images write into their own code: ahead of them, into the next instruction, into those that were just made, and from a
+workspace in whose 64 bytes the code begins.
+
+With --sweep each instruction of docs/MACHINE.md is the first, a middle and the last one of a straight row, with registers and operands
+that are inside, at an edge and outside; and each group of SET (GROUPS if none is named; `bench/count-runs --json` writes one) is
+made with as many instructions before it that a turn of 16 steps ends before and within it, at each of its steps. With --whole, which
+compares all that a node has, the row is cut once within it, at another step in each image, and once after it. A step that halts shows as
+missing output; --whole compares its node.
+
 With --cases nothing is compared: the images go into a new folder, each with what the plain interpreter prints beside it. Then
 a program without any proof is compared by: cd crates/tpnet && rt try --cases FOLDER -- try {} --turns 700
 """
+import json
 import os
 import random
 import struct
@@ -131,6 +143,28 @@ def rewriting(rng):
     return setting + body + do("ldlp", 20) + do("ldc", back) + op(0x21)
 
 
+def beside(rng, base):
+    """A loop in whose line the workspace ends, and which writes into itself: the next instruction, those just made, or any other."""
+    setting = do("ldc", 0) + do("stl", 20) + do("ldc", rng.randrange(2, 5)) + do("stl", 21)
+    body = b""
+    for _ in range(rng.randrange(2, 8)):
+        body += arithmetic(rng)[:rng.randrange(12)] + b"\x40"
+        byte = rng.choice([0x40, 0x70, 0x80, 0xC0, 0x10, 0xB0, 0x00]) | rng.randrange(4)
+        begun = base + len(setting) + len(body)
+        if rng.random() < 0.4:
+            head = do("ldc", byte * 0x01010101)
+            place = begun + len(head) + 2 - rng.choice([0, 0, 0, 4, 8, 12])
+            body += head + do("stl", (place - WORK) // 4)
+        else:
+            head, store = (do("ldc", byte), op(0x3B)) if rng.random() < 0.6 else (do("ldc", byte * 0x01010101), do("stnl", 0))
+            after = begun + len(head) + 8 + len(store)
+            body += head + do("ldc", rng.choice([after, after, after + rng.randrange(4), after - rng.randrange(1, 24)])) + store
+        body += bytes(rng.choice([0x40, 0x71, 0x81, 0x10]) for _ in range(rng.randrange(1, 6)))
+    back = len(body) + len(do("ldlp", 20)) + 2 + 2
+    back += len(do("ldc", back)) - 2
+    return setting + body + do("ldlp", 20) + do("ldc", back) + op(0x21)
+
+
 def prefixes(rng):
     """Instructions behind many prefix bytes, some behind one too many."""
     code = b""
@@ -217,6 +251,7 @@ def image(rng, kind):
     pages = rng.choice([4, 4, 5, 8])
     memory_bytes = bytearray(1024 * pages)
     writes = [(0x8000002C, struct.pack("<I", FIRST))]
+    begin = CODE
     if kind == "arithmetic":
         code = arithmetic(rng)
     elif kind == "memory":
@@ -226,22 +261,63 @@ def image(rng, kind):
         writes += more
     elif kind == "rewriting":
         code = rewriting(rng)
+    elif kind == "beside":
+        begin = WORK + 96 + rng.randrange(32)
+        code = beside(rng, begin)
     elif kind == "prefixes":
         code = prefixes(rng)
     else:
         code = bytes(rng.getrandbits(8) for _ in range(rng.randrange(2, 60)))
     for k in range(24):
         writes.append((WORK + 4 * k, struct.pack("<I", rng.choice(EDGES + [rng.getrandbits(32), WORK + 4 * rng.randrange(24)]))))
-    writes.append((CODE, code + dump(96)))
+    writes.append((begin, code + dump(96)))
     for address, data in writes:
         at = address - FIRST
         memory_bytes[at:at + len(data)] = data
     state = rng.choice([2, 2, 2, 1])
     queue = [FIRST] * 4
-    head = struct.pack("<BBHII", 1, 0, pages, CODE, WORK)
+    head = struct.pack("<BBHII", 1, 0, pages, begin, WORK)
     head += struct.pack("<III", *[rng.choice(EDGES + [rng.getrandbits(32)]) for _ in range(3)])
     head += struct.pack("<IIII", *queue) + struct.pack("<BBH", rng.randrange(2), state, rng.choice([0, 0, 1000, 1023, 1024]))
     return head + bytes(128) + bytes(memory_bytes)
+
+
+def instruction(name, operand):
+    return do(name, operand) if name in NAMES else op(OPERATIONS[name])
+
+
+def straight(row, stack, wptr, state):
+    """An image of four pages that makes a row, and puts out what there is then."""
+    memory_bytes = bytearray(4096)
+    for k in range(0x300, 4096, 4):
+        memory_bytes[k:k + 4] = struct.pack("<I", (WORK + 0x20 if k % 16 == 0 else k * 0x01030507 if k % 16 == 8 else k % 7) & 0xFFFFFFFF)
+    memory_bytes[0x2C:0x30] = struct.pack("<I", FIRST)
+    # a call, a return or a jump goes into these, which change nothing
+    code = row + b"\xB0" * 24 + dump(96)
+    memory_bytes[CODE - FIRST:CODE - FIRST + len(code)] = code
+    return struct.pack("<BBHIIIIIIIIIBBH", 1, 0, 4, CODE, wptr, *stack, *[FIRST] * 4, 0, state, 0) + bytes(128) + bytes(memory_bytes)
+
+
+def sweep(groups):
+    """The images of --sweep, each with how many steps its row has."""
+    neutral = do("ajw", 0)
+    for name in [*NAMES, *OPERATIONS]:
+        for before, after in ((0, 4), (2, 2), (4, 0)):
+            for stack in STACKS:
+                for operand in (1, 3, 2000, -2000) if name in NAMES else (0,):
+                    row = neutral * before + instruction(name, operand) + neutral * after
+                    yield straight(row, stack, WORK, 2), before + 1 + after
+    for group in groups:
+        for operands in ((5, 6, 7, 8), (8, 1, 5, 2), (6, 2000, 5, 3), (2000, 5, 6, 7), (5, 6, 2000, 3), (0, 0, 0, 0)):
+            row = b"".join(instruction(name, operand) for name, operand in zip(group, operands))
+            for stack in STACKS[:4]:
+                for before in range(15 - len(group), 17):
+                    yield straight(neutral * before + row + row, stack, workspace(before), 1 + before % 2), before + 2 * len(group)
+
+
+def workspace(before):
+    """The workspace, which ends at memory's end in each third case: there the upper ones of its words are outside."""
+    return WORK if before % 3 else OUTSIDE - 24
 
 
 def run(command):
@@ -250,7 +326,27 @@ def run(command):
     return done.returncode, done.stdout
 
 
-KINDS = ["arithmetic", "memory", "processes", "processes", "wild", "rewriting", "prefixes"]
+KINDS = ["arithmetic", "memory", "processes", "processes", "wild", "prefixes", "rewriting", "beside", "beside"]
+
+# Groups of instructions that may be done as one.
+GROUPS = [words.split() for words in (
+    "ldl adc stl", "ldlp ldc ldc", "ldl ldc", "ldl eqc cj", "ldlp ldc lend", "ldl cj", "ldc ldl gt cj", "ldl sum stl", "ldl add stl",
+    "ldl wsub ldnl", "ldl wsub stnl", "ldl add", "ldl sum", "ldl ldl wsub ldnl", "ldl ldl wsub stnl", "ldl adc", "ldc ldc", "ldl ldl",
+    "ldc ldl", "ldl ldc bsub lb", "ldl ldc bsub sb", "ldc ldl ldc bsub", "gt cj", "eqc cj", "ldl gt cj", "ldl lb", "ldc stl", "ldl stl",
+    "adc stl", "sum stl", "ldc sum", "ldc rem", "ldc xor", "ldc shr", "ldc and", "ldc mul", "wsub ldnl", "mint ldnlp", "prod ldl sum stl",
+    "ldl ldl sum stl", "adc call", "ldl adc call")]
+NAMES = {name: FUNCTIONS[name] for name in FUNCTIONS if name != "opr"}
+OPERATIONS = dict(
+    rev=0x00, lb=0x01, bsub=0x02, endp=0x03, diff=0x04, add=0x05, gcall=0x06, prod=0x08, gt=0x09, wsub=0x0A, sub=0x0C, startp=0x0D,
+    outbyte=0x0E, outword=0x0F, seterr=0x10, csub0=0x13, stopp=0x15, ladd=0x16, ldiv=0x1A, ldpi=0x1B, ldpri=0x1E, rem=0x1F, ret=0x20,
+    lend=0x21, testerr=0x29, div=0x2C, disc=0x2F, diss=0x30, lmul=0x31, xor=0x33, bcnt=0x34, lsum=0x37, lsub=0x38, runp=0x39, sb=0x3B,
+    gajw=0x3C, wcnt=0x3F, shr=0x40, shl=0x41, mint=0x42, alt=0x43, altwt=0x44, altend=0x45, enbc=0x48, enbs=0x49, move=0x4A,
+    ccnt1=0x4D, ldiff=0x4F, sum=0x52, mul=0x53, stoperr=0x55)
+OPERATIONS.update({"in": 0x07, "out": 0x0B, "not": 0x32, "and": 0x46, "or": 0x4B, "unknown": 0x60})
+OUTSIDE = 0x80001000
+# A, B and C: addresses, small numbers, edges, what is outside.
+STACKS = [(WORK + 0x40, WORK + 0x60, 3), (5, 7, 1), (0, 0x80000000, 0xFFFFFFFF), (0x7FFFFFFF, 1, 0), (OUTSIDE, OUTSIDE - 4, WORK),
+          (WORK + 0x41, OUTSIDE, 0x80000004), (OUTSIDE - 1, WORK + 0x43, 4)]
 
 
 def cases(folder, plain, count, seed):
@@ -263,9 +359,39 @@ def cases(folder, plain, count, seed):
             out.write(run([plain, "try", path, str(TURNS)])[1])
 
 
+def swept(words):
+    """Compares over the images of --sweep."""
+    is_whole = words[0] == "--whole"
+    mine, other, *rest = words[1:] if is_whole else words
+    groups = json.load(open(rest[0])) if rest else GROUPS
+    folder = tempfile.mkdtemp(prefix="compare-")
+
+    def one(numbered):
+        number, (data, steps) = numbered
+        path = os.path.join(folder, "%d.img" % number)
+        with open(path, "wb") as out:
+            out.write(data)
+        if is_whole:
+            said = [[run([program, "whole", path, str(count)]) for count in (1 + number % steps, steps + 1)] for program in (mine, other)]
+        else:
+            said = [run([mine, "try", path, "--turns", str(TURNS)]), run([other, "try", path, str(TURNS)])]
+        if said[0] == said[1]:
+            os.unlink(path)
+            return 0
+        print("different: %s" % path)
+        return 1
+
+    with ThreadPoolExecutor(os.cpu_count()) as pool:
+        bad = list(pool.map(one, enumerate(sweep(groups))))
+    print("%d tried, %d bad" % (len(bad), sum(bad)))
+    sys.exit(1 if sum(bad) else 0)
+
+
 def main():
     if len(sys.argv) < 3:
         sys.exit(__doc__)
+    if sys.argv[1] == "--sweep":
+        return swept(sys.argv[2:])
     if sys.argv[1] == "--cases":
         count = int(sys.argv[4]) if len(sys.argv) > 4 else 10000
         return cases(sys.argv[2], sys.argv[3], count, int(sys.argv[5]) if len(sys.argv) > 5 else 1)
