@@ -75,7 +75,7 @@ impl Held {
         }
     }
 
-    /// Takes the bytes that a feed gave, which are the first ones of `kept`, of which none counted before; none came at the feed's end.
+    /// Takes the bytes that a feed gave: the first ones of `kept`, while none counts yet; none came at the feed's end.
     #[tactic(auto, using(crate::proofs::Traces::bytes_of_gave, crate::proofs::Traces::says_end_gave, crate::proofs::Traces::says_failed_gave))]
     fn take_bytes(&mut self, count: usize)
         requires few { count ≤ length self.old.kept }
