@@ -1,3 +1,4 @@
 pub mod Fit
 pub mod Found
+pub mod Joined
 pub mod Traces

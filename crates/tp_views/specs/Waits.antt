@@ -107,10 +107,13 @@ link_part s i own k = end_part s true i own k ++ end_part s false i own k
 abbrev pub ends_part : Seen → ℕ → NodeSeen → List ℕ
 ends_part s i own = link_part s i own 0 ++ (link_part s i own 1 ++ (link_part s i own 2 ++ link_part s i own 3))
 
+abbrev pub name_part : ℕ → List ℕ
+name_part i = codes "node " ++ decimal i
+
 -- the lines of node i
 abbrev pub node_lines : Seen → List (Entry × ℕ) → ℕ → NodeSeen → List ℕ
 node_lines s kept i own =
-    (codes "node " ++ decimal i) ++ (doing_part own.doing ++ (last_part (last_made i s.wires (length s.nodes) kept) ++ ends_part s i own))
+    name_part i ++ (doing_part own.doing ++ (last_part (last_made i s.wires (length s.nodes) kept) ++ ends_part s i own))
 
 abbrev pub nodes_lines : Seen → List (Entry × ℕ) → ℕ → List NodeSeen → List ℕ
 nodes_lines s kept i [] = []

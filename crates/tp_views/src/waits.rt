@@ -3,7 +3,7 @@
 ghost use Rattle.std.specs.Prelude.{◌≡◌, ◌++◌, ◌<◌, ◌≤◌, IfOk, OnOk, length, string_bytes};
 ghost use Rattle.tp_model.specs.declared.limits.TheConstants.{MAX_NODES};
 ghost use Rattle.tp_views.specs.Scene.{seen_in};
-ghost use Rattle.tp_views.specs.Waits.{deed_name, doing_part, end_part, ends_part, is_told, last_from, last_made, last_part, link_part, node_lines, nodes_lines, other_part, resumes_part, side_name, sum_part, sums_at, sums_lines, sums_of, toward, wait_line, waiter_part, waits_text, why_name};
+ghost use Rattle.tp_views.specs.Waits.{deed_name, doing_part, end_part, ends_part, is_told, last_from, last_made, last_part, link_part, name_part, node_lines, nodes_lines, other_part, resumes_part, side_name, sum_part, sums_at, sums_lines, sums_of, toward, wait_line, waiter_part, waits_text, why_name};
 
 use crate::cycles::push_cycles;
 use crate::journal::process_of;
@@ -241,6 +241,13 @@ fn push_ends(
     push_link(text, scene, number, own, 3)
 }
 
+/// Appends which node it is.
+fn push_name(text: &mut String, number: usize) -> Result<(), AllocError>
+    ensures { OnOk result (string_bytes text.new ≡ string_bytes text.old ++ name_part number) }
+{
+    push_parts(text, &[Text("node "), Number(number as u64)])
+}
+
 /// Appends the lines of a node.
 fn push_node(
     text: &mut String,
@@ -253,7 +260,7 @@ fn push_node(
     ensures { OnOk result (string_bytes text.new ≡ string_bytes text.old ++ node_lines (seen_in scene.now) kept.now number own.now) }
 {
     let last = last_made(number, &scene.wires, scene.nodes.len(), kept);
-    push_parts(text, &[Text("node "), Number(number as u64)])?;
+    push_name(text, number)?;
     push_doing(text, own.doing)?;
     push_last(text, last)?;
     push_ends(text, scene, number, own)

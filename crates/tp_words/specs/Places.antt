@@ -12,7 +12,7 @@ use Rattle.tp_words.specs.declared.args.Asked.TheVariants.{Help, Try, Trace, For
 use Rattle.tp_words.specs.declared.args.NewDevice.{NewDevice}
 use Rattle.tp_words.specs.declared.places.TheConstants.{VALUED}
 use Rattle.tp_words.specs.declared.views.View.{View}
-use Rattle.tp_words.specs.declared.views.View.TheVariants.{Node, Image, Journal, Pending, Outputs, NodeJson, PendingJson, OutputsJson}
+use Rattle.tp_words.specs.declared.views.View.TheVariants.{Node, Image, Journal, Pending, Outputs, NodeJson, PendingJson, OutputsJson, Waits, WaitsJson}
 use Rattle.tp_words.specs.Given.{given, has_flag}
 use Rattle.tp_words.specs.Size.{IsSizeOf}
 use Rattle.tp_words.specs.Typed.{is_word}
@@ -71,6 +71,8 @@ view_command (Pending port) = codes "port"
 view_command (PendingJson port) = codes "port"
 view_command (Outputs port) = codes "port"
 view_command (OutputsJson port) = codes "port"
+view_command Waits = codes "waits"
+view_command WaitsJson = codes "waits"
 
 -- the decimal of a number, if there is one
 abbrev pub listed : Option ℕ → List (List ℕ)
@@ -87,6 +89,8 @@ view_places (Pending port) = decimal port ∷ []
 view_places (PendingJson port) = decimal port ∷ []
 view_places (Outputs port) = decimal port ∷ []
 view_places (OutputsJson port) = decimal port ∷ []
+view_places Waits = []
+view_places WaitsJson = []
 
 -- A port's pending inputs are shown if `--pending` was typed, and else its outputs.
 abbrev pub HasViewFlag : List (String Global) → View → Type 0

@@ -7,7 +7,7 @@ ghost use Rattle.tp_words.specs.Places.{is_one_of, is_option, places, places_in,
 use crate::arg_fault::ArgFault;
 use crate::numbers::is_word;
 
-/// The options that have a value, of any command. The value is the next word, unless it is in the same word, after an equals sign.
+/// The options that have a value, of any command. The value is the next word, unless it follows an equals sign within the option's own word.
 const VALUED: &[&str] = &[
     "--area",
     "--discard",

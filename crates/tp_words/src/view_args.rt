@@ -86,6 +86,7 @@ fn port_view(alloc: Global, words: &[String], found: &ArgMatches) -> Result<View
 fn waits_view(words: &[String], found: &ArgMatches) -> Result<View, ArgFault>
     ensures range { IfOk result IsView }
     ensures typed { IfOk result (HasTyped words.now) }
+    ensures flag { IfOk result (HasViewFlag words.now) }
 {
     if json_of(words, found)? {
         Ok(View::WaitsJson)
@@ -124,10 +125,11 @@ fn command_of_view(view: View) -> &'static str
         View::Image(_) => "image",
         View::Journal(_) => "journal",
         View::Pending(_) | View::PendingJson(_) | View::Outputs(_) | View::OutputsJson(_) => "port",
+        View::Waits | View::WaitsJson => "waits",
     }
 }
 
-/// The number after the device; a journal has none.
+/// The number after the device; `journal` and `waits` have none.
 fn number_of_view(view: View) -> Option<u64>
     ensures { view_places view ≡ listed result }
 {
@@ -139,7 +141,7 @@ fn number_of_view(view: View) -> Option<u64>
         | View::PendingJson(number)
         | View::Outputs(number)
         | View::OutputsJson(number) => Some(number),
-        View::Journal(_) => None,
+        View::Journal(_) | View::Waits | View::WaitsJson => None,
     }
 }
 

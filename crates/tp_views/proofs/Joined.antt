@@ -1,0 +1,13 @@
+-- Texts to which parts were appended, one behind the other.
+use Rattle.std.proofs.Common.{◌≡◌, ◌∙◌, ◌++◌, List, ℕ, ap, append_assoc, Ok, Err, Result, OnOk}
+
+pub on_ok : {T E : Type 0} (P Q : Type 0) (r : Result T E) → (P → Q) → OnOk r P → OnOk r Q
+on_ok P Q (Ok x) turn h = turn h
+on_ok P Q (Err e) turn h = h
+
+-- four parts
+pub joined_four : (start a b c d first second third now : List ℕ) → first ≡ start ++ a → second ≡ first ++ b → third ≡ second ++ c → now ≡ third ++ d
+    → now ≡ start ++ (a ++ (b ++ (c ++ d)))
+joined_four start a b c d first second third now ia ib ic id =
+    id ∙ ap (λ x. x ++ d) ic ∙ append_assoc second c d ∙ ap (λ x. x ++ (c ++ d)) ib ∙ append_assoc first b (c ++ d) ∙ ap (λ x. x ++ (b ++ (c ++ d))) ia
+    ∙ append_assoc start a (b ++ (c ++ d))
