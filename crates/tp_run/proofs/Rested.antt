@@ -1,5 +1,5 @@
 -- What is left to do where the flusher's journal leads.
-use Rattle.std.proofs.Common.{◌≡◌, ℕ, ◌≤◌, List, [], ◌++◌, length, take, refl, sym, ap, ◌∙◌, arith, append-nil, length-append, subst}
+use Rattle.std.proofs.Common.{◌≡◌, ℕ, ◌≤◌, [], ◌++◌, take, sym, ap, ◌∙◌, arith, append-nil, length-append, subst}
 use Rattle.std.specs.Prelude.{Result, Ok, Err, IfOk}
 use Rattle.std.proofs.lemmas.List.{take_all}
 use Rattle.tp_model.specs.NodeState.{NodeState}
@@ -7,7 +7,6 @@ use Rattle.tp_model.specs.Node.{t414}
 use Rattle.tp_model.specs.Network.{Network}
 use Rattle.tp_model.specs.Markers.{plain_network}
 use Rattle.tp_model.specs.Order.{after}
-use Rattle.tp_model.specs.Disk.{MayBe}
 use Rattle.tp_model.specs.DiskHistory.{State}
 use Rattle.tp_model.specs.Opening.{Opened, held_of, verdict}
 use Rattle.tp_model.specs.Runs.{World, reopened}
@@ -37,11 +36,18 @@ leads_rest start w b next rest A low at is =
     let front : take next w.journal ≡ w.journal ++ A.more = whole ∙ sym (append-nil w.journal) ∙ ap (λ es. w.journal ++ es) (sym nothing) in
     record { state = plain_network (world_of b).live; leads = ap (after t414 start) front ∙ A.leads; is = is }
 
-pub rest_said : (start : Network NodeState) (w : World NodeState) (b : BookValue) (next : ℕ) (rest : Rest) → IsAheadOf start w b → next ≤ w.mark → next_in_book b ≡ next → rest ≡ rest_in (plain_network (world_of b).live)
+rest_said : (start : Network NodeState) (w : World NodeState) (b : BookValue) (next : ℕ) (rest : Rest) → IsAheadOf start w b → next ≤ w.mark → next_in_book b ≡ next → rest ≡ rest_in (plain_network (world_of b).live)
     → SaysRest start w.journal next rest
 rest_said start w b next Halted A low at is = leads_rest start w b next Halted A low at is
 rest_said start w b next Quiet A low at is = leads_rest start w b next Quiet A low at is
 rest_said start w b next Busy A low at is = tt
+
+-- and of a run that was done, whose next number the book has
+pub done_rests : (start : Network NodeState) (w : World NodeState) (b : BookValue) (next : ℕ) (rest : Rest) (result : Result ℕ RunFault) → result ≡ Ok next → IfOk result (λ number. number ≤ w.mark) → IsAheadOf start w b → next_in_book b ≡ next
+    → rest ≡ rest_in (plain_network (world_of b).live) → IfOk result (λ number. SaysRest start w.journal number rest)
+done_rests start w b next rest result done low A at is =
+    subst (λ r. IfOk r (λ number. SaysRest start w.journal number rest)) (sym done)
+    (rest_said start w b next rest A (subst (λ r. IfOk r (λ number. number ≤ w.mark)) done low) at is)
 
 -- of a device that was opened, and whose flusher walked on from there
 pub served_rests : (start : Network NodeState) (before : World NodeState) (opened : Opened) (old new : Flushing) (rest : Rest) (result : Result ℕ RunFault) → Began start before old.state.now.bytes → verdict old.state.now.bytes ≡ Ok opened

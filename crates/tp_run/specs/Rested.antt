@@ -1,5 +1,5 @@
 -- What a run leaves to do.
-use Rattle.std.specs.Prelude.{◌≡◌, ℕ, List, take, Some, IfOk, Result}
+use Rattle.std.specs.Prelude.{◌≡◌, ℕ, List, take, Some}
 use Rattle.tp_model.specs.declared.entry.Entry.{Entry}
 use Rattle.tp_model.specs.NodeState.{NodeState}
 use Rattle.tp_model.specs.Node.{t414}
@@ -10,7 +10,6 @@ use Rattle.tp_model.specs.DiskHistory.{State}
 use Rattle.tp_flush.specs.Follows.{Follows}
 use Rattle.tp_node.specs.declared.rest.Rest.{Rest}
 use Rattle.tp_node.specs.declared.rest.Rest.TheVariants.{Halted, Quiet, Busy}
-use Rattle.tp_run.specs.declared.fault.RunFault.{RunFault}
 use Rattle.tp_shared.specs.Resting.{rest_in}
 
 -- The first `number` entries of a journal lead to a network in which just this is left to do.

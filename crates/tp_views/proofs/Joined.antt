@@ -5,6 +5,11 @@ pub on_ok : {T E : Type 0} (P Q : Type 0) (r : Result T E) → (P → Q) → OnO
 on_ok P Q (Ok x) turn h = turn h
 on_ok P Q (Err e) turn h = h
 
+-- three parts
+pub joined_three : (start a b c first second now : List ℕ) → first ≡ start ++ a → second ≡ first ++ b → now ≡ second ++ c → now ≡ start ++ (a ++ (b ++ c))
+joined_three start a b c first second now ia ib ic =
+    ic ∙ ap (λ x. x ++ c) ib ∙ append_assoc first b c ∙ ap (λ x. x ++ (b ++ c)) ia ∙ append_assoc start a (b ++ c)
+
 -- four parts
 pub joined_four : (start a b c d first second third now : List ℕ) → first ≡ start ++ a → second ≡ first ++ b → third ≡ second ++ c → now ≡ third ++ d
     → now ≡ start ++ (a ++ (b ++ (c ++ d)))

@@ -3,6 +3,7 @@ use Rattle.std.specs.Prelude.{ℕ, ◌+◌, ◌*◌, Bool, true, false, if◌the
 use Rattle.std.specs.Fmt.{decimal}
 use Rattle.tp_model.specs.Network.{receiver}
 use Rattle.tp_model.specs.declared.entry.Entry.{Entry}
+use Rattle.tp_model.specs.declared.processor.Fault.{Fault}
 use Rattle.tp_model.specs.declared.wire.WireEnd.{WireEnd}
 use Rattle.tp_model.specs.declared.wire.WireEnd.TheVariants.{Link, Port as AtPort}
 use Rattle.tp_node.specs.declared.waiter.Waiter.{Waiter}
@@ -23,9 +24,13 @@ abbrev pub number_or_null : List ℕ → Option ℕ → List ℕ
 number_or_null name None = name ++ codes "null"
 number_or_null name (Some number) = name ++ decimal number
 
+-- that a node halted, why, and at which address
+abbrev pub halted_field : Fault → ℕ → List ℕ
+halted_field fault at = codes ",\"does\":\"halted\",\"fault\":\"" ++ (fault_name fault ++ (codes "\",\"at\":" ++ decimal at))
+
 -- what a node does
 abbrev pub does_field : Doing → List ℕ
-does_field (Halted fault at) = codes ",\"does\":\"halted\",\"fault\":\"" ++ (fault_name fault ++ (codes "\",\"at\":" ++ decimal at))
+does_field (Halted fault at) = halted_field fault at
 does_field Runs = codes ",\"does\":\"runs\""
 does_field Rests = codes ",\"does\":\"rests\""
 
@@ -59,10 +64,17 @@ end_item s sends i own k = item_if s sends i own k (waiting_at own sends k)
 abbrev pub ends_name : Bool → List ℕ
 ends_name sends = if sends then codes ",\"out\":[" else codes ",\"in\":["
 
+-- an item, and what stands after it
+abbrev pub item_then : Seen → Bool → ℕ → NodeSeen → ℕ → List ℕ → List ℕ
+item_then s sends i own k after = end_item s sends i own k ++ after
+
+abbrev pub ends_items : Seen → Bool → ℕ → NodeSeen → List ℕ
+ends_items s sends i own =
+    item_then s sends i own 0 (codes ",") ++ (item_then s sends i own 1 (codes ",")
+    ++ (item_then s sends i own 2 (codes ",") ++ item_then s sends i own 3 (codes "]")))
+
 abbrev pub ends_list : Seen → Bool → ℕ → NodeSeen → List ℕ
-ends_list s sends i own =
-    ends_name sends ++ (end_item s sends i own 0 ++ (codes "," ++ (end_item s sends i own 1
-    ++ (codes "," ++ (end_item s sends i own 2 ++ (codes "," ++ (end_item s sends i own 3 ++ codes "]")))))))
+ends_list s sends i own = ends_name sends ++ ends_items s sends i own
 
 -- ## A node
 
@@ -70,11 +82,20 @@ ends_list s sends i own =
 abbrev pub cycle_field : ℕ → List ℕ → List ℕ
 cycle_field i rows = number_or_null (codes ",\"cycle\":") (first_of (get_or rows i 0) i 0 rows)
 
+-- which node it is, after i others
+abbrev pub number_field : ℕ → List ℕ
+number_field i = comma i ++ (codes "{\"node\":" ++ decimal i)
+
+-- the last of the kept entries that it made
+abbrev pub last_field : Seen → List (Entry × ℕ) → ℕ → List ℕ
+last_field s kept i = number_or_null (codes ",\"last\":") (last_made i s.wires (length s.nodes) kept)
+
+-- those that it waits for
+abbrev pub link_fields : Seen → List ℕ → ℕ → NodeSeen → List ℕ
+link_fields s rows i own = cycle_field i rows ++ (ends_list s true i own ++ (ends_list s false i own ++ codes "}"))
+
 abbrev pub node_item : Seen → List (Entry × ℕ) → List ℕ → ℕ → NodeSeen → List ℕ
-node_item s kept rows i own =
-    (comma i ++ (codes "{\"node\":" ++ decimal i)) ++ (does_field own.doing
-    ++ (number_or_null (codes ",\"last\":") (last_made i s.wires (length s.nodes) kept) ++ (cycle_field i rows
-    ++ (ends_list s true i own ++ (ends_list s false i own ++ codes "}")))))
+node_item s kept rows i own = number_field i ++ (does_field own.doing ++ (last_field s kept i ++ link_fields s rows i own))
 
 abbrev pub nodes_items : Seen → List (Entry × ℕ) → List ℕ → ℕ → List NodeSeen → List ℕ
 nodes_items s kept rows i [] = []

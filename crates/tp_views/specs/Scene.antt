@@ -19,8 +19,8 @@ abbrev pub doing_with : Option Fault → NodeState → Doing
 doing_with (Some fault) node = Halted fault node.cpu.iptr
 doing_with None node = if has_nobody node then Rests else Runs
 
-abbrev pub doing : NodeState → Doing
-doing node = doing_with node.cpu.halt node
+abbrev pub doing_of : NodeState → Doing
+doing_of node = doing_with node.cpu.halt node
 
 abbrev pub is_halted : Doing → Bool
 is_halted (Halted fault at) = true
@@ -35,7 +35,7 @@ is_resting (Halted fault at) = false
 -- and who waits at its links
 abbrev pub node_seen : NodeState → NodeSeen
 node_seen node = record {
-  doing = doing node;
+  doing = doing_of node;
   senders = sender node 0 ∷ sender node 1 ∷ sender node 2 ∷ sender node 3 ∷ [];
   listeners = listener node 0 ∷ listener node 1 ∷ listener node 2 ∷ listener node 3 ∷ [];
 }

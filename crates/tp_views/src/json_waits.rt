@@ -2,8 +2,7 @@
 
 ghost use Rattle.std.specs.Prelude.{◌≡◌, ◌++◌, ◌<◌, ◌≤◌, IfOk, OnOk, length, string_bytes};
 ghost use Rattle.tp_model.specs.declared.limits.TheConstants.{MAX_NODES};
-ghost use Rattle.tp_views.specs.Json.{comma};
-ghost use Rattle.tp_views.specs.JsonWaits.{cycle_field, does_field, end_item, ends_list, ends_name, node_item, nodes_items, number_or_null, other_value, wait_item, waits_json};
+ghost use Rattle.tp_views.specs.JsonWaits.{cycle_field, does_field, end_item, ends_items, ends_list, ends_name, halted_field, item_then, last_field, link_fields, node_item, nodes_items, number_field, number_or_null, other_value, wait_item, waits_json};
 ghost use Rattle.tp_views.specs.Scene.{seen_in};
 
 use crate::cycles::{first_of, reached};
@@ -11,11 +10,11 @@ use crate::json::{comma, push};
 use crate::parts::Part::{Number, Text};
 use crate::parts::push_parts;
 use crate::scene::{Doing, NodeSeen, Scene};
-use crate::waits::{deed_name, last_made, why_name};
+use crate::waits::{deed_name, last_of, why_name};
 use crate::why::{waiting_at, why};
 use std::alloc::{AllocError, Global};
 use tp_book::Numbered;
-use tp_model::WireEnd;
+use tp_model::{Fault, WireEnd};
 use tp_net::{link_line, receiver};
 use tp_node::Waiter;
 use tp_trace::fault_name;
@@ -30,24 +29,22 @@ fn push_number_or_null(text: &mut String, name: &str, number: Option<u64>) -> Re
     }
 }
 
+/// Appends that a node halted, why, and at which address.
+fn push_halted(text: &mut String, fault: Fault, at: u32) -> Result<(), AllocError>
+    ensures { OnOk result (string_bytes text.new ≡ string_bytes text.old ++ halted_field fault at) }
+{
+    push(text, ",\"does\":\"halted\",\"fault\":\"")?;
+    push(text, fault_name(fault))?;
+    push_parts(text, &[Text("\",\"at\":"), Number(at as u64)])
+}
+
 fn push_does(text: &mut String, doing: Doing) -> Result<(), AllocError>
     ensures { OnOk result (string_bytes text.new ≡ string_bytes text.old ++ does_field doing) }
 {
     match doing {
-        Doing::Halted { fault, at } => {
-            let name = fault_name(fault);
-            push_parts(
-                text,
-                &[
-                    Text(",\"does\":\"halted\",\"fault\":\""),
-                    Text(name),
-                    Text("\",\"at\":"),
-                    Number(at as u64),
-                ],
-            )
-        }
-        Doing::Runs => push_parts(text, &[Text(",\"does\":\"runs\"")]),
-        Doing::Rests => push_parts(text, &[Text(",\"does\":\"rests\"")]),
+        Doing::Halted { fault, at } => push_halted(text, fault, at),
+        Doing::Runs => push(text, ",\"does\":\"runs\""),
+        Doing::Rests => push(text, ",\"does\":\"rests\""),
     }
 }
 
@@ -137,14 +134,52 @@ fn push_end(
     }
 }
 
-/// What stands before the items of the output ends, or of the input ends.
-fn ends_name(sends: bool) -> &'static str
-    ensures { result.now ≡ ends_name sends }
+/// Appends what stands before the items of the output ends, or of the input ends.
+fn push_ends_name(text: &mut String, sends: bool) -> Result<(), AllocError>
+    ensures { OnOk result (string_bytes text.new ≡ string_bytes text.old ++ ends_name sends) }
 {
-    if sends { ",\"out\":[" } else { ",\"in\":[" }
+    if sends {
+        push(text, ",\"out\":[")
+    } else {
+        push(text, ",\"in\":[")
+    }
+}
+
+/// Appends the item of an end of a link, and what stands after it.
+fn push_item(
+    text: &mut String,
+    scene: &Scene,
+    sends: bool,
+    number: usize,
+    own: &NodeSeen,
+    link: u8,
+    after: &str,
+) -> Result<(), AllocError>
+    requires { number < MAX_NODES }
+    ensures { OnOk result (string_bytes text.new ≡ string_bytes text.old ++ item_then (seen_in scene.now) sends number own.now link after.now) }
+{
+    push_end(text, scene, sends, number, own, link)?;
+    push(text, after)
 }
 
 /// Appends the items of the output ends, or of the input ends, of links 0 to 3.
+fn push_items(
+    text: &mut String,
+    scene: &Scene,
+    sends: bool,
+    number: usize,
+    own: &NodeSeen,
+) -> Result<(), AllocError>
+    requires { number < MAX_NODES }
+    ensures { OnOk result (string_bytes text.new ≡ string_bytes text.old ++ ends_items (seen_in scene.now) sends number own.now) }
+{
+    push_item(text, scene, sends, number, own, 0, ",")?;
+    push_item(text, scene, sends, number, own, 1, ",")?;
+    push_item(text, scene, sends, number, own, 2, ",")?;
+    push_item(text, scene, sends, number, own, 3, "]")
+}
+
+/// Appends the list of the output ends, or of the input ends.
 fn push_ends(
     text: &mut String,
     scene: &Scene,
@@ -155,15 +190,8 @@ fn push_ends(
     requires { number < MAX_NODES }
     ensures { OnOk result (string_bytes text.new ≡ string_bytes text.old ++ ends_list (seen_in scene.now) sends number own.now) }
 {
-    push(text, ends_name(sends))?;
-    push_end(text, scene, sends, number, own, 0)?;
-    push(text, ",")?;
-    push_end(text, scene, sends, number, own, 1)?;
-    push(text, ",")?;
-    push_end(text, scene, sends, number, own, 2)?;
-    push(text, ",")?;
-    push_end(text, scene, sends, number, own, 3)?;
-    push(text, "]")
+    push_ends_name(text, sends)?;
+    push_items(text, scene, sends, number, own)
 }
 
 /// Appends the field of the first node of those that wait for one another with a node.
@@ -180,6 +208,43 @@ fn push_cycle(text: &mut String, number: usize, rows: &[u64]) -> Result<(), Allo
     }
 }
 
+/// Appends which node it is, after that many others.
+fn push_number(text: &mut String, number: usize) -> Result<(), AllocError>
+    ensures { OnOk result (string_bytes text.new ≡ string_bytes text.old ++ number_field number) }
+{
+    push(text, comma(number))?;
+    push_parts(text, &[Text("{\"node\":"), Number(number as u64)])
+}
+
+/// Appends the field of the last of the kept entries that a node made.
+fn push_last(
+    text: &mut String,
+    scene: &Scene,
+    kept: &[Numbered],
+    number: usize,
+) -> Result<(), AllocError>
+    ensures { OnOk result (string_bytes text.new ≡ string_bytes text.old ++ last_field (seen_in scene.now) kept.now number) }
+{
+    push_number_or_null(text, ",\"last\":", last_of(scene, kept, number))
+}
+
+/// Appends the fields of those that a node waits for, and ends its object.
+fn push_links(
+    text: &mut String,
+    scene: &Scene,
+    rows: &[u64],
+    number: usize,
+    own: &NodeSeen,
+) -> Result<(), AllocError>
+    requires { number < MAX_NODES }
+    ensures { OnOk result (string_bytes text.new ≡ string_bytes text.old ++ link_fields (seen_in scene.now) rows.now number own.now) }
+{
+    push_cycle(text, number, rows)?;
+    push_ends(text, scene, true, number, own)?;
+    push_ends(text, scene, false, number, own)?;
+    push(text, "}")
+}
+
 /// Appends the object of a node that has that many nodes before it.
 fn push_node(
     text: &mut String,
@@ -192,21 +257,10 @@ fn push_node(
     requires { number < MAX_NODES }
     ensures { OnOk result (string_bytes text.new ≡ string_bytes text.old ++ node_item (seen_in scene.now) kept.now rows.now number own.now) }
 {
-    let last = last_made(number, &scene.wires, scene.nodes.len(), kept);
-    push_parts(
-        text,
-        &[
-            Text(comma(number)),
-            Text("{\"node\":"),
-            Number(number as u64),
-        ],
-    )?;
+    push_number(text, number)?;
     push_does(text, own.doing)?;
-    push_number_or_null(text, ",\"last\":", last)?;
-    push_cycle(text, number, rows)?;
-    push_ends(text, scene, true, number, own)?;
-    push_ends(text, scene, false, number, own)?;
-    push(text, "}")
+    push_last(text, scene, kept, number)?;
+    push_links(text, scene, rows, number, own)
 }
 
 fn push_nodes(

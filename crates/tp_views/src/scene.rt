@@ -2,7 +2,7 @@
 
 ghost use Rattle.std.specs.Prelude.{◌≡◌, ◌≤◌, IfOk, length, map, slice_get};
 ghost use Rattle.tp_model.specs.declared.limits.TheConstants.{MAX_HELD, MAX_NODES};
-ghost use Rattle.tp_views.specs.Scene.{doing, is_halted, is_resting, node_seen, port_held, scene_of, seen_in};
+ghost use Rattle.tp_views.specs.Scene.{doing_of, is_halted, is_resting, node_seen, port_held, scene_of, seen_in};
 
 use std::alloc::{AllocError, Global};
 use tp_book::HostPort;
@@ -67,8 +67,8 @@ pub(crate) fn is_resting(doing: Doing) -> bool
     }
 }
 
-fn doing(node: &Node) -> Doing
-    ensures { result ≡ doing node.now.live }
+fn doing_of(node: &Node) -> Doing
+    ensures { result ≡ doing_of node.now.live }
 {
     match node.halt() {
         Some(fault) => Doing::Halted {
@@ -89,7 +89,7 @@ fn node_seen(node: &Node) -> NodeSeen
     ensures { result ≡ node_seen node.now.live }
 {
     NodeSeen {
-        doing: doing(node),
+        doing: doing_of(node),
         senders: [
             node.sender(0),
             node.sender(1),

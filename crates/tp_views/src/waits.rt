@@ -19,7 +19,7 @@ use tp_node::{Deed, Waiter, halt_byte};
 use tp_trace::fault_name;
 
 /// The number of the last of some entries that a node made, if it made one.
-pub(crate) fn last_made(
+fn last_made(
     number: usize,
     wires: &[Option<WireEnd>],
     nodes: usize,
@@ -34,6 +34,13 @@ pub(crate) fn last_made(
         }
     }
     last
+}
+
+/// The number of the last of the kept entries that a node of a network made, if it made one.
+pub(crate) fn last_of(scene: &Scene, kept: &[Numbered], number: usize) -> Option<u64>
+    ensures { result ≡ last_made number scene.now.wires.items (length scene.now.nodes.items) kept.now }
+{
+    last_made(number, &scene.wires, scene.nodes.len(), kept)
 }
 
 /// What a process does that waits.
@@ -259,10 +266,9 @@ fn push_node(
     requires { number < MAX_NODES }
     ensures { OnOk result (string_bytes text.new ≡ string_bytes text.old ++ node_lines (seen_in scene.now) kept.now number own.now) }
 {
-    let last = last_made(number, &scene.wires, scene.nodes.len(), kept);
     push_name(text, number)?;
     push_doing(text, own.doing)?;
-    push_last(text, last)?;
+    push_last(text, last_of(scene, kept, number))?;
     push_ends(text, scene, number, own)
 }
 

@@ -17,7 +17,7 @@ use Rattle.tp_run.specs.Failures.{failures_after, has_failed}
 use Rattle.tp_run.proofs.Failures.{uncounted}
 use Rattle.tp_run.proofs.Rested.{served_rests}
 use Rattle.tp_run.proofs.Runs.{ran_silent, served_ran, still_ran}
-use Rattle.tp_run.specs.Rested.{RestsAt, SaysRest}
+use Rattle.tp_run.specs.Rested.{RestsAt}
 use Rattle.tp_run.proofs.running.run_parts.Goals as goal
 
 pub over-flusher-requires-clause-bound : goal.over-flusher-requires-clause-bound

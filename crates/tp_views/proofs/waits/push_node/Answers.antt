@@ -1,10 +1,9 @@
 use Rattle.std.proofs.Common.{◌∙◌, ◌++◌, ap, string_bytes}
-use Rattle.tp_views.specs.Waits.{last_made, last_part}
+use Rattle.tp_views.specs.Waits.{last_part}
 use Rattle.tp_views.proofs.Joined.{joined_four, on_ok}
 use Rattle.tp_views.proofs.waits.push_node.Goals as goal
 
 pub returns : goal.returns
 returns c =
-    let made = c.last_made-last.ensures ∙ (λ i. last_made c.args.number (c.deref.ensures.value i) (c.len.ensures i) c.args.kept.now) in
-    let told = c.in_ok-push_last.ensures ∙ ap (λ last. string_bytes c.push_doing.new.text ++ last_part last) made in
+    let told = c.in_ok-push_last.ensures ∙ ap (λ last. string_bytes c.push_doing.new.text ++ last_part last) c.last_of.ensures in
     on_ok _ _ c.push_ends.result (λ ends. joined_four _ _ _ _ _ _ _ _ _ c.in_ok-push_name.ensures c.in_ok-push_doing.ensures told ends) c.push_ends.ensures
