@@ -13,6 +13,7 @@ use tp_shared::{Naming, Shared};
 
 /// What a run that was `done` leaves to do in the network as it stands, under the book's lock and each node's. Nobody else has one by then.
 /// Where the run wasn't done, or something was journalled behind it, that is something.
+#[inline(never)]
 pub(crate) fn rest_after<J: Naming, D: Disk, R: Wait>(
     rt: &R,
     shared: &Shared<J>,

@@ -4,14 +4,14 @@ use Rattle.std.specs.declared.alloc.Global.{Global}
 use Rattle.std.specs.declared.string.String.{String}
 use Rattle.clap.specs.Words.{kind_of}
 use Rattle.clap.specs.declared.error.Error.{Error}
-use Rattle.clap.specs.declared.error.kind.ErrorKind.TheVariants.{DisplayHelp, DisplayVersion}
+use Rattle.clap.specs.declared.error.kind.ErrorKind.TheVariants.{DisplayHelp, DisplayVersion, OutOfMemory}
 use Rattle.tp_words.specs.declared.arg_fault.ArgFault.{ArgFault}
 use Rattle.tp_words.specs.declared.arg_fault.ArgFault.TheVariants.{Words, Many, Memory}
 use Rattle.tp_words.specs.declared.args.TheConstants.{MAX_WORDS}
 
--- what is said is neither help nor the version
+-- what is said is neither help nor the version, nor that memory was refused
 abbrev pub IsMistake : Error → Type 0
-IsMistake error = (kind_of error ≢ DisplayHelp) × (kind_of error ≢ DisplayVersion)
+IsMistake error = (kind_of error ≢ DisplayHelp) × ((kind_of error ≢ DisplayVersion) × (kind_of error ≢ OutOfMemory))
 
 -- why words aren't taken that are few: memory is refused, or `clap` says so
 abbrev pub IsUntaken : ArgFault → Type 0

@@ -1,6 +1,8 @@
 //! What `clap` makes of words.
 
-ghost use Rattle.std.specs.Prelude.{◌≤◌, IfErr, IfOk, IfSome, OnOk, length};
+ghost use Rattle.clap.specs.Words.{kind_of};
+ghost use Rattle.clap.specs.declared.error.kind.ErrorKind.TheVariants.{OutOfMemory};
+ghost use Rattle.std.specs.Prelude.{◌≡◌, ◌≤◌, ◌↔◌, IfErr, IfOk, IfSome, IsTrue, OnOk, length};
 ghost use Rattle.tp_words.specs.Parsing.{IsMistake, IsUnparsed, IsUntaken};
 ghost use Rattle.tp_words.specs.declared.args.TheConstants.{MAX_WORDS};
 
@@ -9,6 +11,7 @@ use crate::args::MAX_WORDS;
 use crate::shown::shown_words;
 use crate::words::{Name, command};
 use clap::ArgMatches;
+use clap::error::ErrorKind;
 use std::alloc::{AllocError, Global};
 
 /// What `clap` makes of words that it takes.
@@ -20,7 +23,14 @@ pub enum Parsed<'a> {
     Found(ArgMatches<'a>),
 }
 
-/// What is told where `clap` finds nothing: its text, which is no fault where help or the version was asked for.
+/// Whether `clap` was refused memory.
+fn wants_memory(error: &clap::Error) -> bool
+    ensures { IsTrue result ↔ (kind_of error.now ≡ OutOfMemory) }
+{
+    error.kind() == ErrorKind::OutOfMemory
+}
+
+/// What is told if `clap` finds nothing: that memory was refused, or its text, which is no fault if help or the version was asked for.
 fn unfound<'a>(
     alloc: Global,
     words: &[String],
@@ -29,6 +39,9 @@ fn unfound<'a>(
 ) -> Result<Parsed<'a>, ArgFault>
     ensures { IfErr result IsUntaken }
 {
+    if wants_memory(&error) {
+        return Err(ArgFault::Memory);
+    }
     if error.use_stderr() {
         return Err(ArgFault::Words(shown_error(alloc, words, names, error)?));
     }
@@ -45,6 +58,7 @@ fn mistake_in(
 {
     match command(alloc, names)?.try_get_matches_from(words) {
         Ok(_matches) => Ok(None),
+        Err(error) if wants_memory(&error) => Err(AllocError),
         Err(error) if error.use_stderr() => Ok(Some(error)),
         Err(_help) => Ok(None),
     }
