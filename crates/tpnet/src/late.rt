@@ -62,7 +62,7 @@ impl<R: Wait + Clock + Drop, I: Read + Drop> Read for Gated<R, I> {
 /// Standard input that reads nothing before it is told to, and who tells it. None if there is no memory for it: the reader has a buffer of 8 kB,
 /// which is too large to be handed from call to call.
 #[inline(never)]
-fn gated<R: Input<Reader = I> + AllocGlobal + Drop, I: Read + Drop>(
+fn gate_reader<R: Input<Reader = I> + AllocGlobal + Drop, I: Read + Drop>(
     rt: R,
 ) -> Option<(Sender<()>, Gated<R, Box<I>>)> {
     let reader = Box::new(rt.alloc(), rt.reader()).ok()?;
@@ -89,7 +89,7 @@ impl<
     pub(crate) fn new(rt: R) -> Late<R>
         ensures { result.trace.told ≡ [] }
     {
-        let (to_tell, reader) = match gated(rt) {
+        let (to_tell, reader) = match gate_reader(rt) {
             Some((to_tell, reader)) => (Some(to_tell), Some(reader)),
             None => (None, None),
         };
