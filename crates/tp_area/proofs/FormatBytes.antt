@@ -1,5 +1,5 @@
 -- The bytes that a device is formatted with.
-use Rattle.std.proofs.Common.{◌≡◌, ℕ, zero, suc, ◌+◌, ◌-◌, ◌*◌, ◌<◌, ◌≤◌, ◌⊎◌, inl, inr, Bool, true, false, List, [], ◌∷◌, ◌++◌, length, take, drop, get_or, map, refl, sym, ap, subst, ◌∙◌, arith, append_assoc, length-append, add-zero, Option, Some, None, Ok, Err}
+use Rattle.std.proofs.Common.{◌≡◌, ℕ, zero, suc, ◌+◌, ◌-◌, ◌*◌, ◌<◌, ◌≤◌, ◌⊎◌, inl, inr, Bool, true, false, List, [], ◌∷◌, ◌++◌, length, take, drop, get_or, map, refl, sym, ap, subst, ◌∙◌, arith, append_assoc, length-append, add-zero, Option, Some, None, Ok}
 use Rattle.std.specs.Prelude.{◌&&◌, ◌==◌, nat_le, flat_map, sum_by, replicate}
 use Rattle.std.specs.Option.{option_map}
 use Rattle.std.specs.List.{concat}
@@ -30,7 +30,6 @@ use Rattle.tp_disk.proofs.Moments.{length-written, written_same_outside}
 use Rattle.tp_disk.proofs.Agree.{same_apart}
 use Rattle.tp_disk.proofs.Calls.{all_done-append, started, weaker, synced_stands}
 use Rattle.tp_model.specs.StoreCalls.{put_calls}
-use Rattle.tp_area.specs.declared.fault.FormatFault.{FormatFault}
 use Rattle.tp_area.specs.Formatting.{Checks, FormatAnswer, area_front, fresh_area, with_areas, Wrote, Formatted, IsOldOrNew}
 use Rattle.tp_area.specs.Puts.{ButFor}
 use Rattle.tp_area.proofs.PutLaws.{but_for_may}
@@ -265,23 +264,3 @@ pub answers_done : {A B : Type 0} (o : Option A) (f : A → B) (large : Bool) �
 answers_done (Some x) f true h is = tt
 answers_done (Some x) f false h is = cc
 answers_done None f large h is = elim h [ ]
-
-pub answers_failed : {A B : Type 0} (o : Option A) (f : A → B) (large : Bool) → Checks o (Ok tt) → large ≡ true → FormatAnswer (option_map f o) large (Err FormatFault.DeviceFailed)
-answers_failed (Some x) f true h is = tt
-answers_failed (Some x) f false h is = cc
-answers_failed None f large h is = elim h [ ]
-
-pub answers_full : {A B : Type 0} (o : Option A) (f : A → B) (large : Bool) → Checks o (Ok tt) → large ≡ false → FormatAnswer (option_map f o) large (Err FormatFault.AreaFull)
-answers_full (Some x) f true h is = cc
-answers_full (Some x) f false h is = tt
-answers_full None f large h is = elim h [ ]
-
-pub answers_checked : {A B : Type 0} (o : Option A) (f : A → B) (large : Bool) (fault : FormatFault) → Checks o (Err fault) → FormatAnswer (option_map f o) large (Err fault)
-answers_checked (Some x) f large FormatFault.Memory h = tt
-answers_checked None f large FormatFault.Memory h = tt
-answers_checked (Some x) f large FormatFault.BadImage h = elim h [ ]
-answers_checked None f large FormatFault.BadImage h = tt
-answers_checked (Some x) f large FormatFault.AreaFull h = elim h [ ]
-answers_checked None f large FormatFault.AreaFull h = elim h [ ]
-answers_checked (Some x) f large FormatFault.DeviceFailed h = elim h [ ]
-answers_checked None f large FormatFault.DeviceFailed h = elim h [ ]

@@ -2,7 +2,7 @@
 use Rattle.std.proofs.Common.{◌≡◌, ℕ, ◌+◌, ◌*◌, ◌<◌, ◌≤◌, ◌≢◌, Bool, true, false, cond, List, [], ◌∷◌, length, take, drop, get_or, refl, sym, ap, subst, ◌∙◌, arith, length-drop, Option, Some, None, Ok, Err}
 use Rattle.std.specs.Prelude.{◌&&◌, ◌==◌, nat_le, is_some, bytes_eq}
 use Rattle.std.specs.List.{list_all}
-use Rattle.std.proofs.lemmas.Bool.{and_parts, leb-true, eqb-true, ne_eqb, eq-eqb, true≢false}
+use Rattle.std.proofs.lemmas.Bool.{and_parts, leb-true, eqb-true, eq-eqb, true≢false}
 use Rattle.std.proofs.lemmas.Option.{cond_some}
 use Rattle.std.proofs.lemmas.List.{drop_all, drop_more}
 use Rattle.tp_model.specs.declared.limits.TheConstants.{IMAGE_HEAD_BYTES, PAGE_BYTES, MIN_PAGES, MAX_PAGES}
@@ -78,13 +78,6 @@ image_checked pages count bytes node answer read size has =
     ∙ ap (λ ends. cond ((count == pages) && (list_all is_idle_out ends && list_all is_idle_in n.inputs)) (Some n) None) is.outputs
     ∙ ap (λ ends. cond ((count == pages) && (list_all is_idle_out (ends_at out_end_at 4 (drop 44 bytes)) && list_all is_idle_in ends)) (Some n) None) is.inputs
     ∙ ap (λ b. cond ((count == pages) && b) (Some n) None) (sym has)
-
-pub other_pages : (pages count : ℕ) (bytes : List ℕ) (node : NodeContents) → ReadsImage (node_of bytes) (Ok node) → length node.live.memory ≡ PAGE_BYTES * count → count ≢ pages
-    → Checks (fresh_node pages bytes) (Err FormatFault.BadImage)
-other_pages pages count bytes node read size other =
-    let answer = list_all is_idle_out (ends_at out_end_at 4 (drop 44 bytes)) && list_all is_idle_in (ends_at in_end_at 4 (drop 108 bytes)) in
-    bad_image (fresh_node pages bytes)
-    (image_checked pages count bytes node answer read size refl ∙ ap (λ b. cond (b && answer) (Some node.live) None) (ne_eqb count pages other))
 
 pub other_links : (pages count : ℕ) (bytes : List ℕ) (node : NodeContents) (answer : Bool) → ReadsImage (node_of bytes) (Ok node) → length node.live.memory ≡ PAGE_BYTES * count → count ≡ pages
     → answer ≡ (list_all is_idle_out (ends_at out_end_at 4 (drop 44 bytes)) && list_all is_idle_in (ends_at in_end_at 4 (drop 108 bytes)))

@@ -1,7 +1,7 @@
 -- The area that isn't open may hold anything, as long as its gate is closed.
 use Rattle.std.proofs.Common.{◌≡◌, ℕ, ◌+◌, ◌-◌, ◌<◌, ◌≤◌, inl, inr, Bool, true, false, List, [], ◌∷◌, length, take, drop, get_or, refl, sym, ap, subst, ◌∙◌, arith, add-zero, Some, None, Result, Ok, Err, OnOk, OnErr}
 use Rattle.std.specs.Prelude.{not, nat_lt, if◌then◌else◌}
-use Rattle.std.proofs.lemmas.Bool.{cond-false, ne_eqb, eq-eqb}
+use Rattle.std.proofs.lemmas.Bool.{cond-false, eq-eqb}
 use Rattle.std.proofs.lemmas.Option.{cond_some, same_Some}
 use Rattle.std.proofs.lemmas.List.{drop_more, get_or-drop}
 use Rattle.tp_model.specs.declared.opening.OpenFault.{OpenFault}
@@ -125,14 +125,6 @@ pub piece_inside : (place : Place) (size at count : ℕ) → areas_end place.are
 piece_inside place size at count room small = let fit = areas_fit place.areas size (not place.second) room in omega arith
 
 -- ## Closing the gate
-
--- what a look at the gate gave
-pub looked_closed : (gate : ℕ) (found : List ℕ) (s t : State) → gate < length s.now.bytes → found ≡ take 1 (drop gate s.now.bytes) → (get_or found 0 0 ≡ 165 → ⊥)
-    → t.now ≡ done Read s.now → MomentPassed s t → Called (clear_calls (if_open gate s.now.bytes)) s t
-looked_closed gate found s t inside was other now goes =
-    let byte : get_or found 0 0 ≡ u8_at s.now.bytes gate = ap (λ xs. get_or xs 0 0) (was ∙ ap (take 1) (drop_more s.now.bytes gate 0 inside)) in
-    let shut : is_open (u8_at s.now.bytes gate) ≡ false = ap is_open (sym byte) ∙ ne_eqb (get_or found 0 0) 165 other in
-    subst (λ b. Called (clear_calls (if b then Some gate else None)) s t) (sym shut) (called_one Read s t now goes)
 
 opened_gate : (gate : ℕ) (found bytes : List ℕ) → gate < length bytes → found ≡ take 1 (drop gate bytes) → get_or found 0 0 ≡ 165 → is_open (u8_at bytes gate) ≡ true
 opened_gate gate found bytes inside was same =

@@ -1,7 +1,7 @@
 -- What a part of some bytes says, and what they say themselves.
 use Rattle.std.proofs.Common.{◌≡◌, ℕ, ◌+◌, ◌-◌, ◌<◌, ◌≤◌, List, take, drop, sym, ap, ◌∙◌, arith}
 use Rattle.std.proofs.lemmas.List.{get_or-take, get_or-drop, drop-drop, drop-take, take-take}
-use Rattle.std.specs.Int.{from_le_bytes, w16, w32, w64}
+use Rattle.std.specs.Int.{from_le_bytes, w64}
 use Rattle.tp_model.specs.Bytes.{u8_at, u16_at, u32_at, u64_at}
 use Rattle.tp_law_device.proofs.Fronts.{whole_front, u16_front, u32_front, u64_front}
 
@@ -21,12 +21,6 @@ u8_at-take m place xs lt = get_or-take m xs place 0 lt
 -- what is said behind a place
 pub u64_at-drop : (start place there : ℕ) (xs : List ℕ) → there ≡ start + place → u64_at (drop start xs) place ≡ u64_at xs there
 u64_at-drop start place there xs is = ap (from_le_bytes w64) (drop-drop place start xs ∙ ap (λ n. drop n xs) (sym is))
-
-pub u32_at-drop : (start place there : ℕ) (xs : List ℕ) → there ≡ start + place → u32_at (drop start xs) place ≡ u32_at xs there
-u32_at-drop start place there xs is = ap (from_le_bytes w32) (drop-drop place start xs ∙ ap (λ n. drop n xs) (sym is))
-
-pub u16_at-drop : (start place there : ℕ) (xs : List ℕ) → there ≡ start + place → u16_at (drop start xs) place ≡ u16_at xs there
-u16_at-drop start place there xs is = ap (from_le_bytes w16) (drop-drop place start xs ∙ ap (λ n. drop n xs) (sym is))
 
 pub u8_at-drop : (start place there : ℕ) (xs : List ℕ) → there ≡ start + place → u8_at (drop start xs) place ≡ u8_at xs there
 u8_at-drop start place there xs is = get_or-drop start xs place 0 ∙ ap (u8_at xs) (sym is)

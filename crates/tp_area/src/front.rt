@@ -6,9 +6,9 @@ ghost use Rattle.tp_model.specs.Topology.{Topology};
 ghost use Rattle.tp_area.specs.Fronts.{area_front, fields_bytes, front_given};
 
 use crate::form::{base_number, form_at};
-use crate::number::{u32_at, u64_at};
 use byteorder::{ByteOrder, LittleEndian};
 use tp_model::limits::{AREA_HEAD_BYTES, BASE_BYTES, GATE_OPEN, NUMBER_LIMIT};
+use tp_model::number::{u32_at, u64_at};
 use tp_model::{Form, OpenFault};
 
 /// Where the length of the cut image stands behind an area's gate, and where its base does, with the form of the area.

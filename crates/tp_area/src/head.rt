@@ -15,7 +15,6 @@ use crate::head_places::{
     AREA_PLACE, NODES_PLACE, PAGES_PLACE, PORTS_PLACE, VERSION_PLACE, ends_place,
 };
 use crate::layout_place::areas_of_length;
-use crate::number::u64_at;
 use crate::numbers::{numbers_in, put_numbers, put_u16s, u16s_in};
 use crate::version::{head_length, head_nodes, keeps_limits, version_byte, version_of};
 use crate::wires::wires_in;
@@ -23,6 +22,7 @@ use crate::written::{pad, put};
 use arrayvec::ArrayVec;
 use std::marker::Model;
 use tp_model::limits::{MAX_PORTS, WIDE_HEAD_BYTES};
+use tp_model::number::u64_at;
 use tp_model::{HeadVersion, OpenFault, TwoAreas};
 use tp_net::{MAX_LINES, Topology, link_line};
 

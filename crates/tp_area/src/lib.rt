@@ -16,7 +16,6 @@ mod journal;
 mod laws;
 mod layout_place;
 mod line;
-mod number;
 mod numbers;
 mod other;
 mod place;

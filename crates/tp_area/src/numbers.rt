@@ -6,9 +6,9 @@ ghost use Rattle.tp_model.specs.declared.limits.TheConstants.{MAX_PORTS};
 ghost use Rattle.tp_model.specs.Bytes.{u16_bytes};
 ghost use Rattle.tp_model.specs.Head.{first_port, numbers_at, numbers_bytes, u16s_at};
 
-use crate::number::u16_at;
 use crate::written::put;
 use arrayvec::ArrayVec;
+use tp_model::number::u16_at;
 use tp_model::HeadVersion;
 
 /// Appends numbers, one byte each.

@@ -8,10 +8,10 @@ ghost use Rattle.tp_model.specs.Bytes.{u64_at};
 ghost use Rattle.tp_model.specs.CutImage.{port_bytes, port_with};
 ghost use Rattle.tp_area.specs.Ports.{is_port_at, is_zero, keeps_rules, port_said};
 
-use crate::number::{u16_at, u64_at};
 use crate::written::{pad, put};
 use arrayvec::ArrayVec;
 use tp_model::limits::{MAX_HELD, PORT_BYTES};
+use tp_model::number::{u16_at, u64_at};
 
 /// Where the numbers of a port's record stand, its pending bytes and its outputs.
 const OUT_BASE_PLACE: usize = 8;

@@ -1,5 +1,5 @@
 -- Looking over lines, and over the tokens of one.
-use Rattle.std.proofs.Common.{◌≡◌, ℕ, ◌+◌, ◌<◌, ◌≤◌, Bool, true, false, cond, List, [], ◌∷◌, length, drop, refl, sym, ap, ◌∙◌, arith, Some, slice_get}
+use Rattle.std.proofs.Common.{◌≡◌, ℕ, ◌+◌, ◌<◌, ◌≤◌, true, false, cond, List, [], ◌∷◌, length, drop, refl, sym, ap, ◌∙◌, arith, Some, slice_get}
 use Rattle.std.specs.Prelude.{◌&&◌, get_or}
 use Rattle.std.specs.List.{list_all}
 use Rattle.std.proofs.lemmas.List.{drop_more}
@@ -15,9 +15,6 @@ drop_here xs i x at = drop_more xs i x (slice_get_within xs i x at) ∙ ap (λ y
 
 pub token_clear : (us : List Token) (i : ℕ) (t : Token) → slice_get us i ≡ Some t → is_clear us ≡ is_clear (drop i us) → is_clear us ≡ cond (is_marker t) (is_clear (drop (i + 1) us)) false
 token_clear us i t at front = front ∙ ap is_clear (drop_here us i t at)
-
-pub all_from : {A : Type 0} (test : A → Bool) (xs : List A) (i : ℕ) (x : A) → slice_get xs i ≡ Some x → list_all test xs ≡ list_all test (drop i xs) → list_all test xs ≡ (test x && list_all test (drop (i + 1) xs))
-all_from test xs i x at front = front ∙ ap (list_all test) (drop_here xs i x at)
 
 pub line_clear : (lines : List (List Token)) (line : ℕ) → list_all is_clear lines ≡ list_all is_clear (drop line lines) → line < length lines → list_all is_clear lines ≡ (is_clear (on_line lines line) && list_all is_clear (drop (line + 1) lines))
 line_clear lines line front there = front ∙ ap (list_all is_clear) (drop_more lines line [] there)

@@ -1,19 +1,12 @@
 -- What an entry changes of the snapshot that runs.
-use Rattle.std.proofs.Common.{◌≡◌, ℕ, ◌+◌, ◌<◌, Bool, true, false, cond, not, List, ◌∷◌, length, drop, get_or, ap, subst, sym, ◌∙◌, add-one, drop-cons}
+use Rattle.std.proofs.Common.{◌≡◌, ℕ, ◌+◌, ◌<◌, Bool, List, ◌∷◌, length, drop, get_or, ap, subst, sym, ◌∙◌, add-one, drop-cons}
 use Rattle.tp_model.specs.declared.link.Token.{Token}
 use Rattle.tp_model.specs.Network.{sent}
-use Rattle.tp_model.specs.Snapshot.{Snapshot, has_recorded, is_closed, collected}
+use Rattle.tp_model.specs.Snapshot.{Snapshot, collected}
 use Rattle.tp_book.specs.Room.{HasRoom}
 use Rattle.tp_book.proofs.Sending.{Next}
 
 module _ (snap : Snapshot) (p : ℕ) (tokens : List (ℕ × Token)) where
-  -- of a process that hasn't recorded
-  pub collected_early : has_recorded snap p ≡ false → collected p tokens snap ≡ record snap { size = snap.size + 1 }
-  collected_early new = ap (λ b. cond b (record snap { lines = sent (λ line. not (is_closed snap line)) snap.lines tokens }) (record snap { size = snap.size + 1 })) new
-
-  -- and of one that has
-  pub collected_late : has_recorded snap p ≡ true → collected p tokens snap ≡ record snap { lines = sent (λ line. not (is_closed snap line)) snap.lines tokens }
-  collected_late old = ap (λ b. cond b (record snap { lines = sent (λ line. not (is_closed snap line)) snap.lines tokens }) (record snap { size = snap.size + 1 })) old
 
 -- Tokens from a place on have room and lead to the final lines: so does the token there, and what is left behind it.
 pub next_collected : (on : ℕ → Bool) (lines final : List (List Token)) (tokens : List (ℕ × Token)) (i : ℕ) (d : ℕ × Token) → i < length tokens

@@ -95,12 +95,6 @@ all_closed_not wired closed n l below y unclosed = elim (cases_Bool (all_closed 
   | inr some ↦ some
 ]
 
--- so far
-pub all_closed_more : (wired closed : ℕ → Bool) (n : ℕ) → all_closed wired closed n ≡ true → (not (wired n) || closed n) ≡ true → all_closed wired closed (n + 1) ≡ true
-all_closed_more wired closed n all last =
-    let next : n + 1 ≡ suc n = omega arith in
-    ap (all_closed wired closed) next ∙ ap (λ b. b && all_closed wired closed n) last ∙ all
-
 pub open_wired : (w c : Bool) → (not w || c) ≡ false → (w ≡ true) × (c ≡ false)
 open_wired true true e = absurd (true≢false e)
 open_wired true false e = (refl, refl)

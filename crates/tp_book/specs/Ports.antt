@@ -1,5 +1,5 @@
 -- Ports as the book holds them.
-use Rattle.std.specs.Prelude.{◌≡◌, ℕ, List, [], ◌∷◌, ◌++◌, length, set, get_or, replicate, Option, Some, option_to_list}
+use Rattle.std.specs.Prelude.{◌≡◌, ℕ, List, [], ◌∷◌, ◌++◌, length, replicate, Some}
 use Rattle.tp_model.specs.declared.link.Token.{Token}
 use Rattle.tp_model.specs.declared.link.Token.TheVariants.{Data, Ack, Marker}
 use Rattle.tp_model.specs.Network.{Port}
@@ -29,13 +29,3 @@ opened_port port = record { port = port; marks = replicate (length port.outputs)
 pub record CanTake (port : Port) (token : Token) : Type 0 where
   pub after : Port × List Token
   pub is : port_took token port ≡ Some after
-
--- a port of a list, or one at which nothing has happened
-abbrev pub port_value : List PortValue → ℕ → PortValue
-port_value ports port = get_or ports port (record { port = record { pending = []; in_base = 0; outputs = []; out_base = 0 }; marks = [] })
-
--- A port of a list took a token, whose output this mark shows, and answered; the others are as they were.
-pub record TookAt (old new : List PortValue) (port : ℕ) (token : Token) (mark : ℕ) (answer : Option Token) : Type 0 where
-  pub after : Port
-  pub took : port_took token (port_value old port).port ≡ Some (after, option_to_list answer)
-  pub is : new ≡ set old port (record { port = after; marks = marks_after token (port_value old port).marks mark })

@@ -6,7 +6,7 @@ use Rattle.tp_model.specs.Disk.{Moment, MayBe, IsOutside, Call, Write, Sync, Rea
 use Rattle.tp_model.specs.DiskHistory.{State, MomentPassed, Fails, IsSynced, SomeMay, MayHaveLeft, moment, LeavesOnly}
 use Rattle.tp_model.specs.StoreCalls.{all_done, moments_of, Called, Broke}
 use Rattle.tp_disk.specs.Laws.{IsMomentInside}
-use Rattle.tp_disk.proofs.Moments.{outside_each, may_within, write_may, may_write, broken_may, synced_may}
+use Rattle.tp_disk.proofs.Moments.{may_within, write_may, may_write, broken_may, synced_may}
 
 -- ## One call
 
@@ -197,13 +197,6 @@ same_outside_write m at bytes left synced may = record {
       (subst (λ (ranges : List (ℕ × ℕ)). IsOutside (ranges ++ (at, length bytes) ∷ []) place) (sym synced) (out, tt));
 }
 
--- and the other way round
-pub write_same_outside : (m : Moment) (at : ℕ) (bytes left : List ℕ) → SameOutside at (length bytes) m.bytes left → MayBe (within (Write at bytes) m) left
-write_same_outside m at bytes left same = record {
-  same_length = same.same_length;
-  same_outside = λ place out. same.same place (outside_each m.unsynced (at, length bytes) place out).1;
-}
-
 -- what stands after a write and a sync
 pub written_through : (at : ℕ) (bytes : List ℕ) (s t : State) → Called (Write at bytes ∷ Sync ∷ []) s t
     → (t.now.bytes ≡ written s.now.bytes at bytes) × IsSynced t
@@ -225,12 +218,6 @@ pub sync_broke : (at : ℕ) (bytes : List ℕ) (s t u : State) → t.now ≡ don
     → Broke (Write at bytes ∷ Sync ∷ []) s u
 sync_broke at bytes s t u was goes then failed =
     broke_later (Write at bytes ∷ []) (Sync ∷ []) s t u (called_one (Write at bytes) s t was goes) (broke_one Sync t u then failed)
-
--- both were done
-pub through_called : (at : ℕ) (bytes : List ℕ) (s t u : State) → t.now ≡ done (Write at bytes) s.now → MomentPassed s t → u.now ≡ done Sync t.now → MomentPassed t u
-    → Called (Write at bytes ∷ Sync ∷ []) s u
-through_called at bytes s t u was goes then goes_then =
-    called_then (Write at bytes ∷ []) (Sync ∷ []) s t u (called_one (Write at bytes) s t was goes) (called_one Sync t u then goes_then)
 
 -- the write was done, and then the sync was done or failed
 pub through_leaves : {E : Type 0} (r : Result Unit E) (at : ℕ) (bytes : List ℕ) (s t u : State) → at + length bytes ≤ length s.now.bytes

@@ -68,14 +68,6 @@ tried_then {A} B q fault is a b c first then = subst (λ (x : Result A FlushFaul
     by Memory then = absurd then
     by AreaFull then = absurd then
 
--- an answer's value may be of another type
-pub tried_on : {A : Type 0} (q : Result A FlushFault) (a b c : Flushing) → NothingStored a b → Tried q b c → Tried q a c
-tried_on (Ok given) a b c first then = went_then a b c first then
-tried_on (Err DeviceFailed) a b c first then = (failed_then a b c first.waits then.0, then.1 ∙ first.stored)
-tried_on (Err StoreBroken) a b c first then = then
-tried_on (Err Memory) a b c first then = then
-tried_on (Err AreaFull) a b c first then = then
-
 -- a turn whose backlog was stored and whose mark was raised, and that then ended with a fault
 pub behind_ended : {A : Type 0} (q : Result A FlushFault) (fault : FlushFault) → q ≡ Err fault → (a b c : Flushing) → WaitsBehind a b → Checkpointed (Err fault) b c → Ended q a c
 behind_ended {A} q fault is a b c first then = subst (λ (x : Result A FlushFault). Ended x a c) (sym is) (by fault then)

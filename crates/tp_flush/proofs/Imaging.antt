@@ -11,7 +11,7 @@ use Rattle.tp_flush.specs.declared.imaged.Images.TheVariants.{NoSnapshot, Out, E
 use Rattle.tp_flush.specs.declared.progress.Progress.{Progress}
 use Rattle.tp_flush.specs.Progress.{is_out, with_out}
 use Rattle.tp_flush.specs.Flushing.{Flushing}
-use Rattle.tp_flush.specs.Images.{EndsSo, HasNextImage, Imaged, ImagedIn, NodeImaged, OneWentOut, StayOut}
+use Rattle.tp_flush.specs.Images.{HasNextImage, Imaged, ImagedIn, NodeImaged, OneWentOut, StayOut}
 
 -- ## Images that are out stay out
 
@@ -35,20 +35,6 @@ imaged_on WasOut recorded node old new is on here = is
 imaged_on Unrecorded recorded node old new is on here = absurd (true≢false (sym here ∙ is))
 imaged_on Lacking recorded node old new is on here = absurd on
 imaged_on (Copied pages) recorded node old new is on here = is.1
-
-isnt : (b : Bool) → (b ≡ true → false ≡ true) → b ≡ false
-isnt false never = refl
-isnt true never = absurd (true≢false (sym (never refl)))
-
--- it ends with it
-pub imaged_end : (done : Image) (node : ℕ) (images : Images) (recorded : ℕ → Bool) (nodes all : ℕ) (first old new : Progress) → EndsSo done node images → StayOut first old
-    → NodeImaged done (recorded node) node old new → node < nodes → Imaged true recorded nodes all images first new
-imaged_end WasOut node images recorded nodes all first old new ends stay is there = absurd ends
-imaged_end Unrecorded node images recorded nodes all first old new ends stay is there = absurd ends
-imaged_end Lacking node images recorded nodes all first old new ends stay is there = subst (λ (x : Images). Imaged true recorded nodes all x first new) (sym ends) (there, is.0, is.1)
-imaged_end (Copied pages) node images recorded nodes all first old new ends stay is there =
-    subst (λ (x : Images). Imaged true recorded nodes all x first new) (sym ends)
-    (record { node = node; waited = isnt (is_out first node) (λ out. sym is.0 ∙ stay node out); is = is.1 })
 
 -- ## All of them
 

@@ -197,18 +197,6 @@ if_answered (Err e) q is P given = subst (λ (y : Result Unit FlushFault). IfOk 
 
 -- ## Where images begin
 
-sum_next : (pages : List ℕ) (i : ℕ) → i < length pages → sum_by image_length (take (suc i) pages) ≡ sum_by image_length (take i pages) + image_length (get_or pages i 0)
-sum_next [] i low = absurd (omega (arith, low))
-sum_next (p ∷ ps) zero low = omega (arith, sum_by-cons image_length p (take zero ps))
-sum_next (p ∷ ps) (suc i) low =
-    omega (arith, sum_next ps i (omega (arith, low)), sum_by-cons image_length p (take (suc i) ps), sum_by-cons image_length p (take i ps))
-
--- an image behind the one before
-pub image_next : (t : Topology) (node : ℕ) → node < length t.pages → piece_place t node 0 + image_length (get_or t.pages node 0) ≡ piece_place t (node + 1) 0
-image_next t node there =
-    let next : suc node ≡ node + 1 = omega arith in
-    omega (arith, sum_next t.pages node there, ap (λ n. sum_by image_length (take n t.pages)) next)
-
 -- and it ends inside the area
 pub image_inside : (t : Topology) (area node : ℕ) → is_roomy t area ≡ true → node < length t.pages → piece_place t node 0 + image_length (get_or t.pages node 0) < area
 image_inside t area node roomy there = let wide = leb-true _ _ roomy in omega (arith, wide, sum_front t.pages node there)

@@ -83,9 +83,6 @@ module _ (M : Machine NodeState) (E : EndsSeen NodeState) (bytes : List ℕ) (o 
   abbrev areas : TwoAreas
   areas = o.head.areas
 
-  abbrev own : ℕ
-  own = area_start o.head.areas o.second
-
   abbrev other : ℕ
   other = area_start o.head.areas (not o.second)
 

@@ -11,9 +11,6 @@ pub bind_ok : {A B E : Type 0} (first : Result A E) (f : A → Result B E) (y : 
 bind_ok (Ok x) f y e = (x, refl, e)
 bind_ok (Err fault) f y e = cc
 
-pub same_Ok : {A E : Type 0} (r : Result A E) (x y : A) → r ≡ Ok x → r ≡ Ok y → x ≡ y
-same_Ok r x y e f = cc
-
 pub or_damaged_ok : {A : Type 0} (at : ℕ) (given : Option A) (x : A) → or_damaged at given ≡ Ok x → given ≡ Some x
 or_damaged_ok at None x e = cc
 or_damaged_ok at (Some y) x e = cc

@@ -1,5 +1,5 @@
 -- Writes to memory keep its length.
-use Rattle.std.proofs.Common.{◌≡◌, ℕ, ◌+◌, ◌%◌, ◌<◌, ◌≤◌, true, false, ◌&&◌, cond, List, [], ◌∷◌, ◌++◌, length, Option, Some, None, ltb, eqb, sym, refl, ap, ◌∙◌, arith, rules}
+use Rattle.std.proofs.Common.{◌≡◌, ℕ, ◌+◌, ◌%◌, ◌<◌, ◌≤◌, true, ◌&&◌, cond, List, [], ◌∷◌, length, Option, Some, None, ltb, eqb, sym, refl, ap, ◌∙◌, arith, rules}
 use Rattle.std.specs.Prelude.{option_and_then}
 use Rattle.std.proofs.lemmas.Bool.{cond_both, ltb-true, leb-true, and_parts}
 use Rattle.std.proofs.lemmas.Grind.{common_steps}
@@ -63,12 +63,3 @@ length-then (Some memory) writes n after keeps whole is =
 pub length-changed : (memory : List ℕ) (to from count : ℕ) (writes : List (ℕ × ℕ)) (after : List ℕ) → length memory % 4 ≡ 0 → changed memory to from count writes ≡ Some after → length after ≡ length memory
 length-changed memory to from count writes after whole is =
     length-then (copied memory to from count) writes (length memory) after (length-copied memory to from count) whole is
-
--- more writes behind the first ones
-pub stored-append : (memory : List ℕ) (writes more : List (ℕ × ℕ)) → stored memory (writes ++ more) ≡ option_and_then (λ m. stored m more) (stored memory writes)
-stored-append memory [] more = refl
-stored-append memory (write ∷ writes) more =
-    let after = set_word memory (word_offset write.0) write.1 in
-    let inside = ltb (word_offset write.0) (length memory) in
-    elim inside as (λ b. cond b (stored after (writes ++ more)) None ≡ option_and_then (λ m. stored m more) (cond b (stored after writes) None))
-    [ true ↦ stored-append after writes more | false ↦ refl ]

@@ -98,13 +98,6 @@ module _ {Node : Type 0} (M : Machine Node) (four : HasFourLinks M) (w : MarkedN
   has_past : (p : ℕ) → N < p → has_recorded snap p ≡ true
   has_past p h = ap is_some (count_past p h)
 
-  has_below : (p : ℕ) → has_recorded snap p ≡ false → p < N
-  has_below p h = elim (cases_order p N) [
-    | inl e ↦ absurd (true≢false (sym (ap (has_recorded snap) e ∙ has_host) ∙ h))
-    | inr (inl below) ↦ below
-    | inr (inr past) ↦ absurd (true≢false (sym (has_past p past) ∙ h))
-  ]
-
   open_line : (l : ℕ) → l < length w.live.lines → is_closed snap l ≡ false
   open_line l h = get_or-replicate (length w.live.lines) l false true h
 

@@ -1,5 +1,5 @@
 -- How many tokens a line may have: at most one Marker, and none before its sender records.
-use Rattle.std.proofs.Common.{◌≡◌, ℕ, ◌+◌, ◌≤◌, Bool, true, false, cond, not, inl, inr, length, sym, ap, subst, ◌∙◌, arith, Option, Some, None}
+use Rattle.std.proofs.Common.{ℕ, ◌+◌, ◌≤◌, Bool, true, false, cond, not, inl, inr, length, sym, ap, subst, arith, Option, Some, None}
 use Rattle.std.specs.Prelude.{◌&&◌}
 use Rattle.std.proofs.lemmas.Bool.{cases_Bool}
 use Rattle.tp_model.specs.Network.{Machine, has_wire, on_line}
@@ -8,7 +8,6 @@ use Rattle.tp_model.specs.Markers.{markers, plain_network}
 use Rattle.tp_model.specs.Snapshot.{Snapshot, MarkedNetwork, has_recorded, is_closed}
 use Rattle.tp_law_network.proofs.Room.{line_room as sound_room, sound_marked}
 use Rattle.tp_law_network.specs.Invariant.{Inside, CutInvariant}
-use Rattle.tp_law_network.proofs.Whole.{running}
 
 module _ {Node : Type 0} (M : Machine Node) (w : MarkedNetwork Node) (H : CutInvariant M w) where
   -- a line has at most one Marker
@@ -25,14 +24,6 @@ module _ {Node : Type 0} (M : Machine Node) (w : MarkedNetwork Node) (H : CutInv
         | inl y ↦ subst (λ n. n ≤ 1) (sym (K.marks l y)) (most (has_recorded snap (owner (length w.live.nodes) l) && not (is_closed snap l)))
         | inr n ↦ let none = ap markers (H.base.unwired l n) in omega arith
       ]
-
-  -- and none before its sender records
-  pub none_before : (snap : Snapshot) → w.snapshot ≡ Some snap → (l : ℕ) → has_recorded snap (owner (length w.live.nodes) l) ≡ false
-      → ◌≡◌ {A = ℕ} (markers (on_line w.live.lines l)) 0
-  none_before snap runs l new = elim (cases_Bool (has_wire w.live.wires l)) [
-    | inl y ↦ (running M w H snap runs).marks l y ∙ ap (λ b. cond (b && not (is_closed snap l)) 1 0) new
-    | inr n ↦ ap markers (H.base.unwired l n)
-  ]
 
   -- Over a sound network a line has at most a Data and an Ack beside its Marker.
   pub line_room : (E : EndsSeen Node) → Sound E (plain_network w.live) → (l : ℕ) → length (on_line w.live.lines l) ≤ 2 + markers (on_line w.live.lines l)

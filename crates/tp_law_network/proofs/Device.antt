@@ -1,11 +1,10 @@
 -- What the device stands for at each position of the flusher, and what a crash may leave of it.
-use Rattle.std.proofs.Common.{◌≡◌, ℕ, ◌+◌, ◌≤◌, ◌⊎◌, inl, List, [], ◌∷◌, ◌++◌, length, refl, sym, ap, subst, ◌∙◌, arith, Some}
+use Rattle.std.proofs.Common.{◌≡◌, ℕ, ◌+◌, ◌≤◌, ◌⊎◌, List, [], ◌∷◌, ◌++◌, length, refl, sym, ap, subst, ◌∙◌, arith, Some}
 use Rattle.tp_model.specs.declared.entry.Entry.{Entry}
 use Rattle.tp_model.specs.Network.{Machine}
-use Rattle.tp_model.specs.Disk.{Moment, MayBe, Call, Write, Sync, written, done, within, IsWithin, AreWithin}
+use Rattle.tp_model.specs.Disk.{Moment, MayBe, Write, Sync, written, done, within, IsWithin, AreWithin}
 use Rattle.tp_model.specs.Areas.{Areas, AreasHold, Held, with_more, gate_open, gate_closed, ArePossible}
-use Rattle.tp_model.specs.WriteOrder.{Position, Allows, putting, syncing, looking, clearing, clear_done, add_body, body_done, add_gate, gate_done, tail_putting, tail_syncing, switching, switch_done}
-use Rattle.tp_law_network.specs.Standing.{RestsBetweenGroups, Bodied, Readied, Gated, Clearing, Switching, DeviceAt, held_next, held_after, IsPossibleAt}
+use Rattle.tp_law_network.specs.Standing.{RestsBetweenGroups, Bodied, Readied, Gated, Clearing, Switching}
 use Rattle.tp_law_network.proofs.Moments.{length-written, within_last, may_stand, may_be_written, write_may, synced_may, loose_may, loose_more}
 
 module _ {Node : Type 0} (M : Machine Node) (A : Areas Node) (law : AreasHold M A) (h : Held Node) where
@@ -136,36 +135,3 @@ module _ {Node : Type 0} (M : Machine Node) (A : Areas Node) (law : AreasHold M 
   -- ## Each call of the flusher
 
   module _ (disk : Moment) (backlog : List Entry) where
-    -- Within the next call a crash leaves what the device stands for, or what it stands for after the call.
-    pub device_within : (from to : Position Node) (call : Call) → Allows A disk backlog from call to → DeviceAt A h disk from → IsPossibleAt M h from
-        → (left : List ℕ) → MayBe (within call disk) left → (A.verdict left ≡ Some h) ⊎ (A.verdict left ≡ Some (held_next from h))
-    device_within from to call (putting at bytes inside) r possible left may = inl (put_may disk r at bytes inside left may).0
-    device_within from to call syncing r possible left may = inl (rests_may disk r left may)
-    device_within from to call looking r possible left may = inl (rests_may disk r left may)
-    device_within from to call (clearing at was) r possible left may = inl (clear_within disk r at was left may)
-    device_within from to call clear_done c possible left may = inl (clear_may disk c left may)
-    device_within from to call (add_body es more place body front spelt) r possible left may = inl (body_within disk r place es body spelt left may)
-    device_within from to call (body_done es place) b possible left may = inl (body_may disk place es b left may)
-    device_within from to call (add_gate es place) r possible left may = gate_within disk place es r possible left may
-    device_within from to call (gate_done es place) g possible left may = gate_may disk place es g possible left may
-    device_within from to call (tail_putting copy upto at bytes inside) r possible left may = inl (put_may disk r at bytes inside left may).0
-    device_within from to call (tail_syncing copy upto) r possible left may = inl (rests_may disk r left may)
-    device_within from to call (switching copy upto at synced other) r possible left may = switch_within disk copy r at synced other left may
-    device_within from to call (switch_done copy upto) s possible left may = switch_may disk copy s left may
-
-    -- After it the device stands where the order leads.
-    pub device_done : (from to : Position Node) (call : Call) → Allows A disk backlog from call to → DeviceAt A h disk from → IsPossibleAt M h from
-        → DeviceAt A (held_after from h) (done call disk) to
-    device_done from to call (putting at bytes inside) r possible = put_done disk r at bytes inside
-    device_done from to call syncing r possible = rests_synced disk r
-    device_done from to call looking r possible = r
-    device_done from to call (clearing at was) r possible = clear_written disk r at was
-    device_done from to call clear_done c possible = clear_synced disk c
-    device_done from to call (add_body es more place body front spelt) r possible = body_written disk r place es body spelt
-    device_done from to call (body_done es place) b possible = body_synced disk place es b
-    device_done from to call (add_gate es place) r possible = gate_written disk place es r
-    device_done from to call (gate_done es place) g possible = gate_synced disk place es g possible
-    device_done from to call (tail_putting copy upto at bytes inside) r possible = put_done disk r at bytes inside
-    device_done from to call (tail_syncing copy upto) r possible = rests_synced disk r
-    device_done from to call (switching copy upto at synced other) r possible = switch_written disk copy r at synced other
-    device_done from to call (switch_done copy upto) s possible = record { reads = switch_synced disk copy s; loose = tt }

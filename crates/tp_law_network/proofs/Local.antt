@@ -364,10 +364,5 @@ module _ {Node : Type 0} (M : Machine Node) (four : HasFourLinks M) (s : Network
 pub next_shape : {Node : Type 0} (M : Machine Node) → HasFourLinks M → (s : Network Node) (e : Entry) (t : Network Node) → next M s e ≡ Some t → SameShape s t
 next_shape M four s e t h = step_shape M four s e t (step_of M s e t h)
 
--- and the states of the other processes
-pub next_own_other : {Node : Type 0} (M : Machine Node) → HasFourLinks M → (s : Network Node) (e : Entry) (t : Network Node) → next M s e ≡ Some t
-    → (q : ℕ) → q ≢ process s.wires (length s.nodes) e → own t q ≡ own s q
-next_own_other M four s e t h q apart = step_own_other M four s e t (step_of M s e t h) q apart
-
 pub process_kept : {Node : Type 0} (s t : Network Node) → SameShape s t → (e : Entry) → process t.wires (length t.nodes) e ≡ process s.wires (length s.nodes) e
 process_kept s t K e = process_same s t K.wires K.nodes e

@@ -19,11 +19,6 @@ use Rattle.tp_law_network.proofs.Walks.{no_step, one_step, chained_from, disks}
 
 -- ## All of a plan is done
 
--- the device is where the calls lead
-planned_disk : {Node : Type 0} (w : World Node) (plan : List (Call × Position Node)) → (all_moved w plan).disk ≡ all_done (calls_of plan) w.disk
-planned_disk w [] = refl
-planned_disk w (step ∷ plan) = planned_disk (moved_on w step.0 step.1) plan
-
 module _ {Node : Type 0} (M : Machine Node) (A : Areas Node) where
   planned_chain : (w : World Node) (plan : List (Call × Position Node)) → ArePlanned A w plan → Chained M A w (worlds_of w plan) (all_moved w plan)
   planned_chain w [] planned = no_step M A w

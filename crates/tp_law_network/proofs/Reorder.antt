@@ -1,13 +1,13 @@
 -- Entries in order, and reorderings of them.
-use Rattle.std.proofs.Common.{◌≡◌, ◌≢◌, ℕ, List, [], ◌∷◌, ◌++◌, length, refl, sym, ap, subst, ◌∙◌, Option, Some, None, append_assoc}
+use Rattle.std.proofs.Common.{◌≡◌, ◌≢◌, List, [], ◌∷◌, ◌++◌, length, refl, sym, ap, subst, ◌∙◌, Option, Some, None, append_assoc}
 use Rattle.std.specs.List.{AllByRecursion}
 use Rattle.std.proofs.Math.Path.{fun_ext}
 use Rattle.tp_model.specs.declared.entry.Entry.{Entry}
-use Rattle.tp_model.specs.Network.{◌>>=◌, Machine, Network, own}
+use Rattle.tp_model.specs.Network.{◌>>=◌, Machine, Network}
 use Rattle.tp_model.specs.Entries.{process, next, HasFourLinks}
 use Rattle.tp_model.specs.Order.{after, AreIndependent, Reorder, same, swap}
 use Rattle.tp_law_network.proofs.Partial.{bind_some}
-use Rattle.tp_law_network.proofs.Local.{SameShape, next_shape, next_own_other, process_kept}
+use Rattle.tp_law_network.proofs.Local.{SameShape, next_shape, process_kept}
 use Rattle.tp_law_network.proofs.Swap.{diamond, swaps_agree}
 
 -- ## One list behind another
@@ -69,19 +69,6 @@ after_shape M four s t (e ∷ es) h =
 -- each entry is of the same process at the later network
 pub process_next : {Node : Type 0} (M : Machine Node) → HasFourLinks M → (s : Network Node) (e : Entry) (t : Network Node) → next M s e ≡ Some t → process t.wires (length t.nodes) ≡ process s.wires (length s.nodes)
 process_next M four s e t h = fun_ext (process_kept s t (next_shape M four s e t h))
-
-pub process_after : {Node : Type 0} (M : Machine Node) → HasFourLinks M → (s t : Network Node) (es : List Entry) → after M s es ≡ Some t → process t.wires (length t.nodes) ≡ process s.wires (length s.nodes)
-process_after M four s t es h = fun_ext (process_kept s t (after_shape M four s t es h))
-
--- entries of other processes keep a process's state
-pub after_own_other : {Node : Type 0} (M : Machine Node) → HasFourLinks M → (s t : Network Node) (es : List Entry) (q : ℕ) → after M s es ≡ Some t
-    → AllByRecursion (λ e. q ≢ process s.wires (length s.nodes) e) es → own t q ≡ own s q
-unfolding after
-after_own_other M four s t [] q h apart = let is : s ≡ t = cc in ap (λ u. own u q) (sym is)
-after_own_other M four s t (e ∷ es) q h apart =
-    let F = first_possible M s t e es h in
-    after_own_other M four F.0 t es q F.2 (subst (λ of. AllByRecursion (λ x. q ≢ of x) es) (sym (process_next M four s e F.0 F.1)) apart.1)
-    ∙ next_own_other M four s e F.0 F.1 q apart.0
 
 -- ## Reorderings
 

@@ -1,22 +1,20 @@
 -- How much a run sends, and how much a line of a sound network holds.
-use Rattle.std.proofs.Common.{◌≡◌, ℕ, zero, suc, ◌+◌, ◌<◌, ◌≤◌, Bool, true, false, inl, inr, List, [], ◌∷◌, ◌++◌, map, length, refl, sym, ap, subst, ◌∙◌, arith, Some, eqb}
+use Rattle.std.proofs.Common.{◌≡◌, ℕ, zero, suc, ◌+◌, ◌<◌, ◌≤◌, Bool, true, false, inl, inr, List, [], ◌∷◌, ◌++◌, map, length, refl, sym, subst, ◌∙◌, arith, Some, eqb}
 use Rattle.std.proofs.lemmas.Bool.{cases_Bool}
-use Rattle.std.proofs.lemmas.List.{length-append, length-map}
+use Rattle.std.proofs.lemmas.List.{length-map}
 use Rattle.std.specs.List.{AllByRecursion}
 use Rattle.std.proofs.Math.ListN.{get_or-map}
 use Rattle.tp_model.specs.declared.link.Token.{Token}
 use Rattle.tp_model.specs.declared.link.Token.TheVariants.{Data, Ack, Marker}
-use Rattle.tp_model.specs.declared.entry.Entry.{Entry}
 use Rattle.tp_model.specs.Word.{bit}
-use Rattle.tp_model.specs.Network.{◌>>=◌, Machine, steps, Network, own, has_wire, on_line, sent, for_line}
-use Rattle.tp_model.specs.Entries.{HasFourLinks, takes}
+use Rattle.tp_model.specs.Network.{◌>>=◌, Machine, steps, Network, own, has_wire, on_line, for_line}
+use Rattle.tp_model.specs.Entries.{HasFourLinks}
 use Rattle.tp_model.specs.Sound.{EndsSeen, datas, acks, end_waits, end_holds, Sound, KeepsFlight}
 use Rattle.tp_model.specs.Markers.{is_marker, plain, markers, plain_network, NeverMarks}
 use Rattle.tp_law_network.proofs.Partial.{all_append, bind_some}
-use Rattle.tp_law_network.proofs.Local.{Step, next_from, step_lines, steps_links}
+use Rattle.tp_law_network.proofs.Local.{steps_links}
 use Rattle.tp_law_network.proofs.Flight.{steps_moves}
-use Rattle.tp_law_network.proofs.Lines.{for_line-here, for_line-append, on_sent_open, length_taken}
-use Rattle.tp_law_network.proofs.Sound.{unwired-back, sound_kept, sound_small}
+use Rattle.tp_law_network.proofs.Sound.{unwired-back, sound_small}
 
 -- a line's tokens, by kind
 pub length-kinds : (ts : List Token) → length ts ≡ datas ts + acks ts + markers ts
@@ -84,25 +82,6 @@ module _ {Node : Type 0} {M : Machine Node} {E : EndsSeen Node} (four : HasFourL
 pub line_room : {Node : Type 0} {E : EndsSeen Node} {s : Network Node} → Sound E s → (x : ℕ) → length (on_line s.lines x) ≤ 2 + markers (on_line s.lines x)
 line_room {s = s} sound x = let small = sound_small sound x in omega (arith, length-kinds (on_line s.lines x), small.0, small.1)
 
--- a line is longer after more was sent on it
-pub push_longer : (on : ℕ → Bool) (lines : List (List Token)) (front : List (ℕ × Token)) (m : ℕ × Token) (more : List (ℕ × Token)) → on m.0 ≡ true → m.0 < length lines
-    → length (on_line (sent on lines front) m.0) < length (on_line (sent on lines (front ++ m ∷ more)) m.0)
-push_longer on lines front m more y h =
-    rw (on_sent_open on lines front m.0 y h, on_sent_open on lines (front ++ m ∷ more) m.0 y h, for_line-append m.0 front (m ∷ more), for_line-here m.0 m.1 more) (omega (arith, length-append (on_line lines m.0) (for_line m.0 front), length-append (on_line lines m.0) (for_line m.0 front ++ m.1 ∷ for_line m.0 more), length-append (for_line m.0 front) (m.1 ∷ for_line m.0 more)))
-
--- Where an entry pushes a token, fewer than two stand on the line beside its Markers.
-pub push_room : {Node : Type 0} {M : Machine Node} {E : EndsSeen Node} → HasFourLinks M → KeepsFlight M E → (s t : Network Node) (e : Entry) → Sound E s → (S : Step M s e t)
-    → (front : List (ℕ × Token)) (m : ℕ × Token) (more : List (ℕ × Token)) → S.sends ≡ front ++ m ∷ more → has_wire s.wires m.0 ≡ true
-    → length (on_line (sent (has_wire s.wires) S.out front) m.0) < 2 + markers (on_line t.lines m.0)
-push_room {M = M} four keeps s t e sound S front m more is y =
-    let last = line_room (sound_kept four keeps s t e sound (next_from M s e t S)) m.0 in
-    let there : m.0 < length S.out = rw (length_taken s.lines (takes s.wires (length s.nodes) e) S.out S.takes_out) (sound.there m.0 y) in
-    let longer = push_longer (has_wire s.wires) S.out front m more y there in
-    let same : on_line t.lines m.0 ≡ on_line (sent (has_wire s.wires) S.out (front ++ m ∷ more)) m.0 =
-    ap (λ ls. on_line ls m.0) (step_lines M four s e t S) ∙ ap (λ ms. on_line (sent (has_wire s.wires) S.out ms) m.0) is in
-    let shorter : length (on_line (sent (has_wire s.wires) S.out front) m.0) < length (on_line t.lines m.0) = rw same longer in
-    omega arith
-
 -- ## Lines with Markers
 
 pub datas-plain : (ts : List Token) → datas (plain ts) ≡ datas ts
@@ -141,14 +120,4 @@ sound_marked {E = E} s sound unwired = record {
   flight = λ x y b.
       rw (← datas-plain (on_line s.lines x), ← acks-plain (on_line s.lines y), ← on_line-plain s.lines x, ← on_line-plain s.lines y, ← end_waits-plain E s x, ← end_holds-plain E s y) (sound.flight x y b);
   none = λ x b. (unwired x (unwired-back s x b), sym (end_holds-plain E s x) ∙ (sound.none x b).1);
-}
-
--- and so does leaving them out.
-pub sound_plain : {Node : Type 0} {E : EndsSeen Node} (s : Network Node) → Sound E s → Sound E (plain_network s)
-sound_plain {E = E} s sound = record {
-  wires = record { both_ways = λ x y b. sound.wires.both_ways x y b; links = λ x i k r. sound.wires.links x i k r };
-  there = λ x y. subst (λ n. x < n) (sym (length-map s.lines plain)) (sound.there x y);
-  flight = λ x y b.
-      rw (on_line-plain s.lines x, on_line-plain s.lines y, datas-plain (on_line s.lines x), acks-plain (on_line s.lines y), end_waits-plain E s x, end_holds-plain E s y) (sound.flight x y b);
-  none = λ x b. (on_line-plain s.lines x ∙ ap plain (sound.none x b).0, end_holds-plain E s x ∙ (sound.none x b).1);
 }

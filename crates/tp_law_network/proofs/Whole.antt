@@ -34,14 +34,6 @@ all_counts (Some n ∷ given) counts e p =
     go zero rest h = refl
     go (suc k) rest h = h k
 
--- and is made of what it has
-pub all_nodes : {A : Type 0} (given : List (Option A)) (items : List A) → all_some given ≡ Some items → given ≡ map Some items
-all_nodes [] items e = let none : [] ≡ items = cc in ap (map Some) none
-all_nodes (None ∷ given) items e = cc
-all_nodes (Some x ∷ given) items e =
-    let Q = map_some (λ xs. x ∷ xs) (all_some given) items e in
-    ap (λ xs. Some x ∷ xs) (all_nodes given Q.0 Q.1) ∙ ap (map Some) Q.2
-
 pub all_some-map : {A : Type 0} (items : List A) → all_some (map Some items) ≡ Some items
 all_some-map [] = refl
 all_some-map (x ∷ xs) = ap (option_map (λ ys. x ∷ ys)) (all_some-map xs)

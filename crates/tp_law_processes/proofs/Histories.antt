@@ -29,10 +29,6 @@ all_weaker : {A : Type 0} (P Q : A → Type 0) (xs : List A) → ((x : A) → P 
 all_weaker P Q [] to all = tt
 all_weaker P Q (x ∷ xs) to all = (to x all.0, all_weaker P Q xs to all.1)
 
-both_weaker : {A : Type 0} (P Q R : A → Type 0) (xs : List A) → ((x : A) → P x → Q x → R x) → AllByRecursion P xs → AllByRecursion Q xs → AllByRecursion R xs
-both_weaker P Q R [] to first then = tt
-both_weaker P Q R (x ∷ xs) to first then = (to x first.0 then.0, both_weaker P Q R xs to first.1 then.1)
-
 -- ## A process in a journal
 
 -- shown where its first entries lead, `least` of them or more

@@ -101,9 +101,6 @@ KeepsPages-splice memory ws at fits = record {
       page_of-take after p ∙ same_page after memory p (length-splice memory ws at fits) (λ j low high. outside memory ws at j fits (side_within p at (length ws) j apart low high)) ∙ sym (page_of-take memory p));
 }
 
-length-to_le_bytes : (word : ℕ) → length (to_le_bytes w32 word) ≡ 4
-length-to_le_bytes word = refl
-
 pub KeepsPages-set_byte : (memory : List ℕ) (at byte : ℕ) → at < length memory → KeepsPages ((at, 1) ∷ []) memory (set_byte memory at byte)
 KeepsPages-set_byte memory at byte within = KeepsPages-splice memory (byte ∷ []) at (omega arith)
 

@@ -34,10 +34,6 @@ pub not_frozen : (is_frozen : Bool) (bytes : List ℕ) → IsNone (cond is_froze
 not_frozen true bytes none = absurd (let no : true ≡ false = none in cc)
 not_frozen false bytes none = refl
 
-pub is_frozen_some : (is_frozen : Bool) (bytes : List ℕ) → is_frozen ≡ true → IsSome (cond is_frozen (Some bytes) None)
-is_frozen_some true bytes frozen = refl
-is_frozen_some false bytes frozen = absurd (cc)
-
 module _ (live : List ℕ) (shared : List Bool) (copies : List (Option ℕ)) (frames : Frames) (is_frozen : Bool) (paged : IsPaged live shared copies frames is_frozen) where
   pub few_flags : length shared ≤ MAX_PAGES
   few_flags = omega (arith, ap length paged.flags, length-shared_of is_frozen copies, paged.few)

@@ -1,6 +1,5 @@
 -- Which pages stay shared behind writes.
 use Rattle.std.proofs.Common.{◌≡◌, ℕ, zero, suc, ◌+◌, ◌-◌, ◌*◌, ◌/◌, ◌<◌, ◌≤◌, Bool, true, false, not, ◌&&◌, ◌||◌, if◌then◌else◌, List, All, [], ◌∷◌, length, get_or, set, drop, refl, sym, ap, ◌∙◌, arith, ltb}
-use Rattle.std.proofs.lemmas.List.{set-get_or}
 use Rattle.std.proofs.lemmas.Bool.{ltb-true, and_parts, or_parts}
 use Rattle.std.proofs.Math.Seq.{drop-cons}
 use Rattle.std.specs.List.{list_any}
@@ -79,12 +78,6 @@ wanted_from-next page n pages ranges within =
     let next : n + 1 ≡ suc n = omega arith in
     ap (λ ps. wanted_from (page + n) ps ranges) (drop-cons pages n false within)
     ∙ ap (λ k. want (get_or pages n false) (list_any (touches (page + n)) ranges) + wanted_from (page + n + 1) (drop k pages) ranges) (sym next)
-
-pub wanted_from-past : (page n : ℕ) (pages : List Bool) (ranges : List (ℕ × ℕ)) → length pages ≤ n → wanted_from page (drop n pages) ranges ≡ 0
-wanted_from-past page zero [] ranges past = refl
-wanted_from-past page (suc n) [] ranges past = refl
-wanted_from-past page zero (is_shared ∷ pages) ranges past = absurd (omega arith)
-wanted_from-past page (suc n) (is_shared ∷ pages) ranges past = wanted_from-past page n pages ranges (omega arith)
 
 -- ranges that have bytes in the same pages
 pub shared_from-same : (page : ℕ) (pages : List Bool) (ranges others : List (ℕ × ℕ)) → ((p : ℕ) → list_any (touches p) ranges ≡ list_any (touches p) others) → shared_from page pages ranges ≡ shared_from page pages others
@@ -178,13 +171,6 @@ parted-room n pages ranges within =
 and_false : (b : Bool) → (b && false) ≡ false
 and_false true = refl
 and_false false = refl
-
--- a page that stays as it is
-pub kept_page : (pages : List Bool) (page : ℕ) (is_touched : Bool) → (get_or pages page false ≡ true → is_touched ≡ false) → set pages page (get_or pages page false && not is_touched) ≡ pages
-kept_page pages page is_touched none = ap (λ b. set pages page b) (and_not (get_or pages page false) is_touched none) ∙ set-get_or pages page false
-
-pub parted_page : (pages : List Bool) (page : ℕ) (is_touched : Bool) → is_touched ≡ true → set pages page false ≡ set pages page (get_or pages page false && not is_touched)
-parted_page pages page is_touched touched = ap (λ b. set pages page b) (sym (ap (λ t. get_or pages page false && not t) touched ∙ and_false (get_or pages page false)))
 
 want_none : (is_shared is_touched : Bool) → (is_shared ≡ true → is_touched ≡ false) → want is_shared is_touched ≡ 0
 want_none false is_touched none = refl

@@ -26,10 +26,6 @@ pub then_outside : (first : Option (List ℕ)) (writes : List (ℕ × ℕ)) (n :
 then_outside None writes n keeps whole out = refl
 then_outside (Some memory) writes n keeps whole out = stored_outside memory writes n (keeps memory refl) whole out
 
-pub length-byte_changed : (memory : List ℕ) (address byte : ℕ) (writes : List (ℕ × ℕ)) (after : List ℕ) → length memory % 4 ≡ 0 → byte_changed memory address byte writes ≡ Some after → length after ≡ length memory
-length-byte_changed memory address byte writes after whole is =
-    length-then (byte_stored memory address byte) writes (length memory) after (length-byte_stored memory address byte) whole is
-
 pub byte_changed_outside : (memory : List ℕ) (address byte : ℕ) (writes : List (ℕ × ℕ)) → length memory % 4 ≡ 0 → are_inside (length memory) writes ≡ false → byte_changed memory address byte writes ≡ None
 byte_changed_outside memory address byte writes whole out = then_outside (byte_stored memory address byte) writes (length memory) (length-byte_stored memory address byte) whole out
 

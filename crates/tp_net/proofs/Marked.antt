@@ -1,5 +1,5 @@
 -- Markers on lines: tokens that go round without them, and looking for one.
-use Rattle.std.proofs.Common.{◌≡◌, ℕ, ◌+◌, ◌<◌, ◌≤◌, Bool, true, false, cond, inl, inr, List, [], ◌∷◌, ◌++◌, length, take, drop, refl, sym, ap, ◌∙◌, arith, append-nil, append_assoc, length-append, length-take, length-drop, get_or, Some, None, slice_get}
+use Rattle.std.proofs.Common.{◌≡◌, ℕ, ◌+◌, ◌<◌, ◌≤◌, Bool, true, false, cond, inl, inr, List, [], ◌∷◌, ◌++◌, length, take, drop, refl, sym, ap, ◌∙◌, arith, append-nil, append_assoc, length-append, length-take, length-drop, get_or, Some, slice_get}
 use Rattle.std.proofs.lemmas.Bool.{cases_Bool}
 use Rattle.std.proofs.lemmas.List.{drop_more, take_more}
 use Rattle.std.proofs.lemmas.Option.{get_or_from_slice_get, slice_get_within}
@@ -54,12 +54,6 @@ module _ (us : List Token) (i : ℕ) (t : Token) (below : i < length us) where
     round_room =
         let few = plain_few (take i us) in
         omega (arith, below, few, ap length off, length-append (drop (i + 1) us) (plain (take i us)), length-drop (i + 1) us, length-take i us)
-
--- there is one
-pub round_some : (us : List Token) (i : ℕ) → i < length us → slice_get (drop i us ++ plain (take i us)) 0 ≡ None → (d : Token) → ⊥
-round_some us i below none d =
-    let first : Some (get_or us i d) ≡ None = sym (ap (λ ts. slice_get (ts ++ plain (take i us)) 0) (drop_more us i d below)) ∙ none in
-    cc
 
 -- ## Looking for one
 

@@ -1,5 +1,5 @@
 -- What a topology keeps.
-use Rattle.std.proofs.Common.{◌≡◌, ℕ, zero, suc, ◌+◌, ◌<◌, ◌≤◌, List, [], ◌∷◌, length, take, get_or, ap, arith, true, subst, sym}
+use Rattle.std.proofs.Common.{◌≡◌, ℕ, zero, suc, ◌+◌, ◌<◌, ◌≤◌, List, [], ◌∷◌, length, take, get_or, ap, arith, true, subst}
 use Rattle.std.specs.Prelude.{◌&&◌, nat_le, nat_lt, nat_eq, Option, Some, None}
 use Rattle.std.specs.List.{list_all}
 use Rattle.std.proofs.lemmas.Bool.{and_parts, leb-true, ltb-true, eqb-true}
@@ -43,15 +43,6 @@ has_shape t h =
       pages = rest.0;
       wires = last.1;
     }
-
--- a topology is its parts
-pub parts_again : (t : Topology) (pages : List ℕ) (ports : ℕ) (wires : List (Option WireEnd)) → pages ≡ t.pages → ports ≡ t.ports → wires ≡ t.wires
-    → t ≡ record { pages = pages; ports = ports; wires = wires }
-parts_again t pages ports wires p h w =
-    let q = sym p in
-    let k = sym h in
-    let v = sym w in
-    λ i. record { pages = q i; ports = k i; wires = v i }
 
 -- each wire leads back
 leads_back_at : (N H line i : ℕ) (wires ends : List (Option WireEnd)) → all_lead_back N H wires line ends ≡ true → i < length ends

@@ -6,9 +6,9 @@ ghost use Rattle.std.specs.List.{flat_map};
 ghost use Rattle.tp_model.specs.EndBytes.{end_bytes, out_end_bytes, in_end_bytes, transfer_at, out_end_at, in_end_at, ends_at};
 
 use crate::image_places::{END_BYTES, LEFT_PLACE, POINTER_PLACE, PROCESS_PLACE};
-use crate::number::u32_at;
 use crate::{InEngine, OutEngine};
 use byteorder::{ByteOrder, LittleEndian};
+use tp_model::number::u32_at;
 use tp_model::{InEnd, OutEnd, Transfer};
 
 const NO_TRANSFER: Transfer = Transfer {

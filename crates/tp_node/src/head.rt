@@ -13,10 +13,10 @@ use crate::image_places::{
     A_PLACE, B_PLACE, C_PLACE, ERROR_PLACE, HALT_PLACE, HIGH_PLACE, INPUTS_PLACE, IPTR_PLACE,
     LOW_PLACE, OUTPUTS_PLACE, SLICE_PLACE, STATE_PLACE, WPTR_PLACE,
 };
-use crate::number::{u16_at, u32_at};
 use crate::{InEngine, OutEngine};
 use byteorder::{ByteOrder, LittleEndian};
 use tp_model::limits::{IMAGE_HEAD_BYTES, IMAGE_VERSION};
+use tp_model::number::{u16_at, u32_at};
 use tp_model::{Cpu, Queue, Regs};
 
 /// A node apart from its memory: its processor and the ends of links 0 to 3.

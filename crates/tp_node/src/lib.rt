@@ -16,7 +16,6 @@ mod link_input;
 mod link_output;
 mod memory;
 mod node;
-mod number;
 mod output;
 mod rest;
 mod rules;

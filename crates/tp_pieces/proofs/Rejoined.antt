@@ -164,9 +164,6 @@ module _ (t : Network NodeState) (n : NodesInside) (a now : Apart) (P : Precedes
 abbrev pub start_at : ℕ → List NodeRun → ℕ → ℕ
 start_at past rs i = (get_or rs i (past, past)).0
 
-start_end : (past : ℕ) (rs : List NodeRun) (i : ℕ) → length rs ≤ i → start_at past rs i ≡ past
-start_end past rs i h = ap (λ r. r.0) (get_or_past rs i (past, past) h)
-
 start_there : (past : ℕ) (rs : List NodeRun) (i : ℕ) → i < length rs → start_at past rs i ≡ (run_at rs i).0
 start_there past [] i below = absurd (omega (arith, below))
 start_there past (r ∷ rs) zero below = refl
@@ -185,9 +182,6 @@ start_first first past [] C = sym C
 start_first first past (r ∷ rs) C = C.0
 
 module _ (t : Network NodeState) (items : List NetPart) (a : Apart) (B : AreBefore t items a) where
-  -- with no run yet, the host is there
-  pub none_yet : HoldsFrom t (start_at (length t.nodes) B.rs (length items)) a
-  none_yet = subst (λ k. HoldsFrom t k a) (sym (start_end (length t.nodes) B.rs (length items) (let many = B.many in omega (arith, many)))) B.behind
 
   abbrev piece_is : ℕ → HeldPart → Type 0
   piece_is i held = has held ≡ whose (run_at B.rs i).0 (Some (run_at B.rs i).1)

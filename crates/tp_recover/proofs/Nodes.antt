@@ -1,6 +1,6 @@
 -- Images that are read one behind the other.
 use Rattle.std.proofs.Common.{◌≡◌, ℕ, ◌+◌, ◌*◌, ◌<◌, ◌≤◌, List, [], ◌∷◌, ◌++◌, length, take, drop, get_or, refl, sym, ap, ◌∙◌, arith, append-nil, Bool, true, false, cond, subst}
-use Rattle.std.specs.Prelude.{nat_eq, Option, Some, None, Result, Ok, Err, sum_by}
+use Rattle.std.specs.Prelude.{nat_eq, Some, None, Result, Ok, Err, sum_by}
 use Rattle.std.proofs.lemmas.Bool.{eq-eqb}
 use Rattle.std.proofs.lemmas.List.{take_all, take-append-drop, take-take, drop-take, drop-drop, drop_more, drop_all, length-drop}
 use Rattle.std.proofs.lemmas.List.Sums.{sum_by_more, sum_by_more_le}
@@ -11,8 +11,6 @@ use Rattle.tp_model.specs.Image.{node_at, node_of, page_count}
 use Rattle.tp_model.specs.Journal.{image_length}
 use Rattle.tp_model.specs.NodeState.{NodeState}
 use Rattle.tp_model.specs.Results.{◌>>=◌}
-use Rattle.tp_node.specs.declared.fault.ImageFault.TheVariants.{BadImage}
-use Rattle.tp_node.specs.FromImage.{ReadsImage}
 use Rattle.tp_node.specs.NodeContents.{NodeContents}
 use Rattle.tp_recover.specs.declared.unopened.Unopened.{Unopened}
 use Rattle.tp_recover.specs.Nodes.{AreAllThawed}
@@ -56,11 +54,6 @@ image_apart at place pages old now head memory there kept front rest =
     (rest ∙ ap (λ (m : Moment). take (PAGE_BYTES * pages) (drop place m.bytes)) kept ∙ ap (λ p. take (PAGE_BYTES * pages) (drop p old.bytes)) there
     ∙ ap (take (PAGE_BYTES * pages)) (sym (drop-drop IMAGE_HEAD_BYTES at old.bytes)))
     ∙ sym (take_both IMAGE_HEAD_BYTES (PAGE_BYTES * pages) (drop at old.bytes))
-
--- an image that is refused
-pub image_refused : (found : Option NodeState) → ReadsImage found (Err BadImage) → found ≡ None
-image_refused (Some state) is = absurd is
-image_refused None is = refl
 
 -- ## One behind the other
 

@@ -12,29 +12,15 @@ use Rattle.tp_model.specs.NodeState.{NodeState}
 use Rattle.tp_model.specs.Opening.{Opened, base_of, chosen_area, closed_in, cut_in, front_in, area_in, opening, verdict}
 use Rattle.tp_model.specs.Replay.{Replay, after_rows, replay_from}
 use Rattle.tp_model.specs.Results.{◌>>=◌}
-use Rattle.tp_model.specs.Topology.{Topology}
-use Rattle.tp_area.specs.declared.front.CutFront.{CutFront}
 use Rattle.tp_recover.specs.declared.start.Start.{Start}
 use Rattle.tp_recover.specs.declared.unopened.Unopened.{Unopened}
 use Rattle.tp_recover.specs.AfterGroups.{after_groups}
-use Rattle.tp_area.specs.Fronts.{cut_front, front_given}
+use Rattle.tp_area.specs.Fronts.{cut_front}
 use Rattle.tp_recover.specs.Reading.{ReadAnswer, found}
 use Rattle.tp_recover.specs.Starts.{Read, read_as, read_of, read_in, IsStart, groups_of, opened_with, opened_after}
 use Rattle.tp_recover.proofs.Passing.{passed}
 
 -- ## In front of the groups
-
-front_there : (content : List ℕ) (front : CutFront) (given : Result Form OpenFault) → (given >>= (λ form. found (cut_front content form))) ≡ Ok front → front.base ≡ base_of content
-front_there content front (Ok form) is = ap (λ r. told r) (sym is)
-  where
-    told : Result CutFront OpenFault → ℕ
-    told (Ok f) = f.base
-    told (Err fault) = 0
-front_there content front (Err fault) is = cc
-
--- The entries in a cut are as many as the field in front of it says.
-pub front_base : (t : Topology) (at : ℕ) (content : List ℕ) (front : CutFront) → front_given t at content ≡ Ok front → front.base ≡ base_of content
-front_base t at content front is = front_there content front (front_in t at content) is
 
 -- ## An area
 
@@ -105,25 +91,3 @@ with_head bytes head = chosen_area head.areas bytes >>= area_of bytes head
 pub verdict-head : (bytes : List ℕ) → verdict bytes ≡ (head_of bytes >>= with_head bytes)
 unfolding verdict opening
 verdict-head bytes = refl
-
-pub head_unread : {A B : Type 0} (seen : A → Opened) (seen_first : B → Head) (bytes : List ℕ) (error : Unopened) (answer : Result A Unopened)
-    → ReadAnswer seen_first (head_of bytes) (Err error) → answer ≡ Err error → ReadAnswer seen (verdict bytes) answer
-head_unread seen seen_first bytes error answer read told =
-    subst (λ given. ReadAnswer seen given answer) (sym (verdict-head bytes)) (passed seen_first seen (head_of bytes) (with_head bytes) error answer read told)
-
-verdict-choice : (bytes : List ℕ) (head : Head) → head_of bytes ≡ Ok head → verdict bytes ≡ (chosen_area head.areas bytes >>= area_of bytes head)
-verdict-choice bytes head is = verdict-head bytes ∙ ap (λ r. r >>= with_head bytes) is
-
-pub choice_unread : {A B : Type 0} (seen : A → Opened) (seen_first : B → Bool) (head : Head) (old now : Moment) (error : Unopened) (answer : Result A Unopened)
-    → head_of old.bytes ≡ Ok head → now ≡ old → ReadAnswer seen_first (chosen_area head.areas now.bytes) (Err error) → answer ≡ Err error → ReadAnswer seen (verdict old.bytes) answer
-choice_unread {A} {B} seen seen_first head old now error answer is same read told =
-    subst (λ given. ReadAnswer seen given answer) (sym (verdict-choice old.bytes head is))
-    (passed seen_first seen (chosen_area head.areas old.bytes) (area_of old.bytes head) error answer (subst (λ m. ReadAnswer seen_first (chosen_area head.areas m.bytes) (Err error)) same read) told)
-
-pub area_answered : {A : Type 0} (seen : A → Opened) (head : Head) (second : Bool) (old then now : Moment) (answer : Result A Unopened)
-    → head_of old.bytes ≡ Ok head → then ≡ old → chosen_area head.areas then.bytes ≡ Ok second → now ≡ old
-    → ReadAnswer seen (area_in t414 t414_ends head second (content_of head.areas second now.bytes)) answer → ReadAnswer seen (verdict old.bytes) answer
-area_answered {A} seen head second old then now answer is same chosen last read =
-    subst (λ given. ReadAnswer seen given answer)
-    (sym (verdict-choice old.bytes head is ∙ ap (λ r. r >>= area_of old.bytes head) (ap (λ m. chosen_area head.areas m.bytes) (sym same) ∙ chosen)))
-    (subst (λ m. ReadAnswer seen (area_of m.bytes head second) answer) last read)

@@ -18,11 +18,6 @@ passed seen seen_then given f (Fault fault) answer has is =
 passed seen seen_then given f ReadFailed answer has is = rw is tt
 passed seen seen_then given f Memory answer has is = rw is tt
 
--- what the definition gives is told as it is
-pub told_value : {A B : Type 0} (seen : A → B) (given : Result B OpenFault) (x : A) (answer : Result A Unopened)
-    → given ≡ Ok (seen x) → answer ≡ Ok x → ReadAnswer seen given answer
-told_value seen given x answer is told = rw told is
-
 pub told_fault : {A B : Type 0} (seen : A → B) (given : Result B OpenFault) (fault : OpenFault) (answer : Result A Unopened)
     → given ≡ Err fault → answer ≡ Err (Fault fault) → ReadAnswer seen given answer
 told_fault seen given fault answer is told = rw told is

@@ -2,13 +2,9 @@
 use Rattle.std.proofs.Common.{◌≡◌, ℕ, ◌+◌, ◌≤◌, List, ◌++◌, length, take, drop, sym, ap, ◌∙◌, arith, length-drop}
 use Rattle.std.proofs.Math.Seq.{take-add}
 use Rattle.std.proofs.lemmas.List.{drop-drop, length-take-le}
-use Rattle.tp_area.proofs.PutLaws.{written_nothing, written_twice}
+use Rattle.tp_area.proofs.PutLaws.{written_twice}
 use Rattle.tp_recover.specs.Copies.{with_range}
 use Rattle.tp_model.specs.Disk.{written}
-
--- nothing yet
-pub none_copied : (at : ℕ) (source old : List ℕ) → with_range at 0 source old ≡ old
-none_copied at source old = written_nothing old at
 
 -- a piece more
 pub more_copied : (at done n : ℕ) (source old : List ℕ) → at + (done + n) ≤ length source → at ≤ length old

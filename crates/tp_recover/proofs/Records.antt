@@ -30,10 +30,6 @@ pub behind-first : {A : Type 0} (xs : List A) (x : A) (given : Result (List A) O
 behind-first xs x (Ok more) = ap Ok (sym (append_assoc xs (x ∷ []) more))
 behind-first xs x (Err fault) = refl
 
-pub behind-none : {A : Type 0} (given : Result (List A) OpenFault) → behind [] given ≡ given
-behind-none (Ok more) = refl
-behind-none (Err fault) = refl
-
 bind-behind : {A : Type 0} (xs : List A) (given : Result A OpenFault) (f : A → Result (List A) OpenFault) → behind xs (given >>= f) ≡ (given >>= (λ x. behind xs (f x)))
 bind-behind xs (Ok x) f = refl
 bind-behind xs (Err fault) f = refl

@@ -111,10 +111,6 @@ pub answers_twice : (first second : List (ℕ × Token)) (o : Option (NodeState 
 answers_twice first second None = refl
 answers_twice first second (Some r) = ap (λ ms. Some (r.0, ms)) (sym (append_assoc first second r.1))
 
-pub answers_none : (o : Option (NodeState × List (ℕ × Token))) → option_map (with_answers []) o ≡ o
-answers_none None = refl
-answers_none (Some r) = refl
-
 pub all_done : (tokens : List (ℕ × Token)) (i : ℕ) (n : NodeState) (answers : List (ℕ × Token)) → length tokens ≤ i → option_map (with_answers answers) (took_all t414 (drop i tokens) n) ≡ Some (n, answers)
 unfolding took_all
 all_done tokens i n answers past = ap (λ ms. option_map (with_answers answers) (took_all t414 ms n)) (drop_all i tokens past) ∙ ap (λ ms. Some (n, ms)) (append-nil answers)

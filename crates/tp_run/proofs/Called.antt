@@ -1,5 +1,5 @@
 -- Calls of an outlet, one more.
-use Rattle.std.proofs.Common.{◌≡◌, ℕ, ◌+◌, ◌-◌, ◌^◌, ◌<◌, ◌≤◌, inl, inr, List, [], ◌∷◌, ◌++◌, length, drop, length-append, length-drop, arith, Option, Some, None, Result, refl, sym, ap, subst, ◌∙◌, append_assoc, append-nil}
+use Rattle.std.proofs.Common.{◌≡◌, ℕ, ◌+◌, ◌<◌, inl, List, [], ◌∷◌, ◌++◌, length, drop, length-append, length-drop, arith, Option, Some, None, Result, refl, sym, ap, subst, ◌∙◌, append_assoc}
 use Rattle.tp_model.specs.DiskHistory.{State}
 use Rattle.tp_run.specs.declared.outlet.OutletFault.{OutletFault}
 use Rattle.tp_run.specs.Outlet.{AreCalls, CallsMore, OutletCall, OutletValue, WasCalled, left_behind, rest_behind}
@@ -19,10 +19,6 @@ more_on (Some xs) None now calls more first second = absurd first
 more_on (Some xs) (Some ys) None calls more first second = absurd second
 more_on (Some xs) (Some ys) (Some zs) calls more first second = second ∙ ap (λ noted. noted ++ more) first ∙ append_assoc xs calls more
 
-none_more : (was : Option (List OutletCall)) → CallsMore was was []
-none_more None = tt
-none_more (Some xs) = sym (append-nil xs)
-
 -- an outlet that was called for bytes `count` times, and what is left of them
 pub record CalledFor (there : State) (bytes left : List ℕ) (count : ℕ) (was now : OutletValue) : Type 0 where
   pub calls : List OutletCall
@@ -30,9 +26,6 @@ pub record CalledFor (there : State) (bytes left : List ℕ) (count : ℕ) (was 
   pub are : AreCalls there bytes calls
   pub rest : left_behind bytes calls ≡ left
   pub many : length calls ≡ count
-
-pub not_called : (there : State) (bytes : List ℕ) (was : OutletValue) → CalledFor there bytes bytes 0 was was
-not_called there bytes was = record { calls = []; more = none_more was.calls; are = tt; rest = refl; many = refl }
 
 pub called_on : (there : State) (bytes left : List ℕ) (count : ℕ) (was then now : OutletValue) (answer : Result ℕ OutletFault) → 0 < length left → CalledFor there bytes left count was then
     → CallsMore then.calls now.calls (record { bytes = left; answer = answer; there = there } ∷ []) → CalledFor there bytes (rest_behind left answer) (count + 1) was now
@@ -51,10 +44,6 @@ called_on there bytes left count was then now answer some C more =
 -- none is left of them
 pub was_called : (there : State) (bytes left : List ℕ) (count : ℕ) (was now : OutletValue) → CalledFor there bytes left count was now → left ≡ [] → WasCalled there bytes was now
 was_called there bytes left count was now C none = record { calls = C.calls; more = C.more; are = C.are; over = inl (C.rest ∙ none) }
-
--- it was called often
-pub called_often : (there : State) (bytes left : List ℕ) (count : ℕ) (was now : OutletValue) → CalledFor there bytes left count was now → 2 ^ 64 - 1 ≤ count → WasCalled there bytes was now
-called_often there bytes left count was now C often = let many = C.many in record { calls = C.calls; more = C.more; are = C.are; over = inr (omega (arith, many, often)) }
 
 -- a front of them is taken, and some are left
 pub some_left : (taken : ℕ) (bytes : List ℕ) → taken < length bytes → 0 < length (drop taken bytes)

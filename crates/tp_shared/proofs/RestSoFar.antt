@@ -76,9 +76,6 @@ module _ (b : BookValue) (number : ℕ) (have_halted : Bool) (H : HaveRested (wo
       let d : all_done (world_of b).live.nodes ≡ false = done_here ∙ ap (λ r. leaves_nothing r && all_done (drop (number + 1) (world_of b).live.nodes)) is in
       rw (h, d) refl
 
-pub none_rested : (nodes : List NodeState) → HaveRested nodes 0 true
-none_rested nodes = record { halted = refl; done = refl }
-
 -- all were looked at
 pub all_rested : (b : BookValue) (number : ℕ) (have_halted : Bool) → HaveRested (world_of b).live.nodes number have_halted → length (world_of b).live.nodes ≤ number
     → cond have_halted Halted (cond (list_all is_clear b.state.lines) Quiet Busy) ≡ rest_in (plain_network (world_of b).live)

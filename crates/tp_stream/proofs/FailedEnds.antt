@@ -1,6 +1,6 @@
 -- Which end of a stream a fault names.
-use Rattle.std.proofs.Common.{◌≡◌, ℕ, ◌<◌, zero, suc, Bool, true, List, [], ◌∷◌, length, set, Result, Ok, Err, sym, ap, ◌∙◌, arith}
-use Rattle.std.specs.Prelude.{◌==◌, ◌||◌, IfErr, map}
+use Rattle.std.proofs.Common.{◌≡◌, ℕ, ◌<◌, zero, suc, Bool, true, List, [], ◌∷◌, length, set, sym, ap, ◌∙◌, arith}
+use Rattle.std.specs.Prelude.{◌==◌, ◌||◌, map}
 use Rattle.std.specs.List.{list_any}
 use Rattle.std.proofs.Math.Bool.{or-true}
 use Rattle.std.proofs.lemmas.Bool.{eq-eqb}
@@ -77,28 +77,3 @@ turns_between FlushFailed came = absurd came
 turns_between NotStored came = tt
 turns_between JournalFull came = tt
 turns_between Memory came = tt
-
-pub of_turns_between : {A : Type 0} (r : Result A StreamFault) → IfErr r CameOfTurns → IfErr r CameBetween
-of_turns_between (Ok x) came = tt
-of_turns_between (Err fault) came = turns_between fault came
-
-turns_input : (port : ℕ) (fault : StreamFault) → CameOfTurns fault → NamesInput port fault
-turns_input port (Opening unopened) came = tt
-turns_input port Spare came = tt
-turns_input port (Absent named) came = tt
-turns_input port (Unnamed named) came = tt
-turns_input port (Short named has from) came = tt
-turns_input port (Long named has upto) came = tt
-turns_input port (Gone named have confirmed) came = tt
-turns_input port (NotShown named have shown) came = tt
-turns_input port (ShortInput named has accepted) came = tt
-turns_input port (InputFailed named) came = absurd came
-turns_input port (OutputFailed named) came = absurd came
-turns_input port FlushFailed came = tt
-turns_input port NotStored came = tt
-turns_input port JournalFull came = tt
-turns_input port Memory came = tt
-
-pub of_turns_input : {A : Type 0} (r : Result A StreamFault) (port : ℕ) → IfErr r CameOfTurns → IfErr r (NamesInput port)
-of_turns_input (Ok x) port came = tt
-of_turns_input (Err fault) port came = turns_input port fault came

@@ -21,13 +21,6 @@ not_full most kept entries runs base more lines room bound beside rests low few 
     (or_from _ _ (le-ltb most (entry_room * (entries + runs + more) + reserve lines) (omega (arith, beside, rests, low)))
     (le-ltb (NUMBER_LIMIT - 1) (base + entries + runs + more) (omega (arith, rests, few))))
 
--- Where a book lies in such a journal, and there is room for `more` entries, it isn't full for them.
-pub room_kept : (journal : JournalRoom) (b : BookValue) (more : ℕ) → UnreservedBook journal b → has_room_for journal b more ≡ true → is_journal_full b more ≡ false
-room_kept journal b more L there =
-    let parts = and_parts _ _ there in
-    not_full journal.bytes journal.kept (length b.state.entries) (reserved b) b.base more (length b.state.lines) b.room L.bound L.beside L.rests
-    (leb-true _ _ parts.0) (ltb-true _ _ parts.1)
-
 -- what such room is, in bytes and in numbers
 room_parts : (journal : JournalRoom) (b : BookValue) (more : ℕ) → has_room_for journal b more ≡ true
     → (journal.kept + entry_room * (next_in_book b - b.base + more) ≤ journal.bytes) × (next_in_book b + more < NUMBER_LIMIT)

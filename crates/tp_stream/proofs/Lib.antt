@@ -10,7 +10,6 @@ pub mod Puts
 pub mod Quiets
 pub mod Runs
 pub mod Served
-pub mod Shown
 pub mod Standings
 pub mod Started
 pub mod Stepping

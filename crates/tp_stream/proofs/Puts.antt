@@ -1,7 +1,5 @@
 -- What steps put of outputs, under the book's lock.
-use Rattle.std.proofs.Common.{◌≡◌, ℕ, zero, suc, ◌+◌, ◌-◌, ◌≤◌, ◌<◌, inl, inr, Bool, true, false, cond, List, [], ◌∷◌, ◌++◌, length, take, drop, set, get_or, Option, Some, None, refl, sym, ap, subst, ◌∙◌, arith, append-nil, get_or-set_same, get_or-set_other}
-use Rattle.std.specs.Prelude.{nat_le}
-use Rattle.std.proofs.lemmas.Bool.{cases_eq, leb-false}
+use Rattle.std.proofs.Common.{◌≡◌, ℕ, zero, suc, ◌+◌, ◌-◌, ◌≤◌, ◌<◌, inl, inr, true, List, [], ◌∷◌, ◌++◌, length, take, drop, set, get_or, refl, sym, ap, subst, ◌∙◌, arith, append-nil}
 use Rattle.std.proofs.lemmas.List.{drop-drop, take_all}
 use Rattle.tp_model.specs.NodeState.{NodeState}
 use Rattle.tp_model.specs.Node.{t414}
@@ -9,12 +7,11 @@ use Rattle.tp_model.specs.Network.{Network, Port}
 use Rattle.tp_model.specs.Markers.{plain_network}
 use Rattle.tp_model.specs.Order.{after}
 use Rattle.tp_model.specs.Runs.{World}
-use Rattle.tp_book.specs.Ports.{fresh_value}
 use Rattle.tp_book.specs.Book.{BookValue, next_in_book, world_of}
-use Rattle.tp_book.specs.Host.{after_confirm, confirmed_port, port_in, shown_from, shown_of, with_confirmed}
+use Rattle.tp_book.specs.Host.{port_in, shown_from, shown_of}
 use Rattle.tp_flush.specs.Ahead.{IsAheadOf}
 use Rattle.std.proofs.lemmas.List.{length-append}
-use Rattle.tp_stream_files.specs.Held.{HeldBytes, HasPut, KeepsFront}
+use Rattle.tp_stream_files.specs.Held.{HasPut}
 use Rattle.tp_stream_files.specs.Outputs.{WasPutSafely, OutputValue}
 use Rattle.tp_stream_files.proofs.StreamEndsSinks.{none_put}
 use Rattle.tp_stream_files.specs.declared.ending.Ending.{Ending}
@@ -23,39 +20,15 @@ use Rattle.tp_stream.specs.Steps.{AreLeft, Extends, IsPartConfirmed, PutsLeft, P
 
 -- ## Bytes of one output
 
--- where the front is as it was, no bytes were put
-front_puts : (n : ℕ) (a b : Option HeldBytes) → KeepsFront n a b → HasPut n [] a b
-front_puts n None None front = tt
-front_puts n None (Some b) front = absurd front
-front_puts n (Some a) None front = absurd front
-front_puts n (Some a) (Some b) front =
-    let same : n + 0 ≡ n = omega arith in
-    ap (λ m. take m b.bytes) same ∙ front.0 ∙ sym (append-nil (take n a.bytes))
-
 nothing_put : (old new : OutputValue) → new.port ≡ old.port → new.next ≡ old.next → HasPut old.next [] old.held new.held → Extends [] old new
 nothing_put old new port next put = record { port = port; next = next ∙ (let none : old.next ≡ old.next + 0 = omega arith in none); put = put }
 
 pub still_extends : (o : OutputValue) → Extends [] o o
 still_extends o = nothing_put o o refl refl (none_put o.next [] o.held refl)
 
-pub puts_none : (b : BookValue) (mark : ℕ) (old new : OutputValue) → new ≡ old → PutsShown b mark old new
-puts_none b mark old new same = inl (subst (Extends [] old) (sym same) (still_extends old))
-
--- a put that failed
-pub puts_front : (b : BookValue) (mark : ℕ) (old new : OutputValue) → KeepsFront old.next old.held new.held → new ≡ record old { held = new.held } → PutsShown b mark old new
-puts_front b mark old new front same =
-    inl (nothing_put old new (ap (λ (o : OutputValue). o.port) same) (ap (λ (o : OutputValue). o.next) same) (front_puts old.next old.held new.held front))
-
 -- one that was done
 pub puts_grew : (b : BookValue) (mark : ℕ) (old new : OutputValue) → (port_in b old.port).out_base ≤ old.next → WasPutSafely (shown_from b old.port mark old.next) old new → PutsShown b mark old new
 puts_grew b mark old new low G = inr (low, record { port = G.port; next = G.next; put = G.put })
-
--- what is confirmed is no matter
-pub puts_like : (b : BookValue) (mark : ℕ) (old one new : OutputValue) → new.port ≡ one.port → new.next ≡ one.next → new.held ≡ one.held → PutsShown b mark old one → PutsShown b mark old new
-puts_like b mark old one new port next held (inl E) =
-    inl (record { port = port ∙ E.port; next = next ∙ E.next; put = subst (HasPut old.next [] old.held) (sym held) E.put })
-puts_like b mark old one new port next held (inr (low, E)) =
-    inr (low, record { port = port ∙ E.port; next = next ∙ E.next; put = subst (HasPut old.next (shown_from b old.port mark old.next) old.held) (sym held) E.put })
 
 -- ## What confirms leave
 
@@ -79,30 +52,6 @@ all_left b p = left_still (port_in b p)
 
 pub left_then : (b c d : BookValue) → AreLeft b c → AreLeft c d → AreLeft b d
 left_then b c d one other p = left_on (port_in b p) (port_in c p) (port_in d p) (one p) (other p)
-
-left_confirmed : (p : Port) (upto : ℕ) → p.out_base ≤ upto → IsPartConfirmed p (confirmed_port p upto)
-left_confirmed p upto low = record { base = low; outputs = refl }
-
-pub left_same : (b c : BookValue) → c ≡ b → AreLeft b c
-left_same b c same = subst (AreLeft b) (sym same) (all_left b)
-
--- what a confirm leaves
-pub confirm_left : (b : BookValue) (port upto : ℕ) → port < length b.state.ports → AreLeft b (after_confirm b port upto)
-confirm_left b port upto there = by_test (nat_le upto (port_in b port).out_base) refl
-  where
-    confirmed : nat_le upto (port_in b port).out_base ≡ false → AreLeft b (with_confirmed b port upto)
-    confirmed test p = elim (cases_eq p port) [
-      | inl same ↦
-          subst (λ q. IsPartConfirmed (port_in b q) (get_or (set b.state.ports port (confirmed_port (port_in b port) upto)) q fresh_value.port)) (sym same)
-          (subst (IsPartConfirmed (port_in b port)) (sym (get_or-set_same b.state.ports port (confirmed_port (port_in b port) upto) fresh_value.port there))
-          (left_confirmed (port_in b port) upto (let more = leb-false upto (port_in b port).out_base test in omega (arith, more))))
-      | inr other ↦
-          subst (IsPartConfirmed (port_in b p)) (sym (get_or-set_other b.state.ports port p (confirmed_port (port_in b port) upto) fresh_value.port other)) (left_still (port_in b p))
-    ]
-
-    by_test : (test : Bool) → nat_le upto (port_in b port).out_base ≡ test → AreLeft b (cond test b (with_confirmed b port upto))
-    by_test true is = all_left b
-    by_test false is = confirmed is
 
 -- ## Where entries lead
 

@@ -96,10 +96,6 @@ pub all_then : (start : Network NodeState) (old mid new : Flushing) → Walked o
 all_then start old mid new W V xs ys zs first then =
     each_then (Stepped start old mid) (Stepped start mid new) (Stepped start old new) (stepped_then start old mid new W V) xs ys zs first then
 
--- as the flusher goes on
-pub all_until : (start : Network NodeState) (old mid new : Flushing) → Walked old mid → Walked mid new → (xs ys : List OutputValue) → AllStepped start old mid xs ys → AllStepped start old new xs ys
-all_until start old mid new W V xs ys first = all_then start old mid new W V xs ys ys first (all_still start mid new ys)
-
 -- from an earlier moment on
 pub all_since : (start : Network NodeState) (first old new : Flushing) → Walked first old → Walked old new → (xs ys : List OutputValue) → AllStepped start old new xs ys → AllStepped start first new xs ys
 all_since start first old new W V xs ys then = all_then start first old new W V xs xs ys (all_still start first old xs) then

@@ -1,12 +1,6 @@
 -- A list that was grown by one.
-use Rattle.std.proofs.Common.{◌≡◌, ◌<◌, ◌+◌, ℕ, false, List, [], ◌∷◌, ◌++◌, length, map, take, get_or, Result, Ok, Err, is_ok, is_err, refl, sym, ap, ◌∙◌, append_assoc}
+use Rattle.std.proofs.Common.{◌≡◌, ◌<◌, ◌+◌, ℕ, List, [], ◌∷◌, ◌++◌, length, map, take, get_or, refl, sym, ap, ◌∙◌, append_assoc}
 use Rattle.std.proofs.lemmas.List.{map-append, take_more}
-use Rattle.std.specs.Prelude.{if◌then◌else◌}
-
--- a push that didn't fail
-pub pushed : {T E X : Type 0} (r : Result T E) (now was more : List X) → is_err r ≡ false → now ≡ (if is_ok r then more else was) → now ≡ more
-pushed (Ok x) now was more done is = is
-pushed (Err e) now was more done is = absurd (cc)
 
 pub map_more : {X Y : Type 0} (f : X → Y) (xs : List X) (i : ℕ) (last : X) (ys now : List Y) (y : Y) → i < length xs → ys ≡ map f (take i xs) → y ≡ f (get_or xs i last)
     → now ≡ ys ++ y ∷ [] → now ≡ map f (take (i + 1) xs)

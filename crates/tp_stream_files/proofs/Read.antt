@@ -9,9 +9,6 @@ none_from (Some all) at out = refl
 
 -- ## The end of an input
 
-pub ends_nowhere : (input : Option (List ℕ)) → EndsThere None input
-ends_nowhere input at all is known = absurd (cc)
-
 -- where it was come to stays so as long as the input is what it was
 pub ends_still : (ended : Option ℕ) (old new : Option (List ℕ)) → new ≡ old → EndsThere ended old → EndsThere ended new
 ends_still ended old new same end at all is known = end at all is (sym same ∙ known)

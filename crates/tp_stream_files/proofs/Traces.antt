@@ -3,13 +3,9 @@ use Rattle.std.proofs.Common.{◌≡◌, ◌≤◌, ◌-◌, take, drop, arith, 
 use Rattle.std.proofs.Math.Seq.{drop-append_seam}
 use Rattle.std.proofs.lemmas.List.{drop_all, drop-drop, drop-take, length-take-le, take-append-le, take-take}
 use Rattle.tp_stream_files.specs.Told.{EndTold, Opened, SyncedFolder, Measured, MeasureFailed, HasRead, ReadFailed, Wrote, Synced, Gave, GiveFailed}
-use Rattle.tp_stream_files.specs.Trace.{size_after, size_told, bytes_given, is_none, says_end, says_failed, GrewAlike}
+use Rattle.tp_stream_files.specs.Trace.{bytes_given, is_none, says_end, says_failed, GrewAlike}
 
 -- ## A file's length
-
-pub size_told-append : (size : ℕ) (calls more : List EndTold) → size_told size (calls ++ more) ≡ size_told (size_told size calls) more
-size_told-append size [] more = refl
-size_told-append size (call ∷ calls) more = size_told-append (size_after size call) calls more
 
 -- ## The bytes of a feed
 

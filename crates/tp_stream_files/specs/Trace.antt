@@ -16,11 +16,6 @@ size_after size (Synced ok) = size
 size_after size (Gave bytes) = size
 size_after size GiveFailed = size
 
--- how many bytes a file has as its calls say: as measured, and grown by each write that was done
-abbrev pub size_told : ℕ → List EndTold → ℕ
-size_told size [] = size
-size_told size (call ∷ calls) = size_told (size_after size call) calls
-
 -- the answer to a measure
 abbrev pub measured : {E : Type 0} → Result ℕ E → EndTold
 measured (Ok size) = Measured size

@@ -1,7 +1,7 @@
 -- What tests of all elements say of each.
 use Rattle.std.proofs.Common.{◌≡◌, ℕ, zero, suc, List, [], ◌∷◌, Bool, true, map, sym, ap, subst, ◌∙◌, arith, Some}
 use Rattle.std.specs.Prelude.{slice_get}
-use Rattle.std.specs.List.{AllByRecursion, list_all}
+use Rattle.std.specs.List.{list_all}
 use Rattle.std.proofs.lemmas.Bool.{and_parts, ltb-true}
 use Rattle.std.proofs.lemmas.List.Folds.{list_all-map}
 use Rattle.tp_model.specs.NodeState.{NodeState}
@@ -9,10 +9,6 @@ use Rattle.tp_model.specs.Network.{Network}
 use Rattle.tp_book.specs.Ports.{PortValue}
 use Rattle.tp_replay.specs.Flat.{CanCount}
 use Rattle.tp_tests_opening.specs.CanCount.{can_count}
-
-pub each_passes : {A : Type 0} (p : A → Bool) (xs : List A) → list_all p xs ≡ true → AllByRecursion (λ x. p x ≡ true) xs
-each_passes p [] passed = tt
-each_passes p (x ∷ xs) passed = let both = and_parts (p x) (list_all p xs) passed in (both.0, each_passes p xs both.1)
 
 passes_at : {A : Type 0} (p : A → Bool) (xs : List A) → list_all p xs ≡ true → (i : ℕ) (x : A) → slice_get xs i ≡ Some x → p x ≡ true
 passes_at p [] passed i x at = cc

@@ -2,7 +2,6 @@ pub mod EachPasses
 pub mod Lone
 pub mod Members
 pub mod Numbered
-pub mod Numbers
 pub mod Pair
 pub mod PairTurns
 pub mod PairWhole

@@ -274,13 +274,6 @@ marker_none : (held : Option ℕ) (ms : List (ℕ × Token)) (count : ℕ) → t
 unfolding turned took_all took
 marker_none held ms count = refl
 
-steps_none : (byte count : ℕ) → turned t414 ((zero, Data byte) ∷ []) (suc count) (halted_node None) ≡ None
-unfolding turned took_all took steps step_of node_step
-steps_none byte count = refl
-
-and_out : (a b : Bool) → a ≡ false → (a && b) ≡ false
-and_out a b h = rw h refl
-
 -- a token that comes in on another link than the first
 later_out : (side : Side) (k : ℕ) (t : Token) (ms : List (ℕ × Token)) → comes_in pair_wires 2 (number_of side) ((suc k, t) ∷ ms) ≡ false
 later_out First k t ms = rw (comes_first_on k) refl

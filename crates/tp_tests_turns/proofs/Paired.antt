@@ -18,7 +18,7 @@ use Rattle.tp_law_machine.proofs.Numbers.{AreBytes}
 use Rattle.tp_law_machine.specs.NodeOfBytes.{IsNodeOfBytes}
 use Rattle.tp_node.specs.NodeContents.{NodeContents}
 use Rattle.tp_book.specs.Book.{BookValue, agreed}
-use Rattle.tp_book.specs.Start.{IsFresh, IsNetwork, first_book}
+use Rattle.tp_book.specs.Start.{IsFresh, first_book}
 use Rattle.tp_replay.specs.Flat.{IsFlat}
 use Rattle.tp_turn.specs.Tried.{fresh_image}
 use Rattle.tp_turn.proofs.Begun.{fresh_is, node_of_is, first_agreed}
@@ -128,9 +128,6 @@ module _ (n m : NodeState) (n_idle : has_idle_links n ≡ true) (m_idle : has_id
     lines = refl;
     ports = refl;
   }
-
-  pub pair_shaped : IsNetwork s
-  pair_shaped = record { wires = refl; few_nodes = omega arith; few_ports = omega arith }
 
   pub pair_flat : IsNodeOfBytes n → IsNodeOfBytes m → IsFlat s
   pair_flat n_image m_image = record {

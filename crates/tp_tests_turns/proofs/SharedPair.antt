@@ -20,7 +20,7 @@ use Rattle.tp_node.specs.NodeContents.{NodeContents}
 use Rattle.tp_node.specs.FromImage.{ReadsImage}
 use Rattle.tp_node.proofs.Answered.{image_read, image_thawed}
 use Rattle.tp_book.specs.Book.{BookValue, agreed}
-use Rattle.tp_book.specs.Start.{IsFresh, IsNetwork, first_book}
+use Rattle.tp_book.specs.Start.{IsFresh, first_book}
 use Rattle.tp_turn.specs.Moments.{IsNodeOf}
 use Rattle.tp_tests_turns.specs.SharedPair.{pair_network}
 
@@ -113,9 +113,6 @@ module _ (n : NodeState) (idle : has_idle_links n ≡ true) where
     lines = refl;
     ports = refl;
   }
-
-  pub pair_shaped : IsNetwork s
-  pair_shaped = record { wires = refl; few_nodes = omega arith; few_ports = omega arith }
 
 -- a node that was read of an image agrees with the book of two of it
 pub pair_agrees : (image : List ℕ) (node : NodeContents) (b : BookValue) → AreBytes image → ReadsImage (node_of image) (Ok node) → b ≡ first_book (pair_network (node_at image)) None

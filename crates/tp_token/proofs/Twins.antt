@@ -12,13 +12,6 @@ module _ {M : Type 1} {𝓤 : Ura M} (𝓛 : Logic 𝓤) {V : Type 0} (coded : C
   abbrev Twin : (name name' : ℕ) → V → V → SProp 𝓤
   Twin name name' x y = sep 𝓤 (sem 𝓛 (seal_owns coded.code name x)) (sem 𝓛 (key_owns coded.code name' y))
 
-  at_one_name : (name : ℕ) (x y : V) → ent 𝓤 (Twin name name x y) (𝓛.H.⇛ (guard 𝓤 (x ≡ y) (Twin name name x y)))
-  at_one_name name x y = qed 𝓛 (‵ (seal_owns coded.code name x) ∷ ‵ (key_owns coded.code name y) ∷ []) ∵ updating ! $ move ! (1 ∷ 0 ∷ []) $ name_agree ! coded (λ same. now ! $ check ! (sym same) $ move ! (1 ∷ 0 ∷ []) $ done !)
-
-  -- both show one value
-  pub agrees : (name name' : ℕ) (x y : V) → name ≡ name' → ent 𝓤 (Twin name name' x y) (𝓛.H.⇛ (guard 𝓤 (x ≡ y) (Twin name name' x y)))
-  agrees name name' x y one = subst (λ n. ent 𝓤 (Twin name n x y) (𝓛.H.⇛ (guard 𝓤 (x ≡ y) (Twin name n x y)))) one (at_one_name name x y)
-
   turned : (name : ℕ) (x y z : V) → ent 𝓤 (Twin name name x y) (𝓛.H.⇛ (guard 𝓤 (x ≡ y) (Twin name name z z)))
   turned name x y z = qed 𝓛 (‵ (seal_owns coded.code name x) ∷ ‵ (key_owns coded.code name y) ∷ []) ∵ updating ! $ move ! (1 ∷ 0 ∷ []) $ name_agree ! coded (λ same. name_set ! tt (coded.code z) $ now ! $ check ! (sym same) $ move ! (1 ∷ 0 ∷ []) $ done !)
 

@@ -9,7 +9,6 @@ use Rattle.tp_model.specs.declared.link.Token.{Token}
 use Rattle.tp_model.specs.declared.link.Token.TheVariants.{Data, Ack, Marker}
 use Rattle.tp_model.specs.declared.link.Received.{Received}
 use Rattle.tp_model.specs.declared.link.Received.TheVariants.{Nothing}
-use Rattle.tp_model.specs.NodeState.{NodeState}
 use Rattle.tp_model.specs.Node.{t414}
 use Rattle.tp_model.specs.Network.{◌>>=◌, back, line_of, on_line, receiver, steps}
 use Rattle.tp_model.specs.Markers.{before}
@@ -27,13 +26,10 @@ use Rattle.tp_book.specs.Kept.{BookKeeps}
 use Rattle.tp_book.specs.Refusals.{needs_take}
 use Rattle.tp_book.proofs.Commit.{length-agreed}
 use Rattle.tp_turn.specs.Turns.{InOrder}
-use Rattle.tp_turn.specs.Moments.{IsNodeOf, Added, entries_among}
-use Rattle.tp_turn.specs.Hosted.{HostAdded}
+use Rattle.tp_turn.specs.Moments.{IsNodeOf, entries_among}
 use Rattle.tp_turn.specs.Receiving.{Answered, IsAhead, Receives, ReceivesOf, offered, offered_on}
 use Rattle.tp_turn.specs.Whole.{HasTurnedOn}
-use Rattle.tp_turn.proofs.Adding.{others_stay}
 use Rattle.tp_turn.proofs.Answering.{each_took, each_kept, took_more}
-use Rattle.tp_turn.proofs.Hosting.{nodes_stay}
 use Rattle.tp_turn.proofs.Possible.{comes_in}
 use Rattle.tp_turn.proofs.Standing.{StandsOn, are_received}
 
@@ -217,26 +213,3 @@ pub stays_with : (a b : BookValue) → BookKeeps a.state → (number other : ℕ
 stays_with a b K number other takes acts did apart own R =
     received_stays a b number takes acts did
     (not_of a number other apart acts (subst (λ n. AllByRecursion (λ e. process a.state.start.wires n e ≡ other) (entries_among acts)) (sym (length-agreed a.state K)) own)) R
-
--- The node stays ahead while another node acts, and while the host does.
-pub ahead_stays : (number other : ℕ) (node : NodeState) (takes : List Received) (sent : List (ℕ × Token)) (n : NodeContents) (acts : List Act) (a b : BookValue) → BookKeeps a.state → Added other node acts a b → number ≢ other
-    → IsAhead a number takes sent n → IsAhead b number takes sent n
-ahead_stays number other node takes sent n acts a b K A apart H = record {
-  before = H.before;
-  is = others_stay other number node H.before acts a b A apart H.is;
-  received = stays_with a b K number other takes acts A.did (λ same. apart (sym same)) A.own H.received;
-  took = H.took;
-  kept = H.kept;
-  image = H.image;
-}
-
-pub ahead_stays_host : (number : ℕ) (takes : List Received) (sent : List (ℕ × Token)) (n : NodeContents) (acts : List Act) (a b : BookValue) → BookKeeps a.state → number < length a.state.start.nodes → HostAdded acts a b
-    → IsAhead a number takes sent n → IsAhead b number takes sent n
-ahead_stays_host number takes sent n acts a b K below A H = record {
-  before = H.before;
-  is = nodes_stay number H.before acts a b A H.is;
-  received = stays_with a b K number (length a.state.start.nodes) takes acts A.did (λ same. omega (arith, same, below)) A.own H.received;
-  took = H.took;
-  kept = H.kept;
-  image = H.image;
-}

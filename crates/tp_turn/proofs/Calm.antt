@@ -24,7 +24,7 @@ use Rattle.tp_law_machine.proofs.Partial.{bind_some}
 use Rattle.tp_law_network.proofs.Reorder.{after_one, after_shape}
 use Rattle.tp_book.specs.Book.{BookValue, agreed, next_in_book, reserved, world_of}
 use Rattle.tp_book.specs.Dropped.{network_now}
-use Rattle.tp_book.specs.Refusals.{else_if, entry_refusal, host_refusal, is_full_for, is_full_for_take, is_journal_full, needs_take, port_behind, ready_refusal, reserve_refusal, takeable_of, IsAnswer}
+use Rattle.tp_book.specs.Refusals.{else_if, entry_refusal, host_refusal, is_full_for, is_full_for_take, is_journal_full, needs_take, port_behind, reserve_refusal, takeable_of, IsAnswer}
 use Rattle.tp_book.specs.declared.refusal.Refusal.{Refusal}
 use Rattle.tp_book.specs.declared.refusal.Refusal.TheVariants.{JournalFull, Memory, NothingToTake, PortFull, StoreBroken}
 use Rattle.tp_book.proofs.Fresh.{none_reserved}
@@ -147,16 +147,6 @@ module _ (b : BookValue) (L : IsLoneBook b) (left : next_in_book b + 1 < NUMBER_
   pub run_refused : (A : Type 0) (e : Refusal) → IsAnswer {A = A} (reserve_refusal b) (Err e) → e ≡ Memory
   run_refused A e = subst (λ o. IsAnswer {A = A} o (Err e) → e ≡ Memory) (sym nothing_refused) (λ is. is)
 
-  -- a node's take
-  pub ready_refused : (line : ℕ) (r : Refusal) → ready_refusal b line ≡ Some r → r ≡ NothingToTake
-  ready_refused line r = go (is_none (takeable_of (on_line b.state.lines line))) b.broken (is_full_for_take b (needs_take b line)) L.whole (free_take (needs_take b line))
-    where
-      go : (none broken full : Bool) → broken ≡ false → full ≡ false → else_if (else_if (else_if None none NothingToTake) broken StoreBroken) full JournalFull ≡ Some r → r ≡ NothingToTake
-      go true broken full whole not e = cc
-      go false true full whole not e = cc
-      go false false true whole not e = cc
-      go false false false whole not e = cc
-
   -- a port's take
   pub host_refused : (line : ℕ) (r : Refusal) → host_refusal b line ≡ Some r
       → (r ≡ NothingToTake) ⊎ (is_full_for (port_behind b (receiver b.state.start.wires line)) (get_or (on_line b.state.lines line) 0 Marker) ≡ true)
@@ -183,16 +173,6 @@ host_not_full b L left line =
     go false false true full not e = cc
     go false false false true not e = cc
     go false false false false not e = cc
-
--- a store that isn't broken is told as none, however full the journal is
-pub ready_not_broken : (b : BookValue) → b.broken ≡ false → (line : ℕ) → ready_refusal b line ≡ Some StoreBroken → ⊥
-ready_not_broken b whole line = go (is_none (takeable_of (on_line b.state.lines line))) b.broken (is_full_for_take b (needs_take b line)) whole
-  where
-    go : (none broken full : Bool) → broken ≡ false → else_if (else_if (else_if None none NothingToTake) broken StoreBroken) full JournalFull ≡ Some StoreBroken → ⊥
-    go true broken full whole e = cc
-    go false true full whole e = cc
-    go false false true whole e = cc
-    go false false false whole e = cc
 
 pub host_not_broken : (b : BookValue) → b.broken ≡ false → (line : ℕ) → host_refusal b line ≡ Some StoreBroken → ⊥
 host_not_broken b whole line =

@@ -2,17 +2,12 @@
 use Rattle.std.proofs.Common.{◌≡◌, ℕ, zero, suc, Bool, true, false, cond, List, [], ◌∷◌, set, get_or, refl, sym, ap, subst, ◌∙◌, Some, None, slice_get, length, map}
 use Rattle.std.specs.Prelude.{nat_lt}
 use Rattle.std.specs.List.{AllByRecursion}
-use Rattle.std.proofs.lemmas.Bool.{le-leb}
-use Rattle.tp_model.specs.declared.limits.TheConstants.{MAX_STEPS}
 use Rattle.tp_model.specs.declared.link.Token.{Token}
 use Rattle.tp_model.specs.declared.link.Received.{Received}
 use Rattle.tp_model.specs.declared.entry.Entry.{Entry}
 use Rattle.tp_model.specs.declared.entry.Entry.TheVariants.{Run, Turn}
-use Rattle.tp_model.specs.declared.form.Form.TheVariants.{Turns}
-use Rattle.tp_model.specs.EntryBytes.{is_of}
-use Rattle.tp_model.specs.Network.{taken}
 use Rattle.tp_model.specs.Node.{t414}
-use Rattle.tp_model.specs.Turn.{by_line, by_link, comes_in}
+use Rattle.tp_model.specs.Turn.{by_link}
 use Rattle.tp_model.specs.Entries.{process}
 use Rattle.tp_model.specs.Acts.{Journal, acted}
 use Rattle.tp_law_network.specs.Reserved.{turn_acts, turn_entries}
@@ -23,9 +18,7 @@ use Rattle.tp_book.specs.Sends.{on_lines}
 use Rattle.tp_book.specs.Needs.{has_recorded_in}
 use Rattle.tp_book.specs.Book.{BookValue, agreed, world_of}
 use Rattle.tp_book.specs.Calls.{without_run, with_journalled}
-use Rattle.tp_book.specs.Kept.{BookKeeps}
-use Rattle.tp_book.specs.Turning.{after_turn, with_entries, IsTurned, TurnIsAgreed}
-use Rattle.tp_book.proofs.Commit.{length-agreed}
+use Rattle.tp_book.specs.Turning.{after_turn, with_entries, TurnIsAgreed}
 use Rattle.tp_turn.specs.Books.{Grew}
 use Rattle.tp_turn.specs.Moments.{IsNodeOf, entries_among, Added}
 use Rattle.tp_turn.specs.Whole.{HasTurnedOn}
@@ -44,31 +37,7 @@ entries_either P number takes count none turn run = go (nat_lt 0 (length (by_lin
     go true = turn
     go false = runs count
 
--- an area with turns holds every entry
-pub held : (b : BookValue) (es : List Entry) → b.form ≡ Turns → AllByRecursion (λ e. is_of b.form e ≡ true) es
-held b es form = subst (λ f. AllByRecursion (λ e. is_of f e ≡ true) es) (sym form) (all es)
-  where
-    all : (es : List Entry) → AllByRecursion (λ e. is_of Turns e ≡ true) es
-    all [] = tt
-    all (e ∷ es) = (refl, all es)
-
 module _ (b : BookValue) (number : ℕ) (takes : List Received) (count : ℕ) (tokens : List (ℕ × Token)) (m : NodeContents) (R : HasTurnedOn b number takes count tokens m) where
-  -- what the book asks of it
-  pub turn_made : BookKeeps b.state → IsTurned b number takes count tokens
-  turn_made K =
-      let many = length-agreed b.state K in
-      record {
-        before = R.before.live;
-        after = m.live;
-        there = R.is.there;
-        turned = record {
-          into = ap (λ n. comes_in b.state.start.wires n number (by_link 0 takes)) (sym many) ∙ R.received.into;
-          out = R.received.out;
-          front = ap (λ n. taken b.state.lines (by_line b.state.start.wires n number (by_link 0 takes))) (sym many) ∙ R.received.front;
-          few = le-leb count MAX_STEPS R.few;
-          made = R.made;
-        };
-      }
 
   module _ (new : BookValue) (is : new ≡ after_turn b number takes count tokens) (agrees : TurnIsAgreed b new number takes count tokens) (act : acted t414 (world_of b) (turn_acts number takes count) ≡ Some (world_of new)) where
     abbrev w : BookValue

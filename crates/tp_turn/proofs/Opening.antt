@@ -1,5 +1,5 @@
 -- A turn that was opened in the form of its book.
-use Rattle.std.proofs.Common.{◌≡◌, ℕ, ◌≤◌, Bool, true, false, inl, inr, List, [], ◌++◌, refl, sym, ap, subst, ◌∙◌, Option, Some, None}
+use Rattle.std.proofs.Common.{◌≡◌, ℕ, ◌≤◌, Bool, true, false, inl, inr, List, [], ◌++◌, refl, sym, ap, subst, ◌∙◌, Some, None}
 use Rattle.std.specs.Prelude.{Ok, Err}
 use Rattle.tp_model.specs.declared.form.Form.{Form}
 use Rattle.tp_model.specs.declared.form.Form.TheVariants.{Plain, Turns}
@@ -82,15 +82,6 @@ pub took_then_ran : (tokens sent more : List (ℕ × Token)) (count : ℕ) (befo
 unfolding turned
 took_then_ran tokens sent more count before ahead after took ran =
     ap (λ o. o >>= λ first. steps t414 count first.0 >>= λ rest. Some (rest.0, first.1 ++ rest.1)) took ∙ ap (λ o. o >>= λ rest. Some (rest.0, sent ++ rest.1)) ran
-
--- without a token there are the steps alone
-pub turned_none : (count : ℕ) (node : NodeState) → turned t414 [] count node ≡ steps t414 count node
-unfolding turned took_all
-turned_none count node = go (steps t414 count node)
-  where
-    go : (o : Option (NodeState × List (ℕ × Token))) → (o >>= λ rest. Some (rest.0, [] ++ rest.1)) ≡ o
-    go None = refl
-    go (Some rest) = refl
 
 nothing_sent : (before ahead : NodeState) (sent : List (ℕ × Token)) → took_all t414 [] before ≡ Some (ahead, sent) → before ≡ ahead
 unfolding took_all

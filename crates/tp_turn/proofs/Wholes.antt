@@ -1,7 +1,6 @@
 -- A whole turn in its stages.
-use Rattle.std.proofs.Common.{◌≡◌, ◌≢◌, ℕ, Bool, true, false, cond, inl, inr, List, [], refl, sym, ap, subst, ◌∙◌, length, Option, Some, None, slice_get}
+use Rattle.std.proofs.Common.{◌≡◌, ℕ, Bool, true, false, inl, inr, List, [], refl, sym, ap, subst, ◌∙◌, length, Option, Some, None, slice_get}
 use Rattle.std.specs.Prelude.{Ok, Err}
-use Rattle.std.proofs.lemmas.Bool.{cases_Bool, true≢false}
 use Rattle.tp_model.specs.declared.link.Token.{Token}
 use Rattle.tp_model.specs.declared.link.Received.{Received}
 use Rattle.tp_model.specs.NodeWrites.{node_ranges, kept_behind_steps}
@@ -13,12 +12,11 @@ use Rattle.tp_node.specs.NodeContents.{NodeContents, memory_kept}
 use Rattle.tp_node.specs.RunEnd.{IsWhy}
 use Rattle.tp_book.specs.Needs.{has_recorded_in}
 use Rattle.tp_book.specs.declared.refusal.Refusal.{Refusal}
-use Rattle.tp_book.specs.declared.refusal.Refusal.TheVariants.{JournalFull, StoreBroken}
+use Rattle.tp_book.specs.declared.refusal.Refusal.TheVariants.{JournalFull}
 use Rattle.tp_book.specs.Book.{BookValue, agreed}
 use Rattle.tp_book.specs.Calls.{with_run, without_run}
-use Rattle.tp_book.specs.Refusals.{else_if, is_journal_full, is_full_for_take, reserve_refusal, IsAnswer}
+use Rattle.tp_book.specs.Refusals.{reserve_refusal, IsAnswer}
 use Rattle.tp_book.specs.Turning.{takes_refusal}
-use Rattle.tp_book.proofs.TakeRefused.{full_for_any}
 use Rattle.tp_turn.specs.declared.receiving.Taken.{Taken}
 use Rattle.tp_turn.specs.declared.stages.Turn.{Turn}
 use Rattle.tp_turn.specs.Moments.{TurnMoment, moment_of, Added, Done}
@@ -29,26 +27,6 @@ use Rattle.tp_turn.proofs.Ahead.{receives_kept}
 use Rattle.tp_turn.proofs.Staging.{freed}
 
 -- ## Room
-
--- why a turn ends that finds no room, but for a full journal: where there is room for a turn, there is room for what a recorded node takes
-pub why_refused : (b : BookValue) (recorded : Bool) (e : Refusal) → e ≢ JournalFull → IsAnswer {A = Unit {0}} (reserve_refusal b) (Err e) → IsAnswer {A = Unit {0}} (turn_refusal b recorded) (Err e)
-why_refused b false e other h = h
-why_refused b true e other h = go b.broken h
-  where
-    room : is_journal_full b 1 ≡ false → is_full_for_take b true ≡ false
-    room is = elim (cases_Bool (is_full_for_take b true)) [
-      | inl full ↦ absurd (true≢false (sym (full_for_any b true full) ∙ is))
-      | inr not ↦ not
-    ]
-
-    full : (c : Bool) → is_journal_full b 1 ≡ c → IsAnswer {A = Unit {0}} (cond c (Some JournalFull) None) (Err e) → IsAnswer {A = Unit {0}} (cond (is_full_for_take b true) (Some JournalFull) None) (Err e)
-    full true is h = absurd (other h)
-    full false is h = subst (λ c. IsAnswer {A = Unit {0}} (cond c (Some JournalFull) None) (Err e)) (sym (room is)) h
-
-    go : (broken : Bool) → IsAnswer {A = Unit {0}} (else_if (else_if None broken StoreBroken) (is_journal_full b 1) JournalFull) (Err e)
-        → IsAnswer {A = Unit {0}} (else_if (else_if None broken StoreBroken) (is_full_for_take b true) JournalFull) (Err e)
-    go true h = h
-    go false h = full (is_journal_full b 1) refl h
 
 -- ## What ends it
 
@@ -98,14 +76,6 @@ is_reserved b x number is free = ap (λ y. slice_get y.runs number) is ∙ slice
 pub made_free : {A : Type 0} (o : Option Refusal) (x : A) → IsAnswer o (Ok x) → o ≡ None
 made_free None x h = refl
 made_free (Some e) x h = absurd h
-
--- a full journal was the reason
-pub full_answer : (A : Type 0) (b : BookValue) → IsAnswer {A = A} (reserve_refusal b) (Err JournalFull) → reserve_refusal b ≡ Some JournalFull
-full_answer A b h = go (reserve_refusal b) h
-  where
-    go : (o : Option Refusal) → IsAnswer {A = A} o (Err JournalFull) → o ≡ Some JournalFull
-    go None h = cc
-    go (Some e) h = ap Some (sym h)
 
 -- ## A whole turn
 

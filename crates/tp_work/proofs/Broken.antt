@@ -1,18 +1,15 @@
 -- Turns that were refused.
-use Rattle.std.proofs.Common.{◌≡◌, ◌≤◌, ◌<◌, ℕ, inl, inr, List, Some, length, sym, subst}
+use Rattle.std.proofs.Common.{◌≡◌, ◌≤◌, ◌<◌, ℕ, inl, inr, List, length, sym, subst}
 use Rattle.tp_model.specs.declared.entry.Entry.{Entry}
 use Rattle.tp_model.specs.NodeState.{NodeState}
 use Rattle.tp_model.specs.Network.{Network}
 use Rattle.tp_book.specs.declared.refusal.Refusal.{Refusal}
 use Rattle.tp_book.specs.declared.refusal.Refusal.TheVariants as refusal
-use Rattle.tp_ready.specs.Numbers.{Numbers}
-use Rattle.tp_ready.specs.declared.answers.Answer.{Answer}
 use Rattle.tp_shared.specs.Entries.{IsTurnRefusal, AreTakes, TookAlone}
 use Rattle.tp_shared.specs.Gains.{Gained}
 use Rattle.tp_shared.specs.Holds.{InHand}
-use Rattle.tp_work.specs.Turns.{Refused, turn_fault, Handed, RefusedAt, RefusedFor, RefusedBy, TookBefore}
-use Rattle.tp_work.specs.declared.fault.TurnFault.{TurnFault}
-use Rattle.tp_work.specs.declared.fault.TurnFault.TheVariants.{Empty, JournalFull, StoreBroken, Memory}
+use Rattle.tp_work.specs.Turns.{Refused, turn_fault, RefusedAt, RefusedFor, TookBefore}
+use Rattle.tp_work.specs.declared.fault.TurnFault.TheVariants.{JournalFull, StoreBroken, Memory}
 
 -- ## What was taken before
 
@@ -54,11 +51,3 @@ refused_for start process old new refusal.Memory is took went = (took, went)
 refused_for start process old new refusal.NothingToTake is took went = absurd is
 refused_for start process old new refusal.SnapshotRunning is took went = absurd is
 refused_for start process old new refusal.PortFull is took went = absurd is
-
--- the process is the one that the queue handed out
-pub refused_by : (start : Network NodeState) (queue : Numbers) (process : ℕ) (fault : TurnFault) (asked_old asked_new : List Answer) (old new : InHand)
-    → Handed queue (Some process) asked_old asked_new → RefusedFor start process fault old new → RefusedBy start queue fault asked_old asked_new old new
-refused_by start queue process Empty asked_old asked_new old new handed was = absurd was
-refused_by start queue process JournalFull asked_old asked_new old new handed was = (process, handed, was)
-refused_by start queue process StoreBroken asked_old asked_new old new handed was = (process, handed, was)
-refused_by start queue process Memory asked_old asked_new old new handed was = (process, handed, was)

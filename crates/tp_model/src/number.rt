@@ -1,15 +1,12 @@
-//! Numbers in an entry's bytes, the low byte first.
+//! Numbers in bytes, the low byte first.
 
-ghost use Rattle.std.specs.Prelude.{◌≡◌, ◌+◌, ◌≤◌};
+ghost use Rattle.std.specs.Prelude.{◌≡◌, ◌+◌, ◌≤◌, length};
 ghost use Rattle.tp_model.specs.Bytes.{u16_at, u32_at, u64_at};
-ghost use Rattle.tp_model.specs.declared.limits.TheConstants.{ENTRY_BYTES};
-
-use tp_model::limits::ENTRY_BYTES;
 
 /// The number in two bytes from a place on.
 #[inline(always)]
-pub(crate) fn u16_at(bytes: &[u8; ENTRY_BYTES], at: usize) -> u16
-    requires { at + 2 ≤ ENTRY_BYTES }
+pub fn u16_at(bytes: &[u8], at: usize) -> u16
+    requires { at + 2 ≤ length bytes.now }
     ensures { result ≡ u16_at bytes.now at }
 {
     u16::from_le_bytes([bytes[at], bytes[at + 1]])
@@ -17,8 +14,8 @@ pub(crate) fn u16_at(bytes: &[u8; ENTRY_BYTES], at: usize) -> u16
 
 /// The number in four bytes from a place on.
 #[inline(always)]
-pub(crate) fn u32_at(bytes: &[u8; ENTRY_BYTES], at: usize) -> u32
-    requires { at + 4 ≤ ENTRY_BYTES }
+pub fn u32_at(bytes: &[u8], at: usize) -> u32
+    requires { at + 4 ≤ length bytes.now }
     ensures { result ≡ u32_at bytes.now at }
 {
     u32::from_le_bytes([bytes[at], bytes[at + 1], bytes[at + 2], bytes[at + 3]])
@@ -26,8 +23,8 @@ pub(crate) fn u32_at(bytes: &[u8; ENTRY_BYTES], at: usize) -> u32
 
 /// The number in eight bytes from a place on.
 #[inline(always)]
-pub(crate) fn u64_at(bytes: &[u8; ENTRY_BYTES], at: usize) -> u64
-    requires { at + 8 ≤ ENTRY_BYTES }
+pub fn u64_at(bytes: &[u8], at: usize) -> u64
+    requires { at + 8 ≤ length bytes.now }
     ensures { result ≡ u64_at bytes.now at }
 {
     u64::from_le_bytes([
