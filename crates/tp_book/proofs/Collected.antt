@@ -2,11 +2,9 @@
 use Rattle.std.proofs.Common.{◌≡◌, ℕ, ◌+◌, ◌<◌, Bool, List, ◌∷◌, length, drop, get_or, ap, subst, sym, ◌∙◌, add-one, drop-cons}
 use Rattle.tp_model.specs.declared.link.Token.{Token}
 use Rattle.tp_model.specs.Network.{sent}
-use Rattle.tp_model.specs.Snapshot.{Snapshot, collected}
+use Rattle.tp_model.specs.Snapshot.{collected}
 use Rattle.tp_book.specs.Room.{HasRoom}
 use Rattle.tp_book.proofs.Sending.{Next}
-
-module _ (snap : Snapshot) (p : ℕ) (tokens : List (ℕ × Token)) where
 
 -- Tokens from a place on have room and lead to the final lines: so does the token there, and what is left behind it.
 pub next_collected : (on : ℕ → Bool) (lines final : List (List Token)) (tokens : List (ℕ × Token)) (i : ℕ) (d : ℕ × Token) → i < length tokens

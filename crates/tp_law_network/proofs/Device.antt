@@ -131,7 +131,3 @@ module _ {Node : Type 0} (M : Machine Node) (A : Areas Node) (law : AreasHold M 
 
   pub switch_synced : (disk : Moment) (copy : Held Node) → Switching A h disk copy → A.verdict disk.bytes ≡ Some copy
   switch_synced disk copy s = ap (λ m. A.verdict m.bytes) s.is ∙ law.switched s.old h copy s.place s.reads s.other
-
-  -- ## Each call of the flusher
-
-  module _ (disk : Moment) (backlog : List Entry) where

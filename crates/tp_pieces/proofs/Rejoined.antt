@@ -182,7 +182,6 @@ start_first first past [] C = sym C
 start_first first past (r ∷ rs) C = C.0
 
 module _ (t : Network NodeState) (items : List NetPart) (a : Apart) (B : AreBefore t items a) where
-
   abbrev piece_is : ℕ → HeldPart → Type 0
   piece_is i held = has held ≡ whose (run_at B.rs i).0 (Some (run_at B.rs i).1)
 

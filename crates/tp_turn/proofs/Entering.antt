@@ -38,7 +38,6 @@ entries_either P number takes count none turn run = go (nat_lt 0 (length (by_lin
     go false = runs count
 
 module _ (b : BookValue) (number : ℕ) (takes : List Received) (count : ℕ) (tokens : List (ℕ × Token)) (m : NodeContents) (R : HasTurnedOn b number takes count tokens m) where
-
   module _ (new : BookValue) (is : new ≡ after_turn b number takes count tokens) (agrees : TurnIsAgreed b new number takes count tokens) (act : acted t414 (world_of b) (turn_acts number takes count) ≡ Some (world_of new)) where
     abbrev w : BookValue
     w = without_run b number
