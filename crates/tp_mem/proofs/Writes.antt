@@ -7,7 +7,7 @@ use Rattle.tp_model.specs.Memory.{offset, word_offset, set_byte, set_word, byte_
 use Rattle.tp_mem.specs.After.{changed_after}
 use Rattle.tp_mem.specs.Bytes.{byte_changed}
 use Rattle.tp_mem.specs.Ranges.{are_inside}
-pub use Rattle.tp_law_machine.proofs.Writes.{word_within, length-set_word, length-set_byte, length-stored, length-byte_stored, length-copied, length-then, length-changed, stored-append}
+pub use Rattle.tp_law_machine.proofs.Writes.{word_within, length-set_word, length-set_byte, length-stored, length-byte_stored, length-copied, length-then, length-changed}
 
 -- where a write goes outside memory of n bytes, the writes have no meaning
 pub stored_outside : (memory : List ℕ) (writes : List (ℕ × ℕ)) (n : ℕ) → length memory ≡ n → n % 4 ≡ 0 → are_inside n writes ≡ false → stored memory writes ≡ None

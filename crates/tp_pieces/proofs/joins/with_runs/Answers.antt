@@ -1,6 +1,6 @@
 use Rattle.std.proofs.Common.{◌≡◌, ◌+◌, sym, ap, subst, ◌∙◌, length}
 use Rattle.tp_pieces.specs.Joining.{HoldsFrom}
-use Rattle.tp_pieces.proofs.Rejoined.{are_left, begins, goes_before, left_long, none_yet, not_host, start_at, start_first, was_last, was_there}
+use Rattle.tp_pieces.proofs.Rejoined.{are_left, begins, goes_before, left_long, not_host, start_at, start_first, was_last, was_there}
 use Rattle.tp_pieces.proofs.joins.with_runs.Goals as goal
 
 pub with_run-requires : goal.with_run-requires
