@@ -14,7 +14,7 @@ here=$(CDPATH= cd -- "$(dirname -- "$0")" && pwd)
 tools=$here/../../tools
 folder=$1
 tpnet=${2:-$here/../../crates/tpnet/out/tpnet}
-[ $# -eq 2 ] || [ -e "$tpnet" ] || tpnet=tpnet      # the one on the path, as behind an install
+[ $# -eq 2 ] || [ -e "$tpnet" ] || tpnet=tpnet      # the one on the path, as after an install
 
 command -v -- "$tpnet" > /dev/null || {
     echo "make: no program: $tpnet: build it (docs/GUIDE.md), or name it after FOLDER" >&2

@@ -1,6 +1,6 @@
 # A desk with three clients, on links 1, 2 and 3, which send numbers. A door of high priority takes each number as soon as it comes, as long as
 # there is room for it, and puts it into a queue. A clerk of low priority asks the door for one number after another, and counts in how many steps it
-# comes to 1: an even number is halved, an odd one becomes 3 n + 1. Beside the clerk, and at the same priority, a third process counts primes.
+# comes to 1: an even number is halved, an odd one becomes 3 n + 1. A third process, of low priority, too, counts primes meanwhile.
 # At the end the clerk puts out, for each client, how many numbers there were, the sum of their steps, and the most steps; and then the primes.
 include "../common.inc"
     process door entrance high
