@@ -8,8 +8,8 @@ ghost use Rattle.tp_model.specs.Head.{first_port, numbers_at, numbers_bytes, u16
 
 use crate::written::put;
 use arrayvec::ArrayVec;
-use tp_model::number::u16_at;
 use tp_model::HeadVersion;
+use tp_model::number::u16_at;
 
 /// Appends numbers, one byte each.
 fn put_u8s<const N: usize>(numbers: &[u16], out: &mut ArrayVec<u8, N>)
