@@ -57,18 +57,21 @@ set a.img 41 00
 tpnet trace a.img
 
 story busy
-# An end of a link is at work, as in an image that tpnet image took: it is as it was. An output waits, so the letter finds its link busy; an input waits, or an
-# alternative has enabled it, which is nothing to an output.
+# An end of a link is at work, as in an image that tpnet image took: it is as it was. An output waits, so the letter finds its link busy; an input waits, holds a
+# byte, or is enabled by an alternative, which is nothing to an output.
 image out.img
 set out.img 44 01
 set out.img 52 00 00 00 80 01
 image in.img
 set in.img 108 01
 set in.img 116 00 00 00 80 01
+image held.img
+set held.img 109 01
 image enabled.img
 set enabled.img 108 02
 tpnet trace out.img
 tpnet trace in.img --steps 3
+tpnet trace held.img --steps 3
 tpnet trace enabled.img --steps 3
 # The node of a device that has sent its letter waits for the acknowledge: its image is traced on from there.
 text net.txt node a 4\nport h\nwire a.0 h\n
@@ -80,16 +83,13 @@ tpnet trace now.img
 tpnet try now.img --turns 4
 
 story refused
-# What is refused is what try refuses, in its words.
+# What is no image is refused, in the words of try.
 fill empty.img 0 00
 text text.img no image
-image busy.img
-set busy.img 109 01
 image later.img
 set later.img 0 02
 tpnet trace empty.img
 tpnet trace text.img
-tpnet trace busy.img
 tpnet trace later.img
 # An image has a head of 172 bytes, and at least 4 pages of 1024 bytes behind it, as its head says.
 fill short.img 171 00
