@@ -198,7 +198,7 @@ tpnet trace device x
 # What is no device, and what isn't there.
 tpnet trace a.img 0
 tpnet trace other 0
-# An entry of the journal that can't be: nothing is printed.
+# A group of the journal that breaks its rules, by the number of its first entry: nothing is printed.
 copy device bad
 set bad 13041 FF
 tpnet recover bad
