@@ -13,10 +13,10 @@ use std::{fs, io};
 use tp_disk::{Counted, NotedFile, RawFile};
 use tp_net::{Named, Topology};
 use tp_views::{
-    Refusal, Seen, check_on, is_openable, recover_on, refuse, show_on, status_on, trace_on, try_on,
-    view_on,
+    Refusal, Seen, check_on, is_openable, recover_on, refuse, show_on, status_on, trace_device_on,
+    trace_on, try_on, view_on,
 };
-use tp_words::View;
+use tp_words::{TracePart, View};
 
 /// Why a file wasn't read.
 pub(crate) fn read_refusal(error: &io::Error) -> Refusal
@@ -199,6 +199,22 @@ pub fn view_file<
 {
     match disk_to_read(rt, device) {
         Ok(mut disk) => view_on(rt.alloc(), &mut disk, view, out, err),
+        Err(refusal) => refuse(err, refusal),
+    }
+}
+
+/// `tpnet trace`, on a device's file, which stays as it is.
+#[inline(never)]
+pub fn trace_device_file<
+    R: Files<File = F> + AllocGlobal,
+    F: FileExt + OpenFile + Drop,
+    O: Write,
+    E: Write,
+>(rt: &R, device: &str, part: TracePart, out: &mut O, err: &mut E) -> u8
+    ensures { result ≤ 2 }
+{
+    match disk_to_read(rt, device) {
+        Ok(mut disk) => trace_device_on(rt.alloc(), &mut disk, part, out, err),
         Err(refusal) => refuse(err, refusal),
     }
 }

@@ -12,7 +12,8 @@ use crate::backup_program::answer_backup;
 use crate::compact_file::compact_file;
 use crate::devices::{Devices, FileDevices};
 use crate::files::{
-    check_file, recover_file, show_file, status_file, trace_file, try_file, view_file,
+    check_file, recover_file, show_file, status_file, trace_device_file, trace_file, try_file,
+    view_file,
 };
 use crate::format_file::format_file;
 use crate::in_use::{explain_changed, is_busy, refuse_in_use};
@@ -62,6 +63,9 @@ fn carry_out<
         Asked::Help(text) => print_help(text.as_str(), out, err),
         Asked::Try { image, turns } => try_file(rt, image.as_str(), *turns, out, err),
         Asked::Trace { image, steps } => trace_file(rt, image.as_str(), *steps, out, err),
+        Asked::TraceDevice { device, part } => {
+            trace_device_file(rt, device.as_str(), *part, out, err)
+        }
         Asked::Format(new) => format_file(rt, devices, new, system, out, err),
         Asked::Run(run) => run_file(rt, devices, run, system, out, err),
         Asked::Compact { device, .. } => compact_file(rt, devices, device, system, out, err),
@@ -92,6 +96,7 @@ fn device_of(asked: &Asked) -> Option<&str> {
         | Asked::Recover { device, .. }
         | Asked::Show { device, .. }
         | Asked::Status { device, .. }
+        | Asked::TraceDevice { device, .. }
         | Asked::View { device, .. } => Some(device.as_str()),
         Asked::Help(_) | Asked::Try { .. } | Asked::Trace { .. } | Asked::Check { .. } => None,
     }
@@ -230,6 +235,7 @@ fn hold_written<S: Devices>(devices: &mut S, asked: &Asked) -> Result<(), InUse>
         Asked::Help(_)
         | Asked::Try { .. }
         | Asked::Trace { .. }
+        | Asked::TraceDevice { .. }
         | Asked::Recover { .. }
         | Asked::Show { .. }
         | Asked::Status { .. }

@@ -3,6 +3,7 @@ pub mod Areas
 pub mod BookRoom
 pub mod Cuts
 pub mod CutsAreFlat
+mod EntriesBefore
 pub mod GroupsRead
 pub mod HeldPorts
 mod Leading

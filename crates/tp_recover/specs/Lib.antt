@@ -1,4 +1,5 @@
 pub mod AfterGroups
+pub mod Before
 pub mod Chosen
 pub mod Copies
 pub mod Cuts

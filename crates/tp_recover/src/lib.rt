@@ -2,6 +2,7 @@
 #![tactic(auto)]
 
 mod ahead;
+mod before;
 mod choice;
 mod copying;
 mod cut;
@@ -33,6 +34,7 @@ mod unopened;
 mod window;
 
 pub use ahead::read_rows;
+pub use before::open_before;
 pub use choice::read_choice;
 pub use copying::copy_opened;
 pub use cut::{Cut, read_cut};

@@ -56,30 +56,41 @@ image a.img
 set a.img 41 00
 tpnet trace a.img
 
-story refused
-# What is refused is what try refuses, in its words.
-fill empty.img 0 00
-text text.img no image
-image busy.img
-set busy.img 109 01
-image later.img
-set later.img 0 02
-tpnet trace empty.img
-tpnet trace text.img
-tpnet trace busy.img
-tpnet trace later.img
-# An end of a link is at work: an output waits, an input waits, or an alternative has enabled it.
+story busy
+# An end of a link is at work, as in an image that tpnet image took: it is as it was. An output waits, so the letter finds its link busy; an input waits, holds a
+# byte, or is enabled by an alternative, which is nothing to an output.
 image out.img
 set out.img 44 01
 set out.img 52 00 00 00 80 01
 image in.img
 set in.img 108 01
 set in.img 116 00 00 00 80 01
+image held.img
+set held.img 109 01
 image enabled.img
 set enabled.img 108 02
 tpnet trace out.img
-tpnet trace in.img
-tpnet trace enabled.img
+tpnet trace in.img --steps 3
+tpnet trace held.img --steps 3
+tpnet trace enabled.img --steps 3
+# The node of a device that has sent its letter waits for the acknowledge: its image is traced on from there.
+text net.txt node a 4\nport h\nwire a.0 h\n
+image a.img
+tpnet format device net.txt . 16384
+tpnet run device --turns 1 --workers 1 --quantum 16
+tpnet image device 0 >now.img
+tpnet trace now.img
+tpnet try now.img --turns 4
+
+story refused
+# What is no image is refused, in the words of try.
+fill empty.img 0 00
+text text.img no image
+image later.img
+set later.img 0 02
+tpnet trace empty.img
+tpnet trace text.img
+tpnet trace later.img
 # An image has a head of 172 bytes, and at least 4 pages of 1024 bytes behind it, as its head says.
 fill short.img 171 00
 tpnet trace short.img
@@ -128,3 +139,71 @@ empty err
 tpnet trace a.img --steps 4294967295
 tpnet trace --help >out
 has out dispatch high
+
+story device
+# What the journal's entries did at a node, each from the state before it: a line for each token that came in and each step, with what left. Node 0 sends its
+# letter, and goes round once it is acknowledged; node 1 goes round. The host's entries are no node's. Looking changes nothing.
+text net.txt node a 4\nnode b 4\nport h\nwire a.0 h\n
+image a.img
+image b.img 60 0E
+tpnet format device net.txt . 24576
+tpnet run device --turns 6 --workers 1 --quantum 4
+keep device
+tpnet journal device
+tpnet trace device 0
+tpnet trace device 1
+# The steps of its first entry are those of its image, behind the entry's number.
+tpnet trace a.img
+stay
+# Behind a checkpoint there is nothing.
+tpnet compact device
+tpnet trace device 0
+
+story part
+# A part of the entries: the first, one that is another node's, the last, and those behind the last, up to the greatest number.
+text net.txt node a 4\nnode b 4\nport h\nwire a.0 h\n
+image a.img
+image b.img 60 0E
+tpnet format device net.txt . 24576
+tpnet run device --turns 6 --workers 1 --quantum 4
+tpnet trace device 0 --to 0
+tpnet trace device 0 --from 1 --to 2
+tpnet trace device 0 --from 3 --to 3
+tpnet trace device 1 --from=4 --to=5
+tpnet trace device 1 --from 2 --to 18446744073709551615
+tpnet trace device 1 --from 5
+tpnet trace device 1 --from 18446744073709551615
+# Numbers that are none, or that are in no order; options that go with the other form.
+tpnet trace device 1 --from 18446744073709551616 2>err
+empty err
+tpnet trace device 1 --to 04 2>err
+empty err
+tpnet trace device 1 --from 3 --to 2
+tpnet trace device 1 --steps 4 2>err
+empty err
+tpnet trace a.img --from 0
+tpnet trace a.img --to 0
+
+story no_device
+# A node that isn't there: the first one behind the last, and the greatest number; and what is no number.
+text net.txt node a 4\nport h\nwire a.0 h\n
+image a.img
+tpnet format device net.txt . 16384
+tpnet run device --turns 4 --workers 1 --quantum 4
+tpnet trace device 0 --to 0
+tpnet trace device 1
+tpnet trace device 18446744073709551615
+tpnet trace device 18446744073709551616
+tpnet trace device x
+# What is no device, and what isn't there.
+tpnet trace a.img 0
+tpnet trace other 0
+# A group of the journal that breaks its rules, by the number of its first entry: nothing is printed.
+copy device bad
+set bad 13041 FF
+tpnet recover bad
+tpnet trace bad 0 --to 0
+# A full disk takes nothing of it.
+shut full
+tpnet trace device 0 --to 0
+shut

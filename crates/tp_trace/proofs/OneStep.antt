@@ -1,5 +1,5 @@
 -- A run of one step at most.
-use Rattle.std.proofs.Common.{◌≡◌, ◌∙◌, ℕ, zero, suc, List, [], Option, Some, None, ap, arith, nat_eq, sym}
+use Rattle.std.proofs.Common.{◌≡◌, ◌∙◌, ℕ, zero, suc, List, [], ◌++◌, Option, Some, None, ap, append-nil, arith, nat_eq, sym, slice_get}
 use Rattle.std.specs.Option.{option_map}
 use Rattle.tp_law_machine.proofs.Partial.{bind_some}
 use Rattle.tp_model.specs.Network.{steps, ◌>>=◌}
@@ -9,7 +9,7 @@ use Rattle.tp_model.specs.declared.link.Token.{Token}
 use Rattle.tp_node.proofs.Answered.{why_fewer, why_most}
 use Rattle.tp_node.specs.RunEnd.{IsWhy}
 use Rattle.tp_node.specs.declared.run.Why.{Why}
-use Rattle.tp_trace.specs.Steps.{Stepped, stepped}
+use Rattle.tp_trace.specs.Steps.{Stepped, leaving, sent_by, stepped}
 
 -- two answers that are one have one node
 same_node : (a b : NodeState × List (ℕ × Token)) → Some a ≡ Some b → a.0 ≡ b.0
@@ -36,5 +36,34 @@ one_step zero why cause was now out is never made =
     (ap stepped (sym same) ∙ ap (option_map (λ (after : NodeState × List (ℕ × Token)). after.0)) rests, same)
 one_step (suc zero) why cause was now out is never made = one_made was now out made
 one_step (suc (suc count)) why cause was now out is never made =
+    let most = why_most why 1 (suc (suc count)) cause now is in
+    absurd (omega (arith, most))
+
+-- ## What leaves
+
+same_sent : (a b : NodeState × List (ℕ × Token)) → Some a ≡ Some b → a.1 ≡ b.1
+same_sent a b same = let one : a ≡ b = cc in ap (λ (x : NodeState × List (ℕ × Token)). x.1) one
+
+none_left : (was now : NodeState) (out : List (ℕ × Token)) → steps t414 0 was ≡ Some (now, out) → node_step was ≡ None → slice_get out 0 ≡ sent_by was
+unfolding steps
+none_left was now out made rests =
+    let same : [] ≡ out = same_sent (was, []) (now, out) made in
+    ap (λ (xs : List (ℕ × Token)). slice_get xs 0) (sym same) ∙ sym (ap leaving rests)
+
+one_left : (was now : NodeState) (out : List (ℕ × Token)) → steps t414 1 was ≡ Some (now, out) → slice_get out 0 ≡ sent_by was
+unfolding steps
+one_left was now out made =
+    let first = bind_some (node_step was) _ (now, out) made in
+    let same : first.0.1 ++ [] ≡ out = same_sent (_, first.0.1 ++ []) (now, out) first.2 in
+    ap (λ (xs : List (ℕ × Token)). slice_get xs 0) (sym same ∙ append-nil first.0.1) ∙ sym (ap leaving first.1)
+
+-- What a run of one step at most sends is what leaves at the node's next step.
+pub step_sends : (count : ℕ) (why : Why) (cause : Type 0) (was now : NodeState) (out : List (ℕ × Token)) → IsWhy why 1 count cause now → (cause → ⊥) → steps t414 count was ≡ Some (now, out)
+    → slice_get out 0 ≡ sent_by was
+step_sends zero why cause was now out is never made =
+    let same = none_made was now out made in
+    none_left was now out made (ap node_step (sym same) ∙ why_fewer why 1 0 cause now is never (omega arith))
+step_sends (suc zero) why cause was now out is never made = one_left was now out made
+step_sends (suc (suc count)) why cause was now out is never made =
     let most = why_most why 1 (suc (suc count)) cause now is in
     absurd (omega (arith, most))

@@ -6,13 +6,16 @@ use Rattle.tp_model.specs.declared.instruction.Fun.{Fun}
 use Rattle.tp_model.specs.declared.instruction.Fun.TheVariants.{Opr}
 use Rattle.tp_model.specs.declared.instruction.Instr.{Instr}
 use Rattle.tp_model.specs.declared.instruction.Op.{Op}
+use Rattle.tp_model.specs.declared.link.Token.{Token}
+use Rattle.tp_model.specs.declared.link.Token.TheVariants.{Data, Ack, Marker}
 use Rattle.tp_model.specs.declared.processor.Cpu.{Cpu}
 use Rattle.tp_node.specs.declared.standing.Standing.{Standing}
 use Rattle.tp_node.specs.declared.standing.Standing.TheVariants.{Halted, Waits, Free}
-use Rattle.tp_trace.specs.Hex.{hex_word}
+use Rattle.tp_trace.specs.Hex.{hex_byte, hex_word}
 use Rattle.tp_trace.specs.Names.{fault_name, fun_name, op_name, state_name}
 use Rattle.tp_trace.specs.declared.act.Act.{Act}
 use Rattle.tp_trace.specs.declared.act.Act.TheVariants.{Instruction, Interrupt, DispatchHigh, Restore, DispatchLow}
+use Rattle.tp_trace.specs.declared.hearing.Heard.{Heard}
 use Rattle.tp_trace.specs.declared.stepping.Seen.{Seen}
 
 -- an operation that `opr` selects
@@ -44,14 +47,33 @@ abbrev pub step_front : ℕ → ℕ → List ℕ
 step_front number at = decimal number ++ (codes " " ++ (hex_word at ++ codes " "))
 
 -- the stack, the workspace, what runs, and the Error flag
-abbrev pub step_end : Cpu → List ℕ
-step_end cpu =
+abbrev pub cpu_text : Cpu → List ℕ
+cpu_text cpu =
     codes " A " ++ (hex_word cpu.regs.a ++ (codes " B " ++ (hex_word cpu.regs.b ++ (codes " C " ++ (hex_word cpu.regs.c
-    ++ (codes " Wptr " ++ (hex_word cpu.wptr ++ (codes " " ++ (state_name cpu.state ++ (error_text cpu.regs.error ++ 10 ∷ []))))))))))
+    ++ (codes " Wptr " ++ (hex_word cpu.wptr ++ (codes " " ++ (state_name cpu.state ++ error_text cpu.regs.error)))))))))
+
+-- a token
+abbrev pub token_text : Token → List ℕ
+token_text (Data byte) = codes "Data " ++ hex_byte byte
+token_text Ack = codes "Ack"
+token_text Marker = codes "Marker"
+
+-- what leaves, and on which link
+abbrev pub sent_text : Option (ℕ × Token) → List ℕ
+sent_text None = []
+sent_text (Some sent) = codes " sends " ++ (decimal sent.0 ++ (codes " " ++ token_text sent.1))
+
+-- what leaves ends a line
+abbrev pub line_end : Option (ℕ × Token) → List ℕ
+line_end sent = sent_text sent ++ 10 ∷ []
 
 -- the line of the step of a number
 abbrev pub step_line : ℕ → Seen → List ℕ
-step_line number seen = step_front number seen.at ++ (act_text seen.act ++ step_end seen.cpu)
+step_line number seen = step_front number seen.at ++ (act_text seen.act ++ (cpu_text seen.cpu ++ line_end seen.sent))
+
+-- the line of a token that comes in
+abbrev pub take_line : Heard → List ℕ
+take_line heard = codes "takes " ++ (decimal heard.link ++ (codes " " ++ (token_text heard.token ++ line_end heard.sent)))
 
 -- how a node stands that has no step
 abbrev pub stop_line : Standing → List ℕ

@@ -3,6 +3,7 @@
 
 mod act;
 mod fields;
+mod hearing;
 mod lines;
 mod looking;
 mod names;
@@ -10,6 +11,7 @@ mod stepping;
 
 pub use act::Act;
 pub use fields::{byte_in, cpu_in, half_in, word_in};
-pub use lines::{step_line, stop_line};
+pub use hearing::{Heard, trace_take};
+pub use lines::{push_step, push_take, step_line, stop_line};
 pub use names::{fault_name, state_name};
 pub use stepping::{Seen, trace_step};

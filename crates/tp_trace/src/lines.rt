@@ -1,15 +1,16 @@
 //! Steps as lines.
 
-ghost use Rattle.std.specs.Prelude.{◌≡◌, ◌++◌, IfOk, OnOk, string_bytes};
-ghost use Rattle.tp_trace.specs.Lines.{act_text, error_text, function_text, operation_text, step_end, step_front, step_line, stop_line};
+ghost use Rattle.std.specs.Prelude.{◌≡◌, ◌++◌, IfOk, OnOk, Some, string_bytes};
+ghost use Rattle.tp_trace.specs.Lines.{act_text, cpu_text, error_text, function_text, line_end, operation_text, sent_text, step_front, step_line, stop_line, take_line, token_text};
 
 use crate::act::Act;
+use crate::hearing::Heard;
 use crate::names::{fault_name, fun_name, op_name, state_name};
 use crate::stepping::Seen;
 use std::alloc::{AllocError, Global};
 use std::fmt::Write;
 use tp_cpu::op_at;
-use tp_model::{Cpu, Fun, Instr, Op};
+use tp_model::{Cpu, Fun, Instr, Op, Token};
 use tp_node::Standing;
 
 /// The text of an operation that `opr` selects.
@@ -60,23 +61,71 @@ fn push_front(text: &mut String, number: u64, at: u32) -> Result<(), AllocError>
     write!(text, "{number} {at:08X} ")
 }
 
-fn push_end(text: &mut String, cpu: Cpu) -> Result<(), AllocError>
-    ensures { OnOk result (string_bytes text.new ≡ string_bytes text.old ++ step_end cpu) }
+fn push_cpu(text: &mut String, cpu: Cpu) -> Result<(), AllocError>
+    ensures { OnOk result (string_bytes text.new ≡ string_bytes text.old ++ cpu_text cpu) }
 {
     let (a, b, c, wptr) = (cpu.regs.a, cpu.regs.b, cpu.regs.c, cpu.wptr);
     let (name, error) = (state_name(cpu.state), error_text(cpu.regs.error));
     write!(
         text,
-        " A {a:08X} B {b:08X} C {c:08X} Wptr {wptr:08X} {name}{error}\n"
+        " A {a:08X} B {b:08X} C {c:08X} Wptr {wptr:08X} {name}{error}"
     )
 }
 
-fn push_step(text: &mut String, number: u64, seen: Seen) -> Result<(), AllocError>
+fn push_token(text: &mut String, token: Token) -> Result<(), AllocError>
+    ensures { OnOk result (string_bytes text.new ≡ string_bytes text.old ++ token_text token) }
+{
+    match token {
+        Token::Data(byte) => write!(text, "Data {byte:02X}"),
+        Token::Ack => text.push_str("Ack"),
+        Token::Marker => text.push_str("Marker"),
+    }
+}
+
+/// Appends a token that leaves on a link.
+fn push_some(text: &mut String, link: u8, token: Token) -> Result<(), AllocError>
+    ensures { OnOk result (string_bytes text.new ≡ string_bytes text.old ++ sent_text (Some (link, token))) }
+{
+    write!(text, " sends {link} ")?;
+    push_token(text, token)
+}
+
+/// Appends what leaves, if anything does.
+fn push_sent(text: &mut String, sent: Option<(u8, Token)>) -> Result<(), AllocError>
+    ensures { OnOk result (string_bytes text.new ≡ string_bytes text.old ++ sent_text sent) }
+{
+    match sent {
+        Some((link, token)) => push_some(text, link, token),
+        None => Ok(()),
+    }
+}
+
+/// Appends what leaves, and ends a line.
+fn push_end(text: &mut String, sent: Option<(u8, Token)>) -> Result<(), AllocError>
+    ensures { OnOk result (string_bytes text.new ≡ string_bytes text.old ++ line_end sent) }
+{
+    push_sent(text, sent)?;
+    text.push_str("\n")
+}
+
+/// Appends the line of the step of a number.
+pub fn push_step(text: &mut String, number: u64, seen: Seen) -> Result<(), AllocError>
     ensures { OnOk result (string_bytes text.new ≡ string_bytes text.old ++ step_line number seen) }
 {
     push_front(text, number, seen.at)?;
     push_act(text, seen.act)?;
-    push_end(text, seen.cpu)
+    push_cpu(text, seen.cpu)?;
+    push_end(text, seen.sent)
+}
+
+/// Appends the line of a token that comes in.
+pub fn push_take(text: &mut String, heard: Heard) -> Result<(), AllocError>
+    ensures { OnOk result (string_bytes text.new ≡ string_bytes text.old ++ take_line heard) }
+{
+    let link = heard.link;
+    write!(text, "takes {link} ")?;
+    push_token(text, heard.token)?;
+    push_end(text, heard.sent)
 }
 
 /// The line of the step of a number.

@@ -1,33 +1,43 @@
 //! Steps of a node, one at a time.
 
-ghost use Rattle.std.specs.Prelude.{◌≡◌, Some, None, if◌then◌else◌};
+ghost use Rattle.std.specs.Prelude.{◌≡◌, Some, None, [], if◌then◌else◌, slice_get};
 ghost use Rattle.tp_law_machine.specs.NodeOfBytes.{IsNodeOfBytes};
-ghost use Rattle.tp_trace.specs.Steps.{Saw, Stepped};
+ghost use Rattle.tp_trace.specs.Steps.{Saw, Stepped, sent_by};
 
 use crate::act::Act;
 use crate::looking::look;
 use arrayvec::ArrayVec;
-use tp_model::Cpu;
+use tp_model::{Cpu, Token};
 use tp_node::Node;
 
-/// What is seen of a step: what was done, the address of the instruction, and the processor behind it.
+/// What is seen of a step: what was done, the address of the instruction, the processor behind it, and what left with its link, if
+/// anything did.
 #[derive(Clone, Copy)]
 pub struct Seen {
     pub act: Act,
     pub at: u32,
     pub cpu: Cpu,
+    pub sent: Option<(u8, Token)>,
 }
 
-/// Makes a step of a node, and lets go what leaves on its links. Answers whether it had one.
-fn step(node: &mut Node) -> bool
+/// What leaves first, with its link.
+fn first_of(sent: &ArrayVec<(u8, Token), 8>) -> Option<(u8, Token)>
+    ensures { result ≡ slice_get sent.now.items 0 }
+{
+    if sent.is_empty() { None } else { Some(sent[0]) }
+}
+
+/// Makes a step of a node, and puts into `sent` what leaves. Answers whether it had one.
+fn step(node: &mut Node, sent: &mut ArrayVec<(u8, Token), 8>) -> bool
+    requires empty { sent.old.items ≡ [] }
     requires thawed { node.old.frozen ≡ None }
     requires bytes { IsNodeOfBytes node.old.live }
     ensures stepped { Stepped result node.old.live node.new.live }
+    ensures sent { slice_get sent.new.items 0 ≡ sent_by node.old.live }
     ensures thawed { node.new.frozen ≡ None }
     ensures bytes { IsNodeOfBytes node.new.live }
 {
-    let mut sent = ArrayVec::new();
-    node.run(1, &mut sent).count() == 1
+    node.run(1, sent).count() == 1
 }
 
 /// Makes a step of a node at whose links there is nobody, and says what was done, where the node has a step.
@@ -39,12 +49,14 @@ pub fn trace_step(node: &mut Node) -> Option<Seen>
     ensures bytes { IsNodeOfBytes node.new.live }
 {
     let before = look(node);
-    if !step(node) {
+    let mut sent = ArrayVec::new();
+    if !step(node, &mut sent) {
         return None;
     }
     Some(Seen {
         act: before.act,
         at: before.cpu.iptr,
         cpu: look(node).cpu,
+        sent: first_of(&sent),
     })
 }

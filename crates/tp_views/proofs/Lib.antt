@@ -1,4 +1,7 @@
+mod DeviceTraced
+mod EntriesTraced
 pub mod Fit
 pub mod Found
 pub mod Joined
 pub mod Traces
+mod Looked

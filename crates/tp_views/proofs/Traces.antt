@@ -2,19 +2,12 @@
 use Rattle.std.proofs.Common.{◌≡◌, ◌∙◌, ℕ, zero, suc, ◌+◌, ◌<◌, ◌≤◌, Bool, true, false, List, [], ◌++◌, length, take, drop, Option, Some, None, Ok, Err, Result, OnOk, refl, sym, ap, subst, append_assoc, append-nil, arith}
 use Rattle.std.proofs.Math.Seq.{take-add, take-append_seam, drop-append_seam}
 use Rattle.std.proofs.lemmas.List.{take-append-drop}
-use Rattle.std.proofs.lemmas.Option.{cond_some}
 use Rattle.std.specs.Io.KnownBytes.{Appends}
-use Rattle.tp_law_machine.proofs.Images.{node_of_bytes}
-use Rattle.tp_law_machine.proofs.Numbers.{AreBytes}
-use Rattle.tp_law_machine.specs.NodeOfBytes.{IsNodeOfBytes}
-use Rattle.tp_model.specs.CutImage.{only_if}
-use Rattle.tp_model.specs.Image.{has_idle_links, node_of}
 use Rattle.tp_model.specs.NodeState.{NodeState}
 use Rattle.tp_node.specs.Standing.{standing}
 use Rattle.tp_stream_files.proofs.Fronts.{none_appended}
 use Rattle.tp_trace.specs.Lines.{step_line, stop_line}
 use Rattle.tp_trace.specs.Steps.{seen, stepped}
-use Rattle.tp_turn.specs.Tried.{fresh_image}
 use Rattle.tp_views.specs.Front.{AppendsFront}
 use Rattle.tp_views.specs.Traced.{Makes, by_step, last_text, next_text, traced}
 
@@ -36,7 +29,7 @@ whole_front was now xs is =
     (length xs, subst (λ bytes. Appends was now bytes) (sym (ap (take (length xs)) (sym (append-nil xs)) ∙ take-append_seam xs [])) is)
 
 -- a front of bytes that stand in front
-front_more : (was now : Option (List ℕ)) (xs rest : List ℕ) → AppendsFront was now xs → AppendsFront was now (xs ++ rest)
+pub front_more : (was now : Option (List ℕ)) (xs rest : List ℕ) → AppendsFront was now xs → AppendsFront was now (xs ++ rest)
 front_more was now xs rest (n, is) =
     let front = take n xs in
     let same : take (length front) (xs ++ rest) ≡ front =
@@ -45,7 +38,7 @@ front_more was now xs rest (n, is) =
     (length front, subst (λ bytes. Appends was now bytes) (sym same) is)
 
 -- a front of bytes that stand behind others
-then_front : (was then now : Option (List ℕ)) (xs ys : List ℕ) → Appends was then xs → AppendsFront then now ys → AppendsFront was now (xs ++ ys)
+pub then_front : (was then now : Option (List ℕ)) (xs ys : List ℕ) → Appends was then xs → AppendsFront then now ys → AppendsFront was now (xs ++ ys)
 then_front was then now xs ys first (n, second) =
     let same : take (length xs + n) (xs ++ ys) ≡ xs ++ take n ys =
     take-add (length xs) n (xs ++ ys)
@@ -164,14 +157,3 @@ pub goes_ended_front : (was then now : Option (List ℕ)) (whole : List ℕ) (st
     → AppendsFront then now (last_text node) → AppendsFront was now whole
 goes_ended_front was then now whole steps index node g all front =
     subst (λ bytes. AppendsFront was now bytes) (sym (last_is was then whole steps index node g all)) (then_front was then now g.done (last_text node) g.appended front)
-
--- ## The image
-
--- a node that is there with a test is there
-has_test : {A : Type 0} (test : A → Bool) (o : Option A) (x : A) → only_if test o ≡ Some x → o ≡ Some x
-has_test test None x is = cc
-has_test test (Some y) x is = ap Some (cond_some (test y) y x is).1
-
--- the node of an image whose links are idle has bytes
-pub fresh_bytes : (image : List ℕ) (node : NodeState) → AreBytes image → fresh_image image ≡ Some node → IsNodeOfBytes node
-fresh_bytes image node bytes is = node_of_bytes image node bytes (has_test has_idle_links (node_of image) node is)

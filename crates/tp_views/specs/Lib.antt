@@ -25,3 +25,5 @@ pub mod Looks
 pub mod Steady
 pub mod Attempt
 pub mod Traced
+pub mod EntriesTraced
+pub mod EntrySteps

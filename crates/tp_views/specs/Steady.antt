@@ -55,3 +55,8 @@ CountsStill (Some before) (Some after) = (after.areas ≡ before.areas) × Staye
 abbrev pub OfSteady : (Result Opened Unopened → Type 0) → Tried → Type 0
 OfSteady P (Steady answer) = P answer
 OfSteady P Changed = ⊥
+
+-- Where the answer is one of a moment, P holds of it.
+abbrev pub IfSteady : (Result Opened Unopened → Type 0) → Tried → Type 0
+IfSteady P (Steady answer) = P answer
+IfSteady P Changed = Unit {0}

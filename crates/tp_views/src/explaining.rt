@@ -257,6 +257,7 @@ fn push_explanation<R: Files<File = F> + AllocGlobal, F: FileExt + OpenFile + Dr
         Asked::Recover { device, .. }
         | Asked::Show { device, .. }
         | Asked::Status { device, .. }
+        | Asked::TraceDevice { device, .. }
         | Asked::View { device, .. } => push_reading(rt, text, device.as_str()),
     }
 }

@@ -4,17 +4,17 @@ ghost use Rattle.std.specs.Prelude.{◌≡◌, ◌≤◌, None, IfErr, IfOk, OnO
 ghost use Rattle.std.specs.Io.KnownBytes.{Appends};
 ghost use Rattle.tp_law_machine.specs.NodeOfBytes.{IsNodeOfBytes};
 ghost use Rattle.tp_trace.specs.Lines.{step_line, stop_line};
-ghost use Rattle.tp_turn.specs.Tried.{fresh_image};
+ghost use Rattle.tp_model.specs.Image.{node_of};
 ghost use Rattle.tp_views.specs.Front.{AppendsFront};
-ghost use Rattle.tp_views.specs.Traced.{IsLineFault, Makes, TraceAnswer, Traces, TracesFront, last_text, next_text, traced};
+ghost use Rattle.tp_views.specs.Traced.{IsLineFault, Makes, ReadsNode, TraceAnswer, Traces, TracesFront, last_text, next_text, traced};
 
 use crate::commands::{put, refuse};
 use crate::refusal::Refusal;
 use std::alloc::Global;
 use std::io::Write;
-use tp_node::{Node, Standing};
+use tp_node::{ImageFault, Node, Standing};
 use tp_trace::{Seen, step_line, stop_line, trace_step};
-use tp_turn::lone_node;
+use tp_turn::TryFault;
 
 /// Prints the line of a step.
 fn put_step<O: Write>(alloc: Global, number: u64, seen: Seen, out: &mut O) -> Result<(), Refusal>
@@ -102,19 +102,30 @@ fn put_steps<O: Write>(
     put_last(alloc, node, out)
 }
 
+/// The node of an image, whatever its links do.
+pub(crate) fn image_node(alloc: Global, image: &[u8]) -> Result<Node, TryFault>
+    ensures { ReadsNode image.now result }
+{
+    match Node::from_image(alloc, image, 0) {
+        Ok(node) => Ok(node),
+        Err(ImageFault::BadImage) => Err(TryFault::BadImage),
+        Err(ImageFault::Memory) => Err(TryFault::Memory),
+    }
+}
+
 /// Traces the node of an image.
 fn trace<O: Write>(alloc: Global, image: &[u8], steps: u32, out: &mut O) -> Result<(), Refusal>
     ensures { TraceAnswer image.now steps (O.contents out.old) (O.contents out.new) result }
 {
-    match lone_node(alloc, image) {
+    match image_node(alloc, image) {
         Ok(mut node) => put_steps(alloc, &mut node, steps, out),
         Err(fault) => Err(Refusal::Trial(fault)),
     }
 }
 
 /// `tpnet trace`, on the bytes of the image. Answers the program's status: 0 where exactly the lines of the node's first steps were
-/// written, else 1. Whatever the status, nothing but a front of them was. An image that `try` refuses is refused, and nothing is written
-/// then.
+/// written, else 1. Whatever the status, nothing but a front of them was. Its links may be at work. Bytes that are no image are refused, and
+/// nothing is written then.
 pub fn trace_on<O: Write, E: Write>(
     alloc: Global,
     image: &[u8],
@@ -125,7 +136,7 @@ pub fn trace_on<O: Write, E: Write>(
     ensures status { result ≤ 1 }
     ensures done { result ≡ 0 → Traces image.now steps (O.contents out.old) (O.contents out.new) }
     ensures front { TracesFront image.now steps (O.contents out.old) (O.contents out.new) }
-    ensures refused { fresh_image image.now ≡ None → (result ≡ 1) × (O.contents out.new ≡ O.contents out.old) }
+    ensures refused { node_of image.now ≡ None → (result ≡ 1) × (O.contents out.new ≡ O.contents out.old) }
 {
     match trace(alloc, image, steps, out) {
         Ok(()) => 0,

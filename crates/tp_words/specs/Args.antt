@@ -6,10 +6,11 @@ use Rattle.std.specs.declared.alloc.Global.{Global}
 use Rattle.std.specs.declared.string.String.{String}
 use Rattle.tp_model.specs.declared.limits.TheConstants.{MAX_STEPS}
 use Rattle.tp_words.specs.declared.args.Asked.{Asked}
-use Rattle.tp_words.specs.declared.args.Asked.TheVariants.{Help, Try, Trace, Format, Run as Runs, Compact, Recover, Show, Status, Check, View as Views}
+use Rattle.tp_words.specs.declared.args.Asked.TheVariants.{Help, Try, Trace, TraceDevice, Format, Run as Runs, Compact, Recover, Show, Status, Check, View as Views}
 use Rattle.tp_words.specs.declared.args.Run.{Run}
 use Rattle.tp_words.specs.declared.args.TheConstants.{MAX_AREA, MAX_WORKERS, QUANTUM, STEPS}
 use Rattle.tp_words.specs.declared.views.JournalPart.{JournalPart}
+use Rattle.tp_words.specs.declared.views.TracePart.{TracePart}
 use Rattle.tp_words.specs.declared.views.View.{View}
 use Rattle.tp_words.specs.declared.views.View.TheVariants.{Node, Image, Journal, Pending, Outputs, NodeJson, PendingJson, OutputsJson, Waits, WaitsJson}
 use Rattle.tp_words.specs.Given.{given, has_flag, IsGivenOr}
@@ -46,6 +47,7 @@ abbrev pub IsInRange : Asked → Type 0
 IsInRange (Help text) = Unit {0}
 IsInRange (Try image turns) = turns < 2 ^ 32
 IsInRange (Trace image steps) = (0 < steps) × (steps < 2 ^ 32)
+IsInRange (TraceDevice device part) = IfSome part.to (λ to. part.from ≤ to)
 IsInRange (Format new) = IfSome new.area (λ area. area ≤ MAX_AREA)
 IsInRange (Runs run) = IsRun run
 IsInRange (Compact device wait_lock) = Unit {0}
@@ -62,6 +64,12 @@ IsTypedPart words part = IsGivenOr 0 part.from (given (codes "from") words)
     × (given (codes "node") words ≡ option_map decimal part.node)
     × (given (codes "last") words ≡ option_map decimal part.last)
     × (part.json ≡ has_flag (codes "--json") words)
+
+-- the node and the entries of a trace are what was typed; it begins with the first entry where none was
+abbrev pub IsTypedTrace : List (String Global) → TracePart → Type 0
+IsTypedTrace words part = (was_typed words (decimal part.node) ≡ true)
+    × IsGivenOr 0 part.from (given (codes "from") words)
+    × (given (codes "to") words ≡ option_map decimal part.to)
 
 -- the number of a view is a decimal that was typed; JSON is shown where it is asked for
 abbrev pub HasTyped : List (String Global) → View → Type 0
@@ -93,6 +101,7 @@ abbrev pub WasTyped : List (String Global) → Asked → Type 0
 WasTyped words (Help text) = Unit {0}
 WasTyped words (Try image turns) = (has_word (string_bytes image) words ≡ true) × (given (codes "turns") words ≡ Some (decimal turns))
 WasTyped words (Trace image steps) = (has_word (string_bytes image) words ≡ true) × IsGivenOr STEPS steps (given (codes "steps") words)
+WasTyped words (TraceDevice device part) = (has_word (string_bytes device) words ≡ true) × IsTypedTrace words part
 WasTyped words (Format new) = (has_word (string_bytes new.device) words ≡ true) × (has_word (string_bytes new.topology) words ≡ true)
     × (has_word (string_bytes new.images) words ≡ true) × IsArea words new.area (given (codes "area") words)
     × IsGivenOr 0 new.wait_lock (given (codes "wait-lock") words)

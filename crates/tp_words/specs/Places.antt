@@ -8,7 +8,7 @@ use Rattle.std.specs.declared.string.String.{String}
 use Rattle.clap.specs.Words.{first_value, found_of}
 use Rattle.clap.specs.declared.parser.matches.ArgMatches.{ArgMatches}
 use Rattle.tp_words.specs.declared.args.Asked.{Asked}
-use Rattle.tp_words.specs.declared.args.Asked.TheVariants.{Help, Try, Trace, Format, Run as Runs, Compact, Recover, Show, Status, Check, View as Views}
+use Rattle.tp_words.specs.declared.args.Asked.TheVariants.{Help, Try, Trace, TraceDevice, Format, Run as Runs, Compact, Recover, Show, Status, Check, View as Views}
 use Rattle.tp_words.specs.declared.args.NewDevice.{NewDevice}
 use Rattle.tp_words.specs.declared.places.TheConstants.{VALUED}
 use Rattle.tp_words.specs.declared.views.View.{View}
@@ -106,6 +106,7 @@ abbrev pub HasPlaces : List (String Global) → Asked → Type 0
 HasPlaces words (Help text) = Unit {0}
 HasPlaces words (Try image turns) = places words ≡ codes "try" ∷ string_bytes image ∷ []
 HasPlaces words (Trace image steps) = places words ≡ codes "trace" ∷ string_bytes image ∷ []
+HasPlaces words (TraceDevice device part) = places words ≡ codes "trace" ∷ string_bytes device ∷ decimal part.node ∷ []
 HasPlaces words (Format new) = HasFormatPlaces words new × (new.only_new ≡ has_flag (codes "--new") words)
 HasPlaces words (Runs run) = (places words ≡ codes "run" ∷ string_bytes run.device ∷ []) × (has_flag (codes "--stream") words ≡ false)
 HasPlaces words (Compact device wait_lock) = places words ≡ codes "compact" ∷ string_bytes device ∷ []

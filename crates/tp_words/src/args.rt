@@ -7,7 +7,7 @@ ghost use Rattle.tp_words.specs.Places.{HasPlaces};
 use crate::arg_fault::ArgFault;
 use crate::device_args::{asked_compact, asked_format, asked_run};
 use crate::view_args::{asked_check, asked_to_read, asked_trace, asked_try};
-use crate::views::View;
+use crate::views::{TracePart, View};
 use clap::ArgMatches;
 use std::alloc::Global;
 
@@ -25,6 +25,11 @@ pub enum Asked {
     Trace {
         image: String,
         steps: u32,
+    },
+    /// Opens a device and shows the steps that its journal's entries made at a node, a line each.
+    TraceDevice {
+        device: String,
+        part: TracePart,
     },
     /// A new device.
     Format(NewDevice),

@@ -58,16 +58,26 @@ pub const TRY: Form = Form {
 
 pub const TRACE: Form = Form {
     name: "trace",
-    about: "Runs one node without a device, with nobody at its links, and prints what each step does in a line, with the registers behind it",
+    about: "Prints what each step of one node does in a line, with the registers behind it: of an image, with nobody at its links, or of a device, as its journal has it",
     words: &[
         EXPLAIN,
         NO_EXPLAIN,
-        Word::Place("IMAGE", "the node's image: 172 bytes and its memory"),
+        Word::Place(
+            "FILE",
+            "the node's image: 172 bytes and its memory; with I the device's file",
+        ),
+        Word::Instead(
+            "I",
+            "steps",
+            "the node's number, as in tpnet show: FILE is a device then, and what its journal's entries did at that node is printed",
+        ),
         Word::Value(
             "steps",
             "N",
-            "how many steps at most, 1 to 4294967295 (100 where it isn't given)",
+            "without I: how many steps at most, 1 to 4294967295 (100 where it isn't given)",
         ),
+        Word::Value("from", "N", "with I: the number of the first entry"),
+        Word::Value("to", "N", "with I: the number of the last entry"),
     ],
 };
 

@@ -10,15 +10,19 @@ pub const TRY_REFUSALS: &str = "Refusals (status 1):
 /// What the lines of `tpnet trace` mean, and what it refuses.
 pub const TRACE_REFUSALS: &str =
     "A line: the step's number, the address where the instruction stands, the instruction, and behind the step A, B, C, the workspace Wptr,
-what runs (high, low or idle), and error where Error is set. interrupt, dispatch high, restore and dispatch low are steps, too.
-The last line says why there is no further step, where there is none:
+what runs (high, low or idle), error where Error is set, and where something leaves sends, the link and the token.
+interrupt, dispatch high, restore and dispatch low are steps, too.
+Of an image the last line says why there is no further step, where there is none:
   waits            no process can run, and one waits at a link
   idle             no process can run, and none waits at a link
   halted FAULT at ADDRESS   the node has halted at the instruction there
 Nobody is at the links: nothing comes in, what is sent is lost and never acknowledged, so a process that sends or waits there stops for good.
-Refusals (status 1):
-  ReadFailed    IMAGE can't be read: look at its path and its rights
-  BadImage      IMAGE is no node's image, or a link of it is at work: make it with tools/make-image
+With I each line begins with the number of an entry, as tpnet journal has it: steps are numbered within their entry, and a token that came in
+has a line of its own: takes, the link and the token, and sends and what leaves in answer. FILE may be run meanwhile.
+Refusals (status 1); nothing is written to FILE:
+  ReadFailed    FILE can't be read: look at its path and its rights
+  BadImage      without I: FILE is no node's image: make it with tools/make-image
+  NotFormatted  with I: FILE is no device, and so each refusal of tpnet recover
   DeviceFailed  standard output can't be written
   Memory        there is no memory left: take an image with fewer pages";
 

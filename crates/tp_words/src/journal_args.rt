@@ -1,12 +1,12 @@
 //! The part of a journal that the command line asks for.
 
 ghost use Rattle.std.specs.Prelude.{◌≡◌, ◌≤◌, ◌<◌, IfOk, IfSome};
-ghost use Rattle.tp_words.specs.Args.{HasTyped, IsTypedPart, IsView};
+ghost use Rattle.tp_words.specs.Args.{HasTyped, IsTypedPart, IsTypedTrace, IsView};
 ghost use Rattle.tp_words.specs.Places.{HasViewFlag};
 
 use crate::arg_fault::ArgFault;
-use crate::found::{json_of, option_number, option_or};
-use crate::views::{JournalPart, View};
+use crate::found::{json_of, option_number, option_or, place_of};
+use crate::views::{JournalPart, TracePart, View};
 use clap::ArgMatches;
 use std::alloc::Global;
 
@@ -22,6 +22,26 @@ fn options_of(alloc: Global, words: &[String], found: &ArgMatches) -> Result<Jou
         last: option_number(alloc, words, found, "last", 1, u64::MAX)?,
         json: json_of(words, found)?,
     })
+}
+
+/// The node and the entries that are traced.
+pub(crate) fn trace_part(
+    alloc: Global,
+    words: &[String],
+    found: &ArgMatches,
+) -> Result<TracePart, ArgFault>
+    ensures order { IfOk result (λ part. IfSome part.to (λ to. part.from ≤ to)) }
+    ensures typed { IfOk result (IsTypedTrace words.now) }
+{
+    let part = TracePart {
+        node: place_of(alloc, words, found, "I")?,
+        from: option_or(alloc, words, found, "from", 0, u64::MAX, 0)?,
+        to: option_number(alloc, words, found, "to", 0, u64::MAX)?,
+    };
+    match part.to {
+        Some(to) if to < part.from => Err(ArgFault::Order),
+        _ => Ok(part),
+    }
 }
 
 /// The part itself, where its last number isn't below its first one.

@@ -33,4 +33,4 @@ pub use shown::Shown;
 pub use stop_args::StopRequest;
 pub use stream_args::{StreamAsked, StreamRun, read_stream_args};
 pub use stream_ends::{EndsFault, FileOption};
-pub use views::{JournalPart, View};
+pub use views::{JournalPart, TracePart, View};

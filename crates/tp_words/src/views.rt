@@ -26,3 +26,12 @@ pub struct JournalPart {
     pub last: Option<u64>,
     pub json: bool,
 }
+
+/// The steps of a device's node that are shown: those that its entries made whose number is `from` or more and `to` or less. `None`: up to
+/// the last one.
+#[derive(Clone, Copy)]
+pub struct TracePart {
+    pub node: u64,
+    pub from: u64,
+    pub to: Option<u64>,
+}

@@ -4,7 +4,7 @@ use Rattle.tp_model.specs.NodeWrites.{node_ranges}
 use Rattle.tp_model.specs.SharedPages.{LacksFrames}
 use Rattle.tp_node.proofs.Answered.{lacking_frozen}
 use Rattle.tp_node.specs.NodeContents.{memory_kept}
-use Rattle.tp_trace.proofs.OneStep.{one_step}
+use Rattle.tp_trace.proofs.OneStep.{one_step, step_sends}
 use Rattle.tp_trace.specs.Steps.{Stepped}
 use Rattle.tp_trace.proofs.stepping.step.Goals as goal
 
@@ -19,3 +19,11 @@ returns-clause-stepped c =
 
 pub returns-clause-bytes : goal.returns-clause-bytes
 returns-clause-bytes c = (node_steps c.run.result.count c.args.node.now.live _ c.requires.bytes c.run.ensures.steps).0
+
+pub returns-clause-sent : goal.returns-clause-sent
+returns-clause-sent c =
+    let was = c.args.node.now.live in
+    let node = c.run.new.self in
+    let thawed : node.frozen ≡ None = c.run.ensures.kept ∙ c.requires.thawed in
+    let never : LacksFrames (memory_kept node) (node_ranges node.live) → ⊥ = λ lacks. let some = lacking_frozen node (node_ranges node.live) lacks in absurd (cc) in
+    step_sends c.run.result.count c.run.result.why _ was node.live _ c.run.ensures.why never c.run.ensures.steps

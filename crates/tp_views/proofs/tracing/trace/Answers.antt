@@ -1,9 +1,9 @@
 use Rattle.std.proofs.Common.{arith}
+use Rattle.tp_law_machine.proofs.Images.{node_of_bytes}
 use Rattle.tp_law_machine.proofs.Numbers.{are_bytes}
-use Rattle.tp_views.proofs.Traces.{fresh_bytes}
 use Rattle.tp_views.proofs.tracing.trace.Goals as goal
 
 pub put_steps-requires-clause-bytes : goal.put_steps-requires-clause-bytes
 put_steps-requires-clause-bytes g c =
     let bytes = are_bytes c.args.image.now (λ i. let fit = c.type_inv.image i in omega arith) in
-    fresh_bytes c.args.image.now c.in-Ok.node.live bytes c.in-Ok.ensures.0
+    node_of_bytes c.args.image.now c.in-Ok.node.live bytes c.in-Ok.ensures.0

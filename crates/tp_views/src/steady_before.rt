@@ -1,0 +1,67 @@
+//! Opening a device that another process may be running, with a node as it was before an entry.
+
+ghost use Rattle.std.specs.Prelude.{◌≡◌, IfOk};
+ghost use Rattle.tp_model.specs.Disk.{Sync, done};
+ghost use Rattle.tp_model.specs.DiskHistory.{Counts};
+ghost use Rattle.tp_model.specs.Opening.{verdict};
+ghost use Rattle.tp_recover.specs.Before.{IsImageOf, node_before};
+ghost use Rattle.tp_recover.specs.Reading.{has_read, ReadAnswer, LeavesAlone, LeavesNothingNew};
+ghost use Rattle.tp_views.specs.Steady.{IfSteady, OfSteady};
+
+use crate::steady::{MAX_TRIES, Tried, is_still, look};
+use std::alloc::Global;
+use tp_disk::Disk;
+use tp_recover::{Unopened, open_before};
+
+/// Opens a device between two looks, as `open_once` does.
+fn open_once_before<D: Disk>(
+    alloc: Global,
+    disk: &mut D,
+    node: u64,
+    from: u64,
+    image: &mut Option<Vec<u8>>,
+) -> Tried
+    ensures leaves { D.keeps → LeavesNothingNew (D.state disk.old) (D.state disk.new) }
+    ensures counts { D.keeps → OfSteady (λ answer. Counts (has_read answer) (D.size_of disk.old) (D.size_of disk.new) (D.failures_of disk.old) (D.failures_of disk.new)) result }
+    ensures kept { D.keeps → OfSteady (λ answer. LeavesAlone answer (done Sync (D.state disk.old).now) (D.state disk.new).now) result }
+    ensures is { D.keeps → OfSteady (ReadAnswer (λ opened. opened) (verdict (D.state disk.old).now.bytes)) result }
+    ensures image { IfSteady (λ answer. IfOk answer (λ opened. IsImageOf (node_before node from opened) image.new)) result }
+{
+    let Ok(before) = look(disk) else {
+        return Tried::Steady(Err(Unopened::ReadFailed));
+    };
+    let answer = match open_before(alloc, disk, node, from, image) {
+        Err(Unopened::ReadFailed) => return Tried::Steady(Err(Unopened::ReadFailed)),
+        answer => answer,
+    };
+    match look(disk) {
+        Ok(after) if is_still(before, after) => Tried::Steady(answer),
+        Ok(_) => Tried::Changed,
+        Err(_) => Tried::Steady(Err(Unopened::ReadFailed)),
+    }
+}
+
+/// Opens a device, as `open_steady` does, and puts into `image` the image of a node as it was before the device's first entry whose number
+/// isn't below `from`, or `None` where the node isn't there.
+pub fn open_steady_before<D: Disk>(
+    alloc: Global,
+    disk: &mut D,
+    node: u64,
+    from: u64,
+    image: &mut Option<Vec<u8>>,
+) -> Tried
+    ensures leaves { D.keeps → LeavesNothingNew (D.state disk.old) (D.state disk.new) }
+    ensures counts { D.keeps → OfSteady (λ answer. Counts (has_read answer) (D.size_of disk.old) (D.size_of disk.new) (D.failures_of disk.old) (D.failures_of disk.new)) result }
+    ensures kept { D.keeps → OfSteady (λ answer. LeavesAlone answer (done Sync (D.state disk.old).now) (D.state disk.new).now) result }
+    ensures is { D.keeps → OfSteady (ReadAnswer (λ opened. opened) (verdict (D.state disk.old).now.bytes)) result }
+    ensures image { IfSteady (λ answer. IfOk answer (λ opened. IsImageOf (node_before node from opened) image.new)) result }
+{
+    let mut left = MAX_TRIES;
+    while left > 0 {
+        left -= 1;
+        if let Tried::Steady(answer) = open_once_before(alloc, disk, node, from, image) {
+            return Tried::Steady(answer);
+        }
+    }
+    Tried::Changed
+}
