@@ -1,4 +1,5 @@
 pub mod Fit
 pub mod Found
 pub mod Joined
+pub mod Mapped
 pub mod Traces

@@ -1,3 +1,6 @@
+pub mod Maps
+pub mod JsonMaps
+pub mod NodeMaps
 pub mod Front
 pub mod Json
 pub mod Names
