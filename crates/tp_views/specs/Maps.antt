@@ -146,7 +146,7 @@ abbrev pub address_of : List ℕ → List Row → Option ℕ
 address_of label [] = None
 address_of label (row ∷ rows) = if is_labelled label row.label then Some row.address else address_of label rows
 
--- a label, and how far an address is behind it
+-- a label, and how far an address is past it
 abbrev pub name_part : ℕ → ℕ → Option (List ℕ) → List ℕ
 name_part a at None = []
 name_part a at (Some label) = codes " " ++ (label ++ (codes "+" ++ decimal (a - at)))

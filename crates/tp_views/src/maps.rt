@@ -1,7 +1,7 @@
 //! Where a source's labels and instructions are: a reader of the maps that `tools/assemble --map` writes, and what they say of an address.
 
 ghost use Rattle.std.specs.Prelude.{◌≡◌, ◌++◌, ◌<◌, ◌≤◌, ◌∷◌, ◌==◌, false, true, if◌then◌else◌, Some, None, Ok, IfErr, IfOk, IfSome, OnOk, length, option_copied, position, string_bytes};
-ghost use Rattle.std.specs.List.{slice_split};
+ghost use Rattle.std.specs.List.{list_all, slice_split};
 ghost use Rattle.std.specs.Option.{option_map};
 ghost use Rattle.std.specs.Str.Parse.{digits_value};
 ghost use Rattle.tp_views.specs.Maps.{IsMapFault, address_of, after_line, counts, has_line, is_address, is_hex_digit, is_labelled, is_name, is_nearer, is_of_number, is_place, is_plain, is_text, label_in, label_part, least, line_row, nearest, parts_behind, read_map, row_if, row_seen, rows_seen, spot_text};
@@ -33,11 +33,17 @@ fn is_hex_digit(byte: u8) -> bool
     byte.is_ascii_digit() || (byte >= b'A' && byte <= b'F')
 }
 
+fn has_hex_digits(word: &[u8]) -> bool
+    ensures { result ≡ list_all is_hex_digit word.now }
+{
+    word.iter().all(|byte| is_hex_digit(*byte))
+}
+
 /// Whether a word spells an address: eight hexadecimal digits, with capital letters.
 fn is_address(word: &[u8]) -> bool
     ensures { result ≡ is_address word.now }
 {
-    word.len() == 8 && word.iter().all(|byte| is_hex_digit(*byte))
+    word.len() == 8 && has_hex_digits(word)
 }
 
 /// The address that a word spells, if it spells one.
@@ -63,11 +69,17 @@ fn is_plain(byte: u8) -> bool
     byte >= b' ' && byte != b'"' && byte != b'\\' && byte != 127
 }
 
+fn has_plain_bytes(bytes: &[u8]) -> bool
+    ensures { result ≡ list_all is_plain bytes.now }
+{
+    bytes.iter().all(|byte| is_plain(*byte))
+}
+
 /// Bytes as text, if they are UTF-8 and each of them is plain.
 fn text_in(bytes: &[u8]) -> Option<&str>
     ensures { option_copied result ≡ (if is_text bytes.now then Some bytes.now else None) }
 {
-    if !bytes.iter().all(|byte| is_plain(*byte)) {
+    if !has_plain_bytes(bytes) {
         return None;
     }
     match str::from_utf8(bytes) {
@@ -171,11 +183,7 @@ fn first_line(text: &[u8]) -> (&[u8], Option<&[u8]>)
 }
 
 /// One more line, whose number is counted from 1.
-fn add_line<'a>(
-    rows: &mut Vec<MapRow<'a>>,
-    number: u64,
-    line: &'a [u8],
-) -> Result<(), MapFault>
+fn add_line<'a>(rows: &mut Vec<MapRow<'a>>, number: u64, line: &'a [u8]) -> Result<(), MapFault>
     ensures ok { OnOk result (after_line (rows_seen rows.old.items) number line.now ≡ Ok (rows_seen rows.new.items)) }
     ensures err { IfErr result (IsMapFault (after_line (rows_seen rows.old.items) number line.now)) }
 {
@@ -225,12 +233,7 @@ fn least(found: &Option<MapRow<'_>>) -> u32
 }
 
 /// Whether a row counts, and is as near below an address as the one that was found, or nearer.
-fn is_nearer(
-    found: &Option<MapRow<'_>>,
-    of_labels: bool,
-    address: u32,
-    row: &MapRow<'_>,
-) -> bool
+fn is_nearer(found: &Option<MapRow<'_>>, of_labels: bool, address: u32, row: &MapRow<'_>) -> bool
     ensures is { result ≡ is_nearer (option_map row_seen found.now) of_labels address (row_seen row.now) }
     ensures below { result ≡ true → row.now.address ≤ address }
 {
@@ -273,7 +276,7 @@ pub fn address_of(rows: &[MapRow<'_>], label: &str) -> Option<u32>
     None
 }
 
-/// Appends a label, and how far an address is behind it.
+/// Appends a label, and how far an address is past it.
 fn push_label(text: &mut String, label: &Option<MapRow<'_>>, address: u32) -> Result<(), AllocError>
     requires { IfSome label.now (λ row. row.address ≤ address) }
     ensures { OnOk result (string_bytes text.new ≡ string_bytes text.old ++ label_part address (option_map row_seen label.now)) }
@@ -291,7 +294,7 @@ fn push_label(text: &mut String, label: &Option<MapRow<'_>>, address: u32) -> Re
     )
 }
 
-/// Appends what a map says of an address behind these words, as ` send+3 (send.asm:12)`. A map with no row at or below it says nothing, and
+/// Appends what a map says of an address after these words, as ` send+3 (send.asm:12)`. A map with no row at or below it says nothing, and
 /// nothing is appended then.
 pub fn push_spot(
     text: &mut String,
