@@ -3,7 +3,7 @@ use Rattle.std.specs.Prelude.{ℕ, ◌-◌, true, false, List, [], ◌++◌, Opt
 use Rattle.std.specs.Fmt.{decimal}
 use Rattle.tp_views.specs.Maps.{Row, nearest}
 
--- a label, and how far an address is behind it
+-- a label, and how far an address is past it
 abbrev pub name_fields : ℕ → ℕ → Option (List ℕ) → List ℕ
 name_fields a at None = []
 name_fields a at (Some label) = codes ",\"label\":\"" ++ (label ++ (codes "\",\"offset\":" ++ decimal (a - at)))

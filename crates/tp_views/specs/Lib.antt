@@ -19,7 +19,11 @@ pub mod JournalText
 pub mod Scene
 pub mod Why
 pub mod Cycles
+pub mod Waiting
+pub mod Inside
+pub mod Sums
 pub mod Waits
+pub mod DotWaits
 pub mod JsonWaits
 pub mod Views
 pub mod Checked

@@ -187,6 +187,6 @@ abbrev pub rows_read : Result (List Row) ℕ → List Row
 rows_read (Ok rows) = rows
 rows_read (Err number) = []
 
--- the maps of these texts, of which each node's own one stands at its number
+-- the maps of these texts; each node's own one stands at its number
 abbrev pub maps_in : List (List ℕ) → List ℕ → Maps
 maps_in own all = record { own = map (λ text. rows_read (read_map text)) own; all = rows_read (read_map all) }

@@ -10,7 +10,7 @@ use crate::parts::Part::{Number, Text};
 use crate::parts::push_parts;
 use std::alloc::AllocError;
 
-/// Appends the fields of a label, and of how far an address is behind it.
+/// Appends the fields of a label, and of how far an address is past it.
 fn push_label(text: &mut String, label: &Option<MapRow<'_>>, address: u32) -> Result<(), AllocError>
     requires { IfSome label.now (λ row. row.address ≤ address) }
     ensures { OnOk result (string_bytes text.new ≡ string_bytes text.old ++ label_fields address (option_map row_seen label.now)) }
@@ -45,8 +45,5 @@ pub fn push_spot_fields(
         return Ok(());
     };
     push_label(text, &nearest(rows, true, address), address)?;
-    push_parts(
-        text,
-        &[Text(",\"place\":\""), Text(row.place), Text("\"")],
-    )
+    push_parts(text, &[Text(",\"place\":\""), Text(row.place), Text("\"")])
 }

@@ -18,6 +18,9 @@ pub struct MapRow<'a> {
     pub place: &'a str,
 }
 
+/// The base in which addresses are spelt.
+const HEXADECIMAL: u32 = 16;
+
 /// Why a text wasn't read as a map.
 #[derive(Clone, Copy)]
 pub enum MapFault {
@@ -56,7 +59,7 @@ fn address_in(word: &[u8]) -> Option<u32>
     let Ok(digits) = str::from_utf8(word) else {
         return None;
     };
-    match u32::from_str_radix(digits, 16) {
+    match u32::from_str_radix(digits, HEXADECIMAL) {
         Ok(address) => Some(address),
         Err(_) => None,
     }

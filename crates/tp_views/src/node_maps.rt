@@ -1,8 +1,8 @@
 //! The maps of a device's nodes.
 
-ghost use Rattle.std.specs.Prelude.{◌≡◌, Ok, IfErr, IfOk, map};
+ghost use Rattle.std.specs.Prelude.{◌≡◌, [], Ok, IfErr, IfOk, get_or, map};
 ghost use Rattle.tp_views.specs.Maps.{maps_in, no_maps, read_map, rows_of, rows_read, rows_seen};
-ghost use Rattle.tp_views.specs.NodeMaps.{IsMapRefusal, maps_seen};
+ghost use Rattle.tp_views.specs.NodeMaps.{IsMapRefusal, maps_seen, refusal_of};
 
 use crate::maps::{MapFault, MapRow, read_map};
 use crate::refusal::{MapFile, Refusal};
@@ -26,14 +26,35 @@ impl<'a> NodeMaps<'a> {
         }
     }
 
+    /// The rows of a node's own map; none if it has none.
+    fn own_of(&self, node: usize) -> &[MapRow<'a>]
+        ensures { rows_seen result.now ≡ get_or (maps_seen self.now).own node [] }
+    {
+        let Some(rows) = self.own.get(node) else {
+            return &[];
+        };
+        rows.as_slice()
+    }
+
     /// The rows of a node's map.
     pub(crate) fn of(&self, node: usize) -> &[MapRow<'a>]
         ensures { rows_seen result.now ≡ rows_of (maps_seen self.now) node }
     {
-        match self.own.get(node) {
-            Some(rows) if !rows.is_empty() => rows.as_slice(),
-            _ => self.all.as_slice(),
+        let own = self.own_of(node);
+        if own.is_empty() {
+            return self.all.as_slice();
         }
+        own
+    }
+}
+
+/// Why the map in a file isn't read.
+fn refusal_of(file: MapFile, fault: MapFault) -> Refusal
+    ensures { result ≡ refusal_of file fault }
+{
+    match fault {
+        MapFault::Line(number) => Refusal::BadMap(file, number),
+        MapFault::Memory => Refusal::Memory,
     }
 }
 
@@ -48,12 +69,11 @@ pub fn read_rows<'a>(
 {
     match read_map(alloc, text) {
         Ok(rows) => Ok(rows),
-        Err(MapFault::Line(number)) => Err(Refusal::BadMap(file, number)),
-        Err(MapFault::Memory) => Err(Refusal::Memory),
+        Err(fault) => Err(refusal_of(file, fault)),
     }
 }
 
-/// Reads the maps of nodes, each of which is at its number.
+/// Reads the maps of nodes, each one at its node's number.
 fn read_own<'a>(alloc: Global, texts: &'a [Vec<u8>]) -> Result<Vec<Vec<MapRow<'a>>>, Refusal>
     ensures { IfOk result (λ own. map (λ rows. rows_seen rows.items) own.items ≡ map (λ text. rows_read (read_map text.items)) texts.now) }
 {
