@@ -26,25 +26,16 @@ impl<'a> NodeMaps<'a> {
         }
     }
 
-    /// The rows of a node's own map; none if it has none.
-    fn own_of(&self, node: usize) -> &[MapRow<'a>]
-        ensures { rows_seen result.now ≡ get_or (maps_seen self.now).own node [] }
-    {
-        let Some(rows) = self.own.get(node) else {
-            return &[];
-        };
-        rows.as_slice()
-    }
-
     /// The rows of a node's map.
     pub(crate) fn of(&self, node: usize) -> &[MapRow<'a>]
         ensures { rows_seen result.now ≡ rows_of (maps_seen self.now) node }
     {
-        let own = self.own_of(node);
-        if own.is_empty() {
-            return self.all.as_slice();
+        if let Some(own) = self.own.get(node)
+            && !own.is_empty()
+        {
+            return own.as_slice();
         }
-        own
+        self.all.as_slice()
     }
 }
 

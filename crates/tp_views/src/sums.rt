@@ -76,7 +76,7 @@ fn push_line(text: &mut String, wait: &Wait) -> Result<(), AllocError>
     push_parts(text, &[Text("\n")])
 }
 
-/// Appends what the waiting at an end adds up to, among so many nodes.
+/// Appends what the waiting at an end adds up to, in a network with that many nodes.
 fn push_sum(text: &mut String, nodes: usize, end: &Option<Wait>) -> Result<(), AllocError>
     requires { nodes ≤ MAX_NODES }
     ensures { OnOk result (string_bytes text.new ≡ string_bytes text.old ++ sum_part nodes end.now) }

@@ -128,7 +128,7 @@ pub(crate) fn waits_inside(scene: &Scene) -> bool
     false
 }
 
-/// Whether the end that sends a line is the first one of its wire, among so many nodes.
+/// Whether the end that sends a line is the first one of its wire, in a network with that many nodes.
 pub(crate) fn is_first(nodes: usize, line: usize, other: Option<WireEnd>) -> bool
     requires { nodes ≤ MAX_NODES }
     ensures { result ≡ is_first nodes line other }
@@ -139,8 +139,8 @@ pub(crate) fn is_first(nodes: usize, line: usize, other: Option<WireEnd>) -> boo
     }
 }
 
-/// Whether a process's waiting is said once more at the end, among so many nodes. Of two ends that wait for one another it is said at the
-/// first one.
+/// Whether a process's waiting is said once more at the end, in a network with that many nodes. Of two ends that wait for one another it is
+/// said at the first one.
 pub(crate) fn is_told(nodes: usize, wait: &Wait) -> bool
     requires { nodes ≤ MAX_NODES }
     ensures { result ≡ is_told nodes wait.now }
