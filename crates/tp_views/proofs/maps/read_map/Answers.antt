@@ -1,4 +1,4 @@
-use Rattle.std.proofs.Common.{◌≡◌, ◌∙◌, ◌∷◌, sym, ap, subst, rules, Result, List, ℕ}
+use Rattle.std.proofs.Common.{◌∙◌, sym, ap, subst, rules, Result, List, ℕ}
 use Rattle.std.specs.Prelude.{option_copied}
 use Rattle.tp_views.specs.Maps.{IsMapFault, Row, after_lines, parts_behind, read_map, rows_seen}
 use Rattle.tp_views.proofs.Mapped.{IfErr-fault, fault_first, fewer, lines_end, lines_more}

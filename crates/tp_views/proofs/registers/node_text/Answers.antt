@@ -1,4 +1,4 @@
-use Rattle.std.proofs.Common.{◌≡◌, ◌∙◌, Ok, Err, Result, IfOk}
+use Rattle.std.proofs.Common.{◌∙◌, Ok, Err, Result, IfOk}
 use Rattle.tp_model.specs.Image.{node_at}
 use Rattle.tp_views.specs.Maps.{rows_seen}
 use Rattle.tp_views.specs.NodeText.{node_as_lines}
