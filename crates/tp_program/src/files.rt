@@ -3,6 +3,7 @@
 ghost use Rattle.std.specs.Prelude.{◌≡◌, ◌≤◌, IfErr};
 ghost use Rattle.std.specs.IoError.{error_kind};
 
+use crate::map_texts::{MapTexts, read_texts};
 use crate::watching::Watch;
 use std::alloc::Global;
 use std::fs::{Files, OpenFile, OpenOptions};
@@ -13,8 +14,8 @@ use std::{fs, io};
 use tp_disk::{Counted, NotedFile, RawFile};
 use tp_net::{Named, Topology};
 use tp_views::{
-    Refusal, Seen, check_on, is_openable, recover_on, refuse, show_on, status_on, trace_device_on,
-    trace_on, try_on, view_on,
+    NodeMaps, Refusal, Seen, check_on, is_openable, read_maps, recover_on, refuse, show_on,
+    status_on, trace_device_on, trace_on, try_on, view_on,
 };
 use tp_words::{TracePart, View};
 
@@ -187,18 +188,51 @@ pub fn check_file<R: Files + AllocGlobal, O: Write, E: Write>(
     }
 }
 
-/// `tpnet node`, `image`, `journal` and `port`, on a device's file, which stays as it is.
+/// Shows a view of a device's file, which stays as it is, with what maps say of addresses.
+fn view_mapped<R: Files<File = F> + AllocGlobal, F: FileExt + OpenFile + Drop, O: Write, E: Write>(
+    rt: &R,
+    device: &str,
+    view: View,
+    maps: &NodeMaps<'_>,
+    out: &mut O,
+    err: &mut E,
+) -> u8
+    ensures { result ≤ 2 }
+{
+    match disk_to_read(rt, device) {
+        Ok(mut disk) => view_on(rt.alloc(), &mut disk, view, maps, out, err),
+        Err(refusal) => refuse(err, refusal),
+    }
+}
+
+/// Shows a view of a device's file, with what the texts of maps say of addresses.
+fn view_with_texts<
+    R: Files<File = F> + AllocGlobal,
+    F: FileExt + OpenFile + Drop,
+    O: Write,
+    E: Write,
+>(rt: &R, device: &str, view: View, texts: &MapTexts, out: &mut O, err: &mut E) -> u8
+    ensures { result ≤ 2 }
+{
+    match read_maps(rt.alloc(), texts.own.as_slice(), texts.all.as_slice()) {
+        Ok(maps) => view_mapped(rt, device, view, &maps, out, err),
+        Err(refusal) => refuse(err, refusal),
+    }
+}
+
+/// `tpnet waits`, `node`, `image`, `journal` and `port`, on a device's file, which stays as it is. Maps are read first, from a folder if one
+/// is named.
 #[inline(never)]
 pub fn view_file<
     R: Files<File = F> + AllocGlobal,
     F: FileExt + OpenFile + Drop,
     O: Write,
     E: Write,
->(rt: &R, device: &str, view: View, out: &mut O, err: &mut E) -> u8
+>(rt: &R, device: &str, view: View, maps: Option<&str>, out: &mut O, err: &mut E) -> u8
     ensures { result ≤ 2 }
 {
-    match disk_to_read(rt, device) {
-        Ok(mut disk) => view_on(rt.alloc(), &mut disk, view, out, err),
+    match read_texts(rt, maps) {
+        Ok(texts) => view_with_texts(rt, device, view, &texts, out, err),
         Err(refusal) => refuse(err, refusal),
     }
 }

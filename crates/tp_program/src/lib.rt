@@ -17,6 +17,7 @@ mod format_file;
 mod formatting;
 mod in_use;
 mod locks;
+mod map_texts;
 mod opening_again;
 mod program;
 mod request_file;
@@ -41,8 +42,8 @@ pub use running::run_on;
 pub use stop_file::StopFault;
 pub use streaming::{FilesFault, Streamed, stream_on};
 pub use tp_views::{
-    Seen, TRY_QUANTUM, check_on, is_openable, recover_on, show_on, status_on, trace_on, try_on,
-    view_on,
+    NodeMaps, Seen, TRY_QUANTUM, check_on, is_openable, recover_on, show_on, status_on, trace_on,
+    try_on, view_on,
 };
 pub use tp_words::{
     ArgFault, Asked, Backup, Command, CommandFault, CommandLine, EndsFault, JournalPart, NewDevice,

@@ -83,7 +83,17 @@ fn carry_out<
             images,
             json,
         } => check_file(rt, topology.as_str(), images.as_str(), *json, out, err),
-        Asked::View { device, view } => view_file(rt, device.as_str(), *view, out, err),
+        Asked::View { device, view, maps } => {
+            view_file(rt, device.as_str(), *view, text_in(maps), out, err)
+        }
+    }
+}
+
+/// The text of an option that may have been typed.
+fn text_in(option: &Option<String>) -> Option<&str> {
+    match option {
+        Some(text) => Some(text.as_str()),
+        None => None,
     }
 }
 

@@ -18,16 +18,26 @@ use std::os::unix::fs::FileExt;
 use std::sync::Wait;
 use std::thread::Threads;
 use tp_disk::Disk;
-use tp_stream_files::{Feed, Onlooker, StandardStreams};
-use tp_views::{Refusal, is_openable, refuse};
+use tp_stream_files::{Ending, Feed, Onlooker, StandardStreams};
+use tp_views::{Refusal, is_openable, refuse, tell_inside};
 use tp_words::StreamRun;
 
-/// What came of a command: its status, why a stream ended early, and what the system said of a call on the device that failed.
+/// What came of a command: its status, whether a stream ended since nothing was left to do, or why it ended early, and what the system said
+/// of a call on the device that failed.
 #[derive(Drop)]
 struct Outcome {
     status: u8,
+    is_quiet: bool,
     fault: Option<FilesFault>,
     system: Option<io::Error>,
+}
+
+/// Whether a stream ended since nothing was left to do.
+fn is_quiet(streamed: Streamed) -> bool {
+    match streamed.done {
+        Ok(ended) => matches!(ended.why, Ending::Quiet),
+        Err(_) => false,
+    }
 }
 
 /// What came of a stream.
@@ -36,6 +46,7 @@ fn outcome_of(streamed: Streamed, system: Option<io::Error>) -> Outcome
 {
     Outcome {
         status: streamed.status,
+        is_quiet: is_quiet(streamed),
         fault: streamed.done.err(),
         system,
     }
@@ -47,6 +58,7 @@ fn unopened<E: Write>(err: &mut E, refusal: Refusal, system: Option<io::Error>) 
 {
     Outcome {
         status: refuse(err, refusal),
+        is_quiet: false,
         fault: None,
         system,
     }
@@ -60,6 +72,7 @@ fn unopened_special<S: Devices, E: Write>(devices: &S, asked: &StreamRun, err: &
     let status = refuse_special(devices, asked.device.as_str(), &mut system, err);
     Outcome {
         status,
+        is_quiet: false,
         fault: None,
         system,
     }
@@ -117,7 +130,8 @@ fn say_why<R: Files<File = F> + AllocGlobal, F: FileExt + OpenFile + Drop, E: Wr
     }
 }
 
-/// Streams as it is asked for, and says more of a refusal where `explains`. Answers the status.
+/// Streams as it is asked for, and where `explains` says more of a refusal, or, of a stream that ended since nothing was left to do, whether
+/// processes wait for other nodes. Answers the status.
 fn stream_and_explain<
     R: Files<File = F> + StandardStreams + AllocGlobal + Threads + Wait + Sync,
     F: FileExt + OpenFile + Drop + Send,
@@ -144,8 +158,12 @@ fn stream_and_explain<
     ensures streamed { StreamedFile D.keeps history asked.now (S.calls devices.old) (S.calls devices.new) (O.contents out.old) (O.contents out.new) result }
 {
     let ended = stream_file(rt, devices, asked, feed, out, err, onlooker);
-    if ended.status == 1 && explains {
-        say_why(rt, asked, ended.fault, ended.system.as_ref(), err);
+    if explains {
+        match ended.status {
+            0 if ended.is_quiet => tell_inside(rt, asked.device.as_str(), err),
+            1 => say_why(rt, asked, ended.fault, ended.system.as_ref(), err),
+            _ => {}
+        }
     }
     ended.status
 }

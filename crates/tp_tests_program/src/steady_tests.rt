@@ -8,7 +8,7 @@ use std::sync::Wait;
 use std::test::Fail;
 use std::thread::Threads;
 use tp_disk::{Counted, Disk, MemDisk};
-use tp_program::{JournalPart, View, backup_on, recover_on, show_on, view_on};
+use tp_program::{JournalPart, NodeMaps, View, backup_on, recover_on, show_on, view_on};
 use tp_tests_fixtures::{AREA, SIZE};
 
 /// A command that reads a device.
@@ -43,7 +43,10 @@ fn asked<R: AllocGlobal + Threads + Sync>(rt: &R, changing: &mut Changing, reade
     let status = match reader {
         Reader::Recover(workers) => recover_on(rt, alloc, &mut disk, workers, &mut out, &mut err),
         Reader::Show => show_on(alloc, &mut disk, false, &mut out, &mut err),
-        Reader::Look(view) => view_on(alloc, &mut disk, view, &mut out, &mut err),
+        Reader::Look(view) => {
+            let maps = NodeMaps::none(alloc);
+            view_on(alloc, &mut disk, view, &maps, &mut out, &mut err)
+        }
         Reader::Backup => show_copy(alloc, &mut disk, &mut out, &mut err),
     };
     Said { status, out, err }

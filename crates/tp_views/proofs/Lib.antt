@@ -3,5 +3,6 @@ mod EntriesTraced
 pub mod Fit
 pub mod Found
 pub mod Joined
+pub mod Mapped
 pub mod Traces
 mod Looked

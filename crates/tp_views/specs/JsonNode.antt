@@ -13,6 +13,8 @@ use Rattle.tp_model.specs.declared.processor.State.{State}
 use Rattle.tp_model.specs.Image.{halt_byte, page_count}
 use Rattle.tp_model.specs.NodeState.{NodeState}
 use Rattle.tp_views.specs.Json.{json_bool, json_list}
+use Rattle.tp_views.specs.JsonMaps.{spot_fields}
+use Rattle.tp_views.specs.Maps.{Row}
 use Rattle.tp_trace.specs.Names.{state_name}
 use Rattle.tp_views.specs.Names.{halt_name}
 
@@ -24,9 +26,9 @@ number_fields number pages halt =
     codes "{\"node\":" ++ (decimal number ++ (codes ",\"pages\":" ++ (decimal pages
     ++ (codes ",\"halt\":" ++ (decimal (halt_byte halt) ++ (codes ",\"halt_name\":\"" ++ (halt_name halt ++ codes "\"")))))))
 
--- the next instruction, and the workspace
-abbrev pub pointer_fields : ℕ → ℕ → List ℕ
-pointer_fields iptr wptr = codes ",\"iptr\":" ++ (decimal iptr ++ (codes ",\"wptr\":" ++ decimal wptr))
+-- the next instruction, which the map's rows name, and the workspace
+abbrev pub pointer_fields : List Row → ℕ → ℕ → List ℕ
+pointer_fields rows iptr wptr = (codes ",\"iptr\":" ++ decimal iptr) ++ (spot_fields rows iptr ++ (codes ",\"wptr\":" ++ decimal wptr))
 
 -- the evaluation stack
 abbrev pub stack_fields : ℕ → ℕ → ℕ → List ℕ
@@ -42,9 +44,9 @@ abbrev pub state_fields : Bool → State → ℕ → List ℕ
 state_fields error state slice =
     codes ",\"error\":" ++ (json_bool error ++ (codes ",\"state\":\"" ++ (state_name state ++ (codes "\",\"slice\":" ++ decimal slice))))
 
-abbrev pub cpu_fields : Cpu → List ℕ
-cpu_fields cpu =
-    pointer_fields cpu.iptr cpu.wptr
+abbrev pub cpu_fields : List Row → Cpu → List ℕ
+cpu_fields rows cpu =
+    pointer_fields rows cpu.iptr cpu.wptr
     ++ (stack_fields cpu.regs.a cpu.regs.b cpu.regs.c
     ++ (queue_field (codes "high") cpu.high ++ (queue_field (codes "low") cpu.low ++ state_fields cpu.regs.error cpu.state cpu.slice)))
 
@@ -74,11 +76,11 @@ input_item (Enabled process) = codes "{\"state\":\"enabled\",\"process\":" ++ (d
 -- ## The node
 
 -- the node with this number, by its pages, its processor and its ends, which stand at their links' numbers
-abbrev pub node_fields : ℕ → ℕ → Cpu → List OutEnd → List InEnd → List ℕ
-node_fields number pages cpu outputs inputs =
-    number_fields number pages cpu.halt ++ (cpu_fields cpu ++ (codes ",\"out\":" ++ (json_list (map output_item outputs)
+abbrev pub node_fields : List Row → ℕ → ℕ → Cpu → List OutEnd → List InEnd → List ℕ
+node_fields rows number pages cpu outputs inputs =
+    number_fields number pages cpu.halt ++ (cpu_fields rows cpu ++ (codes ",\"out\":" ++ (json_list (map output_item outputs)
     ++ (codes ",\"in\":" ++ (json_list (map input_item inputs) ++ codes "}\n")))))
 
 -- All that is printed of it.
-abbrev pub node_json : ℕ → NodeState → List ℕ
-node_json number node = node_fields number (page_count node.memory) node.cpu node.outputs node.inputs
+abbrev pub node_json : List Row → ℕ → NodeState → List ℕ
+node_json rows number node = node_fields rows number (page_count node.memory) node.cpu node.outputs node.inputs

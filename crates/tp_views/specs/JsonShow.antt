@@ -1,5 +1,5 @@
 -- What `show --json` prints of a device.
-use Rattle.std.specs.Prelude.{ℕ, Bool, List, ◌++◌, map, length, codes}
+use Rattle.std.specs.Prelude.{ℕ, List, ◌++◌, map, length, codes}
 use Rattle.std.specs.Fmt.{decimal}
 use Rattle.tp_model.specs.NodeState.{NodeState}
 use Rattle.tp_model.specs.Image.{halt_byte}

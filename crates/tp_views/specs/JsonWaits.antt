@@ -1,7 +1,6 @@
 -- What `waits --json` prints.
-use Rattle.std.specs.Prelude.{ℕ, ◌+◌, ◌*◌, Bool, true, false, if◌then◌else◌, List, [], ◌∷◌, ◌++◌, get_or, length, Option, Some, None, codes}
+use Rattle.std.specs.Prelude.{ℕ, ◌+◌, ◌-◌, Bool, true, false, if◌then◌else◌, List, [], ◌∷◌, ◌++◌, get_or, length, Option, Some, None, codes}
 use Rattle.std.specs.Fmt.{decimal}
-use Rattle.tp_model.specs.Network.{receiver}
 use Rattle.tp_model.specs.declared.entry.Entry.{Entry}
 use Rattle.tp_model.specs.declared.processor.Fault.{Fault}
 use Rattle.tp_model.specs.declared.wire.WireEnd.{WireEnd}
@@ -10,12 +9,18 @@ use Rattle.tp_node.specs.declared.waiter.Waiter.{Waiter}
 use Rattle.tp_trace.specs.Names.{fault_name}
 use Rattle.tp_views.specs.Cycles.{first_of, reached}
 use Rattle.tp_views.specs.Json.{comma}
+use Rattle.tp_views.specs.JsonMaps.{spot_fields}
+use Rattle.tp_views.specs.Maps.{Maps, Row, rows_of}
 use Rattle.tp_views.specs.Scene.{Seen}
-use Rattle.tp_views.specs.Waits.{deed_name, last_made, why_name}
-use Rattle.tp_views.specs.Why.{waiting_at, why}
+use Rattle.tp_views.specs.Sums.{why_name}
+use Rattle.tp_views.specs.Waiting.{links_of, side_of}
+use Rattle.tp_views.specs.Waits.{deed_name, last_made}
 use Rattle.tp_views.specs.declared.scene.Doing.{Doing}
 use Rattle.tp_views.specs.declared.scene.Doing.TheVariants.{Halted, Runs, Rests}
 use Rattle.tp_views.specs.declared.scene.NodeSeen.{NodeSeen}
+use Rattle.tp_views.specs.declared.waiting.LinkWaits.{LinkWaits}
+use Rattle.tp_views.specs.declared.waiting.Wait.{Wait}
+use Rattle.tp_views.specs.declared.why.Reason.{Reason}
 
 -- ## Fields
 
@@ -24,15 +29,16 @@ abbrev pub number_or_null : List ℕ → Option ℕ → List ℕ
 number_or_null name None = name ++ codes "null"
 number_or_null name (Some number) = name ++ decimal number
 
--- that a node halted, why, and at which address
-abbrev pub halted_field : Fault → ℕ → List ℕ
-halted_field fault at = codes ",\"does\":\"halted\",\"fault\":\"" ++ (fault_name fault ++ (codes "\",\"at\":" ++ decimal at))
+-- that a node halted, why, and at which address, which the map's rows name
+abbrev pub halted_field : List Row → Fault → ℕ → List ℕ
+halted_field rows fault at =
+    codes ",\"does\":\"halted\",\"fault\":\"" ++ (fault_name fault ++ ((codes "\",\"at\":" ++ decimal at) ++ spot_fields rows at))
 
 -- what a node does
-abbrev pub does_field : Doing → List ℕ
-does_field (Halted fault at) = halted_field fault at
-does_field Runs = codes ",\"does\":\"runs\""
-does_field Rests = codes ",\"does\":\"rests\""
+abbrev pub does_field : List Row → Doing → List ℕ
+does_field rows (Halted fault at) = halted_field rows fault at
+does_field rows Runs = codes ",\"does\":\"runs\""
+does_field rows Rests = codes ",\"does\":\"rests\""
 
 -- the other end of a wire
 abbrev pub other_value : Option WireEnd → List ℕ
@@ -40,41 +46,45 @@ other_value None = codes "null"
 other_value (Some (Link j k)) = codes "{\"node\":" ++ (decimal j ++ (codes ",\"link\":" ++ (decimal k ++ codes "}")))
 other_value (Some (AtPort p)) = codes "{\"port\":" ++ (decimal p ++ codes "}")
 
--- ## A process that waits at an end of link k of node i
+-- ## A process that waits at an end of a link
 
 -- what it does there, how many bytes are left, and its descriptor
 abbrev pub deed_fields : Waiter → List ℕ
 deed_fields waiter =
     codes "{\"does\":\"" ++ (deed_name waiter.deed ++ (codes "\",\"left\":" ++ (decimal waiter.left ++ (codes ",\"process\":" ++ decimal waiter.process))))
 
-abbrev pub wait_item : Seen → Bool → ℕ → NodeSeen → ℕ → Waiter → List ℕ
-wait_item s sends i own k waiter =
-    deed_fields waiter ++ (number_or_null (codes ",\"at\":") waiter.resumes
-    ++ (codes ",\"other\":" ++ (other_value (receiver s.wires (4 * i + k))
-    ++ (codes ",\"why\":\"" ++ (why_name (why s sends own (4 * i + k)) ++ codes "\"}")))))
+-- where it goes on; the map's rows name the instruction before that, in which it waits
+abbrev pub resumes_fields : List Row → Option ℕ → List ℕ
+resumes_fields rows None = codes ",\"at\":null"
+resumes_fields rows (Some at) = (codes ",\"at\":" ++ decimal at) ++ spot_fields rows (at - 1)
 
-abbrev pub item_if : Seen → Bool → ℕ → NodeSeen → ℕ → Option Waiter → List ℕ
-item_if s sends i own k None = codes "null"
-item_if s sends i own k (Some waiter) = wait_item s sends i own k waiter
+abbrev pub other_field : Option WireEnd → List ℕ
+other_field other = codes ",\"other\":" ++ other_value other
 
-abbrev pub end_item : Seen → Bool → ℕ → NodeSeen → ℕ → List ℕ
-end_item s sends i own k = item_if s sends i own k (waiting_at own sends k)
+abbrev pub why_field : Reason → List ℕ
+why_field why = codes ",\"why\":\"" ++ (why_name why ++ codes "\"}")
 
--- those of links 0 to 3
+abbrev pub wait_item : List Row → Wait → List ℕ
+wait_item rows wait = deed_fields wait.waiter ++ (resumes_fields rows wait.waiter.resumes ++ (other_field wait.other ++ why_field wait.why))
+
+abbrev pub end_item : List Row → Option Wait → List ℕ
+end_item rows None = codes "null"
+end_item rows (Some wait) = wait_item rows wait
+
+-- an item that has that many before it
+abbrev pub item_after : List Row → ℕ → Option Wait → List ℕ
+item_after rows before end = comma before ++ end_item rows end
+
+-- those of the output ends, or of the input ends, of some links
+abbrev pub items_from : List Row → Bool → ℕ → List LinkWaits → List ℕ
+items_from rows sends before [] = []
+items_from rows sends before (link ∷ links) = item_after rows before (side_of sends link) ++ items_from rows sends (before + 1) links
+
 abbrev pub ends_name : Bool → List ℕ
 ends_name sends = if sends then codes ",\"out\":[" else codes ",\"in\":["
 
--- an item, and what stands after it
-abbrev pub item_then : Seen → Bool → ℕ → NodeSeen → ℕ → List ℕ → List ℕ
-item_then s sends i own k after = end_item s sends i own k ++ after
-
-abbrev pub ends_items : Seen → Bool → ℕ → NodeSeen → List ℕ
-ends_items s sends i own =
-    item_then s sends i own 0 (codes ",") ++ (item_then s sends i own 1 (codes ",")
-    ++ (item_then s sends i own 2 (codes ",") ++ item_then s sends i own 3 (codes "]")))
-
-abbrev pub ends_list : Seen → Bool → ℕ → NodeSeen → List ℕ
-ends_list s sends i own = ends_name sends ++ ends_items s sends i own
+abbrev pub ends_list : List Row → Bool → List LinkWaits → List ℕ
+ends_list rows sends links = ends_name sends ++ (items_from rows sends 0 links ++ codes "]")
 
 -- ## A node
 
@@ -91,18 +101,19 @@ abbrev pub last_field : Seen → List (Entry × ℕ) → ℕ → List ℕ
 last_field s kept i = number_or_null (codes ",\"last\":") (last_made i s.wires (length s.nodes) kept)
 
 -- those that it waits for
-abbrev pub link_fields : Seen → List ℕ → ℕ → NodeSeen → List ℕ
-link_fields s rows i own = cycle_field i rows ++ (ends_list s true i own ++ (ends_list s false i own ++ codes "}"))
+abbrev pub link_fields : List Row → List ℕ → ℕ → List LinkWaits → List ℕ
+link_fields rows reached i links = cycle_field i reached ++ (ends_list rows true links ++ (ends_list rows false links ++ codes "}"))
 
-abbrev pub node_item : Seen → List (Entry × ℕ) → List ℕ → ℕ → NodeSeen → List ℕ
-node_item s kept rows i own = number_field i ++ (does_field own.doing ++ (last_field s kept i ++ link_fields s rows i own))
+abbrev pub node_item : Seen → List (Entry × ℕ) → List ℕ → List Row → ℕ → NodeSeen → List ℕ
+node_item s kept reached rows i own =
+    number_field i ++ (does_field rows own.doing ++ (last_field s kept i ++ link_fields rows reached i (links_of s i own)))
 
-abbrev pub nodes_items : Seen → List (Entry × ℕ) → List ℕ → ℕ → List NodeSeen → List ℕ
-nodes_items s kept rows i [] = []
-nodes_items s kept rows i (own ∷ nodes) = node_item s kept rows i own ++ nodes_items s kept rows (i + 1) nodes
+abbrev pub nodes_items : Seen → List (Entry × ℕ) → List ℕ → Maps → ℕ → List NodeSeen → List ℕ
+nodes_items s kept reached maps i [] = []
+nodes_items s kept reached maps i (own ∷ nodes) = node_item s kept reached (rows_of maps i) i own ++ nodes_items s kept reached maps (i + 1) nodes
 
 -- ## All
 
--- All that is printed of a network, and of the entries that led to it.
-abbrev pub waits_json : Seen → List (Entry × ℕ) → List ℕ
-waits_json s kept = codes "{\"nodes\":[" ++ (nodes_items s kept (reached s) 0 s.nodes ++ codes "]}\n")
+-- All that is printed of a network, of the entries that led to it, and of what maps say of addresses.
+abbrev pub waits_json : Seen → List (Entry × ℕ) → Maps → List ℕ
+waits_json s kept maps = codes "{\"nodes\":[" ++ (nodes_items s kept (reached s) maps 0 s.nodes ++ codes "]}\n")

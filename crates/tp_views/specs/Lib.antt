@@ -1,3 +1,6 @@
+pub mod Maps
+pub mod JsonMaps
+pub mod NodeMaps
 pub mod Front
 pub mod Json
 pub mod Names
@@ -16,7 +19,11 @@ pub mod JournalText
 pub mod Scene
 pub mod Why
 pub mod Cycles
+pub mod Waiting
+pub mod Inside
+pub mod Sums
 pub mod Waits
+pub mod DotWaits
 pub mod JsonWaits
 pub mod Views
 pub mod Checked

@@ -1,5 +1,5 @@
 -- What one look of `status` does.
-use Rattle.std.specs.Prelude.{◌≡◌, ℕ, Bool, List, Option, Result, Ok, Err}
+use Rattle.std.specs.Prelude.{◌≡◌, ℕ, Bool, List, Option, Ok}
 use Rattle.std.specs.Io.KnownBytes.{Appends}
 use Rattle.tp_model.specs.Opening.{Opened, verdict}
 use Rattle.tp_views.specs.JsonStatus.{look_text}

@@ -15,6 +15,7 @@ use Rattle.tp_model.specs.NodeState.{NodeState}
 use Rattle.tp_model.specs.Word.{bit}
 use Rattle.tp_trace.specs.Hex.{hex_byte, hex_word}
 use Rattle.tp_trace.specs.Names.{state_name}
+use Rattle.tp_views.specs.Maps.{Row, spot_text}
 use Rattle.tp_views.specs.Names.{halt_name}
 
 -- ## The processor
@@ -24,9 +25,9 @@ abbrev pub number_line : ℕ → ℕ → Option Fault → List ℕ
 number_line number pages halt =
     codes "node " ++ (decimal number ++ (codes " pages " ++ (decimal pages ++ (codes " halt " ++ (decimal (halt_byte halt) ++ (codes " " ++ (halt_name halt ++ 10 ∷ [])))))))
 
--- the next instruction, and the workspace
-abbrev pub pointer_line : ℕ → ℕ → List ℕ
-pointer_line iptr wptr = codes "Iptr " ++ (hex_word iptr ++ (codes " Wptr " ++ (hex_word wptr ++ 10 ∷ [])))
+-- the next instruction, which the map's rows name, and the workspace
+abbrev pub pointer_line : List Row → ℕ → ℕ → List ℕ
+pointer_line rows iptr wptr = (codes "Iptr " ++ hex_word iptr) ++ (spot_text [] rows iptr ++ (codes " Wptr " ++ (hex_word wptr ++ 10 ∷ [])))
 
 -- the evaluation stack
 abbrev pub stack_line : ℕ → ℕ → ℕ → List ℕ
@@ -41,9 +42,9 @@ abbrev pub state_line : Bool → State → ℕ → List ℕ
 state_line error state slice =
     codes "error " ++ (decimal (bit error) ++ (codes " state " ++ (state_name state ++ (codes " slice " ++ (decimal slice ++ 10 ∷ [])))))
 
-abbrev pub cpu_lines : Cpu → List ℕ
-cpu_lines cpu =
-    pointer_line cpu.iptr cpu.wptr
+abbrev pub cpu_lines : List Row → Cpu → List ℕ
+cpu_lines rows cpu =
+    pointer_line rows cpu.iptr cpu.wptr
     ++ (stack_line cpu.regs.a cpu.regs.b cpu.regs.c
     ++ (queue_line (codes "high") cpu.high ++ (queue_line (codes "low") cpu.low ++ state_line cpu.regs.error cpu.state cpu.slice)))
 
@@ -85,10 +86,10 @@ input_lines link (end ∷ ends) = input_end_line link end ++ input_lines (link +
 -- ## The node
 
 -- the node with this number, by its pages, its processor and its ends
-abbrev pub node_as_lines : ℕ → ℕ → Cpu → List OutEnd → List InEnd → List ℕ
-node_as_lines number pages cpu outputs inputs =
-    number_line number pages cpu.halt ++ (cpu_lines cpu ++ (output_lines 0 outputs ++ input_lines 0 inputs))
+abbrev pub node_as_lines : List Row → ℕ → ℕ → Cpu → List OutEnd → List InEnd → List ℕ
+node_as_lines rows number pages cpu outputs inputs =
+    number_line number pages cpu.halt ++ (cpu_lines rows cpu ++ (output_lines 0 outputs ++ input_lines 0 inputs))
 
--- All that is printed of it.
-abbrev pub node_text : ℕ → NodeState → List ℕ
-node_text number node = node_as_lines number (page_count node.memory) node.cpu node.outputs node.inputs
+-- All that is printed of it, where its map has these rows.
+abbrev pub node_text : List Row → ℕ → NodeState → List ℕ
+node_text rows number node = node_as_lines rows number (page_count node.memory) node.cpu node.outputs node.inputs

@@ -1,5 +1,5 @@
 -- What of a network's nodes, lines and ports says who waits for whom.
-use Rattle.std.specs.Prelude.{ℕ, Bool, true, false, not, ◌==◌, nat_le, if◌then◌else◌, List, [], ◌∷◌, map, length, Option, Some, None, slice_get}
+use Rattle.std.specs.Prelude.{Bool, true, false, not, ◌==◌, nat_le, if◌then◌else◌, List, [], ◌∷◌, map, length, Option, Some, None, slice_get}
 use Rattle.tp_model.specs.Network.{Network, Port}
 use Rattle.tp_model.specs.NodeState.{NodeState}
 use Rattle.tp_model.specs.declared.limits.TheConstants.{MAX_HELD}

@@ -1,25 +1,25 @@
 -- What `waits` prints: for each node what it does, and for each of its processes that waits at a link why; and what that adds up to.
-use Rattle.std.specs.Prelude.{ℕ, ◌+◌, ◌*◌, ◌==◌, nat_lt, Bool, true, false, not, ◌&&◌, ◌||◌, if◌then◌else◌, List, [], ◌∷◌, ◌++◌, length, Option, Some, None, is_none, codes}
+use Rattle.std.specs.Prelude.{ℕ, ◌+◌, ◌-◌, ◌==◌, Bool, if◌then◌else◌, List, [], ◌∷◌, ◌++◌, length, Option, Some, None, codes}
 use Rattle.std.specs.Fmt.{decimal}
 use Rattle.tp_model.specs.Entries.{process}
 use Rattle.tp_model.specs.Image.{halt_byte}
-use Rattle.tp_model.specs.Network.{line_of, receiver}
 use Rattle.tp_model.specs.declared.entry.Entry.{Entry}
+use Rattle.tp_model.specs.declared.processor.Fault.{Fault}
 use Rattle.tp_model.specs.declared.wire.WireEnd.{WireEnd}
-use Rattle.tp_model.specs.declared.wire.WireEnd.TheVariants.{Link, Port as AtPort}
 use Rattle.tp_node.specs.declared.waiter.Deed.{Deed}
 use Rattle.tp_node.specs.declared.waiter.Deed.TheVariants.{Sends, Inputs, Chooses}
-use Rattle.tp_node.specs.declared.waiter.Waiter.{Waiter}
 use Rattle.tp_trace.specs.Hex.{hex_word}
 use Rattle.tp_trace.specs.Names.{fault_name}
 use Rattle.tp_views.specs.Cycles.{cycles_text}
+use Rattle.tp_views.specs.Maps.{Maps, Row, rows_of, spot_text}
 use Rattle.tp_views.specs.Scene.{Seen}
-use Rattle.tp_views.specs.Why.{waiting_at, why}
+use Rattle.tp_views.specs.Sums.{other_part, sums_lines, why_name}
+use Rattle.tp_views.specs.Waiting.{links_of}
 use Rattle.tp_views.specs.declared.scene.Doing.{Doing}
 use Rattle.tp_views.specs.declared.scene.Doing.TheVariants.{Halted, Runs, Rests}
 use Rattle.tp_views.specs.declared.scene.NodeSeen.{NodeSeen}
-use Rattle.tp_views.specs.declared.why.Reason.{Reason}
-use Rattle.tp_views.specs.declared.why.Reason.TheVariants.{UnderWay, Halted as OtherHalted, Runs as OtherRuns, BothSend, BothInput, Elsewhere, Full, NoInput, NoWire}
+use Rattle.tp_views.specs.declared.waiting.LinkWaits.{LinkWaits}
+use Rattle.tp_views.specs.declared.waiting.Wait.{Wait}
 
 -- ## Words
 
@@ -28,18 +28,6 @@ abbrev pub deed_name : Deed → List ℕ
 deed_name Sends = codes "sends"
 deed_name Inputs = codes "inputs"
 deed_name Chooses = codes "chooses"
-
--- why it still waits
-abbrev pub why_name : Reason → List ℕ
-why_name UnderWay = codes "under way"
-why_name OtherHalted = codes "halted"
-why_name OtherRuns = codes "runs"
-why_name BothSend = codes "both send"
-why_name BothInput = codes "both input"
-why_name Elsewhere = codes "waits elsewhere"
-why_name Full = codes "full"
-why_name NoInput = codes "no input"
-why_name NoWire = codes "no wire"
 
 -- ## A node
 
@@ -52,11 +40,15 @@ last_from last i wires N (kept ∷ more) = last_from (if process wires N kept.0 
 abbrev pub last_made : ℕ → List (Option WireEnd) → ℕ → List (Entry × ℕ) → Option ℕ
 last_made i wires N kept = last_from None i wires N kept
 
--- what it does
-abbrev pub doing_part : Doing → List ℕ
-doing_part (Halted fault at) = codes " halted " ++ (decimal (halt_byte (Some fault)) ++ (codes " " ++ (fault_name fault ++ (codes " at " ++ hex_word at))))
-doing_part Runs = codes " runs"
-doing_part Rests = codes " rests"
+-- what it does; the map's rows name the address
+abbrev pub halted_part : List Row → Fault → ℕ → List ℕ
+halted_part rows fault at =
+    (codes " halted " ++ (decimal (halt_byte (Some fault)) ++ (codes " " ++ (fault_name fault ++ (codes " at " ++ hex_word at))))) ++ spot_text [] rows at
+
+abbrev pub doing_part : List Row → Doing → List ℕ
+doing_part rows (Halted fault at) = halted_part rows fault at
+doing_part rows Runs = codes " runs"
+doing_part rows Rests = codes " rests"
 
 abbrev pub last_part : Option ℕ → List ℕ
 last_part None = codes " last none\n"
@@ -69,97 +61,50 @@ abbrev pub side_name : Bool → List ℕ
 side_name sends = if sends then codes " out " else codes " in "
 
 -- the node, the end, what the process does there, how many bytes are left, and its descriptor
-abbrev pub waiter_part : ℕ → Bool → ℕ → Waiter → List ℕ
-waiter_part i sends k waiter =
-    codes "node " ++ (decimal i ++ (side_name sends ++ (decimal k ++ (codes " " ++ (deed_name waiter.deed
-    ++ (codes " left " ++ (decimal waiter.left ++ (codes " process " ++ hex_word waiter.process))))))))
+abbrev pub waiter_part : Wait → List ℕ
+waiter_part wait =
+    codes "node " ++ (decimal wait.node ++ (side_name wait.sends ++ (decimal wait.link ++ (codes " " ++ (deed_name wait.waiter.deed
+    ++ (codes " left " ++ (decimal wait.waiter.left ++ (codes " process " ++ hex_word wait.waiter.process))))))))
 
--- where it goes on
-abbrev pub resumes_part : Option ℕ → List ℕ
-resumes_part None = codes " at nowhere"
-resumes_part (Some at) = codes " at " ++ hex_word at
-
--- the other end, behind words that lead there
-abbrev pub other_part : List ℕ → Option WireEnd → List ℕ
-other_part words None = words ++ codes "nobody"
-other_part words (Some (Link j k)) = words ++ (codes "node " ++ (decimal j ++ (codes " link " ++ decimal k)))
-other_part words (Some (AtPort p)) = words ++ (codes "port " ++ decimal p)
+-- where it goes on; the map's rows name the instruction before that, in which it waits
+abbrev pub resumes_part : List Row → Option ℕ → List ℕ
+resumes_part rows None = codes " at nowhere"
+resumes_part rows (Some at) = (codes " at " ++ hex_word at) ++ spot_text (codes " after") rows (at - 1)
 
 abbrev pub toward : Bool → List ℕ
 toward sends = if sends then codes " to " else codes " from "
 
--- the line of a process of node i that waits at an end of link k
-abbrev pub wait_line : Seen → Bool → ℕ → NodeSeen → ℕ → Waiter → List ℕ
-wait_line s sends i own k waiter =
-    waiter_part i sends k waiter ++ (resumes_part waiter.resumes ++ (other_part (toward sends) (receiver s.wires (4 * i + k))
-    ++ (codes ": " ++ (why_name (why s sends own (4 * i + k)) ++ codes "\n"))))
+-- its line
+abbrev pub wait_line : List Row → Wait → List ℕ
+wait_line rows wait =
+    waiter_part wait ++ (resumes_part rows wait.waiter.resumes ++ (other_part (toward wait.sends) wait.other
+    ++ (codes ": " ++ (why_name wait.why ++ codes "\n"))))
 
-abbrev pub line_if : Seen → Bool → ℕ → NodeSeen → ℕ → Option Waiter → List ℕ
-line_if s sends i own k None = []
-line_if s sends i own k (Some waiter) = wait_line s sends i own k waiter
+abbrev pub end_part : List Row → Option Wait → List ℕ
+end_part rows None = []
+end_part rows (Some wait) = wait_line rows wait
 
-abbrev pub end_part : Seen → Bool → ℕ → NodeSeen → ℕ → List ℕ
-end_part s sends i own k = line_if s sends i own k (waiting_at own sends k)
+abbrev pub link_part : List Row → LinkWaits → List ℕ
+link_part rows link = end_part rows link.output ++ end_part rows link.input
 
-abbrev pub link_part : Seen → ℕ → NodeSeen → ℕ → List ℕ
-link_part s i own k = end_part s true i own k ++ end_part s false i own k
-
-abbrev pub ends_part : Seen → ℕ → NodeSeen → List ℕ
-ends_part s i own = link_part s i own 0 ++ (link_part s i own 1 ++ (link_part s i own 2 ++ link_part s i own 3))
+abbrev pub links_part : List Row → List LinkWaits → List ℕ
+links_part rows [] = []
+links_part rows (link ∷ links) = link_part rows link ++ links_part rows links
 
 abbrev pub name_part : ℕ → List ℕ
 name_part i = codes "node " ++ decimal i
 
--- the lines of node i
-abbrev pub node_lines : Seen → List (Entry × ℕ) → ℕ → NodeSeen → List ℕ
-node_lines s kept i own =
-    name_part i ++ (doing_part own.doing ++ (last_part (last_made i s.wires (length s.nodes) kept) ++ ends_part s i own))
+-- the lines of node i, whose map has these rows
+abbrev pub node_lines : Seen → List (Entry × ℕ) → List Row → ℕ → NodeSeen → List ℕ
+node_lines s kept rows i own =
+    name_part i ++ (doing_part rows own.doing ++ (last_part (last_made i s.wires (length s.nodes) kept) ++ links_part rows (links_of s i own)))
 
-abbrev pub nodes_lines : Seen → List (Entry × ℕ) → ℕ → List NodeSeen → List ℕ
-nodes_lines s kept i [] = []
-nodes_lines s kept i (own ∷ nodes) = node_lines s kept i own ++ nodes_lines s kept (i + 1) nodes
-
--- ## What it adds up to
-
--- the end that sends `line` is the first one of its wire, among N nodes
-abbrev pub is_first : ℕ → ℕ → Option WireEnd → Bool
-is_first N line None = false
-is_first N line (Some end) = nat_lt line (line_of N end)
-
--- What is said once more: all that nobody in the network can end. Of two ends that wait for one another it is said at the first one.
-abbrev pub is_told : Reason → ℕ → ℕ → Option WireEnd → Bool
-is_told BothSend N line other = is_first N line other
-is_told BothInput N line other = is_first N line other
-is_told OtherHalted N line other = true
-is_told Full N line other = true
-is_told NoInput N line other = true
-is_told NoWire N line other = true
-is_told UnderWay N line other = false
-is_told OtherRuns N line other = false
-is_told Elsewhere N line other = false
-
-abbrev pub sum_line : Reason → ℕ → ℕ → Option WireEnd → List ℕ
-sum_line why i k other =
-    (why_name why ++ (codes ": node " ++ (decimal i ++ (codes " link " ++ decimal k)))) ++ (other_part (codes " waits for ") other ++ codes "\n")
-
-abbrev pub sum_part : Seen → Bool → ℕ → NodeSeen → ℕ → List ℕ
-sum_part s sends i own k =
-    let other = receiver s.wires (4 * i + k) in
-    let reason = why s sends own (4 * i + k) in
-    if is_none (waiting_at own sends k) || not (is_told reason (length s.nodes) (4 * i + k) other) then [] else sum_line reason i k other
-
-abbrev pub sums_at : Seen → ℕ → NodeSeen → ℕ → List ℕ
-sums_at s i own k = sum_part s true i own k ++ sum_part s false i own k
-
-abbrev pub sums_of : Seen → ℕ → NodeSeen → List ℕ
-sums_of s i own = sums_at s i own 0 ++ (sums_at s i own 1 ++ (sums_at s i own 2 ++ sums_at s i own 3))
-
-abbrev pub sums_lines : Seen → ℕ → List NodeSeen → List ℕ
-sums_lines s i [] = []
-sums_lines s i (own ∷ nodes) = sums_of s i own ++ sums_lines s (i + 1) nodes
+abbrev pub nodes_lines : Seen → List (Entry × ℕ) → Maps → ℕ → List NodeSeen → List ℕ
+nodes_lines s kept maps i [] = []
+nodes_lines s kept maps i (own ∷ nodes) = node_lines s kept (rows_of maps i) i own ++ nodes_lines s kept maps (i + 1) nodes
 
 -- ## All
 
--- All that is printed of a network, and of the entries that led to it.
-abbrev pub waits_text : Seen → List (Entry × ℕ) → List ℕ
-waits_text s kept = nodes_lines s kept 0 s.nodes ++ (sums_lines s 0 s.nodes ++ cycles_text s)
+-- All that is printed of a network, of the entries that led to it, and of what maps say of addresses.
+abbrev pub waits_text : Seen → List (Entry × ℕ) → Maps → List ℕ
+waits_text s kept maps = nodes_lines s kept maps 0 s.nodes ++ (sums_lines s 0 s.nodes ++ cycles_text s)

@@ -2,6 +2,7 @@
 
 use crate::full_journal::push_journal;
 use crate::looking::{is_regular, is_special, is_writable, push_file, push_rest, read_again};
+use crate::map_files::push_maps;
 use crate::network_files::{push_image_file, push_network};
 use crate::openable::is_openable;
 use crate::reopening::push_opening;
@@ -235,6 +236,21 @@ fn push_reading<R: Files<File = F> + AllocGlobal, F: FileExt + OpenFile + Drop>(
     }
 }
 
+/// Says why a view of a device wasn't shown: what is wrong with the maps, or else with the device.
+fn push_view<R: Files<File = F> + AllocGlobal, F: FileExt + OpenFile + Drop>(
+    rt: &R,
+    text: &mut String,
+    device: &str,
+    maps: &Option<String>,
+) -> Result<(), AllocError> {
+    if let Some(folder) = maps
+        && push_maps(rt, text, folder.as_str())?
+    {
+        return Ok(());
+    }
+    push_reading(rt, text, device)
+}
+
 fn push_explanation<R: Files<File = F> + AllocGlobal, F: FileExt + OpenFile + Drop>(
     rt: &R,
     text: &mut String,
@@ -257,8 +273,8 @@ fn push_explanation<R: Files<File = F> + AllocGlobal, F: FileExt + OpenFile + Dr
         Asked::Recover { device, .. }
         | Asked::Show { device, .. }
         | Asked::Status { device, .. }
-        | Asked::TraceDevice { device, .. }
-        | Asked::View { device, .. } => push_reading(rt, text, device.as_str()),
+        | Asked::TraceDevice { device, .. } => push_reading(rt, text, device.as_str()),
+        Asked::View { device, maps, .. } => push_view(rt, text, device.as_str(), maps),
     }
 }
 

@@ -4,11 +4,14 @@ ghost use Rattle.std.specs.Fmt.{decimal};
 ghost use Rattle.std.specs.Prelude.{◌≡◌, ◌++◌, IfOk, OnOk, codes, string_bytes, map};
 ghost use Rattle.tp_model.specs.Image.{node_at};
 ghost use Rattle.tp_views.specs.Json.{comma, json_items, json_list};
+ghost use Rattle.tp_views.specs.Maps.{rows_seen};
 ghost use Rattle.tp_views.specs.JsonNode.{cpu_fields, idle_item, input_item, node_fields, node_json, number_fields, output_item, pointer_fields, queue_field, stack_fields, state_fields, working_item};
 
 use crate::formats::halt_name;
 use crate::image_fields::{inputs_in, outputs_in, pages_in};
 use crate::json::{comma, json_bool, push};
+use crate::json_maps::push_spot_fields;
+use crate::maps::MapRow;
 use crate::parts::Part::{Number, Text};
 use crate::parts::push_parts;
 use std::alloc::{AllocError, Global};
@@ -48,10 +51,18 @@ fn push_number(
     )
 }
 
-fn push_pointers(text: &mut String, iptr: u32, wptr: u32) -> Result<(), AllocError>
-    ensures { OnOk result (string_bytes text.new ≡ string_bytes text.old ++ pointer_fields iptr wptr) }
+/// Appends where a processor is, and what its map says of that.
+fn push_pointers(
+    text: &mut String,
+    rows: &[MapRow<'_>],
+    iptr: u32,
+    wptr: u32,
+) -> Result<(), AllocError>
+    ensures { OnOk result (string_bytes text.new ≡ string_bytes text.old ++ pointer_fields (rows_seen rows.now) iptr wptr) }
 {
-    write!(text, ",\"iptr\":{iptr},\"wptr\":{wptr}")
+    write!(text, ",\"iptr\":{iptr}")?;
+    push_spot_fields(text, rows, iptr)?;
+    write!(text, ",\"wptr\":{wptr}")
 }
 
 fn push_stack(text: &mut String, regs: Regs) -> Result<(), AllocError>
@@ -96,10 +107,10 @@ fn push_state(text: &mut String, error: bool, state: State, slice: u16) -> Resul
 }
 
 /// Appends the fields of a processor.
-fn push_cpu(text: &mut String, cpu: &Cpu) -> Result<(), AllocError>
-    ensures { OnOk result (string_bytes text.new ≡ string_bytes text.old ++ cpu_fields cpu.now) }
+fn push_cpu(text: &mut String, rows: &[MapRow<'_>], cpu: &Cpu) -> Result<(), AllocError>
+    ensures { OnOk result (string_bytes text.new ≡ string_bytes text.old ++ cpu_fields (rows_seen rows.now) cpu.now) }
 {
-    push_pointers(text, cpu.iptr, cpu.wptr)?;
+    push_pointers(text, rows, cpu.iptr, cpu.wptr)?;
     push_stack(text, cpu.regs)?;
     push_queue(text, "high", cpu.high)?;
     push_queue(text, "low", cpu.low)?;
@@ -215,16 +226,17 @@ fn push_input_list(text: &mut String, ends: &[InEnd]) -> Result<(), AllocError>
 /// Appends the fields of a node, by its pages, its processor and its ends.
 fn push_fields(
     text: &mut String,
+    rows: &[MapRow<'_>],
     number: u64,
     pages: usize,
     cpu: &Cpu,
     outputs: &[OutEnd],
     inputs: &[InEnd],
 ) -> Result<(), AllocError>
-    ensures { OnOk result (string_bytes text.new ≡ string_bytes text.old ++ node_fields number pages cpu.now outputs.now inputs.now) }
+    ensures { OnOk result (string_bytes text.new ≡ string_bytes text.old ++ node_fields (rows_seen rows.now) number pages cpu.now outputs.now inputs.now) }
 {
     push_number(text, number, pages, cpu.halt)?;
-    push_cpu(text, cpu)?;
+    push_cpu(text, rows, cpu)?;
     push_output_list(text, outputs)?;
     push_input_list(text, inputs)
 }
@@ -232,25 +244,31 @@ fn push_fields(
 /// The fields of a node, by its pages, its processor and its ends.
 fn node_fields(
     alloc: Global,
+    rows: &[MapRow<'_>],
     number: u64,
     pages: usize,
     cpu: &Cpu,
     outputs: &[OutEnd],
     inputs: &[InEnd],
 ) -> Result<String, AllocError>
-    ensures { IfOk result (λ text. string_bytes text ≡ node_fields number pages cpu.now outputs.now inputs.now) }
+    ensures { IfOk result (λ text. string_bytes text ≡ node_fields (rows_seen rows.now) number pages cpu.now outputs.now inputs.now) }
 {
     let mut text = String::new(alloc);
-    push_fields(&mut text, number, pages, cpu, outputs, inputs)?;
+    push_fields(&mut text, rows, number, pages, cpu, outputs, inputs)?;
     Ok(text)
 }
 
-/// All that is printed of a node, which its image spells, as JSON.
-pub(crate) fn node_json(alloc: Global, number: u64, image: &[u8]) -> Result<String, AllocError>
-    ensures { IfOk result (λ text. string_bytes text ≡ node_json number (node_at image.now)) }
+/// All that is printed of a node, which its image spells, as JSON; its map has these rows.
+pub(crate) fn node_json(
+    alloc: Global,
+    rows: &[MapRow<'_>],
+    number: u64,
+    image: &[u8],
+) -> Result<String, AllocError>
+    ensures { IfOk result (λ text. string_bytes text ≡ node_json (rows_seen rows.now) number (node_at image.now)) }
 {
     let pages = pages_in(image);
     let cpu = cpu_in(image);
     let (outputs, inputs) = (outputs_in(image), inputs_in(image));
-    node_fields(alloc, number, pages, &cpu, &outputs, &inputs)
+    node_fields(alloc, rows, number, pages, &cpu, &outputs, &inputs)
 }

@@ -2,20 +2,26 @@
 
 ghost use Rattle.std.specs.Prelude.{◌≡◌, ◌++◌, ◌<◌, ◌≤◌, IfOk, OnOk, length, string_bytes};
 ghost use Rattle.tp_model.specs.declared.limits.TheConstants.{MAX_NODES};
-ghost use Rattle.tp_views.specs.JsonWaits.{cycle_field, does_field, end_item, ends_items, ends_list, ends_name, halted_field, item_then, last_field, link_fields, node_item, nodes_items, number_field, number_or_null, other_value, wait_item, waits_json};
+ghost use Rattle.tp_views.specs.JsonWaits.{cycle_field, deed_fields, does_field, end_item, ends_list, ends_name, halted_field, item_after, items_from, last_field, link_fields, node_item, nodes_items, number_field, number_or_null, other_field, other_value, resumes_fields, wait_item, waits_json, why_field};
+ghost use Rattle.tp_views.specs.Maps.{rows_seen};
+ghost use Rattle.tp_views.specs.NodeMaps.{maps_seen};
 ghost use Rattle.tp_views.specs.Scene.{seen_in};
 
 use crate::cycles::{first_of, reached};
 use crate::json::{comma, push};
+use crate::json_maps::push_spot_fields;
+use crate::maps::MapRow;
+use crate::node_maps::NodeMaps;
 use crate::parts::Part::{Number, Text};
 use crate::parts::push_parts;
 use crate::scene::{Doing, NodeSeen, Scene};
-use crate::waits::{deed_name, last_of, why_name};
-use crate::why::{waiting_at, why};
+use crate::sums::why_name;
+use crate::waiting::{LinkWaits, Wait, links_of, side_of};
+use crate::waits::{before, deed_name, last_of};
+use crate::why::Reason;
 use std::alloc::{AllocError, Global};
 use tp_book::Numbered;
 use tp_model::{Fault, WireEnd};
-use tp_net::{link_line, receiver};
 use tp_node::Waiter;
 use tp_trace::fault_name;
 
@@ -30,19 +36,25 @@ fn push_number_or_null(text: &mut String, name: &str, number: Option<u64>) -> Re
 }
 
 /// Appends that a node halted, why, and at which address.
-fn push_halted(text: &mut String, fault: Fault, at: u32) -> Result<(), AllocError>
-    ensures { OnOk result (string_bytes text.new ≡ string_bytes text.old ++ halted_field fault at) }
+fn push_halted(
+    text: &mut String,
+    rows: &[MapRow<'_>],
+    fault: Fault,
+    at: u32,
+) -> Result<(), AllocError>
+    ensures { OnOk result (string_bytes text.new ≡ string_bytes text.old ++ halted_field (rows_seen rows.now) fault at) }
 {
     push(text, ",\"does\":\"halted\",\"fault\":\"")?;
     push(text, fault_name(fault))?;
-    push_parts(text, &[Text("\",\"at\":"), Number(at as u64)])
+    push_parts(text, &[Text("\",\"at\":"), Number(at as u64)])?;
+    push_spot_fields(text, rows, at)
 }
 
-fn push_does(text: &mut String, doing: Doing) -> Result<(), AllocError>
-    ensures { OnOk result (string_bytes text.new ≡ string_bytes text.old ++ does_field doing) }
+fn push_does(text: &mut String, rows: &[MapRow<'_>], doing: Doing) -> Result<(), AllocError>
+    ensures { OnOk result (string_bytes text.new ≡ string_bytes text.old ++ does_field (rows_seen rows.now) doing) }
 {
     match doing {
-        Doing::Halted { fault, at } => push_halted(text, fault, at),
+        Doing::Halted { fault, at } => push_halted(text, rows, fault, at),
         Doing::Runs => push(text, ",\"does\":\"runs\""),
         Doing::Rests => push(text, ",\"does\":\"rests\""),
     }
@@ -71,34 +83,28 @@ fn push_other(text: &mut String, other: Option<WireEnd>) -> Result<(), AllocErro
     }
 }
 
-/// The number that a word is.
-fn number_of(word: Option<u32>) -> Option<u64>
-    ensures { result ≡ word }
+/// Appends where a process goes on, and which instruction is before that, if a map is there.
+fn push_resumes(
+    text: &mut String,
+    rows: &[MapRow<'_>],
+    resumes: Option<u32>,
+) -> Result<(), AllocError>
+    ensures { OnOk result (string_bytes text.new ≡ string_bytes text.old ++ resumes_fields (rows_seen rows.now) resumes) }
 {
-    match word {
-        Some(word) => Some(word as u64),
-        None => None,
+    match resumes {
+        Some(at) => {
+            push_parts(text, &[Text(",\"at\":"), Number(at as u64)])?;
+            push_spot_fields(text, rows, before(at))
+        }
+        None => push_parts(text, &[Text(",\"at\":null")]),
     }
 }
 
-/// Appends the object of a process that waits at an end of a link.
-fn push_wait(
-    text: &mut String,
-    scene: &Scene,
-    sends: bool,
-    number: usize,
-    own: &NodeSeen,
-    link: u8,
-    waiter: Waiter,
-) -> Result<(), AllocError>
-    requires { number < MAX_NODES }
-    ensures { OnOk result (string_bytes text.new ≡ string_bytes text.old ++ wait_item (seen_in scene.now) sends number own.now link waiter) }
+/// Appends what a process does that waits at a link, and its descriptor.
+fn push_deed(text: &mut String, waiter: Waiter) -> Result<(), AllocError>
+    ensures { OnOk result (string_bytes text.new ≡ string_bytes text.old ++ deed_fields waiter) }
 {
-    let line = link_line(number, link as usize);
-    let (deed, name) = (
-        deed_name(waiter.deed),
-        why_name(why(scene, sends, own, line)),
-    );
+    let deed = deed_name(waiter.deed);
     push_parts(
         text,
         &[
@@ -109,29 +115,56 @@ fn push_wait(
             Text(",\"process\":"),
             Number(waiter.process as u64),
         ],
-    )?;
-    push_number_or_null(text, ",\"at\":", number_of(waiter.resumes))?;
-    push(text, ",\"other\":")?;
-    push_other(text, receiver(&scene.wires, line))?;
+    )
+}
+
+/// Appends why a process still waits, and ends its object.
+fn push_why(text: &mut String, why: Reason) -> Result<(), AllocError>
+    ensures { OnOk result (string_bytes text.new ≡ string_bytes text.old ++ why_field why) }
+{
+    let name = why_name(why);
     push_parts(text, &[Text(",\"why\":\""), Text(name), Text("\"}")])
 }
 
-/// Appends the item of an end of a link: the process that waits there, or null.
-fn push_end(
-    text: &mut String,
-    scene: &Scene,
-    sends: bool,
-    number: usize,
-    own: &NodeSeen,
-    link: u8,
-) -> Result<(), AllocError>
-    requires { number < MAX_NODES }
-    ensures { OnOk result (string_bytes text.new ≡ string_bytes text.old ++ end_item (seen_in scene.now) sends number own.now link) }
+/// Appends for whom a process waits.
+fn push_whom(text: &mut String, other: Option<WireEnd>) -> Result<(), AllocError>
+    ensures { OnOk result (string_bytes text.new ≡ string_bytes text.old ++ other_field other) }
 {
-    match waiting_at(own, sends, link) {
-        Some(waiter) => push_wait(text, scene, sends, number, own, link, waiter),
+    push(text, ",\"other\":")?;
+    push_other(text, other)
+}
+
+/// Appends the object of a process that waits at an end of a link.
+fn push_wait(text: &mut String, rows: &[MapRow<'_>], wait: &Wait) -> Result<(), AllocError>
+    ensures { OnOk result (string_bytes text.new ≡ string_bytes text.old ++ wait_item (rows_seen rows.now) wait.now) }
+{
+    push_deed(text, wait.waiter)?;
+    push_resumes(text, rows, wait.waiter.resumes)?;
+    push_whom(text, wait.other)?;
+    push_why(text, wait.why)
+}
+
+/// Appends the item of an end of a link: the process that waits there, or null.
+fn push_end(text: &mut String, rows: &[MapRow<'_>], end: &Option<Wait>) -> Result<(), AllocError>
+    ensures { OnOk result (string_bytes text.new ≡ string_bytes text.old ++ end_item (rows_seen rows.now) end.now) }
+{
+    match end {
+        Some(wait) => push_wait(text, rows, wait),
         None => push(text, "null"),
     }
+}
+
+/// Appends the item of an end, which has that many before it.
+fn push_item(
+    text: &mut String,
+    rows: &[MapRow<'_>],
+    before: usize,
+    end: &Option<Wait>,
+) -> Result<(), AllocError>
+    ensures { OnOk result (string_bytes text.new ≡ string_bytes text.old ++ item_after (rows_seen rows.now) before end.now) }
+{
+    push(text, comma(before))?;
+    push_end(text, rows, end)
 }
 
 /// Appends what stands before the items of the output ends, or of the input ends.
@@ -145,53 +178,33 @@ fn push_ends_name(text: &mut String, sends: bool) -> Result<(), AllocError>
     }
 }
 
-/// Appends the item of an end of a link, and what stands after it.
-fn push_item(
-    text: &mut String,
-    scene: &Scene,
-    sends: bool,
-    number: usize,
-    own: &NodeSeen,
-    link: u8,
-    after: &str,
-) -> Result<(), AllocError>
-    requires { number < MAX_NODES }
-    ensures { OnOk result (string_bytes text.new ≡ string_bytes text.old ++ item_then (seen_in scene.now) sends number own.now link after.now) }
-{
-    push_end(text, scene, sends, number, own, link)?;
-    push(text, after)
-}
-
-/// Appends the items of the output ends, or of the input ends, of links 0 to 3.
+/// Appends the items of the output ends, or of the input ends, of links.
 fn push_items(
     text: &mut String,
-    scene: &Scene,
+    rows: &[MapRow<'_>],
     sends: bool,
-    number: usize,
-    own: &NodeSeen,
+    links: &[LinkWaits],
 ) -> Result<(), AllocError>
-    requires { number < MAX_NODES }
-    ensures { OnOk result (string_bytes text.new ≡ string_bytes text.old ++ ends_items (seen_in scene.now) sends number own.now) }
+    ensures { OnOk result (string_bytes text.new ≡ string_bytes text.old ++ items_from (rows_seen rows.now) sends 0 links.now) }
 {
-    push_item(text, scene, sends, number, own, 0, ",")?;
-    push_item(text, scene, sends, number, own, 1, ",")?;
-    push_item(text, scene, sends, number, own, 2, ",")?;
-    push_item(text, scene, sends, number, own, 3, "]")
+    for (before, link) in links.iter().enumerate() {
+        push_item(text, rows, before, &side_of(sends, link))?;
+    }
+    Ok(())
 }
 
 /// Appends the list of the output ends, or of the input ends.
 fn push_ends(
     text: &mut String,
-    scene: &Scene,
+    rows: &[MapRow<'_>],
     sends: bool,
-    number: usize,
-    own: &NodeSeen,
+    links: &[LinkWaits],
 ) -> Result<(), AllocError>
-    requires { number < MAX_NODES }
-    ensures { OnOk result (string_bytes text.new ≡ string_bytes text.old ++ ends_list (seen_in scene.now) sends number own.now) }
+    ensures { OnOk result (string_bytes text.new ≡ string_bytes text.old ++ ends_list (rows_seen rows.now) sends links.now) }
 {
     push_ends_name(text, sends)?;
-    push_items(text, scene, sends, number, own)
+    push_items(text, rows, sends, links)?;
+    push(text, "]")
 }
 
 /// Appends the field of the first node of those that wait for one another with a node.
@@ -231,17 +244,16 @@ fn push_last(
 /// Appends the fields of those that a node waits for, and ends its object.
 fn push_links(
     text: &mut String,
-    scene: &Scene,
-    rows: &[u64],
+    rows: &[MapRow<'_>],
+    reached: &[u64],
     number: usize,
-    own: &NodeSeen,
+    links: &[LinkWaits],
 ) -> Result<(), AllocError>
-    requires { number < MAX_NODES }
-    ensures { OnOk result (string_bytes text.new ≡ string_bytes text.old ++ link_fields (seen_in scene.now) rows.now number own.now) }
+    ensures { OnOk result (string_bytes text.new ≡ string_bytes text.old ++ link_fields (rows_seen rows.now) reached.now number links.now) }
 {
-    push_cycle(text, number, rows)?;
-    push_ends(text, scene, true, number, own)?;
-    push_ends(text, scene, false, number, own)?;
+    push_cycle(text, number, reached)?;
+    push_ends(text, rows, true, links)?;
+    push_ends(text, rows, false, links)?;
     push(text, "}")
 }
 
@@ -250,30 +262,32 @@ fn push_node(
     text: &mut String,
     scene: &Scene,
     kept: &[Numbered],
-    rows: &[u64],
+    reached: &[u64],
+    rows: &[MapRow<'_>],
     number: usize,
     own: &NodeSeen,
 ) -> Result<(), AllocError>
     requires { number < MAX_NODES }
-    ensures { OnOk result (string_bytes text.new ≡ string_bytes text.old ++ node_item (seen_in scene.now) kept.now rows.now number own.now) }
+    ensures { OnOk result (string_bytes text.new ≡ string_bytes text.old ++ node_item (seen_in scene.now) kept.now reached.now (rows_seen rows.now) number own.now) }
 {
     push_number(text, number)?;
-    push_does(text, own.doing)?;
+    push_does(text, rows, own.doing)?;
     push_last(text, scene, kept, number)?;
-    push_links(text, scene, rows, number, own)
+    push_links(text, rows, reached, number, &links_of(scene, number, own))
 }
 
 fn push_nodes(
     text: &mut String,
     scene: &Scene,
     kept: &[Numbered],
-    rows: &[u64],
+    reached: &[u64],
+    maps: &NodeMaps<'_>,
 ) -> Result<(), AllocError>
     requires { length scene.now.nodes.items ≤ MAX_NODES }
-    ensures { OnOk result (string_bytes text.new ≡ string_bytes text.old ++ nodes_items (seen_in scene.now) kept.now rows.now 0 scene.now.nodes.items) }
+    ensures { OnOk result (string_bytes text.new ≡ string_bytes text.old ++ nodes_items (seen_in scene.now) kept.now reached.now (maps_seen maps.now) 0 scene.now.nodes.items) }
 {
     for (number, own) in scene.nodes.iter().enumerate() {
-        push_node(text, scene, kept, rows, number, own)?;
+        push_node(text, scene, kept, reached, maps.of(number), number, own)?;
     }
     Ok(())
 }
@@ -283,14 +297,15 @@ pub(crate) fn waits_json(
     alloc: Global,
     scene: &Scene,
     kept: &[Numbered],
+    maps: &NodeMaps<'_>,
 ) -> Result<String, AllocError>
     requires { length scene.now.nodes.items ≤ MAX_NODES }
-    ensures { IfOk result (λ text. string_bytes text ≡ waits_json (seen_in scene.now) kept.now) }
+    ensures { IfOk result (λ text. string_bytes text ≡ waits_json (seen_in scene.now) kept.now (maps_seen maps.now)) }
 {
-    let rows = reached(alloc, scene)?;
+    let sets = reached(alloc, scene)?;
     let mut text = String::new(alloc);
     push(&mut text, "{\"nodes\":[")?;
-    push_nodes(&mut text, scene, kept, &rows)?;
+    push_nodes(&mut text, scene, kept, &sets, maps)?;
     push(&mut text, "]}\n")?;
     Ok(text)
 }

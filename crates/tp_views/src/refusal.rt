@@ -6,6 +6,27 @@ use tp_model::NetFault;
 use tp_recover::Unopened;
 use tp_turn::TryFault;
 
+/// A file of a map.
+#[derive(Clone, Copy)]
+pub enum MapFile {
+    /// The one that was named.
+    Named,
+    /// That of a node, in the folder that was named.
+    Node(usize),
+    /// That of each node that has none of its own, in the folder that was named.
+    All,
+}
+
+impl fmt::Display for MapFile {
+    fn fmt<W: fmt::Write>(&self, f: &mut fmt::Formatter<W>) -> fmt::Result {
+        match self {
+            MapFile::Named => Ok(()),
+            MapFile::Node(node) => write!(f, " {node}.map"),
+            MapFile::All => f.write_str(" all.map"),
+        }
+    }
+}
+
 /// The program then ends with status 1 and this name on standard error.
 #[derive(Clone, Copy)]
 pub enum Refusal {
@@ -29,6 +50,8 @@ pub enum Refusal {
     Memory,
     /// Another process writes the device so fast that no moment of it could be read.
     Busy,
+    /// The line of a map with this number, counted from 1, is none of one.
+    BadMap(MapFile, u64),
 }
 
 impl fmt::Display for Refusal {
@@ -44,6 +67,7 @@ impl fmt::Display for Refusal {
             Refusal::InUse => f.write_str("InUse"),
             Refusal::Memory => f.write_str("Memory"),
             Refusal::Busy => f.write_str("Busy"),
+            Refusal::BadMap(file, line) => write!(f, "BadMap{file} {line}"),
         }
     }
 }

@@ -2,10 +2,12 @@
 
 ghost use Rattle.std.specs.Prelude.{◌≡◌, ◌++◌, IfOk, OnOk, string_bytes};
 ghost use Rattle.tp_model.specs.Image.{node_at};
+ghost use Rattle.tp_views.specs.Maps.{rows_seen};
 ghost use Rattle.tp_views.specs.NodeText.{cpu_lines, held_line, idle_line, input_end_line, input_lines, node_as_lines, node_text, number_line, output_line, output_lines, pointer_line, queue_line, stack_line, state_line, working_line};
 
 use crate::formats::halt_name;
 use crate::image_fields::{inputs_in, outputs_in, pages_in};
+use crate::maps::{MapRow, push_spot};
 use crate::parts::Part::{Byte, Number, Text, Word};
 use crate::parts::push_parts;
 use std::alloc::{AllocError, Global};
@@ -38,19 +40,18 @@ fn push_number(
     )
 }
 
-fn push_pointers(text: &mut String, iptr: u32, wptr: u32) -> Result<(), AllocError>
-    ensures { OnOk result (string_bytes text.new ≡ string_bytes text.old ++ pointer_line iptr wptr) }
+/// Appends where a processor is, and what its map says of that.
+fn push_pointers(
+    text: &mut String,
+    rows: &[MapRow<'_>],
+    iptr: u32,
+    wptr: u32,
+) -> Result<(), AllocError>
+    ensures { OnOk result (string_bytes text.new ≡ string_bytes text.old ++ pointer_line (rows_seen rows.now) iptr wptr) }
 {
-    push_parts(
-        text,
-        &[
-            Text("Iptr "),
-            Word(iptr),
-            Text(" Wptr "),
-            Word(wptr),
-            Text("\n"),
-        ],
-    )
+    push_parts(text, &[Text("Iptr "), Word(iptr)])?;
+    push_spot(text, "", rows, iptr)?;
+    push_parts(text, &[Text(" Wptr "), Word(wptr), Text("\n")])
 }
 
 fn push_stack(text: &mut String, regs: Regs) -> Result<(), AllocError>
@@ -105,10 +106,10 @@ fn push_state(text: &mut String, error: bool, state: State, slice: u16) -> Resul
 }
 
 /// Appends the lines of a processor.
-fn push_cpu(text: &mut String, cpu: &Cpu) -> Result<(), AllocError>
-    ensures { OnOk result (string_bytes text.new ≡ string_bytes text.old ++ cpu_lines cpu.now) }
+fn push_cpu(text: &mut String, rows: &[MapRow<'_>], cpu: &Cpu) -> Result<(), AllocError>
+    ensures { OnOk result (string_bytes text.new ≡ string_bytes text.old ++ cpu_lines (rows_seen rows.now) cpu.now) }
 {
-    push_pointers(text, cpu.iptr, cpu.wptr)?;
+    push_pointers(text, rows, cpu.iptr, cpu.wptr)?;
     push_stack(text, cpu.regs)?;
     push_queue(text, "high", cpu.high)?;
     push_queue(text, "low", cpu.low)?;
@@ -218,16 +219,17 @@ fn push_inputs(text: &mut String, ends: &[InEnd]) -> Result<(), AllocError>
 /// Appends the lines of a node, by its pages, its processor and its ends.
 fn push_node(
     text: &mut String,
+    rows: &[MapRow<'_>],
     number: u64,
     pages: usize,
     cpu: &Cpu,
     outputs: &[OutEnd],
     inputs: &[InEnd],
 ) -> Result<(), AllocError>
-    ensures { OnOk result (string_bytes text.new ≡ string_bytes text.old ++ node_as_lines number pages cpu.now outputs.now inputs.now) }
+    ensures { OnOk result (string_bytes text.new ≡ string_bytes text.old ++ node_as_lines (rows_seen rows.now) number pages cpu.now outputs.now inputs.now) }
 {
     push_number(text, number, pages, cpu.halt)?;
-    push_cpu(text, cpu)?;
+    push_cpu(text, rows, cpu)?;
     push_outputs(text, outputs)?;
     push_inputs(text, inputs)
 }
@@ -235,25 +237,31 @@ fn push_node(
 /// The lines of a node, by its pages, its processor and its ends.
 fn node_lines(
     alloc: Global,
+    rows: &[MapRow<'_>],
     number: u64,
     pages: usize,
     cpu: &Cpu,
     outputs: &[OutEnd],
     inputs: &[InEnd],
 ) -> Result<String, AllocError>
-    ensures { IfOk result (λ text. string_bytes text ≡ node_as_lines number pages cpu.now outputs.now inputs.now) }
+    ensures { IfOk result (λ text. string_bytes text ≡ node_as_lines (rows_seen rows.now) number pages cpu.now outputs.now inputs.now) }
 {
     let mut text = String::new(alloc);
-    push_node(&mut text, number, pages, cpu, outputs, inputs)?;
+    push_node(&mut text, rows, number, pages, cpu, outputs, inputs)?;
     Ok(text)
 }
 
-/// All that is printed of a node, which its image spells.
-pub(crate) fn node_text(alloc: Global, number: u64, image: &[u8]) -> Result<String, AllocError>
-    ensures { IfOk result (λ text. string_bytes text ≡ node_text number (node_at image.now)) }
+/// All that is printed of a node, which its image spells; its map has these rows.
+pub(crate) fn node_text(
+    alloc: Global,
+    rows: &[MapRow<'_>],
+    number: u64,
+    image: &[u8],
+) -> Result<String, AllocError>
+    ensures { IfOk result (λ text. string_bytes text ≡ node_text (rows_seen rows.now) number (node_at image.now)) }
 {
     let pages = pages_in(image);
     let cpu = cpu_in(image);
     let (outputs, inputs) = (outputs_in(image), inputs_in(image));
-    node_lines(alloc, number, pages, &cpu, &outputs, &inputs)
+    node_lines(alloc, rows, number, pages, &cpu, &outputs, &inputs)
 }

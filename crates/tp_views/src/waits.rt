@@ -1,21 +1,25 @@
 //! What `waits` prints: for each node what it does, and for each of its processes that waits at a link why; and what that adds up to.
 
-ghost use Rattle.std.specs.Prelude.{◌≡◌, ◌++◌, ◌<◌, ◌≤◌, IfOk, OnOk, length, string_bytes};
+ghost use Rattle.std.specs.Prelude.{◌≡◌, ◌++◌, ◌-◌, ◌<◌, ◌≤◌, IfOk, OnOk, length, string_bytes};
 ghost use Rattle.tp_model.specs.declared.limits.TheConstants.{MAX_NODES};
+ghost use Rattle.tp_views.specs.Maps.{rows_seen};
+ghost use Rattle.tp_views.specs.NodeMaps.{maps_seen};
 ghost use Rattle.tp_views.specs.Scene.{seen_in};
-ghost use Rattle.tp_views.specs.Waits.{deed_name, doing_part, end_part, ends_part, is_told, last_from, last_made, last_part, link_part, name_part, node_lines, nodes_lines, other_part, resumes_part, side_name, sum_part, sums_at, sums_lines, sums_of, toward, wait_line, waiter_part, waits_text, why_name};
+ghost use Rattle.tp_views.specs.Waits.{deed_name, doing_part, end_part, halted_part, last_made, last_part, link_part, links_part, name_part, node_lines, nodes_lines, resumes_part, side_name, toward, wait_line, waiter_part, waits_text};
 
 use crate::cycles::push_cycles;
 use crate::journal::process_of;
+use crate::maps::{MapRow, push_spot};
+use crate::node_maps::NodeMaps;
 use crate::parts::Part::{Number, Text, Word};
 use crate::parts::push_parts;
 use crate::scene::{Doing, NodeSeen, Scene};
-use crate::why::{Reason, waiting_at, why};
+use crate::sums::{push_other, push_sums, why_name};
+use crate::waiting::{LinkWaits, Wait, links_of};
 use std::alloc::{AllocError, Global};
 use tp_book::Numbered;
-use tp_model::WireEnd;
-use tp_net::{line_of, link_line, receiver};
-use tp_node::{Deed, Waiter, halt_byte};
+use tp_model::{Fault, WireEnd};
+use tp_node::{Deed, halt_byte};
 use tp_trace::fault_name;
 
 /// The number of the last of some entries that a node made, if it made one.
@@ -54,23 +58,6 @@ pub(crate) fn deed_name(deed: Deed) -> &'static str
     }
 }
 
-/// Why it still waits.
-pub(crate) fn why_name(why: Reason) -> &'static str
-    ensures { result.now ≡ why_name why }
-{
-    match why {
-        Reason::UnderWay => "under way",
-        Reason::Halted => "halted",
-        Reason::Runs => "runs",
-        Reason::BothSend => "both send",
-        Reason::BothInput => "both input",
-        Reason::Elsewhere => "waits elsewhere",
-        Reason::Full => "full",
-        Reason::NoInput => "no input",
-        Reason::NoWire => "no wire",
-    }
-}
-
 /// Which end of a link it is.
 fn side_name(sends: bool) -> &'static str
     ensures { result.now ≡ side_name sends }
@@ -85,24 +72,34 @@ fn toward(sends: bool) -> &'static str
     if sends { " to " } else { " from " }
 }
 
-fn push_doing(text: &mut String, doing: Doing) -> Result<(), AllocError>
-    ensures { OnOk result (string_bytes text.new ≡ string_bytes text.old ++ doing_part doing) }
+fn push_halted(
+    text: &mut String,
+    rows: &[MapRow<'_>],
+    fault: Fault,
+    at: u32,
+) -> Result<(), AllocError>
+    ensures { OnOk result (string_bytes text.new ≡ string_bytes text.old ++ halted_part (rows_seen rows.now) fault at) }
+{
+    let (code, name) = (halt_byte(Some(fault)), fault_name(fault));
+    push_parts(
+        text,
+        &[
+            Text(" halted "),
+            Number(code as u64),
+            Text(" "),
+            Text(name),
+            Text(" at "),
+            Word(at),
+        ],
+    )?;
+    push_spot(text, "", rows, at)
+}
+
+fn push_doing(text: &mut String, rows: &[MapRow<'_>], doing: Doing) -> Result<(), AllocError>
+    ensures { OnOk result (string_bytes text.new ≡ string_bytes text.old ++ doing_part (rows_seen rows.now) doing) }
 {
     match doing {
-        Doing::Halted { fault, at } => {
-            let (code, name) = (halt_byte(Some(fault)), fault_name(fault));
-            push_parts(
-                text,
-                &[
-                    Text(" halted "),
-                    Number(code as u64),
-                    Text(" "),
-                    Text(name),
-                    Text(" at "),
-                    Word(at),
-                ],
-            )
-        }
+        Doing::Halted { fault, at } => push_halted(text, rows, fault, at),
         Doing::Runs => push_parts(text, &[Text(" runs")]),
         Doing::Rests => push_parts(text, &[Text(" rests")]),
     }
@@ -118,134 +115,88 @@ fn push_last(text: &mut String, last: Option<u64>) -> Result<(), AllocError>
 }
 
 /// Appends which process waits at a link, and what it does there.
-fn push_waiter(
-    text: &mut String,
-    number: usize,
-    sends: bool,
-    link: u8,
-    waiter: Waiter,
-) -> Result<(), AllocError>
-    ensures { OnOk result (string_bytes text.new ≡ string_bytes text.old ++ waiter_part number sends link waiter) }
+fn push_waiter(text: &mut String, wait: &Wait) -> Result<(), AllocError>
+    ensures { OnOk result (string_bytes text.new ≡ string_bytes text.old ++ waiter_part wait.now) }
 {
-    let (side, deed) = (side_name(sends), deed_name(waiter.deed));
+    let (side, deed) = (side_name(wait.sends), deed_name(wait.waiter.deed));
     push_parts(
         text,
         &[
             Text("node "),
-            Number(number as u64),
+            Number(wait.node as u64),
             Text(side),
-            Number(link as u64),
+            Number(wait.link as u64),
             Text(" "),
             Text(deed),
             Text(" left "),
-            Number(waiter.left as u64),
+            Number(wait.waiter.left as u64),
             Text(" process "),
-            Word(waiter.process),
+            Word(wait.waiter.process),
         ],
     )
 }
 
-/// Appends where a process goes on.
-fn push_resumes(text: &mut String, resumes: Option<u32>) -> Result<(), AllocError>
-    ensures { OnOk result (string_bytes text.new ≡ string_bytes text.old ++ resumes_part resumes) }
+/// The last byte of the instruction before an address.
+pub(crate) fn before(at: u32) -> u32
+    ensures { result ≡ at - 1 }
+{
+    at.saturating_sub(1)
+}
+
+/// Appends where a process goes on, and the instruction before that, in which it waits, if a map is there.
+fn push_resumes(
+    text: &mut String,
+    rows: &[MapRow<'_>],
+    resumes: Option<u32>,
+) -> Result<(), AllocError>
+    ensures { OnOk result (string_bytes text.new ≡ string_bytes text.old ++ resumes_part (rows_seen rows.now) resumes) }
 {
     match resumes {
-        Some(at) => push_parts(text, &[Text(" at "), Word(at)]),
+        Some(at) => {
+            push_parts(text, &[Text(" at "), Word(at)])?;
+            push_spot(text, " after", rows, before(at))
+        }
         None => push_parts(text, &[Text(" at nowhere")]),
     }
 }
 
-/// Appends the other end of a wire, behind words that lead there.
-fn push_other(text: &mut String, words: &str, other: Option<WireEnd>) -> Result<(), AllocError>
-    ensures { OnOk result (string_bytes text.new ≡ string_bytes text.old ++ other_part words.now other) }
+/// Appends the line of a process that waits at the end of a link.
+fn push_wait(text: &mut String, rows: &[MapRow<'_>], wait: &Wait) -> Result<(), AllocError>
+    ensures { OnOk result (string_bytes text.new ≡ string_bytes text.old ++ wait_line (rows_seen rows.now) wait.now) }
 {
-    match other {
-        Some(WireEnd::Link(node, link)) => push_parts(
-            text,
-            &[
-                Text(words),
-                Text("node "),
-                Number(node as u64),
-                Text(" link "),
-                Number(link as u64),
-            ],
-        ),
-        Some(WireEnd::Port(port)) => push_parts(
-            text,
-            &[Text(words), Text("port "), Number(port as u64)],
-        ),
-        None => push_parts(text, &[Text(words), Text("nobody")]),
-    }
-}
-
-/// Appends the line of a process that waits at the end of a link which sends this line.
-fn push_wait(
-    text: &mut String,
-    scene: &Scene,
-    sends: bool,
-    number: usize,
-    own: &NodeSeen,
-    link: u8,
-    waiter: Waiter,
-) -> Result<(), AllocError>
-    requires { number < MAX_NODES }
-    ensures { OnOk result (string_bytes text.new ≡ string_bytes text.old ++ wait_line (seen_in scene.now) sends number own.now link waiter) }
-{
-    let line = link_line(number, link as usize);
-    let name = why_name(why(scene, sends, own, line));
-    push_waiter(text, number, sends, link, waiter)?;
-    push_resumes(text, waiter.resumes)?;
-    push_other(text, toward(sends), receiver(&scene.wires, line))?;
+    let name = why_name(wait.why);
+    push_waiter(text, wait)?;
+    push_resumes(text, rows, wait.waiter.resumes)?;
+    push_other(text, toward(wait.sends), wait.other)?;
     push_parts(text, &[Text(": "), Text(name), Text("\n")])
 }
 
-/// Appends the line of the process that waits at the end of a link, if one does.
-fn push_end(
-    text: &mut String,
-    scene: &Scene,
-    sends: bool,
-    number: usize,
-    own: &NodeSeen,
-    link: u8,
-) -> Result<(), AllocError>
-    requires { number < MAX_NODES }
-    ensures { OnOk result (string_bytes text.new ≡ string_bytes text.old ++ end_part (seen_in scene.now) sends number own.now link) }
+/// Appends the line of the process that waits at an end, if one does.
+fn push_end(text: &mut String, rows: &[MapRow<'_>], end: &Option<Wait>) -> Result<(), AllocError>
+    ensures { OnOk result (string_bytes text.new ≡ string_bytes text.old ++ end_part (rows_seen rows.now) end.now) }
 {
-    match waiting_at(own, sends, link) {
-        Some(waiter) => push_wait(text, scene, sends, number, own, link, waiter),
+    match end {
+        Some(wait) => push_wait(text, rows, wait),
         None => Ok(()),
     }
 }
 
 /// Appends the lines of the processes that wait at a link.
-fn push_link(
-    text: &mut String,
-    scene: &Scene,
-    number: usize,
-    own: &NodeSeen,
-    link: u8,
-) -> Result<(), AllocError>
-    requires { number < MAX_NODES }
-    ensures { OnOk result (string_bytes text.new ≡ string_bytes text.old ++ link_part (seen_in scene.now) number own.now link) }
+fn push_link(text: &mut String, rows: &[MapRow<'_>], link: &LinkWaits) -> Result<(), AllocError>
+    ensures { OnOk result (string_bytes text.new ≡ string_bytes text.old ++ link_part (rows_seen rows.now) link.now) }
 {
-    push_end(text, scene, true, number, own, link)?;
-    push_end(text, scene, false, number, own, link)
+    push_end(text, rows, &link.output)?;
+    push_end(text, rows, &link.input)
 }
 
-/// Appends the lines of the processes that wait at a node's links.
-fn push_ends(
-    text: &mut String,
-    scene: &Scene,
-    number: usize,
-    own: &NodeSeen,
-) -> Result<(), AllocError>
-    requires { number < MAX_NODES }
-    ensures { OnOk result (string_bytes text.new ≡ string_bytes text.old ++ ends_part (seen_in scene.now) number own.now) }
+/// Appends the lines of the processes that wait at links.
+fn push_links(text: &mut String, rows: &[MapRow<'_>], links: &[LinkWaits]) -> Result<(), AllocError>
+    ensures { OnOk result (string_bytes text.new ≡ string_bytes text.old ++ links_part (rows_seen rows.now) links.now) }
 {
-    push_link(text, scene, number, own, 0)?;
-    push_link(text, scene, number, own, 1)?;
-    push_link(text, scene, number, own, 2)?;
-    push_link(text, scene, number, own, 3)
+    for link in links {
+        push_link(text, rows, link)?;
+    }
+    Ok(())
 }
 
 /// Appends which node it is.
@@ -260,134 +211,32 @@ fn push_node(
     text: &mut String,
     scene: &Scene,
     kept: &[Numbered],
+    rows: &[MapRow<'_>],
     number: usize,
     own: &NodeSeen,
 ) -> Result<(), AllocError>
     requires { number < MAX_NODES }
-    ensures { OnOk result (string_bytes text.new ≡ string_bytes text.old ++ node_lines (seen_in scene.now) kept.now number own.now) }
+    ensures { OnOk result (string_bytes text.new ≡ string_bytes text.old ++ node_lines (seen_in scene.now) kept.now (rows_seen rows.now) number own.now) }
 {
     push_name(text, number)?;
-    push_doing(text, own.doing)?;
+    push_doing(text, rows, own.doing)?;
     push_last(text, last_of(scene, kept, number))?;
-    push_ends(text, scene, number, own)
+    push_links(text, rows, &links_of(scene, number, own))
 }
 
-fn push_nodes(text: &mut String, scene: &Scene, kept: &[Numbered]) -> Result<(), AllocError>
-    requires { length scene.now.nodes.items ≤ MAX_NODES }
-    ensures { OnOk result (string_bytes text.new ≡ string_bytes text.old ++ nodes_lines (seen_in scene.now) kept.now 0 scene.now.nodes.items) }
-{
-    for (number, own) in scene.nodes.iter().enumerate() {
-        push_node(text, scene, kept, number, own)?;
-    }
-    Ok(())
-}
-
-/// Whether a reason why a process waits at the end that sends `line` is said once more at the end. Of two ends that wait for one another
-/// it is said at the first one.
-fn is_told(why: Reason, nodes: usize, line: usize, other: Option<WireEnd>) -> bool
-    requires { nodes ≤ MAX_NODES }
-    ensures { result ≡ is_told why nodes line other }
-{
-    match why {
-        Reason::BothSend | Reason::BothInput => match other {
-            Some(end) => line < line_of(nodes, end),
-            None => false,
-        },
-        Reason::Halted | Reason::Full | Reason::NoInput | Reason::NoWire => true,
-        Reason::UnderWay | Reason::Runs | Reason::Elsewhere => false,
-    }
-}
-
-/// Appends what a process's waiting at the end of a link adds up to, if one waits there.
-fn push_sum(
-    text: &mut String,
-    scene: &Scene,
-    sends: bool,
-    number: usize,
-    own: &NodeSeen,
-    link: u8,
-) -> Result<(), AllocError>
-    requires number { number < MAX_NODES }
-    requires nodes { length scene.now.nodes.items ≤ MAX_NODES }
-    ensures { OnOk result (string_bytes text.new ≡ string_bytes text.old ++ sum_part (seen_in scene.now) sends number own.now link) }
-{
-    let line = link_line(number, link as usize);
-    let other = receiver(&scene.wires, line);
-    let why = why(scene, sends, own, line);
-    if waiting_at(own, sends, link).is_none() || !is_told(why, scene.nodes.len(), line, other) {
-        return Ok(());
-    }
-    let name = why_name(why);
-    push_parts(
-        text,
-        &[
-            Text(name),
-            Text(": node "),
-            Number(number as u64),
-            Text(" link "),
-            Number(link as u64),
-        ],
-    )?;
-    push_other(text, " waits for ", other)?;
-    push_parts(text, &[Text("\n")])
-}
-
-/// Appends what the processes that wait at a link add up to.
-fn push_sums_at(
-    text: &mut String,
-    scene: &Scene,
-    number: usize,
-    own: &NodeSeen,
-    link: u8,
-) -> Result<(), AllocError>
-    requires number { number < MAX_NODES }
-    requires nodes { length scene.now.nodes.items ≤ MAX_NODES }
-    ensures { OnOk result (string_bytes text.new ≡ string_bytes text.old ++ sums_at (seen_in scene.now) number own.now link) }
-{
-    push_sum(text, scene, true, number, own, link)?;
-    push_sum(text, scene, false, number, own, link)
-}
-
-/// Appends what the processes that wait in a node add up to.
-fn push_sums_of(
-    text: &mut String,
-    scene: &Scene,
-    number: usize,
-    own: &NodeSeen,
-) -> Result<(), AllocError>
-    requires number { number < MAX_NODES }
-    requires nodes { length scene.now.nodes.items ≤ MAX_NODES }
-    ensures { OnOk result (string_bytes text.new ≡ string_bytes text.old ++ sums_of (seen_in scene.now) number own.now) }
-{
-    push_sums_at(text, scene, number, own, 0)?;
-    push_sums_at(text, scene, number, own, 1)?;
-    push_sums_at(text, scene, number, own, 2)?;
-    push_sums_at(text, scene, number, own, 3)
-}
-
-fn push_sums(text: &mut String, scene: &Scene) -> Result<(), AllocError>
-    requires { length scene.now.nodes.items ≤ MAX_NODES }
-    ensures { OnOk result (string_bytes text.new ≡ string_bytes text.old ++ sums_lines (seen_in scene.now) 0 scene.now.nodes.items) }
-{
-    for (number, own) in scene.nodes.iter().enumerate() {
-        push_sums_of(text, scene, number, own)?;
-    }
-    Ok(())
-}
-
-/// Appends all that `waits` prints.
-fn push_waits(
-    alloc: Global,
+fn push_nodes(
     text: &mut String,
     scene: &Scene,
     kept: &[Numbered],
+    maps: &NodeMaps<'_>,
 ) -> Result<(), AllocError>
     requires { length scene.now.nodes.items ≤ MAX_NODES }
-    ensures { OnOk result (string_bytes text.new ≡ string_bytes text.old ++ waits_text (seen_in scene.now) kept.now) }
+    ensures { OnOk result (string_bytes text.new ≡ string_bytes text.old ++ nodes_lines (seen_in scene.now) kept.now (maps_seen maps.now) 0 scene.now.nodes.items) }
 {
-    push_nodes(text, scene, kept)?;
-    push_sums(text, scene)?;
-    push_cycles(alloc, text, scene)
+    for (number, own) in scene.nodes.iter().enumerate() {
+        push_node(text, scene, kept, maps.of(number), number, own)?;
+    }
+    Ok(())
 }
 
 /// All that `waits` prints.
@@ -395,11 +244,14 @@ pub(crate) fn waits_text(
     alloc: Global,
     scene: &Scene,
     kept: &[Numbered],
+    maps: &NodeMaps<'_>,
 ) -> Result<String, AllocError>
     requires { length scene.now.nodes.items ≤ MAX_NODES }
-    ensures { IfOk result (λ text. string_bytes text ≡ waits_text (seen_in scene.now) kept.now) }
+    ensures { IfOk result (λ text. string_bytes text ≡ waits_text (seen_in scene.now) kept.now (maps_seen maps.now)) }
 {
     let mut text = String::new(alloc);
-    push_waits(alloc, &mut text, scene, kept)?;
+    push_nodes(&mut text, scene, kept, maps)?;
+    push_sums(&mut text, scene)?;
+    push_cycles(alloc, &mut text, scene)?;
     Ok(text)
 }

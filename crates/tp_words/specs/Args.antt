@@ -12,7 +12,7 @@ use Rattle.tp_words.specs.declared.args.TheConstants.{MAX_AREA, MAX_WORKERS, QUA
 use Rattle.tp_words.specs.declared.views.JournalPart.{JournalPart}
 use Rattle.tp_words.specs.declared.views.TracePart.{TracePart}
 use Rattle.tp_words.specs.declared.views.View.{View}
-use Rattle.tp_words.specs.declared.views.View.TheVariants.{Node, Image, Journal, Pending, Outputs, NodeJson, PendingJson, OutputsJson, Waits, WaitsJson}
+use Rattle.tp_words.specs.declared.views.View.TheVariants.{Node, Image, Journal, Pending, Outputs, NodeJson, PendingJson, OutputsJson, Waits, WaitsJson, WaitsDot}
 use Rattle.tp_words.specs.Given.{given, has_flag, IsGivenOr}
 use Rattle.tp_words.specs.Size.{IsArea}
 use Rattle.tp_words.specs.Typed.{has_word, was_typed}
@@ -41,6 +41,7 @@ IsView (PendingJson port) = Unit {0}
 IsView (OutputsJson port) = Unit {0}
 IsView Waits = Unit {0}
 IsView WaitsJson = Unit {0}
+IsView WaitsDot = Unit {0}
 
 -- each number is in its range
 abbrev pub IsInRange : Asked → Type 0
@@ -55,7 +56,7 @@ IsInRange (Recover device workers) = (0 < workers) × (workers ≤ MAX_WORKERS)
 IsInRange (Show device json) = Unit {0}
 IsInRange (Status device every json) = IsEvery every
 IsInRange (Check topology images json) = Unit {0}
-IsInRange (Views device view) = IsView view
+IsInRange (Views device view maps) = IsView view
 
 -- each option of a journal is what was typed for it; it is shown from its first entry where none was, and as JSON where that was typed
 abbrev pub IsTypedPart : List (String Global) → JournalPart → Type 0
@@ -81,8 +82,23 @@ HasTyped words (Outputs port) = (was_typed words (decimal port) ≡ true) × (ha
 HasTyped words (NodeJson node) = (was_typed words (decimal node) ≡ true) × (has_flag (codes "--json") words ≡ true)
 HasTyped words (PendingJson port) = (was_typed words (decimal port) ≡ true) × (has_flag (codes "--json") words ≡ true)
 HasTyped words (OutputsJson port) = (was_typed words (decimal port) ≡ true) × (has_flag (codes "--json") words ≡ true)
-HasTyped words Waits = has_flag (codes "--json") words ≡ false
-HasTyped words WaitsJson = has_flag (codes "--json") words ≡ true
+HasTyped words Waits = (has_flag (codes "--json") words ≡ false) × (has_flag (codes "--dot") words ≡ false)
+HasTyped words WaitsJson = (has_flag (codes "--json") words ≡ true) × (has_flag (codes "--dot") words ≡ false)
+HasTyped words WaitsDot = (has_flag (codes "--json") words ≡ false) × (has_flag (codes "--dot") words ≡ true)
+
+-- the folder of a view's maps is what was typed for it; a view that names no address has none
+abbrev pub IsTypedMaps : List (String Global) → View → Option (String Global) → Type 0
+IsTypedMaps words (Node node) maps = given (codes "map") words ≡ option_map string_bytes maps
+IsTypedMaps words (NodeJson node) maps = given (codes "map") words ≡ option_map string_bytes maps
+IsTypedMaps words Waits maps = given (codes "map") words ≡ option_map string_bytes maps
+IsTypedMaps words WaitsJson maps = given (codes "map") words ≡ option_map string_bytes maps
+IsTypedMaps words WaitsDot maps = given (codes "map") words ≡ option_map string_bytes maps
+IsTypedMaps words (Image node) maps = maps ≡ None
+IsTypedMaps words (Journal part) maps = maps ≡ None
+IsTypedMaps words (Pending port) maps = maps ≡ None
+IsTypedMaps words (Outputs port) maps = maps ≡ None
+IsTypedMaps words (PendingJson port) maps = maps ≡ None
+IsTypedMaps words (OutputsJson port) maps = maps ≡ None
 
 -- each option of a run is what was typed for it, and else what docs/PROGRAM.md says
 abbrev pub IsTypedRun : List (String Global) → Run → Type 0
@@ -113,4 +129,4 @@ WasTyped words (Status device every json) = (has_word (string_bytes device) word
     × (json ≡ has_flag (codes "--json") words)
 WasTyped words (Check topology images json) = (has_word (string_bytes topology) words ≡ true) × (has_word (string_bytes images) words ≡ true)
     × (json ≡ has_flag (codes "--json") words)
-WasTyped words (Views device view) = (has_word (string_bytes device) words ≡ true) × HasTyped words view
+WasTyped words (Views device view maps) = (has_word (string_bytes device) words ≡ true) × HasTyped words view × IsTypedMaps words view maps

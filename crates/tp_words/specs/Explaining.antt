@@ -3,7 +3,7 @@ use Rattle.std.specs.Prelude.{◌≡◌, ◌⊎◌, Bool, true, false, if◌then
 use Rattle.std.specs.declared.alloc.Global.{Global}
 use Rattle.std.specs.declared.string.String.{String}
 use Rattle.tp_words.specs.declared.command.Command.{Command}
-use Rattle.tp_words.specs.declared.command.Command.TheVariants.{Stream, Stop, Backup, Other}
+use Rattle.tp_words.specs.declared.command.Command.TheVariants.{Other}
 use Rattle.tp_words.specs.declared.args.Asked.TheVariants.{Help}
 use Rattle.tp_words.specs.declared.explaining.Explaining.{Explaining}
 use Rattle.tp_words.specs.declared.explaining.Explaining.TheVariants.{Always, Never, OnTerminal}

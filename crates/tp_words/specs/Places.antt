@@ -12,7 +12,7 @@ use Rattle.tp_words.specs.declared.args.Asked.TheVariants.{Help, Try, Trace, Tra
 use Rattle.tp_words.specs.declared.args.NewDevice.{NewDevice}
 use Rattle.tp_words.specs.declared.places.TheConstants.{VALUED}
 use Rattle.tp_words.specs.declared.views.View.{View}
-use Rattle.tp_words.specs.declared.views.View.TheVariants.{Node, Image, Journal, Pending, Outputs, NodeJson, PendingJson, OutputsJson, Waits, WaitsJson}
+use Rattle.tp_words.specs.declared.views.View.TheVariants.{Node, Image, Journal, Pending, Outputs, NodeJson, PendingJson, OutputsJson, Waits, WaitsJson, WaitsDot}
 use Rattle.tp_words.specs.Given.{given, has_flag}
 use Rattle.tp_words.specs.Size.{IsSizeOf}
 use Rattle.tp_words.specs.Typed.{is_word}
@@ -73,6 +73,7 @@ view_command (Outputs port) = codes "port"
 view_command (OutputsJson port) = codes "port"
 view_command Waits = codes "waits"
 view_command WaitsJson = codes "waits"
+view_command WaitsDot = codes "waits"
 
 -- the decimal of a number, if there is one
 abbrev pub listed : Option ℕ → List (List ℕ)
@@ -91,6 +92,7 @@ view_places (Outputs port) = decimal port ∷ []
 view_places (OutputsJson port) = decimal port ∷ []
 view_places Waits = []
 view_places WaitsJson = []
+view_places WaitsDot = []
 
 -- A port's pending inputs are shown if `--pending` was typed, and else its outputs.
 abbrev pub HasViewFlag : List (String Global) → View → Type 0
@@ -114,7 +116,7 @@ HasPlaces words (Recover device workers) = places words ≡ codes "recover" ∷ 
 HasPlaces words (Show device json) = places words ≡ codes "show" ∷ string_bytes device ∷ []
 HasPlaces words (Status device every json) = places words ≡ codes "status" ∷ string_bytes device ∷ []
 HasPlaces words (Check topology images json) = places words ≡ codes "check" ∷ string_bytes topology ∷ string_bytes images ∷ []
-HasPlaces words (Views device view) = (places words ≡ view_command view ∷ string_bytes device ∷ view_places view) × HasViewFlag words view
+HasPlaces words (Views device view maps) = (places words ≡ view_command view ∷ string_bytes device ∷ view_places view) × HasViewFlag words view
 
 -- The text is what `clap` found for the place of this name.
 abbrev pub IsFound : ArgMatches → List ℕ → String Global → Type 0

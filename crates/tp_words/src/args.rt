@@ -64,10 +64,11 @@ pub enum Asked {
         images: String,
         json: bool,
     },
-    /// Opens a device and shows a view of it.
+    /// Opens a device and shows a view of it. `maps`: the folder of the maps that name addresses, where one is given.
     View {
         device: String,
         view: View,
+        maps: Option<String>,
     },
 }
 

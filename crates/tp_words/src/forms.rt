@@ -45,6 +45,13 @@ const DIR: Word = Word::Place(
 
 const NODE: Word = Word::Place("I", "the node's number, as in tpnet show");
 
+/// Where the maps of a device's nodes are.
+const MAPS: Word = Word::Value(
+    "map",
+    "FOLDER",
+    "the folder of maps that tools/assemble --map wrote: I.map of node I, all.map of each node that has none",
+);
+
 pub const TRY: Form = Form {
     name: "try",
     about: "Runs one node without a device, its link 0 wired to port 0, and prints what port 0 puts out",
@@ -235,13 +242,20 @@ pub const STATUS: Form = Form {
 pub const WAITS: Form = Form {
     name: "waits",
     about: "Prints of each node whether it rests, which of its processes wait at links, for whom and why, and what that adds up to",
-    words: &[EXPLAIN, NO_EXPLAIN, JSON, DEVICE],
+    words: &[
+        EXPLAIN,
+        NO_EXPLAIN,
+        JSON,
+        Word::Unless("dot", "json", "draw it, as a graph for Graphviz"),
+        MAPS,
+        DEVICE,
+    ],
 };
 
 pub const NODES: Form = Form {
     name: "node",
     about: "Prints a node's registers, queues and link ends, addresses in hexadecimal",
-    words: &[EXPLAIN, NO_EXPLAIN, JSON, DEVICE, NODE],
+    words: &[EXPLAIN, NO_EXPLAIN, JSON, MAPS, DEVICE, NODE],
 };
 
 pub const IMAGE: Form = Form {

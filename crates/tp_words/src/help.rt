@@ -107,6 +107,7 @@ After it a line of each of its processes that waits at link K:
   out K sends     bytes of it aren't acknowledged;   in K inputs   bytes of it are still to come;
   in K chooses    it waits in an alternative that has enabled the link
   left L          how many bytes;   process W   its descriptor;   at A   the instruction at which it goes on
+  after L+N (F)   with --map: the instruction before A, in which it waits, by label, distance and place in the source
   to, from        the other end of the link's wire; after the colon, why it still waits:
     under way        a byte or an acknowledge is on the wire: it goes on once the nodes have turns
     both send        both ends of the link send, and neither inputs
@@ -122,7 +123,22 @@ and cycle: nodes .., for those that wait for one another, directly or through ot
 Processes that wait at channels in memory aren't named: nothing in a node says which of its words are channels.
 DEVICE may be run meanwhile: what is printed is so at one moment of the call.
 Refusals (status 1); nothing is written to DEVICE:
-  ReadFailed    DEVICE can't be opened or read, or is no regular file: look at its path and its rights
+  ReadFailed    DEVICE can't be opened or read, or is no regular file, or FOLDER has no map: look at their paths and rights
+  BadMap F L    line L of FOLDER/F is none of a map: make the map anew, by tools/assemble --map
+  NotFormatted  DEVICE is none: make one with tpnet format
+  BadVersion    DEVICE is of another version of tpnet
+  NoOpenArea    neither area is open: format was stopped, or the device was written over
+  Damaged AT    what stands at offset AT breaks its rule: restore a copy
+  Busy          another tpnet writes DEVICE so fast that no moment of it could be read: try again, or stop that one
+  DeviceFailed  standard output can't be written
+  Memory        there is no memory left";
+
+/// What `tpnet node` refuses.
+pub const NODE_REFUSALS: &str =
+    "DEVICE may be run meanwhile: what is printed is so at one moment of the call.
+Refusals (status 1); nothing is written to DEVICE:
+  ReadFailed    DEVICE can't be opened or read, or is no regular file, or FOLDER has no map: look at their paths and rights
+  BadMap F L    line L of FOLDER/F is none of a map: make the map anew, by tools/assemble --map
   NotFormatted  DEVICE is none: make one with tpnet format
   BadVersion    DEVICE is of another version of tpnet
   NoOpenArea    neither area is open: format was stopped, or the device was written over

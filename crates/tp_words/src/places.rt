@@ -16,6 +16,7 @@ const VALUED: &[&str] = &[
     "--have",
     "--in",
     "--last",
+    "--map",
     "--node",
     "--out",
     "--port",

@@ -12,6 +12,7 @@ and each input has come to its end, or its port is full of bytes that no node ta
 The last line on standard error is next M, and why it ended: quiet, turns, gone, stopped or halted (status 3).
 To end it call tpnet stop DEVICE in another terminal. Ctrl-C and kill end it without a last line; nothing that was shown is lost.
 Before it stands each node that has halted, as halted 1 BadAddress at 80000107, or that waits though there is input, as waits 2.
+After quiet it is said by --explain, and on a terminal, if processes wait for other nodes: tpnet waits shows them.
 Refusals (status 1):
   InUse         another tpnet runs, formats or compacts DEVICE: wait for it (--wait-lock), or end it
   ReadFailed    an input can't be read (a FIFO: take --in P=- < FIFO), or DEVICE can't be opened to read and write, or be

@@ -1,13 +1,13 @@
 //! What the commands ask for that write no device.
 
 ghost use Rattle.std.specs.Prelude.{◌≡◌, ◌∷◌, IfOk, string_bytes};
-ghost use Rattle.tp_words.specs.Args.{HasTyped, IsInRange, IsView, WasTyped};
+ghost use Rattle.tp_words.specs.Args.{HasTyped, IsInRange, IsTypedMaps, IsView, WasTyped};
 ghost use Rattle.tp_words.specs.Places.{HasFoundTexts, HasPlaces, HasViewFlag, listed, places, view_command, view_places};
 
 use crate::arg_fault::ArgFault;
 use crate::args::{Asked, MAX_TURNS, MAX_WORKERS, STEPS};
 use crate::device_args::every_of;
-use crate::found::{flag_of, json_of, option_or, place_of, text_of, turns_of};
+use crate::found::{flag_of, json_of, option_or, option_string, place_of, text_of, turns_of};
 use crate::journal_args::{journal_view, trace_part};
 use crate::places::has_places;
 use crate::views::View;
@@ -117,10 +117,12 @@ fn waits_view(words: &[String], found: &ArgMatches) -> Result<View, ArgFault>
     ensures typed { IfOk result (HasTyped words.now) }
     ensures flag { IfOk result (HasViewFlag words.now) }
 {
-    if json_of(words, found)? {
-        Ok(View::WaitsJson)
-    } else {
-        Ok(View::Waits)
+    let json = json_of(words, found)?;
+    match (json, flag_of(words, found, "dot", "--dot")?) {
+        (false, false) => Ok(View::Waits),
+        (true, false) => Ok(View::WaitsJson),
+        (false, true) => Ok(View::WaitsDot),
+        (true, true) => Err(ArgFault::Missing),
     }
 }
 
@@ -154,7 +156,7 @@ fn command_of_view(view: View) -> &'static str
         View::Image(_) => "image",
         View::Journal(_) => "journal",
         View::Pending(_) | View::PendingJson(_) | View::Outputs(_) | View::OutputsJson(_) => "port",
-        View::Waits | View::WaitsJson => "waits",
+        View::Waits | View::WaitsJson | View::WaitsDot => "waits",
     }
 }
 
@@ -170,7 +172,7 @@ fn number_of_view(view: View) -> Option<u64>
         | View::PendingJson(number)
         | View::Outputs(number)
         | View::OutputsJson(number) => Some(number),
-        View::Journal(_) | View::Waits | View::WaitsJson => None,
+        View::Journal(_) | View::Waits | View::WaitsJson | View::WaitsDot => None,
     }
 }
 
@@ -189,6 +191,28 @@ fn view_placed(
     };
     let text = format!(in alloc; "{number}")?;
     has_places(words, &[command, device, text.as_str()])
+}
+
+/// The folder of the maps of a view that takes them, where one was typed.
+fn maps_of(
+    alloc: Global,
+    words: &[String],
+    view: View,
+    found: &ArgMatches,
+) -> Result<Option<String>, ArgFault>
+    ensures { IfOk result (IsTypedMaps words.now view) }
+{
+    match view {
+        View::Node(_) | View::NodeJson(_) | View::Waits | View::WaitsJson | View::WaitsDot => {
+            option_string(alloc, words, found, "map")
+        }
+        View::Image(_)
+        | View::Journal(_)
+        | View::Pending(_)
+        | View::PendingJson(_)
+        | View::Outputs(_)
+        | View::OutputsJson(_) => Ok(None),
+    }
 }
 
 fn asked_status(alloc: Global, words: &[String], found: &ArgMatches) -> Result<Asked, ArgFault>
@@ -247,9 +271,10 @@ fn asked_view(
     ensures places { IfOk result (HasPlaces words.now) }
 {
     let view = view_of(alloc, words, name, found)?;
+    let maps = maps_of(alloc, words, view, found)?;
     let device = text_of(alloc, words, found, "DEVICE")?;
     view_placed(alloc, words, command_of_view(view), device.as_str(), view)?;
-    Ok(Asked::View { device, view })
+    Ok(Asked::View { device, view, maps })
 }
 
 /// What a command of that name asks for that only reads a device.

@@ -1,7 +1,7 @@
 //! What is shown of a device.
 
 /// What is shown of a device that opens: a node's registers, a node's image, a part of the kept entries, and the bytes of a port that are
-/// pending or not confirmed; the first of these and the last two as JSON; and who waits for whom, as lines and as JSON.
+/// pending or not confirmed; the first of these and the last two as JSON; and who waits for whom, as lines, as JSON and as a graph.
 #[derive(Clone, Copy)]
 pub enum View {
     Node(u64),
@@ -14,6 +14,7 @@ pub enum View {
     OutputsJson(u64),
     Waits,
     WaitsJson,
+    WaitsDot,
 }
 
 /// The part of the kept entries that is shown: those whose number is `from` or more and `to` or less, that node `node` made, and of these

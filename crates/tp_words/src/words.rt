@@ -5,8 +5,9 @@ use crate::forms::{
     TRACE, TRY, WAITS,
 };
 use crate::help::{
-    BACKUP_REFUSALS, CHECK_REFUSALS, COMPACT_REFUSALS, FORMAT_REFUSALS, OPENING_REFUSALS,
-    RUN_REFUSALS, STATUS_REFUSALS, STOP_REFUSALS, TRACE_REFUSALS, TRY_REFUSALS, WAITS_REFUSALS,
+    BACKUP_REFUSALS, CHECK_REFUSALS, COMPACT_REFUSALS, FORMAT_REFUSALS, NODE_REFUSALS,
+    OPENING_REFUSALS, RUN_REFUSALS, STATUS_REFUSALS, STOP_REFUSALS, TRACE_REFUSALS, TRY_REFUSALS,
+    WAITS_REFUSALS,
 };
 use crate::stream_words::{STREAM, STREAM_REFUSALS};
 use clap::{Arg, ArgAction, Command};
@@ -128,9 +129,8 @@ fn refusals_of(name: Name) -> &'static str {
         Name::Status => STATUS_REFUSALS,
         Name::Waits => WAITS_REFUSALS,
         Name::Stream => STREAM_REFUSALS,
-        Name::Recover | Name::Show | Name::Node | Name::Image | Name::Journal | Name::Port => {
-            OPENING_REFUSALS
-        }
+        Name::Node => NODE_REFUSALS,
+        Name::Recover | Name::Show | Name::Image | Name::Journal | Name::Port => OPENING_REFUSALS,
     }
 }
 

@@ -1,4 +1,4 @@
-use Rattle.std.proofs.Common.{◌≡◌, ◌∙◌, ◌∷◌, [], sym}
+use Rattle.std.proofs.Common.{◌∙◌, ◌∷◌, [], sym}
 use Rattle.tp_model.specs.EndBytes.{out_end_at}
 use Rattle.tp_node.proofs.EndsAsBytes.{four_ends_apart}
 use Rattle.tp_views.proofs.image_fields.outputs_in.Goals as goal

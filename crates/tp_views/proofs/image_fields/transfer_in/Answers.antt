@@ -1,4 +1,3 @@
-use Rattle.std.proofs.Common.{drop}
 use Rattle.std.proofs.lemmas.List.{drop-drop}
 use Rattle.tp_views.proofs.image_fields.transfer_in.Goals as goal
 

@@ -1,6 +1,7 @@
-use Rattle.std.proofs.Common.{◌≡◌, ◌∙◌, Ok, Err, Result, IfOk}
+use Rattle.std.proofs.Common.{◌∙◌, Ok, Err, Result, IfOk}
 use Rattle.tp_model.specs.Image.{node_at}
 use Rattle.tp_views.specs.JsonNode.{node_fields}
+use Rattle.tp_views.specs.Maps.{rows_seen}
 use Rattle.tp_views.proofs.json_node.node_json.Goals as goal
 
 if_ok : {T E : Type 0} (P Q : T → Type 0) (r : Result T E) → ((x : T) → P x → Q x) → IfOk r P → IfOk r Q
@@ -11,5 +12,5 @@ pub returns : goal.returns
 unfolding node_at
 returns c =
     if_ok _ _ c.node_fields.result
-    (λ text is. is ∙ (λ i. node_fields c.args.number (c.pages_in-pages.ensures i) (c.cpu_in-cpu.ensures i) (c.outputs_in-outputs.ensures i) (c.inputs_in-inputs.ensures i)))
+    (λ text is. is ∙ (λ i. node_fields (rows_seen c.args.rows.now) c.args.number (c.pages_in-pages.ensures i) (c.cpu_in-cpu.ensures i) (c.outputs_in-outputs.ensures i) (c.inputs_in-inputs.ensures i)))
     c.node_fields.ensures

@@ -1,4 +1,4 @@
-use Rattle.std.proofs.Common.{◌≡◌, ◌∙◌, ◌+◌, ◌++◌, ◌∷◌, ap, sym, append_assoc, string_bytes, drop, map}
+use Rattle.std.proofs.Common.{◌∙◌, ◌+◌, ◌++◌, ◌∷◌, ap, sym, append_assoc, string_bytes, drop, map}
 use Rattle.std.proofs.lemmas.List.{at_drop_more}
 use Rattle.tp_views.specs.Json.{json_items}
 use Rattle.tp_views.specs.JsonShow.{port_item}

@@ -1,5 +1,6 @@
-use Rattle.std.proofs.Common.{◌≡◌, ◌∙◌, Ok, Err, Result, IfOk}
+use Rattle.std.proofs.Common.{◌∙◌, Ok, Err, Result, IfOk}
 use Rattle.tp_model.specs.Image.{node_at}
+use Rattle.tp_views.specs.Maps.{rows_seen}
 use Rattle.tp_views.specs.NodeText.{node_as_lines}
 use Rattle.tp_views.proofs.registers.node_text.Goals as goal
 
@@ -11,5 +12,5 @@ pub returns : goal.returns
 unfolding node_at
 returns c =
     if_ok _ _ c.node_lines.result
-    (λ text is. is ∙ (λ i. node_as_lines c.args.number (c.pages_in-pages.ensures i) (c.cpu_in-cpu.ensures i) (c.outputs_in-outputs.ensures i) (c.inputs_in-inputs.ensures i)))
+    (λ text is. is ∙ (λ i. node_as_lines (rows_seen c.args.rows.now) c.args.number (c.pages_in-pages.ensures i) (c.cpu_in-cpu.ensures i) (c.outputs_in-outputs.ensures i) (c.inputs_in-inputs.ensures i)))
     c.node_lines.ensures

@@ -1,4 +1,4 @@
-use Rattle.std.proofs.Common.{◌≡◌, ◌∙◌, ◌≤◌, List, length, ap, map, slice_get, sym, subst}
+use Rattle.std.proofs.Common.{◌∙◌, ap, map, slice_get, sym}
 use Rattle.std.proofs.lemmas.Simd.{map-map}
 use Rattle.tp_views.specs.Scene.{node_seen, port_held}
 use Rattle.tp_views.proofs.scene.scene_of.Goals as goal

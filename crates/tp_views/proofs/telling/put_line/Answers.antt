@@ -1,4 +1,4 @@
-use Rattle.std.proofs.Common.{◌≡◌, ◌∙◌, subst, inr, Ok, Err, Result, OnOk}
+use Rattle.std.proofs.Common.{◌∙◌, subst, inr, Ok, Err, Result, OnOk}
 use Rattle.std.specs.Io.KnownBytes.{Appends}
 use Rattle.tp_views.specs.Front.{AppendsFront}
 use Rattle.tp_views.proofs.telling.put_line.Goals as goal

@@ -1,7 +1,7 @@
 use Rattle.std.proofs.Common.{◌≡◌, ◌++◌, string_bytes, drop}
 use Rattle.tp_views.specs.Scene.{seen_in}
-use Rattle.tp_views.specs.Waits.{sums_lines}
-use Rattle.tp_views.proofs.waits.push_sums.Given as goal
+use Rattle.tp_views.specs.Sums.{sums_lines}
+use Rattle.tp_views.proofs.sums.push_sums.Given as goal
 
 abbrev pub invariant-loop-number : goal.invariant-loop-number
 invariant-loop-number l =

@@ -1,0 +1,63 @@
+//! Whether processes wait for other nodes, said after a stream that ended since nothing was left to do.
+
+ghost use Rattle.std.specs.Prelude.{◌≡◌, IfOk};
+ghost use Rattle.tp_recover.specs.Reading.{LeavesNothingNew};
+ghost use Rattle.tp_views.specs.Inside.{HasInside, waits_within};
+ghost use Rattle.tp_views.specs.Opens.{IsUnwritten};
+
+use crate::refusal::Refusal;
+use crate::scene::scene_of;
+use crate::steady::{Tried, open_steady};
+use crate::waiting::waits_inside;
+use std::alloc::{AllocError, Global};
+use std::fs::{Files, OpenFile};
+use std::io::Write;
+use std::os::unix::fs::FileExt;
+use tp_disk::{Counted, Disk, NotedFile, RawFile};
+use tp_recover::Opened;
+use tp_words::Shown;
+
+/// Whether a process of an opened device waits for another node.
+fn waits_within(alloc: Global, opened: Opened) -> Result<bool, AllocError>
+    ensures { IfOk result (λ inside. inside ≡ waits_within opened) }
+{
+    let (head, network, _kept) = opened.into_parts();
+    let wires = head.topology().wires();
+    let scene = scene_of(alloc, wires, &network)?;
+    Ok(waits_inside(&scene))
+}
+
+/// Whether a process of a device waits for another node. Nothing is written to the device.
+pub fn has_inside<D: Disk>(alloc: Global, disk: &mut D) -> Result<bool, Refusal>
+    ensures found { D.keeps → IfOk result (HasInside (D.state disk.old).now.bytes) }
+    ensures kept { D.keeps → IsUnwritten (D.failures_of disk.old) (D.failures_of disk.new) (D.state disk.old).now (D.state disk.new).now }
+    ensures leaves { D.keeps → LeavesNothingNew (D.state disk.old) (D.state disk.new) }
+{
+    let Tried::Steady(answer) = open_steady(alloc, disk) else {
+        return Err(Refusal::Busy);
+    };
+    let opened = answer?;
+    match waits_within(alloc, opened) {
+        Ok(inside) => Ok(inside),
+        Err(_) => Err(Refusal::Memory),
+    }
+}
+
+/// Says of a device whether processes wait for other nodes, and which command shows them. Of one that doesn't open nothing is said.
+pub fn tell_inside<R: Files<File = F> + AllocGlobal, F: FileExt + OpenFile + Drop, E: Write>(
+    rt: &R,
+    device: &str,
+    err: &mut E,
+) {
+    let disk: Result<Counted<RawFile<NotedFile<F>>>, _> = Counted::open_to_read(rt, device);
+    let Ok(mut disk) = disk else {
+        return;
+    };
+    if let Ok(true) = has_inside(rt.alloc(), &mut disk) {
+        let shown = Shown::all(device);
+        let _ = write!(
+            err,
+            "  Processes wait at links between nodes: tpnet waits {shown} says for whom and why.\n"
+        );
+    }
+}
