@@ -1,4 +1,4 @@
-use Rattle.std.proofs.Common.{◌≡◌, Option, Some, None, is_some, refl, ap}
+use Rattle.std.proofs.Common.{◌≡◌, Option, Some, None, refl}
 use Rattle.std.specs.Prelude.{Err, IsSome}
 use Rattle.tp_model.specs.Image.{node_of}
 use Rattle.tp_model.specs.NodeState.{NodeState}
