@@ -3,8 +3,14 @@ pub mod Advance
 pub mod After
 pub mod AfterWrites
 pub mod Decoding
+pub mod Doing
 pub mod Ends
+pub mod Entry
+pub mod Known
 pub mod Laws
+pub mod Learning
 pub mod Meets
+pub mod Piece
 pub mod Registers
 pub mod Room
+pub mod Running

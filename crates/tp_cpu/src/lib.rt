@@ -8,17 +8,22 @@ mod alternative;
 mod arithmetic;
 mod channel;
 mod decoding;
+mod doing;
 mod effect;
 mod encoding;
 mod fetch;
+mod known;
 mod laws;
+mod learning;
 mod operation;
+mod piece;
 mod plain;
 mod plain_channel;
 mod plain_operation;
 mod process;
 mod queues;
 mod rows;
+mod running;
 mod spelling;
 mod stack;
 mod stepping;
@@ -35,6 +40,7 @@ pub use alternative::{
 pub use channel::{alt_disable, alt_enable, chan_in, chan_out, chan_out_word, channel_at};
 pub use decoding::{Decoder, decode, filled, fun_at, op_at, prefixed};
 pub use encoding::encode;
+pub use known::Runs;
 pub use laws::{encoding_reads_back, no_spelling_is_shorter, reading_is_exact};
 pub use process::{
     KEPT_AT, dispatch_high, dispatch_low, end, endp, interrupt, jump, jump_looping, must_slice,

@@ -1,7 +1,7 @@
 //! Writes into a list of bytes.
 
-ghost use Rattle.std.specs.Prelude.{◌≡◌, ◌+◌, ◌%◌, ◌<◌, ◌≤◌, Some, length, slice_range, IsTrue};
-ghost use Rattle.std.specs.Int.{from_le_bytes, w32};
+ghost use Rattle.std.specs.Prelude.{◌≡◌, ◌+◌, ◌%◌, ◌<◌, ◌≤◌, Some, length, slice_range, IsTrue, drop, ◌++◌};
+ghost use Rattle.std.specs.Int.{from_le_bytes, to_le_bytes, w32, w64};
 ghost use Rattle.tp_model.specs.Memory.{offset, word_offset, set_byte, set_word, stored, is_inside, copied, changed};
 ghost use Rattle.tp_mem.specs.After.{changed_after};
 ghost use Rattle.tp_mem.specs.Bytes.{byte_changed};
@@ -16,6 +16,25 @@ pub(crate) fn read_word(live: &[u8], at: usize) -> u32
     ensures { result ≡ from_le_bytes w32 (slice_range live.now at (at + 4)) }
 {
     u32::from_le_bytes([live[at], live[at + 1], live[at + 2], live[at + 3]])
+}
+
+/// Reads eight bytes at a place, of which the first is the lowest.
+#[inline(always)]
+pub(crate) fn read_eight(live: &[u8], at: usize) -> u64
+    requires { at + 8 ≤ length live.now }
+    ensures { drop at live.now ≡ to_le_bytes w64 result ++ drop (at + 8) live.now }
+{
+    let bytes = [
+        live[at],
+        live[at + 1],
+        live[at + 2],
+        live[at + 3],
+        live[at + 4],
+        live[at + 5],
+        live[at + 6],
+        live[at + 7],
+    ];
+    u64::from_le_bytes(bytes)
 }
 
 /// Writes a byte at a place.

@@ -10,6 +10,6 @@ pub mod OneMore
 pub mod Pieces
 pub mod Resting
 pub mod Room
-pub mod Runs
+pub mod RunSoFar
 pub mod Taken
 pub mod Woken

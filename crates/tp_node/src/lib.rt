@@ -36,4 +36,5 @@ pub use node::Node;
 pub use rest::Rest;
 pub use run::{Ran, Why};
 pub use standing::Standing;
+pub use tp_cpu::Runs;
 pub use waiter::{Deed, Waiter};

@@ -28,6 +28,7 @@ use crate::waiter::{Waiter, listener_at, sender_at};
 use arrayvec::ArrayVec;
 use std::alloc::Global;
 use std::marker::Model;
+use tp_cpu::Runs;
 use tp_mem::Freeze;
 use tp_model::limits::{IMAGE_HEAD_BYTES, PAGE_BYTES};
 use tp_model::{Fault, InEnd, Token};
@@ -271,10 +272,11 @@ impl Node {
     }
 
     /// Makes at most `max` steps. What leaves goes into `out`, each token with its link. It ends for want of a frame only
-    /// before a step that would write shared pages which outnumber the free frames; that step isn't counted.
+    /// before a step that would write shared pages which outnumber the free frames; that step isn't counted. `runs` is what the
+    /// thread keeps of instructions, whichever node's they were.
     #[inline(always)]
     #[tactic(auto, using(crate::proofs::Keeps::kept_same))]
-    pub fn run(&mut self, max: u16, out: &mut ArrayVec<(u8, Token), 8>) -> Ran
+    pub fn run(&mut self, runs: &mut Runs, max: u16, out: &mut ArrayVec<(u8, Token), 8>) -> Ran
         requires { out.old.items ≡ [] }
         ensures asked { result.max ≡ max }
         ensures steps { steps t414 result.count self.old.live ≡ Some (self.new.live, out.new.items) }
@@ -282,6 +284,6 @@ impl Node {
         ensures kept { self.new.frozen ≡ self.old.frozen }
         ensures shared { memory_kept self.new ≡ kept_behind_steps result.count self.old.live (memory_kept self.old) }
     {
-        run(&mut self.head, &mut self.memory, max, out)
+        run(&mut self.head, &mut self.memory, runs, max, out)
     }
 }

@@ -12,7 +12,7 @@ use crate::head::Head;
 use crate::step::{StepOutcome, make_step};
 use arrayvec::ArrayVec;
 use std::marker::Model;
-use tp_cpu::advance;
+use tp_cpu::{Runs, advance};
 use tp_mem::Mem;
 use tp_model::{Fault, Token};
 
@@ -87,11 +87,13 @@ fn why_none(halt: Option<Fault>) -> Why
     }
 }
 
-/// Makes at most `max` steps. `advance` makes all that it can; the one before which it stops is left to `make_step`.
+/// Makes at most `max` steps. `advance` makes all that it can; the one before which it stops is left to `make_step`. `runs` is what the
+/// thread keeps of instructions.
 #[inline(always)]
 pub(crate) fn run<M: Mem>(
     head: &mut Head,
     mem: &mut M,
+    runs: &mut Runs,
     max: u16,
     sent: &mut ArrayVec<(u8, Token), 8>,
 ) -> Ran
@@ -102,7 +104,7 @@ pub(crate) fn run<M: Mem>(
     ensures kept { M.kept mem.new ≡ kept_behind_steps result.count (state_with head.old (M.bytes mem.old)) (M.kept mem.old) }
     ensures frozen { (M.kept mem.new).frozen ≡ (M.kept mem.old).frozen }
 {
-    let mut count = advance(&mut head.cpu, mem, max);
+    let mut count = advance(&mut head.cpu, mem, runs, max);
     while count < max {
         match make_step(head, mem) {
             StepOutcome::Step(token) => push(sent, token),
@@ -116,7 +118,7 @@ pub(crate) fn run<M: Mem>(
             }
         }
         count += 1;
-        count += advance(&mut head.cpu, mem, max - count);
+        count += advance(&mut head.cpu, mem, runs, max - count);
     }
     Ran {
         max,

@@ -29,6 +29,16 @@ module _ (n : Inside) (I : IsNodesInside n) where
   pub count : length (nodes_held n).network.nodes ≡ n.before + length n.nodes.items + n.behind
   count = length_among n.before (map (λ node. node.live) n.nodes.items) n.behind ∙ ap (λ k. n.before + k + n.behind) (length-map n.nodes.items (λ node. node.live))
 
+  -- whatever is kept of instructions
+  pub same_inside : (m : Inside) → m.before ≡ n.before → m.behind ≡ n.behind → m.nodes ≡ n.nodes → m.ports ≡ n.ports → m.lanes ≡ n.lanes → IsNodesInside m
+  same_inside m before behind nodes ports lanes = record {
+    few = rw (before, behind, nodes) I.few;
+    few_ports = rw ports I.few_ports;
+    wires = rw (before, behind, nodes, ports, lanes) I.wires;
+    lines = rw (before, behind, nodes, ports, lanes) I.lines;
+    live = rw nodes I.live;
+  }
+
   -- one of its own
   pub node_at : (i : ℕ) (node : NodeContents) → slice_get n.nodes.items i ≡ Some node → slice_get (nodes_held n).network.nodes (n.before + i) ≡ Some node.live
   node_at i node at =

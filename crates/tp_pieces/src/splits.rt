@@ -17,7 +17,7 @@ use crate::nodes::NodesPart;
 use crate::{Neighbours, neighbours_of};
 use std::alloc::{AllocError, Global};
 use std::mem;
-use tp_node::Node;
+use tp_node::{Node, Runs};
 
 /// The part of nodes from `first` on. Its wires and lines are copies of the host's.
 fn part_beside(
@@ -36,6 +36,7 @@ fn part_beside(
         nodes,
         ports: host.ports.len(),
         lanes: host.lanes.copy(alloc)?,
+        runs: Runs::new(alloc)?,
     })
 }
 

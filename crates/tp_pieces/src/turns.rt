@@ -22,7 +22,7 @@ use tp_law_machine::carries_byte;
 use tp_model::limits::MAX_STEPS;
 use tp_model::{Received, Token, WireEnd};
 use tp_net::{line_of, link_line};
-use tp_node::{NoFrame, Node};
+use tp_node::{NoFrame, Node, Runs};
 
 /// What a node sent in a turn.
 #[derive(Drop)]
@@ -79,7 +79,7 @@ fn take_all(node: &mut Node, tokens: &[(u8, Token)], out: &mut ArrayVec<(u8, Tok
 }
 
 /// Has a node take tokens and then make `count` steps; `None` where it can't do all of that.
-fn make_turn(node: &mut Node, tokens: &[(u8, Token)], count: u16) -> Option<Sent>
+fn make_turn(node: &mut Node, runs: &mut Runs, tokens: &[(u8, Token)], count: u16) -> Option<Sent>
     requires live { IsLive node.old }
     requires few { length tokens.now ≤ 8 }
     ensures live { IsLive node.new }
@@ -91,7 +91,7 @@ fn make_turn(node: &mut Node, tokens: &[(u8, Token)], count: u16) -> Option<Sent
         return None;
     }
     let mut in_steps = ArrayVec::new();
-    let ran = node.run(count, &mut in_steps);
+    let ran = node.run(runs, count, &mut in_steps);
     if ran.count() != count {
         return None;
     }
@@ -188,7 +188,7 @@ impl NodesPart {
         if !self.lanes.is_turn(nodes, node, &tokens, count) {
             return false;
         }
-        let Some(sent) = make_turn(&mut self.nodes[i], &tokens, count) else {
+        let Some(sent) = make_turn(&mut self.nodes[i], &mut self.runs, &tokens, count) else {
             return false;
         };
         self.lanes.send_turn(link_line(usize::from(node), 0), &sent)

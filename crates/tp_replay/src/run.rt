@@ -13,25 +13,27 @@ use arrayvec::ArrayVec;
 use tp_book::send_all;
 use tp_model::limits::MAX_STEPS;
 use tp_net::link_line;
+use tp_node::Runs;
 
 impl FlatNetwork {
-    /// Runs a node for at most `most` steps; for fewer only where it has no step then. Answers how many it made.
+    /// Runs a node for at most `most` steps; for fewer only where it has no step then. Answers how many it made. `runs` is what the thread
+    /// keeps of instructions.
     #[inline(always)]
-    pub fn run_upto(&mut self, node: u8, most: u16) -> u16
+    pub fn run_upto(&mut self, runs: &mut Runs, node: u8, most: u16) -> u16
         requires there { node < length self.old.nodes }
         requires bound { most ≤ MAX_STEPS }
         ensures ran { RanUpTo self.old node most result self.new }
     {
         let i = node as usize;
         let mut sent = ArrayVec::new();
-        let ran = self.nodes[i].run(most, &mut sent);
+        let ran = self.nodes[i].run(runs, most, &mut sent);
         send_all(&self.wires, &mut self.lines, link_line(i, 0), &sent);
         ran.count()
     }
 
     /// Has `node` make `count` steps. Where it can't make all of them, it has made those that it can.
     #[inline(always)]
-    pub(crate) fn run(&mut self, node: u8, count: u16) -> Result<(), NotPossible>
+    pub(crate) fn run(&mut self, runs: &mut Runs, node: u8, count: u16) -> Result<(), NotPossible>
         ensures applies { AppliesEntry (next t414 self.old (Run node count)) result self.new }
         ensures err { OnErr result (LeavesShort self.old (Run node count) self.new) }
     {
@@ -41,7 +43,7 @@ impl FlatNetwork {
         if !is_count(count) {
             return Err(NotPossible);
         }
-        if self.run_upto(node, count) == count {
+        if self.run_upto(runs, node, count) == count {
             Ok(())
         } else {
             Err(NotPossible)

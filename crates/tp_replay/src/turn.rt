@@ -17,6 +17,7 @@ use tp_book::{send_all, tokens_of};
 use tp_model::Received;
 use tp_model::limits::MAX_STEPS;
 use tp_net::link_line;
+use tp_node::Runs;
 
 impl FlatNetwork {
     /// Has `node` take what came in on its links, and then make `count` steps. Where it can't make them, it has taken the tokens and
@@ -24,6 +25,7 @@ impl FlatNetwork {
     #[inline(never)]
     pub(crate) fn turn(
         &mut self,
+        runs: &mut Runs,
         node: u8,
         takes: &[Received; 4],
         count: u16,
@@ -41,7 +43,7 @@ impl FlatNetwork {
         if !are_there(&self.wires, self.nodes.len(), &self.lines, i, takes) {
             return Err(NotPossible);
         }
-        if self.turn_upto(node, takes, count) == count {
+        if self.turn_upto(runs, node, takes, count) == count {
             Ok(())
         } else {
             Err(NotPossible)
@@ -50,7 +52,7 @@ impl FlatNetwork {
 
     /// Has `node` take what came in on its links, and then make at most `most` steps; fewer only where it has no step then. All tokens
     /// are off their lines before the node takes the first one, and nothing is sent before its last step. Answers how many steps it made.
-    fn turn_upto(&mut self, node: u8, takes: &[Received; 4], most: u16) -> u16
+    fn turn_upto(&mut self, runs: &mut Runs, node: u8, takes: &[Received; 4], most: u16) -> u16
         requires { IsFront self.old node takes.now most }
         ensures { TurnedUpTo self.old node takes.now most result self.new }
     {
@@ -61,7 +63,7 @@ impl FlatNetwork {
         let mut sent = ArrayVec::new();
         let at = &mut self.nodes[i];
         take_all(at, &tokens, &mut answers);
-        let ran = at.run(most, &mut sent);
+        let ran = at.run(runs, most, &mut sent);
         send_all(&self.wires, &mut self.lines, link_line(i, 0), &answers);
         send_all(&self.wires, &mut self.lines, link_line(i, 0), &sent);
         ran.count()

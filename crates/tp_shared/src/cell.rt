@@ -26,7 +26,7 @@ use crate::soon::lock_soon;
 use std::marker::{Model, PhantomData};
 use std::sync::{Mutex, Wait};
 use tp_book::Refusal;
-use tp_node::Ran;
+use tp_node::{Ran, Runs};
 use tp_turn::{Opened, Stretch};
 
 /// Every sixteenth node, from the node `I` on.
@@ -103,6 +103,7 @@ fn turn_of<J: Naming, G: Gate, R: Wait>(
     place: &mut Place,
     seat: &mut Seat<J>,
     seen: &mut Sights<J>,
+    runs: &mut Runs,
     number: u8,
     quantum: u16,
 ) -> Result<NodeTurn, Refusal>
@@ -119,7 +120,7 @@ fn turn_of<J: Naming, G: Gate, R: Wait>(
     gate.at(number, NODE_LOCKED);
     let opened = begin(rt, book, place, seat, seen, number)?;
     let taken = opened.taken();
-    let stretch = place.run(quantum);
+    let stretch = place.run(runs, quantum);
     gate.at(number, RUN_DONE);
     let ran = commit(rt, book, place, seat, seen, number, opened, stretch);
     gate.at(number, COMMITTED);
@@ -162,6 +163,7 @@ impl<const I: usize, J: Naming> Cell<I, J> {
         book: &Mutex<Locked<J>>,
         seat: &mut Seat<J>,
         seen: &mut Sights<J>,
+        runs: &mut Runs,
         number: u8,
         quantum: u16,
     ) -> Result<NodeTurn, Refusal>
@@ -174,7 +176,7 @@ impl<const I: usize, J: Naming> Cell<I, J> {
     {
         let Cell { places, .. } = self;
         let place = &mut places[number as usize / CELLS];
-        turn_of(rt, gate, book, place, seat, seen, number, quantum)
+        turn_of(rt, gate, book, place, seat, seen, runs, number, quantum)
     }
 
     /// The node `number`, which is one of the cell's, records where it is asked to.

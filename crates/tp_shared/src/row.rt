@@ -24,6 +24,7 @@ use crate::sights::Sights;
 use crate::soon::lock_soon;
 use std::sync::{Mutex, Wait};
 use tp_book::Refusal;
+use tp_node::Runs;
 
 /// Four cells whose numbers follow one another, each under its lock.
 #[derive(Drop)]
@@ -55,6 +56,7 @@ impl<const A: usize, const B: usize, const C: usize, const D: usize, J: Naming> 
         book: &Mutex<Locked<J>>,
         seat: &mut Seat<J>,
         seen: &mut Sights<J>,
+        runs: &mut Runs,
         number: u8,
         quantum: u16,
     ) -> Result<NodeTurn, Refusal>
@@ -65,7 +67,7 @@ impl<const A: usize, const B: usize, const C: usize, const D: usize, J: Naming> 
         ensures went { MatchResult result (λ turn. TurnMade J.start number quantum turn (in_hand seen.old seat.old) (in_hand seen.new seat.new)) (λ e. TurnBrokenOff J.start number e (in_hand seen.old seat.old) (in_hand seen.new seat.new)) }
         ensures refused { IfErr result IsTurnRefusal }
     {
-        in_cell!(self, number, cell => lock_soon(rt, cell).turn(rt, gate, book, seat, seen, number, quantum))
+        in_cell!(self, number, cell => lock_soon(rt, cell).turn(rt, gate, book, seat, seen, runs, number, quantum))
     }
 
     /// The node `number`, which is one of the row's, records where it is asked to.

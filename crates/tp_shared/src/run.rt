@@ -12,11 +12,12 @@ ghost use Rattle.tp_shared.specs.Seals.{IsInTurn};
 
 use crate::place::Place;
 use tp_law_machine::nodes_stay_nodes;
+use tp_node::Runs;
 use tp_turn::{Stretch, run_node};
 
 impl Place {
     /// Lets the node run for at most `quantum` steps while a turn of it is open. Its key still shows what it was.
-    pub(crate) fn run(&mut self, quantum: u16) -> Stretch
+    pub(crate) fn run(&mut self, runs: &mut Runs, quantum: u16) -> Stretch
         requires turn { IsInTurn self.old }
         ensures key { self.new.key ≡ self.old.key }
         ensures steps { steps t414 result.ran.count self.old.node.live ≡ Some (self.new.node.live, result.sent.items) }
@@ -28,6 +29,6 @@ impl Place {
         ensures kept { self.new.node.frozen ≡ self.old.node.frozen }
     {
         nodes_stay_nodes();
-        run_node(&mut self.node, quantum)
+        run_node(&mut self.node, runs, quantum)
     }
 }

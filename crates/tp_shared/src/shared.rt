@@ -26,6 +26,7 @@ use crate::soon::lock_soon;
 use crate::told::Told;
 use std::sync::{Mutex, Wait};
 use tp_book::Refusal;
+use tp_node::Runs;
 use tp_ready::Mark;
 use tp_token::{Key, turn};
 
@@ -136,7 +137,8 @@ impl<J: Naming> Shared<J> {
     /// entry. In one of form Turns it closes at Markers, and receives what stands in front of its lines, which stays there until the turn's
     /// one entry. A turn is reserved, and the node runs for at most `quantum` steps while the book's lock is let go. `seat` gets the slips
     /// of the entries. Where no turn can be reserved, or memory or the store is wanting, nothing ran, and the slips of what was taken are
-    /// in `seat`. `seen` gets the book as it was found and as it was left, for each hold of its lock.
+    /// in `seat`. `seen` gets the book as it was found and as it was left, for each hold of its lock. `runs` is what the thread keeps of
+    /// instructions.
     #[inline(always)]
     pub fn turn<G: Gate, R: Wait>(
         &self,
@@ -144,6 +146,7 @@ impl<J: Naming> Shared<J> {
         gate: &G,
         seat: &mut Seat<J>,
         seen: &mut Sights<J>,
+        runs: &mut Runs,
         number: u8,
         quantum: u16,
     ) -> Result<NodeTurn, Refusal>
@@ -153,7 +156,7 @@ impl<J: Naming> Shared<J> {
         ensures went { MatchResult result (λ turn. TurnMade J.start number quantum turn (in_hand seen.old seat.old) (in_hand seen.new seat.new)) (λ e. TurnBrokenOff J.start number e (in_hand seen.old seat.old) (in_hand seen.new seat.new)) }
         ensures refused { IfErr result IsTurnRefusal }
     {
-        in_row!(self, number, row => row.turn(rt, gate, &self.book, seat, seen, number, quantum))
+        in_row!(self, number, row => row.turn(rt, gate, &self.book, seat, seen, runs, number, quantum))
     }
 
     /// The node `number` records where a snapshot asks it to. It takes nothing, and nothing runs. Answers whether it recorded, with the

@@ -19,20 +19,22 @@ use crate::beginning::begin_all;
 use crate::fault::StreamFault;
 use std::alloc::{AllocError, Global};
 use tp_book::{Book, NetState, opened_books_begin};
+use tp_node::Runs;
 use tp_ready::{Mark, Raiser};
 use tp_recover::Opened;
 use tp_shared::Parts;
 use tp_stream_files::{Listener, Sink, Source, Streams};
 use tp_work::nodes_of;
 
-/// The parts of an opened book and its nodes, each with `spare` frames, and the raiser of their mark.
+/// The parts of an opened book and its nodes, each with `spare` frames, the raiser of their mark, and what the thread that calls keeps of
+/// instructions.
 #[inline(never)]
 fn parts_with(
     alloc: Global,
     state: NetState,
     book: Book,
     spare: u16,
-) -> Result<(Parts, Raiser), AllocError>
+) -> Result<(Parts, Raiser, Runs), AllocError>
     requires opened { IsWellOpen state }
     requires book { book ≡ opened_book state book.room }
     ensures book { IfOk result (λ made. made.0.book ≡ book) }
@@ -42,10 +44,11 @@ fn parts_with(
     let (mark, raiser, _) = Mark::start(alloc, state.next, 0)?;
     let nodes = nodes_of(alloc, state, spare as usize)?;
     let parts = Parts::opened(alloc, book, nodes, mark)?;
-    Ok((parts, raiser))
+    Ok((parts, raiser, Runs::new(alloc)?))
 }
 
-/// The book and the nodes of what was opened, and the raiser of their mark. Each stream is set out where its port stands, and told.
+/// The book and the nodes of what was opened, the raiser of their mark, and what the thread that calls keeps of instructions. Each stream is
+/// set out where its port stands, and told.
 #[inline(never)]
 pub(crate) fn parts_of<S: Sink, I: Source, L: Listener>(
     alloc: Global,
@@ -53,7 +56,7 @@ pub(crate) fn parts_of<S: Sink, I: Source, L: Listener>(
     spare: u16,
     streams: &mut Streams<S, I>,
     listener: &mut L,
-) -> Result<(Parts, Raiser), StreamFault>
+) -> Result<(Parts, Raiser, Runs), StreamFault>
     ensures parts { IfOk result (λ made. IsMadeOf opened made.0 made.1) }
     ensures bound { IfOk result (λ made. made.0.book.room ≡ Some (room opened.head.topology opened.head.areas.length)) }
     ensures begun { OnOk result (AllMayBegin (stands_opened opened) (map given_of streams.old.outputs.items)) }

@@ -16,7 +16,7 @@ use crate::turns::{Did, Turns};
 use std::alloc::Global;
 use std::sync::Wait;
 use tp_book::Refusal;
-use tp_node::Why;
+use tp_node::{Runs, Why};
 use tp_shared::{Locked, Naming, NoGate, NodeTurn, Seat, Shared, Sights};
 
 /// How many turns are made at most between two flushes, where no workers make any.
@@ -52,11 +52,12 @@ fn did_of(turn: &NodeTurn) -> Did
     }
 }
 
-/// A turn of the node `number`, of at most `quantum` steps.
+/// A turn of the node `number`, of at most `quantum` steps. `runs` is what the thread keeps of instructions.
 fn node_turn<J: Naming, R: Wait>(
     rt: &R,
     shared: &Shared<J>,
     seat: &mut Seat<J>,
+    runs: &mut Runs,
     number: u8,
     quantum: u16,
 ) -> Result<Did, Refusal>
@@ -64,7 +65,7 @@ fn node_turn<J: Naming, R: Wait>(
     requires quantum { quantum ≤ MAX_STEPS }
     ensures { IfOk result (λ did. did.nothing ≡ true → NodeRests J.start number) }
 {
-    match shared.turn(rt, &NoGate, seat, &mut Sights::new(), number, quantum) {
+    match shared.turn(rt, &NoGate, seat, &mut Sights::new(), runs, number, quantum) {
         Ok(turn) => Ok(did_of(&turn)),
         Err(refusal) => Err(refusal),
     }
@@ -94,6 +95,7 @@ pub(crate) fn make_turn<J: Naming, R: Wait>(
     rt: &R,
     shared: &Shared<J>,
     seat: &mut Seat<J>,
+    runs: &mut Runs,
     whose: u8,
     quantum: u16,
 ) -> Result<Did, Refusal>
@@ -103,7 +105,7 @@ pub(crate) fn make_turn<J: Naming, R: Wait>(
     if whose >= shared.nodes() {
         host_turn(rt, shared, seat)
     } else {
-        node_turn(rt, shared, seat, whose, quantum)
+        node_turn(rt, shared, seat, runs, whose, quantum)
     }
 }
 
@@ -168,6 +170,7 @@ fn one_turn<J: Naming, R: Wait>(
     shared: &Shared<J>,
     pace: Pace,
     seat: &mut Seat<J>,
+    runs: &mut Runs,
     turns: &mut Turns,
     seen: Seen,
 ) -> Result<(), StreamFault>
@@ -178,7 +181,7 @@ fn one_turn<J: Naming, R: Wait>(
     ensures begun { IfErr result CameOfTurns }
 {
     let nodes = shared.nodes();
-    match make_turn(rt, shared, seat, turns.whose, pace.task.quantum) {
+    match make_turn(rt, shared, seat, runs, turns.whose, pace.task.quantum) {
         Ok(did) => {
             turns.count(did, seen.is_running, nodes);
             Ok(())
@@ -215,6 +218,7 @@ pub(crate) fn round<J: Naming, R: Wait>(
     shared: &Shared<J>,
     pace: Pace,
     seat: &mut Seat<J>,
+    runs: &mut Runs,
     turns: &mut Turns,
 ) -> Result<(), StreamFault>
     requires { turns.old.whose ≤ length J.start.nodes }
@@ -234,7 +238,7 @@ pub(crate) fn round<J: Naming, R: Wait>(
             turns.fill();
             return Ok(());
         }
-        one_turn(rt, shared, pace, seat, turns, seen)?;
+        one_turn(rt, shared, pace, seat, runs, turns, seen)?;
     }
     turns.end(pace.task, nodes, true, pace.workers > 1);
     Ok(())

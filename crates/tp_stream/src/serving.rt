@@ -31,21 +31,29 @@ use std::sync::Wait;
 use std::thread::Threads;
 use tp_disk::Disk;
 use tp_flush::Flusher;
+use tp_node::Runs;
 use tp_shared::{Naming, Seat};
 use tp_stream_files::{Ended, Ending, Input, Listener, Sink, Source, Stop, Streams};
 
-/// How a stream goes on: its turns, the slips of what they journalled, and those of what steps of its streams did.
+/// How a stream goes on: its turns, the slips of what they journalled, those of what steps of its streams did, and what the thread that makes
+/// them keeps of instructions.
 #[derive(Drop)]
 pub(crate) struct Going<J: Naming> {
     pub(crate) turns: Turns,
     pub(crate) seat: Seat<J>,
     pub(crate) steps: Seat<J>,
+    pub(crate) runs: Runs,
 }
 
 impl<J: Naming> Going<J> {
     /// No turn was made, and no step. Looks whether a node has halted before where that is to end the stream. `seat` gets the slips of turns,
     /// `steps` those of steps.
-    pub(crate) fn new<R: Wait>(ground: Ground<'_, J, R>, seat: Seat<J>, steps: Seat<J>) -> Going<J>
+    pub(crate) fn new<R: Wait>(
+        ground: Ground<'_, J, R>,
+        seat: Seat<J>,
+        steps: Seat<J>,
+        runs: Runs,
+    ) -> Going<J>
         ensures rested { HaveRested J.start result.turns.whose result.turns.idle }
     {
         let Ground { rt, net, pace, .. } = ground;
@@ -54,6 +62,7 @@ impl<J: Naming> Going<J> {
             turns: Turns::new(has_halted),
             seat,
             steps,
+            runs,
         }
     }
 }
@@ -142,15 +151,20 @@ fn make_turns<J: Naming, R: Wait>(
         pace,
     } = ground;
     let shared = net.shared();
-    let Going { turns, seat, .. } = going;
+    let Going {
+        turns,
+        seat,
+        runs,
+        ..
+    } = going;
     if pumped == Pumped::Moved {
         turns.moved();
     }
     if turns.is_full || lacks_input(turns, shared.nodes(), pumped, over) {
-        settle(rt, alloc, shared, seat, turns)?;
+        settle(rt, alloc, shared, seat, runs, turns)?;
         return Ok(());
     }
-    round(rt, alloc, shared, pace, seat, turns)
+    round(rt, alloc, shared, pace, seat, runs, turns)
 }
 
 /// Turns, behind steps of the streams that came to `pumped`, once it has rested where an input is late; none where it rested in vain.
@@ -202,7 +216,14 @@ fn go_on<J: Naming, D: Disk, S: Sink, I: Source, P: Stop, R: Wait>(
     } = ground;
     let shared = net.shared();
     if !can_confirm(rt, shared, pace) && going.turns.may_settle() {
-        settle(rt, alloc, shared, &mut going.seat, &mut going.turns)?;
+        settle(
+            rt,
+            alloc,
+            shared,
+            &mut going.seat,
+            &mut going.runs,
+            &mut going.turns,
+        )?;
         return Ok(None);
     }
     let may_wait = may_wait(pace.task, &going.turns, shared.nodes());

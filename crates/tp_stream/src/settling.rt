@@ -9,6 +9,7 @@ use crate::turns::Turns;
 use std::alloc::Global;
 use std::sync::Wait;
 use tp_book::Refusal;
+use tp_node::Runs;
 use tp_shared::{Naming, Seat, Shared};
 
 /// How many times each process settles: nothing runs, so a line has at most one Data and one Ack in front of its Marker.
@@ -26,11 +27,12 @@ fn settle_once<J: Naming, R: Wait>(
     rt: &R,
     shared: &Shared<J>,
     seat: &mut Seat<J>,
+    runs: &mut Runs,
 ) -> Result<(), StreamFault>
     ensures { IfErr result CameOfTurns }
 {
     for whose in 0..=shared.nodes() {
-        match make_turn(rt, shared, seat, whose, 0) {
+        match make_turn(rt, shared, seat, runs, whose, 0) {
             Err(Refusal::StoreBroken) => return Err(StreamFault::NotStored),
             Ok(_) | Err(_) => {}
         }
@@ -44,6 +46,7 @@ pub(crate) fn settle<J: Naming, R: Wait>(
     alloc: Global,
     shared: &Shared<J>,
     seat: &mut Seat<J>,
+    runs: &mut Runs,
     turns: &mut Turns,
 ) -> Result<(), StreamFault>
     ensures whose { turns.new.whose ≡ turns.old.whose }
@@ -57,7 +60,7 @@ pub(crate) fn settle<J: Naming, R: Wait>(
     turns.settle();
     begin_now(rt, alloc, shared);
     for _ in 0..SETTLES {
-        settle_once(rt, shared, seat)?;
+        settle_once(rt, shared, seat, runs)?;
     }
     Ok(())
 }

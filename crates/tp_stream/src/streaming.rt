@@ -49,6 +49,7 @@ use tp_area::Store;
 use tp_disk::Disk;
 use tp_flush::{Flusher, topology_of};
 use tp_net::Topology;
+use tp_node::Runs;
 use tp_ready::Raiser;
 use tp_recover::{Opened, open};
 use tp_shared::{Naming, NoGate, Parts};
@@ -90,13 +91,14 @@ fn pace_of(task: Task, topology: &Topology, area: u64) -> Pace
     }
 }
 
-/// A device that opened, taken apart for a stream: what it opened to, its topology, the parts of its network, the raiser of its mark, and its
-/// store.
+/// A device that opened, taken apart for a stream: what it opened to, its topology, the parts of its network, the raiser of its mark, what the
+/// thread that calls keeps of instructions, and its store.
 struct Device<D: Disk> {
     opened: Snapshot<Opened>,
     topology: Topology,
     parts: Parts,
     raiser: Raiser,
+    runs: Runs,
     store: Store<D>,
 }
 
@@ -147,6 +149,7 @@ fn stream_parts<
         topology,
         parts,
         raiser,
+        runs,
         store,
     } = device;
     let pace = pace_of(task, &topology, store.place.areas.length);
@@ -169,7 +172,7 @@ fn stream_parts<
         net: &net,
         pace,
     };
-    let going = Going::new(ground, seat, steps);
+    let going = Going::new(ground, seat, steps, runs);
     let (flusher, done) = serve(ground, seats, going, flusher, streams, listener, stop);
     (flusher.into_disk(), done)
 }
@@ -250,7 +253,7 @@ pub fn stream<
     let topology = topology_of(&opened);
     let _areas = opened.head().areas();
     let store = opened.store(disk);
-    let (parts, raiser) = match parts_of(alloc, opened, task.spare, streams, listener) {
+    let (parts, raiser, runs) = match parts_of(alloc, opened, task.spare, streams, listener) {
         Ok(made) => made,
         Err(fault) => return (store.into_disk(), Err(fault)),
     };
@@ -259,6 +262,7 @@ pub fn stream<
         topology,
         parts,
         raiser,
+        runs,
         store,
     };
     stream_parts::<Brand, D, S, I, L, P, R>(rt, alloc, task, device, streams, listener, stop)

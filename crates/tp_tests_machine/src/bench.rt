@@ -5,13 +5,14 @@ use crate::image::{Fact, Image, START};
 use arrayvec::ArrayVec;
 use std::alloc::{AllocError, Global};
 use tp_model::Token;
-use tp_node::{Node, Why};
+use tp_node::{Node, Runs, Why};
 
-/// A node, and the image that it ought to have.
+/// A node, what is kept of the instructions that it has read, and the image that it ought to have.
 #[derive(Drop)]
 pub struct Bench {
     alloc: Global,
     node: Node,
+    runs: Runs,
     wanted: Image,
 }
 
@@ -43,9 +44,13 @@ impl Bench {
         let Ok(node) = Node::from_image(alloc, &wanted.bytes, 0) else {
             return None;
         };
+        let Ok(runs) = Runs::new(alloc) else {
+            return None;
+        };
         Some(Bench {
             alloc,
             node,
+            runs,
             wanted,
         })
     }
@@ -53,7 +58,7 @@ impl Bench {
     /// Whether the node makes `steps` steps and sends `sent`.
     pub fn runs(&mut self, steps: u16, sent: &[(u8, Token)]) -> bool {
         let mut out = ArrayVec::new();
-        let ran = self.node.run(steps, &mut out);
+        let ran = self.node.run(&mut self.runs, steps, &mut out);
         ran.max() == steps
             && ran.count() == steps
             && ran.why() == Why::Full
@@ -63,7 +68,7 @@ impl Bench {
     /// Whether the node has no step, for the reason `why`.
     pub fn rests(&mut self, why: Why) -> bool {
         let mut out = ArrayVec::new();
-        let ran = self.node.run(1, &mut out);
+        let ran = self.node.run(&mut self.runs, 1, &mut out);
         ran.count() == 0 && ran.why() == why && out.is_empty()
     }
 

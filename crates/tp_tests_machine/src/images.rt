@@ -5,7 +5,7 @@ use crate::story::check;
 use arrayvec::ArrayVec;
 use std::alloc::Global;
 use tp_model::Fault;
-use tp_node::{ImageFault, Node};
+use tp_node::{ImageFault, Node, Runs};
 
 /// Whether the bytes are an image; none without memory.
 fn is_image(alloc: Global, bytes: &[u8]) -> Option<bool> {
@@ -181,11 +181,11 @@ fn kept(node: &Node) -> (u8, u8, u8) {
 }
 
 /// Whether a node runs while it is frozen, and what was kept is what it was.
-fn runs_frozen(node: &mut Node) -> bool {
+fn runs_frozen(node: &mut Node, runs: &mut Runs) -> bool {
     let mut out = ArrayVec::new();
     node.drop_frozen();
     node.freeze();
-    let count = node.run(9, &mut out).count();
+    let count = node.run(runs, 9, &mut out).count();
     let before = kept(node);
     node.drop_frozen();
     node.freeze();
@@ -204,7 +204,10 @@ fn freezes(alloc: Global) -> bool {
     let Ok(mut node) = Node::from_image(alloc, &image.bytes, 4) else {
         return false;
     };
-    has_head(&mut node) && runs_frozen(&mut node)
+    let Ok(mut runs) = Runs::new(alloc) else {
+        return false;
+    };
+    has_head(&mut node) && runs_frozen(&mut node, &mut runs)
 }
 
 #[test]

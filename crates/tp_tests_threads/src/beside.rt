@@ -9,6 +9,7 @@ use std::sync::Wait;
 use std::thread::{Threads, join};
 use tp_disk::Disk;
 use tp_flush::{FLUSHER, Flusher};
+use tp_node::Runs;
 use tp_shared::gate::{BACKLOG_COPIED, PAGE_COPIED, RUN_DONE};
 use tp_shared::{Naming, NoGate, Seat, Shared};
 
@@ -46,11 +47,12 @@ fn is_recorded<J: Naming, D: Disk, R: Wait>(
     shared: &Shared<J>,
     flusher: &Flusher<J, D>,
     seat: &mut Seat<J>,
+    runs: &mut Runs,
     number: u8,
 ) -> bool {
-    let is_run = turn_node(rt, shared, &NoGate, seat, number).unwrap_or(0) > 0;
+    let is_run = turn_node(rt, shared, &NoGate, seat, runs, number).unwrap_or(0) > 0;
     let is_begun = flusher.snapshot(rt, alloc, shared).answer().is_ok();
-    is_run && is_begun && turn_node(rt, shared, &NoGate, seat, number).unwrap_or(0) > 0
+    is_run && is_begun && turn_node(rt, shared, &NoGate, seat, runs, number).unwrap_or(0) > 0
 }
 
 /// The node `number` sends its letter, and a snapshot begins, in which all nodes record. The flusher copies their images, and doesn't
@@ -61,11 +63,12 @@ fn comes_whole<J: Naming, D: Disk, R: Wait>(
     shared: &Shared<J>,
     flusher: &mut Flusher<J, D>,
     seat: &mut Seat<J>,
+    runs: &mut Runs,
     number: u8,
 ) -> bool {
-    let is_sent = turn_node(rt, shared, &NoGate, seat, number).is_some();
+    let is_sent = turn_node(rt, shared, &NoGate, seat, runs, number).is_some();
     let is_begun = flusher.snapshot(rt, alloc, shared).answer().is_ok();
-    let are_recorded = turn_nodes(rt, shared, seat);
+    let are_recorded = turn_nodes(rt, shared, seat, runs);
     let is_copied = matches!(flush(rt, alloc, shared, flusher), Ok((_, false)));
     let is_taken = turn_host(rt, shared, seat);
     is_sent && is_begun && are_recorded && is_copied && is_taken
@@ -79,12 +82,13 @@ fn is_ready<J: Naming, D: Disk, R: Wait>(
     shared: &Shared<J>,
     flusher: &mut Flusher<J, D>,
     seat: &mut Seat<J>,
+    runs: &mut Runs,
     number: u8,
 ) -> bool {
     match held {
         Held::Node | Held::Copy => true,
-        Held::Page => is_recorded(rt, alloc, shared, flusher, seat, number),
-        Held::Switch => comes_whole(rt, alloc, shared, flusher, seat, number),
+        Held::Page => is_recorded(rt, alloc, shared, flusher, seat, runs, number),
+        Held::Switch => comes_whole(rt, alloc, shared, flusher, seat, runs, number),
     }
 }
 
@@ -94,10 +98,11 @@ fn turn_beside<J: Naming, R: Wait>(
     shared: &Shared<J>,
     gate: &Hold,
     seat: &mut Seat<J>,
+    runs: &mut Runs,
     number: u8,
 ) -> Option<(u16, u64)> {
     let came = gate.wait_as(number);
-    let steps = turn_node(rt, shared, gate, seat, number);
+    let steps = turn_node(rt, shared, gate, seat, runs, number);
     let next = next_of(rt, shared);
     gate.open_as(number);
     match steps {
@@ -144,13 +149,14 @@ pub(crate) fn go_on<J: Naming + Send + Sync, D: Disk + Drop, R: Threads + Wait +
     shared: &Shared<J>,
     flusher: &mut Flusher<J, D>,
     seat: &mut Seat<J>,
+    runs: &mut Runs,
     number: u8,
     gate: &Hold,
 ) -> bool {
-    let is_ready = is_ready(rt, alloc, held, shared, flusher, seat, number);
+    let is_ready = is_ready(rt, alloc, held, shared, flusher, seat, runs, number);
     let (turned, flushed) = join(
         rt,
-        move || turn_beside(rt, shared, gate, seat, number),
+        move || turn_beside(rt, shared, gate, seat, runs, number),
         move || flush_beside(rt, alloc, shared, flusher, gate),
     );
     is_ready && are_so(held, turned, flushed) && gate.was_let_go()

@@ -10,6 +10,7 @@ use std::test::Fail;
 use std::thread::{Threads, join, map_vec};
 use tp_book::Numbered;
 use tp_model::Entry;
+use tp_node::Runs;
 use tp_shared::gate::RUN_DONE;
 use tp_shared::{Naming, NoGate, Seat as Slips, Shared};
 use tp_work::Seat;
@@ -25,37 +26,53 @@ const FREE: u8 = 0;
 /// How many workers make turns of other nodes.
 const TEAMS: &[u8] = &[1, 3, 15];
 
+/// A worker's seat, what its thread keeps of instructions, and the node that makes a turn there.
+#[derive(Drop)]
+struct Other<J: Naming> {
+    number: u8,
+    seat: Seat<J>,
+    runs: Runs,
+}
+
 /// Whether a node makes a turn at a worker's seat.
-fn is_turned<J: Naming, R: Wait>(rt: &R, shared: &Shared<J>, number: u8, seat: Seat<J>) -> bool {
-    turn_node(rt, shared, &NoGate, &mut seat.into_slips(), number).is_some()
+fn is_turned<J: Naming, R: Wait>(rt: &R, shared: &Shared<J>, other: Other<J>) -> bool {
+    let Other {
+        number,
+        seat,
+        mut runs,
+    } = other;
+    turn_node(
+        rt,
+        shared,
+        &NoGate,
+        &mut seat.into_slips(),
+        &mut runs,
+        number,
+    )
+    .is_some()
 }
 
 /// Turns of other nodes, each in a thread of its own, while one is held, which is let go then. Answers whether it was there, and all
 /// of them were made.
 fn turn_others<J: Naming + Send + Sync, R: Threads + Wait + Sync>(
     rt: &R,
-    others: Vec<(u8, Seat<J>)>,
+    others: Vec<Other<J>>,
     shared: &Shared<J>,
     hold: &Hold,
 ) -> bool {
     let came = hold.wait();
-    let made = map_vec(
-        rt,
-        others,
-        &|(number, seat)| is_turned(rt, shared, number, seat),
-    );
+    let made = map_vec(rt, others, &|other| is_turned(rt, shared, other));
     hold.open_as(FREE);
     came && matches!(made, Ok(all) if !all.as_slice().contains(&false))
 }
 
-/// Each worker's seat, with the node that makes a turn there.
-fn others_of<J: Naming>(
-    alloc: Global,
-    seats: Vec<Seat<J>>,
-) -> Result<Vec<(u8, Seat<J>)>, AllocError> {
+/// Each worker's seat, as it makes a turn there.
+fn others_of<J: Naming>(alloc: Global, seats: Vec<Seat<J>>) -> Result<Vec<Other<J>>, AllocError> {
     let mut others = Vec::new(alloc);
     for seat in seats {
-        others.push((OTHERS[others.len() % OTHERS.len()], seat))?;
+        let number = OTHERS[others.len() % OTHERS.len()];
+        let runs = Runs::new(alloc)?;
+        others.push(Other { number, seat, runs })?;
     }
     Ok(others)
 }
@@ -89,20 +106,21 @@ pub(crate) fn overlap<J: Naming + Send + Sync, R: Threads + Wait + Sync>(
     alloc: Global,
     shared: &Shared<J>,
     slips: &mut Slips<J>,
+    runs: &mut Runs,
     seats: Vec<Seat<J>>,
 ) -> bool {
     let Ok(others) = others_of(alloc, seats) else {
         return false;
     };
-    let runs = others.len().saturating_add(1);
+    let count = others.len().saturating_add(1);
     let hold = Hold::new(HELD, RUN_DONE);
     let gate = &hold;
     let (is_made, are_made) = join(
         rt,
-        move || turn_node(rt, shared, gate, slips, HELD).is_some(),
+        move || turn_node(rt, shared, gate, slips, runs, HELD).is_some(),
         move || turn_others(rt, others, shared, gate),
     );
-    is_made && are_made && hold.was_let_go() && is_last(rt, shared, runs)
+    is_made && are_made && hold.was_let_go() && is_last(rt, shared, count)
 }
 
 #[test]

@@ -27,6 +27,7 @@ use std::thread::{Threads, join};
 use tp_disk::{Disk, MemDisk};
 use tp_flush::Flusher;
 use tp_model::Entry;
+use tp_node::Runs;
 use tp_ready::Pass;
 use tp_replay::FlatNetwork;
 use tp_shared::{Naming, Seat as Slips, Shared};
@@ -80,6 +81,7 @@ fn go_on_beside<J: Naming + Send + Sync, D: Disk + Drop, R: Threads + Wait + Syn
     net: &Net<J, Paced<'_>>,
     seats: Vec<Seat<J>>,
     slips: &mut Slips<J>,
+    runs: &mut Runs,
     flusher: &mut Flusher<J, D>,
 ) -> bool
     requires { All (λ seat. (seat.hand.of ≡ Some net.now.queue) × (seat.slips ≡ [])) seats.items }
@@ -91,7 +93,19 @@ fn go_on_beside<J: Naming + Send + Sync, D: Disk + Drop, R: Threads + Wait + Syn
         move || -> bool
             requires { All (λ seat. (seat.hand.of ≡ Some net.now.queue) × (seat.slips ≡ [])) seats.items }
         { work_all(rt, net, seats, Some(gate)) },
-        move || { go_on(rt, alloc, held, net.shared(), flusher, slips, number, gate) },
+        move || {
+            go_on(
+                rt,
+                alloc,
+                held,
+                net.shared(),
+                flusher,
+                slips,
+                runs,
+                number,
+                gate,
+            )
+        },
     );
     worked && is_so
 }
@@ -128,6 +142,7 @@ fn is_trimmed<J: Naming + Send + Sync, D: Disk + Drop, R: Threads + Wait + Sync>
     alloc: Global,
     shared: &Shared<J>,
     slips: &mut Slips<J>,
+    runs: &mut Runs,
     flusher: &mut Flusher<J, D>,
     wanted: &[Entry],
 ) -> bool {
@@ -139,6 +154,7 @@ fn is_trimmed<J: Naming + Send + Sync, D: Disk + Drop, R: Threads + Wait + Sync>
         shared,
         flusher,
         slips,
+        runs,
         number,
         &gate,
     ) && ends_with(rt, shared, wanted)
@@ -154,6 +170,7 @@ fn act<J: Naming + Send + Sync, D: Disk + Drop, R: Threads + Wait + Sync>(
     seats: Vec<Seat<J>>,
     first: u64,
     slips: &mut Slips<J>,
+    runs: &mut Runs,
     flusher: &mut Flusher<J, D>,
     pass: Pass,
     pace: &Pace,
@@ -164,7 +181,7 @@ fn act<J: Naming + Send + Sync, D: Disk + Drop, R: Threads + Wait + Sync>(
 {
     match scene {
         Scene::Held(held) => {
-            let is_so = go_on_beside(rt, alloc, held, net, seats, slips, flusher);
+            let is_so = go_on_beside(rt, alloc, held, net, seats, slips, runs, flusher);
             let is_last = !matches!(held, Held::Copy);
             is_so && (is_last || stores_all(rt, alloc, net.shared(), flusher))
         }
@@ -176,8 +193,8 @@ fn act<J: Naming + Send + Sync, D: Disk + Drop, R: Threads + Wait + Sync>(
             are_all_beside(rt, alloc, net, seats, turns, first, slips, flusher, &gate)
                 && pace.met() == turns / EVERY
         }
-        Scene::Trim(wanted) => is_trimmed(rt, alloc, net.shared(), slips, flusher, wanted),
-        Scene::Overlap => overlap(rt, alloc, net.shared(), slips, seats),
+        Scene::Trim(wanted) => is_trimmed(rt, alloc, net.shared(), slips, runs, flusher, wanted),
+        Scene::Overlap => overlap(rt, alloc, net.shared(), slips, runs, seats),
     }
 }
 
@@ -213,10 +230,11 @@ fn ends<J: Naming, R: Wait>(
     alloc: Global,
     shared: &Shared<J>,
     slips: &mut Slips<J>,
+    runs: &mut Runs,
     flusher: &mut Flusher<J, MemDisk>,
     journal: &mut Vec<Entry>,
 ) -> bool {
-    let is_turned = turn_all(rt, shared, slips);
+    let is_turned = turn_all(rt, shared, slips, runs);
     let is_looked = look_at_book(rt, shared, journal).is_ok();
     let is_switched = matches!(flush(rt, alloc, shared, flusher), Ok((_, true)));
     is_turned && is_looked && is_switched
@@ -228,11 +246,12 @@ fn is_switched<J: Naming, R: Wait>(
     alloc: Global,
     shared: &Shared<J>,
     slips: &mut Slips<J>,
+    runs: &mut Runs,
     flusher: Flusher<J, MemDisk>,
 ) -> Result<bool, Fail> {
     let mut journal = Vec::new(alloc);
     let mut flusher = flusher;
-    let has_ended = ends(rt, alloc, shared, slips, &mut flusher, &mut journal);
+    let has_ended = ends(rt, alloc, shared, slips, runs, &mut flusher, &mut journal);
     let is_replay = is_replay(alloc, flusher.into_disk(), &journal);
     let told = both(has_ended, is_replay);
     told
@@ -245,11 +264,12 @@ fn leaves<J: Naming, R: Wait>(
     alloc: Global,
     shared: &Shared<J>,
     slips: &mut Slips<J>,
+    runs: &mut Runs,
     flusher: Flusher<J, MemDisk>,
     scene: Scene<'_>,
 ) -> Result<bool, Fail> {
     if matches!(scene, Scene::Held(Held::Page)) {
-        is_switched(rt, alloc, shared, slips, flusher)
+        is_switched(rt, alloc, shared, slips, runs, flusher)
     } else {
         is_left(rt, alloc, shared, flusher)
     }
@@ -274,6 +294,7 @@ fn play<J: Naming + Send + Sync, R: Threads + Wait + Sync>(
         rt, alloc, opening, workers, gate,
     )?;
     let mut slips = net.seat();
+    let mut runs = Runs::new(alloc)?;
     let is_so = act(
         rt,
         alloc,
@@ -282,11 +303,20 @@ fn play<J: Naming + Send + Sync, R: Threads + Wait + Sync>(
         seats,
         first,
         &mut slips,
+        &mut runs,
         &mut flusher,
         pass,
         &pace,
     );
-    let is_left = leaves(rt, alloc, net.shared(), &mut slips, flusher, scene);
+    let is_left = leaves(
+        rt,
+        alloc,
+        net.shared(),
+        &mut slips,
+        &mut runs,
+        flusher,
+        scene,
+    );
     let told = both(is_so, is_left);
     told
 }

@@ -7,6 +7,7 @@ use std::alloc::{AllocError, Global};
 use std::marker::Brand;
 use std::sync::Wait;
 use tp_model::limits::{IMAGE_HEAD_BYTES, PAGE_BYTES};
+use tp_node::Runs;
 use tp_shared::{Naming, NoGate, Parts, Seat, Shared, Sights, TailCopy, Told};
 use tp_token::Key;
 
@@ -44,10 +45,16 @@ fn is_running<J: Naming, R: Wait>(rt: &R, shared: &Shared<J>) -> bool {
     held.look().running
 }
 
-fn make_turn<J: Naming, R: Wait>(rt: &R, shared: &Shared<J>, seat: &mut Seat<J>, number: u8)
+fn make_turn<J: Naming, R: Wait>(
+    rt: &R,
+    shared: &Shared<J>,
+    seat: &mut Seat<J>,
+    runs: &mut Runs,
+    number: u8,
+)
     requires { number < length J.start.nodes }
 {
-    let _done = shared.turn(rt, &NoGate, seat, &mut Sights::new(), number, 9);
+    let _done = shared.turn(rt, &NoGate, seat, &mut Sights::new(), runs, number, 9);
 }
 
 fn copy<J: Naming, R: Wait>(
@@ -132,20 +139,21 @@ fn record_both<J: Naming, R: Wait>(
     shared: &Shared<J>,
     key: &mut Key<Told>,
     seat: &mut Seat<J>,
+    runs: &mut Runs,
 ) -> Option<(Vec<u8>, Vec<u8>)>
     requires name { key.old.name ≡ J.flusher }
     requires there { 1 < length J.start.nodes }
     ensures { key.new.name ≡ key.old.name }
 {
-    make_turn(rt, shared, seat, 0);
+    make_turn(rt, shared, seat, runs, 0);
     begin(rt, alloc, shared);
-    make_turn(rt, shared, seat, 0);
-    make_turn(rt, shared, seat, 1);
+    make_turn(rt, shared, seat, runs, 0);
+    make_turn(rt, shared, seat, runs, 1);
     let Ok(first) = image_of(rt, alloc, shared, key, 0) else {
         return None;
     };
-    make_turn(rt, shared, seat, 0);
-    make_turn(rt, shared, seat, 1);
+    make_turn(rt, shared, seat, runs, 0);
+    make_turn(rt, shared, seat, runs, 1);
     match image_of(rt, alloc, shared, key, 1) {
         Ok(second) => Some((first, second)),
         Err(_) => None,
@@ -226,11 +234,12 @@ fn checkpoint<J: Naming, R: Wait>(
     shared: &Shared<J>,
     key: &mut Key<Told>,
     seat: &mut Seat<J>,
+    runs: &mut Runs,
 ) -> Option<Checkpointed>
     requires name { key.old.name ≡ J.flusher }
     requires there { 1 < length J.start.nodes }
 {
-    let Some((first, second)) = record_both(rt, alloc, shared, key, seat) else {
+    let Some((first, second)) = record_both(rt, alloc, shared, key, seat, runs) else {
         return None;
     };
     match end(rt, alloc, shared, key) {
@@ -249,7 +258,10 @@ fn checkpoint_of_parts<J: Naming, R: Wait>(
 {
     let (mut shared, mut key) = Shared::<J>::start(parts);
     let mut seat = shared.seat();
-    checkpoint(rt, alloc, &shared, &mut key, &mut seat)
+    let Ok(mut runs) = Runs::new(alloc) else {
+        return None;
+    };
+    checkpoint(rt, alloc, &shared, &mut key, &mut seat, &mut runs)
 }
 
 /// A snapshot of two nodes under locks, to the trim.

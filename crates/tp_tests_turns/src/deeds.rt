@@ -11,7 +11,7 @@ use crate::seat::{Away, Seat};
 use tp_book::{Book, Refusal};
 use tp_law_machine::carries_byte;
 use tp_net::line_of;
-use tp_node::Node;
+use tp_node::{Node, Runs};
 use tp_turn::{
     Turn, commit_turn, commit_whole, node_turn, open_whole, record_asked, run_node, settle,
     whole_turn,
@@ -43,7 +43,13 @@ fn takes_of(done: Result<Turn, Refusal>) -> Result<u64, Refusal> {
 }
 
 /// A node runs. Answers how many steps it made.
-fn run(book: &mut Book, node: &mut Node, number: u8, quantum: u16) -> Result<u64, Refusal>
+fn run(
+    book: &mut Book,
+    node: &mut Node,
+    runs: &mut Runs,
+    number: u8,
+    quantum: u16,
+) -> Result<u64, Refusal>
     requires quantum { quantum ≤ MAX_STEPS }
     requires idle { book.old.ready ≡ None }
     requires home { IsHome book.old number node.old }
@@ -53,7 +59,7 @@ fn run(book: &mut Book, node: &mut Node, number: u8, quantum: u16) -> Result<u64
     book.known();
     match book.reserve_run(number) {
         Ok(()) => {
-            let stretch = run_node(node, quantum);
+            let stretch = run_node(node, runs, quantum);
             let ran = commit_turn(book, node, number, stretch);
             Ok(u64::from(ran.count()))
         }
@@ -109,7 +115,13 @@ fn take(book: &mut Book, node: &mut Node, number: u8, link: u8) -> u64
 }
 
 /// A node does something in one call. Answers how many tokens it took; of a run, how many steps it made.
-fn does(book: &mut Book, node: &mut Node, number: u8, deed: Deed) -> Result<u64, Refusal>
+fn does(
+    book: &mut Book,
+    node: &mut Node,
+    runs: &mut Runs,
+    number: u8,
+    deed: Deed,
+) -> Result<u64, Refusal>
     requires idle { book.old.ready ≡ None }
     requires form { book.old.form ≡ Turns }
     requires home { IsHome book.old number node.old }
@@ -118,10 +130,10 @@ fn does(book: &mut Book, node: &mut Node, number: u8, deed: Deed) -> Result<u64,
 {
     book.known();
     match deed {
-        Deed::Turn(quantum) => takes_of(node_turn(book, node, number, u16::from(quantum))),
-        Deed::Whole(quantum) => takes_of(whole_turn(book, node, number, u16::from(quantum))),
+        Deed::Turn(quantum) => takes_of(node_turn(book, node, runs, number, u16::from(quantum))),
+        Deed::Whole(quantum) => takes_of(whole_turn(book, node, runs, number, u16::from(quantum))),
         Deed::Settle => settle(book, node, number),
-        Deed::Run(quantum) => run(book, node, number, u16::from(quantum)),
+        Deed::Run(quantum) => run(book, node, runs, number, u16::from(quantum)),
         Deed::Take(link) => Ok(take(book, node, number, link)),
         Deed::Record => {
             record_asked(book, node, number);
@@ -131,7 +143,7 @@ fn does(book: &mut Book, node: &mut Node, number: u8, deed: Deed) -> Result<u64,
 }
 
 /// Opens a turn of a node, which then runs for at most `quantum` steps. None where no turn could be reserved.
-fn open(book: &mut Book, node: &mut Node, number: u8, quantum: u16) -> Option<Away>
+fn open(book: &mut Book, node: &mut Node, runs: &mut Runs, number: u8, quantum: u16) -> Option<Away>
     requires quantum { quantum ≤ MAX_STEPS }
     requires idle { book.old.ready ≡ None }
     requires form { book.old.form ≡ Turns }
@@ -142,7 +154,7 @@ fn open(book: &mut Book, node: &mut Node, number: u8, quantum: u16) -> Option<Aw
     book.known();
     match open_whole(book, node, number) {
         Ok(taken) => {
-            let stretch = run_node(node, quantum);
+            let stretch = run_node(node, runs, quantum);
             Some(Away { taken, stretch })
         }
         Err(_) => None,
@@ -167,6 +179,7 @@ impl Seat {
     pub(crate) fn does(
         &mut self,
         book: &mut Book,
+        runs: &mut Runs,
         number: u8,
         deed: Deed,
     ) -> Option<Result<u64, Refusal>>
@@ -179,11 +192,17 @@ impl Seat {
         if self.away.is_some() {
             return None;
         }
-        Some(does(book, &mut self.node, number, deed))
+        Some(does(book, &mut self.node, runs, number, deed))
     }
 
     /// Opens a turn, where none is open. Answers whether one was opened.
-    pub(crate) fn open(&mut self, book: &mut Book, number: u8, quantum: u16) -> bool
+    pub(crate) fn open(
+        &mut self,
+        book: &mut Book,
+        runs: &mut Runs,
+        number: u8,
+        quantum: u16,
+    ) -> bool
         requires quantum { quantum ≤ MAX_STEPS }
         requires idle { book.old.ready ≡ None }
         requires form { book.old.form ≡ Turns }
@@ -194,7 +213,7 @@ impl Seat {
         if self.away.is_some() {
             return false;
         }
-        self.away = open(book, &mut self.node, number, quantum);
+        self.away = open(book, &mut self.node, runs, number, quantum);
         self.away.is_some()
     }
 

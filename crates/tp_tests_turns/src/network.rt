@@ -19,15 +19,17 @@ use tp_book::{Book, NetState, Refusal};
 use tp_disk::MemDisk;
 use tp_model::limits::{IMAGE_HEAD_BYTES, MAX_STEPS, PAGE_BYTES};
 use tp_model::{Form, WireEnd};
-use tp_node::Node;
+use tp_node::{Node, Runs};
 use tp_recover::open;
 use tp_turn::{close_all, host_turn, lone_node};
 
-/// A network in memory. Each of its nodes is the one that the book's entries make of it, or is ahead of them by its open turn.
+/// A network in memory. Each of its nodes is the one that the book's entries make of it, or is ahead of them by its open turn. Its thread
+/// keeps what it has read of instructions of all of them.
 #[derive(Drop)]
 pub(crate) struct Net {
     book: Book,
     seats: Vec<Seat>,
+    runs: Runs,
 }
 
 impl Model for Net {
@@ -122,7 +124,8 @@ impl Net {
         let seats = Vec::from_array(alloc, [one, other])?;
         let net = pair_parts(alloc, first, second)?;
         let book = Book::start(alloc, &net, None)?;
-        Ok(Net { book, seats })
+        let runs = Runs::new(alloc)?;
+        Ok(Net { book, seats, runs })
     }
 
     /// The network of what a device leaves, where groups may fill `room` bytes.
@@ -135,7 +138,8 @@ impl Net {
         if !holds_turns(&book) {
             return Err(Fail::from("it holds no turns"));
         }
-        Ok(Net { book, seats })
+        let runs = Runs::new(alloc)?;
+        Ok(Net { book, seats, runs })
     }
 
     /// The network of a device.
@@ -178,7 +182,7 @@ impl Net {
         if place >= self.seats.len() {
             return None;
         }
-        self.seats[place].does(&mut self.book, number, deed)
+        self.seats[place].does(&mut self.book, &mut self.runs, number, deed)
     }
 
     /// Opens a turn of a node, where none is open. Answers whether one was opened.
@@ -187,7 +191,7 @@ impl Net {
         if place >= self.seats.len() || usize::from(quantum) > MAX_STEPS {
             return false;
         }
-        self.seats[place].open(&mut self.book, number, quantum)
+        self.seats[place].open(&mut self.book, &mut self.runs, number, quantum)
     }
 
     /// Commits a node's open turn. Answers whether one was open.

@@ -2,14 +2,13 @@
 
 use crate::devices::tasks_device;
 use crate::machines::Task;
-use crate::replayed::{are_same, flat_on, goes};
+use crate::replayed::{Flat, are_same, flat_on, goes};
 use std::alloc::Global;
 use std::test::Fail;
 use tp_book::NetParts;
 use tp_model::Entry;
 use tp_model::Received::{self, AckThenData, JustAck, JustData, Nothing};
 use tp_model::Token::{Ack, Data};
-use tp_replay::FlatNetwork;
 
 /// A node that sends the byte 58 on link 0, and one that hears it there.
 const TWO: &[u8] = b"node a 4\nnode b 4\nport h\nwire a.0 b.0\nwire a.3 h\n";
@@ -86,10 +85,10 @@ struct Row {
 }
 
 /// Whether `entries` are possible one after another. The network is then that behind them.
-fn goes_on(network: &mut FlatNetwork, entries: &[Option<Entry>; 4]) -> bool {
+fn goes_on(flat: &mut Flat, entries: &[Option<Entry>; 4]) -> bool {
     for entry in entries {
         if let Some(entry) = entry {
-            if !goes(network, entry) {
+            if !goes(flat, entry) {
                 return false;
             }
         }
@@ -101,15 +100,15 @@ fn goes_on(network: &mut FlatNetwork, entries: &[Option<Entry>; 4]) -> bool {
 /// `is_possible` says, or without memory.
 fn parts_behind(
     alloc: Global,
-    network: &mut FlatNetwork,
+    flat: &mut Flat,
     before: &[Option<Entry>; 4],
     entries: &[Option<Entry>; 4],
     is_possible: bool,
 ) -> Option<NetParts> {
-    if !goes_on(network, before) || goes_on(network, entries) != is_possible {
+    if !goes_on(flat, before) || goes_on(flat, entries) != is_possible {
         return None;
     }
-    network.parts(alloc).ok()
+    flat.network.parts(alloc).ok()
 }
 
 /// The network behind `entries`, from where a row begins, where they are possible, or one isn't, as `is_possible` says.
@@ -125,9 +124,9 @@ fn behind(
         tasks_device(alloc, TWO, &TWO_TASKS)
     };
     let mut disk = made?;
-    let mut network = flat_on(alloc, &mut disk)?;
+    let mut flat = flat_on(alloc, &mut disk)?;
     let before = if is_one { WAITING } else { SENT };
-    let parts = parts_behind(alloc, &mut network, &before, entries, is_possible);
+    let parts = parts_behind(alloc, &mut flat, &before, entries, is_possible);
     Ok(parts)
 }
 

@@ -6,6 +6,7 @@ ghost use Rattle.tp_book.specs.Parts.{network_made};
 ghost use Rattle.tp_replay.specs.Flat.{IsFlat};
 ghost use Rattle.tp_tests_turns.specs.Nets.{pair_network};
 
+use crate::replayed::Flat;
 use std::alloc::{AllocError, Global};
 use std::test::Fail;
 use tp_book::{NetParts, PortParts, fresh_ports};
@@ -84,8 +85,8 @@ fn flat_with(alloc: Global, one: Node, other: Node) -> Result<FlatNetwork, Fail>
 }
 
 /// The network of two images in one thread, before the first entry.
-pub(crate) fn flat_of(alloc: Global, first: &[u8], second: &[u8]) -> Result<FlatNetwork, Fail> {
+pub(crate) fn flat_of(alloc: Global, first: &[u8], second: &[u8]) -> Result<Flat, Fail> {
     let one = lone_node(alloc, first)?;
     let other = lone_node(alloc, second)?;
-    flat_with(alloc, one, other)
+    Flat::of(alloc, flat_with(alloc, one, other)?)
 }

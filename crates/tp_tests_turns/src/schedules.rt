@@ -4,12 +4,11 @@ use crate::deeds::Deed;
 use crate::devices::{drawn_topology, formatted};
 use crate::machines::{Chance, drawn_image};
 use crate::network::Net;
-use crate::replayed::{both_of, take_in};
+use crate::replayed::{Flat, both_of, take_in};
 use std::alloc::{AllocError, Global};
 use std::test::Fail;
 use tp_book::Refusal;
 use tp_disk::MemDisk;
-use tp_replay::FlatNetwork;
 
 /// How many schedules are played, and where the numbers begin.
 const SCHEDULES: u16 = 3_000;
@@ -72,7 +71,7 @@ struct Told {
 fn takes_in(
     alloc: Global,
     net: &mut Net,
-    flat: &mut FlatNetwork,
+    flat: &mut Flat,
     chance: &mut Chance,
     told: &mut Told,
 ) -> bool {
@@ -91,7 +90,7 @@ fn takes_in(
 fn play_on(
     alloc: Global,
     net: &mut Net,
-    flat: &mut FlatNetwork,
+    flat: &mut Flat,
     chance: &mut Chance,
     told: &mut Told,
 ) -> bool {
@@ -149,7 +148,7 @@ fn round(net: &mut Net, quantum: u8) -> bool {
 
 /// A snapshot, begun behind a round and whole after two more. Answers how many tokens stood on the lines of its cut; none where it isn't
 /// whole or isn't right.
-fn snapshot(alloc: Global, net: &mut Net, flat: &mut FlatNetwork) -> Option<usize> {
+fn snapshot(alloc: Global, net: &mut Net, flat: &mut Flat) -> Option<usize> {
     let begun = round(net, 20) && net.begin(alloc).is_ok();
     if !begun || !round(net, 20) || !round(net, 20) {
         return None;
@@ -158,7 +157,7 @@ fn snapshot(alloc: Global, net: &mut Net, flat: &mut FlatNetwork) -> Option<usiz
 }
 
 /// Snapshots one after another. Answers how many tokens stood on the lines of their cuts; none where one isn't right.
-fn snapshots_on(alloc: Global, net: &mut Net, flat: &mut FlatNetwork, count: u8) -> Option<usize> {
+fn snapshots_on(alloc: Global, net: &mut Net, flat: &mut Flat, count: u8) -> Option<usize> {
     let mut tokens = 0usize;
     for _snapshot in 0..count {
         let Some(more) = snapshot(alloc, net, flat) else {

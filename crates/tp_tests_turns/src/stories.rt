@@ -4,11 +4,10 @@ use crate::deeds::Deed;
 use crate::devices::tasks_device;
 use crate::machines::Task;
 use crate::network::Net;
-use crate::replayed::{both_of, take_in};
+use crate::replayed::{Flat, both_of, take_in};
 use crate::rows::{Entries, are_numbered};
 use std::alloc::Global;
 use std::test::Fail;
-use tp_replay::FlatNetwork;
 
 /// What is done: a node's turn of at most that many steps, act by act or as one entry; the host's turn; or a snapshot begins.
 #[derive(Clone, Copy)]
@@ -80,14 +79,14 @@ pub(crate) fn first_other(alloc: Global, net: &mut Net, steps: &Steps) -> Option
 }
 
 /// Whether the network goes on from a whole cut, which has that many tokens on its lines and that many entries.
-fn is_trimmed(alloc: Global, net: &mut Net, flat: &mut FlatNetwork, cut: (usize, u64)) -> bool {
+fn is_trimmed(alloc: Global, net: &mut Net, flat: &mut Flat, cut: (usize, u64)) -> bool {
     let next = net.book().next();
     let tokens = take_in(alloc, net, flat);
     tokens == Some(cut.0) && net.book().base() == cut.1 && net.book().next() == next
 }
 
 /// Whether a network goes as it was told.
-fn goes(alloc: Global, net: &mut Net, flat: &mut FlatNetwork, story: &Story) -> bool {
+fn goes(alloc: Global, net: &mut Net, flat: &mut Flat, story: &Story) -> bool {
     let begun = net.book().entries().is_empty();
     let done = begun && first_other(alloc, net, &story.steps).is_none();
     if !done || !are_numbered(net.book().entries(), &story.entries) {

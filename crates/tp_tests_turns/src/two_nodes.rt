@@ -4,13 +4,12 @@
 use crate::devices::tasks_device;
 use crate::machines::Task;
 use crate::network::Net;
-use crate::replayed::{both_of, take_in};
+use crate::replayed::{Flat, both_of, take_in};
 use crate::rows::{BYTE_UNDER_WAY, Entries, are_numbered, is_trimmed, is_whole};
 use crate::stories::{Step, Steps, first_other};
 use std::alloc::Global;
 use std::test::Fail;
 use tp_model::{Entry, Token};
-use tp_replay::FlatNetwork;
 
 const TEXT: &[u8] = b"node a 4\nnode b 4\nport h\nwire a.0 b.0\nwire a.3 h\n";
 
@@ -46,7 +45,7 @@ fn is_held(net: &Net) -> bool {
 }
 
 /// Whether each step is as it was told, the cut is whole then, and the network goes on from it.
-fn is_day(alloc: Global, net: &mut Net, flat: &mut FlatNetwork) -> bool {
+fn is_day(alloc: Global, net: &mut Net, flat: &mut Flat) -> bool {
     let (cut, entries) = (BYTE_UNDER_WAY, ENTRIES);
     let told = first_other(alloc, net, &DAY).is_none();
     let entries = are_numbered(net.book().entries(), &entries);

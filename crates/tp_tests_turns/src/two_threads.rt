@@ -10,6 +10,7 @@ use std::alloc::Global;
 use std::sync::Wait;
 use std::test::Fail;
 use std::thread::Threads;
+use tp_node::Runs;
 use tp_tests_fixtures::letter;
 
 /// How many turns each thread makes, and of how many steps at most.
@@ -28,7 +29,8 @@ fn work<R: Threads + Wait + Sync>(
     let Some(parts) = parts_of_pair(alloc, &image, 0) else {
         return Err(Fail::from("no parts"));
     };
-    Ok(work_of_pair(rt, parts, count, quantum))
+    let runs = (Runs::new(alloc)?, Runs::new(alloc)?);
+    Ok(work_of_pair(rt, parts, runs, count, quantum))
 }
 
 /// Each node sends the letter A on link 0, and waits for an acknowledge that the other one, which inputs nothing, doesn't give.

@@ -8,12 +8,15 @@ ghost use Rattle.tp_token.specs.Sound.{shown, item_of};
 use std::marker::Brand;
 use std::sync::Wait;
 use std::thread::{Threads, join};
+use tp_node::Runs;
 use tp_shared::{Locked, Naming, NoGate, Parts, Seat, Shared, Sights};
 
-/// What turns did: the slips of their entries, how many tokens were taken and how many steps made, and whether one was refused.
+/// What turns did: the slips of their entries, what their thread keeps of instructions, how many tokens were taken and how many steps made, and
+/// whether one was refused.
 #[derive(Drop)]
 pub struct Work<J: Naming> {
     pub seat: Seat<J>,
+    pub runs: Runs,
     pub taken: u64,
     pub steps: u32,
     pub is_refused: bool,
@@ -21,11 +24,12 @@ pub struct Work<J: Naming> {
 
 impl<J: Naming> Work<J> {
     /// Nothing yet, at a seat.
-    fn at(seat: Seat<J>) -> Work<J>
+    fn at(seat: Seat<J>, runs: Runs) -> Work<J>
         ensures { result.seat ≡ seat }
     {
         Work {
             seat,
+            runs,
             taken: 0,
             steps: 0,
             is_refused: false,
@@ -52,6 +56,7 @@ pub fn make_turns<J: Naming, R: Wait>(
             &NoGate,
             &mut work.seat,
             &mut Sights::new(),
+            &mut work.runs,
             number,
             quantum,
         ) {
@@ -72,6 +77,7 @@ fn add_work<J: Naming>(work: &mut Work<J>, other: Work<J>) {
         taken,
         steps,
         is_refused,
+        ..
     } = other;
     work.seat.absorb(seat);
     work.taken = work.taken.saturating_add(taken);
@@ -90,11 +96,12 @@ fn audited<J: Naming>(shared: Shared<J>, work: Work<J>) -> (Locked<J>, Work<J>)
     (locked, work)
 }
 
-/// Two threads make `count` turns each, of the nodes 0 and 1 at once. Then nodes 0, 1 and 0 make four more each. All slips
+/// Two threads make `count` turns each, of the nodes 0 and 1 at once, and each keeps what it reads of instructions in one of `runs`. Then nodes 0, 1 and 0 make four more each. All slips
 /// are audited.
 pub fn work_of_both<J: Naming + Send + Sync, R: Threads + Wait + Sync>(
     rt: &R,
     shared: Shared<J>,
+    runs: (Runs, Runs),
     count: u32,
     quantum: u16,
 ) -> (Locked<J>, Work<J>)
@@ -104,7 +111,10 @@ pub fn work_of_both<J: Naming + Send + Sync, R: Threads + Wait + Sync>(
     ensures each { length result.1.seat ≡ length result.0.all → (n : ℕ) → shown n result.1.seat ≡ item_of J.first result.0.all n }
 {
     let mut shared = shared;
-    let (one, two) = (Work::at(shared.seat()), Work::at(shared.seat()));
+    let (one, two) = (
+        Work::at(shared.seat(), runs.0),
+        Work::at(shared.seat(), runs.1),
+    );
     let lent = &shared;
     let (mut all, other) = join(
         rt,
@@ -122,6 +132,7 @@ pub fn work_of_both<J: Naming + Send + Sync, R: Threads + Wait + Sync>(
 fn work_of_parts<J: Naming + Send + Sync, R: Threads + Wait + Sync>(
     rt: &R,
     parts: Parts,
+    runs: (Runs, Runs),
     count: u32,
     quantum: u16,
 ) -> (u64, u32, bool)
@@ -130,7 +141,7 @@ fn work_of_parts<J: Naming + Send + Sync, R: Threads + Wait + Sync>(
     requires names { Names J.roll J.first J.start J.node J.mark J.flusher J.sights J.room parts }
 {
     let (shared, _key) = Shared::<J>::start(parts);
-    let (_, done) = work_of_both(rt, shared, count, quantum);
+    let (_, done) = work_of_both(rt, shared, runs, count, quantum);
     (done.taken, done.steps, done.is_refused)
 }
 
@@ -138,11 +149,12 @@ fn work_of_parts<J: Naming + Send + Sync, R: Threads + Wait + Sync>(
 pub fn work_of_pair<R: Threads + Wait + Sync>(
     rt: &R,
     parts: Parts,
+    runs: (Runs, Runs),
     count: u32,
     quantum: u16,
 ) -> (u64, u32, bool)
     requires quantum { quantum ≤ MAX_STEPS }
     requires there { 1 < length parts.book.state.start.nodes }
 {
-    work_of_parts::<Brand, R>(rt, parts, count, quantum)
+    work_of_parts::<Brand, R>(rt, parts, runs, count, quantum)
 }

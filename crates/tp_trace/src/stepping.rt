@@ -8,7 +8,7 @@ use crate::act::Act;
 use crate::looking::look;
 use arrayvec::ArrayVec;
 use tp_model::{Cpu, Token};
-use tp_node::Node;
+use tp_node::{Node, Runs};
 
 /// What is seen of a step: what was done, the address of the instruction, the processor behind it, and what left with its link, if
 /// anything did.
@@ -28,7 +28,7 @@ fn first_of(sent: &ArrayVec<(u8, Token), 8>) -> Option<(u8, Token)>
 }
 
 /// Makes a step of a node, and puts into `sent` what leaves. Answers whether it had one.
-fn step(node: &mut Node, sent: &mut ArrayVec<(u8, Token), 8>) -> bool
+fn step(node: &mut Node, runs: &mut Runs, sent: &mut ArrayVec<(u8, Token), 8>) -> bool
     requires empty { sent.old.items ≡ [] }
     requires thawed { node.old.frozen ≡ None }
     requires bytes { IsNodeOfBytes node.old.live }
@@ -37,11 +37,12 @@ fn step(node: &mut Node, sent: &mut ArrayVec<(u8, Token), 8>) -> bool
     ensures thawed { node.new.frozen ≡ None }
     ensures bytes { IsNodeOfBytes node.new.live }
 {
-    node.run(1, sent).count() == 1
+    node.run(runs, 1, sent).count() == 1
 }
 
-/// Makes a step of a node at whose links there is nobody, and says what was done, where the node has a step.
-pub fn trace_step(node: &mut Node) -> Option<Seen>
+/// Makes a step of a node at whose links there is nobody, and says what was done, where the node has a step. `runs` is what the thread keeps of
+/// instructions.
+pub fn trace_step(node: &mut Node, runs: &mut Runs) -> Option<Seen>
     requires thawed { node.old.frozen ≡ None }
     requires bytes { IsNodeOfBytes node.old.live }
     ensures saw { Saw result node.old.live node.new.live }
@@ -50,7 +51,7 @@ pub fn trace_step(node: &mut Node) -> Option<Seen>
 {
     let before = look(node);
     let mut sent = ArrayVec::new();
-    if !step(node, &mut sent) {
+    if !step(node, runs, &mut sent) {
         return None;
     }
     Some(Seen {

@@ -22,10 +22,10 @@ module _ (a : Lone) (L : IsLone a) (left : next_in_book a.book + TURN_ENTRIES + 
   calm : IsCalm (moment_of a.book a.node)
   calm = record { book = L.book; thawed = L.thawed }
 
-  pub node_went : (quantum : ℕ) (turn : Turn) (book : BookValue) (node : NodeContents) → Done 0 (TurnsWhole 0 quantum (Ok turn)) (moment_of a.book a.node) (moment_of book node) → IsNodeOf book 0 node
-      → WentByAct (IsNodeTurn quantum 0) TURN_ENTRIES a (record { book = book; node = node })
-  node_went quantum turn book node D is =
-      let T = node_turned quantum turn (moment_of a.book a.node) (moment_of book node) D.acts calm D.did is.there in
+  pub node_went : (quantum : ℕ) (turn : Turn) (now : Lone) → Done 0 (TurnsWhole 0 quantum (Ok turn)) (moment_of a.book a.node) (moment_of now.book now.node) → IsNodeOf now.book 0 now.node
+      → WentByAct (IsNodeTurn quantum 0) TURN_ENTRIES a now
+  node_went quantum turn now D is =
+      let T = node_turned quantum turn (moment_of a.book a.node) (moment_of now.book now.node) D.acts calm D.did is.there in
       record { made = T.1; lone = record { book = T.0.book; node = is; thawed = T.0.thawed } }
 
   pub node_wants : (quantum : ℕ) (e : Refusal) (book : BookValue) (node : NodeContents) → Done 0 (TurnsWhole 0 quantum (Err e)) (moment_of a.book a.node) (moment_of book node) → e ≡ Memory

@@ -7,7 +7,7 @@ ghost use Rattle.tp_turn.specs.Tried.{fresh_image};
 use crate::image::lone_parts;
 use std::alloc::{AllocError, Global};
 use tp_book::Book;
-use tp_node::{Node, Standing};
+use tp_node::{Node, Runs, Standing};
 
 /// A node whose link 0 is wired to port 0, and the book of its network, which has no device. Between turns the book has no
 /// entries.
@@ -15,6 +15,8 @@ use tp_node::{Node, Standing};
 pub(crate) struct Lone {
     pub(crate) book: Book,
     pub(crate) node: Node,
+    /// What is kept of the instructions that it has read.
+    pub(crate) runs: Runs,
 }
 
 impl Lone {
@@ -26,7 +28,8 @@ impl Lone {
     {
         let net = lone_parts(alloc, image)?;
         let book = Book::start(alloc, &net, None)?;
-        Ok(Lone { book, node })
+        let runs = Runs::new(alloc)?;
+        Ok(Lone { book, node, runs })
     }
 
     /// What port 0 has put out.

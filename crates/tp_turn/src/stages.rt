@@ -17,7 +17,7 @@ use crate::settling::settle;
 use arrayvec::ArrayVec;
 use tp_book::{Book, Refusal};
 use tp_model::Token;
-use tp_node::{Node, Ran};
+use tp_node::{Node, Ran, Runs};
 
 /// What a node ran: how far, and what it sent, each token with its link.
 #[derive(Drop)]
@@ -49,9 +49,9 @@ pub fn open_turn(book: &mut Book, node: &mut Node, number: u8) -> Result<u64, Re
 }
 
 /// Lets a node run for at most `quantum` steps. No book is needed. It ends for want of a frame only before a step that would
-/// write shared pages which outnumber the free frames; that step isn't counted.
+/// write shared pages which outnumber the free frames; that step isn't counted. `runs` is what the thread keeps of instructions.
 #[inline(never)]
-pub fn run_node(node: &mut Node, quantum: u16) -> Stretch
+pub fn run_node(node: &mut Node, runs: &mut Runs, quantum: u16) -> Stretch
     ensures asked { result.ran.max ≡ quantum }
     ensures steps { steps t414 result.ran.count node.old.live ≡ Some (node.new.live, result.sent.items) }
     ensures why { IsWhy result.ran.why quantum result.ran.count (LacksFrames (memory_kept node.new) (node_ranges node.new.live)) node.new.live }
@@ -59,7 +59,7 @@ pub fn run_node(node: &mut Node, quantum: u16) -> Stretch
     ensures shared { memory_kept node.new ≡ kept_behind_steps result.ran.count node.old.live (memory_kept node.old) }
 {
     let mut sent = ArrayVec::new();
-    let ran = node.run(quantum, &mut sent);
+    let ran = node.run(runs, quantum, &mut sent);
     Stretch { ran, sent }
 }
 
@@ -78,12 +78,14 @@ pub fn commit_turn(book: &mut Book, node: &Node, number: u8, stretch: Stretch) -
     ran
 }
 
-/// A node's turn: it is opened, the node runs for at most `quantum` steps, and the run is journalled.
+/// A node's turn: it is opened, the node runs for at most `quantum` steps, and the run is journalled. `runs` is what the thread keeps of
+/// instructions.
 ///
 /// Errors: those of `open_turn`. What was done before stays, and nothing ran.
 pub fn node_turn(
     book: &mut Book,
     node: &mut Node,
+    runs: &mut Runs,
     number: u8,
     quantum: u16,
 ) -> Result<Turn, Refusal>
@@ -95,7 +97,7 @@ pub fn node_turn(
     ensures is { IsNodeOf book.new number node.new }
 {
     let takes = open_turn(book, node, number)?;
-    let stretch = run_node(node, quantum);
+    let stretch = run_node(node, runs, quantum);
     let ran = commit_turn(book, node, number, stretch);
     Ok(Turn { takes, ran })
 }

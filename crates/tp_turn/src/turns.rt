@@ -20,7 +20,7 @@ impl Lone {
         requires few { next_in_book self.old.book + TURN_ENTRIES + 1 < NUMBER_LIMIT }
         ensures { MatchResult result (λ done. WentByAct (IsNodeTurn quantum 0) TURN_ENTRIES self.old self.new) (λ fault. fault ≡ Memory) }
     {
-        match whole_turn(&mut self.book, &mut self.node, 0, quantum) {
+        match whole_turn(&mut self.book, &mut self.node, &mut self.runs, 0, quantum) {
             Ok(_turn) => Ok(()),
             Err(Refusal::Memory) => Err(TryFault::Memory),
             Err(_) => unreachable!(),

@@ -17,7 +17,7 @@ use crate::stages::{Stretch, Turn, run_node};
 use arrayvec::ArrayVec;
 use tp_book::{Book, Refusal, tokens_of};
 use tp_model::{Received, Token};
-use tp_node::{Node, Ran};
+use tp_node::{Node, Ran, Runs};
 
 /// Journals a turn for which room was reserved, and in which `node` took `takes`, made `count` steps and sent `tokens` for all of it.
 #[inline(always)]
@@ -150,11 +150,13 @@ pub fn commit_whole(book: &mut Book, node: &Node, number: u8, taken: Taken, stre
 }
 
 /// A node's whole turn: it is opened, the node runs for at most `quantum` steps, and what it took and ran is journalled as one entry.
+/// `runs` is what the thread keeps of instructions.
 ///
 /// Errors: those of `open_whole`. What was done before stays, and nothing ran.
 pub fn whole_turn(
     book: &mut Book,
     node: &mut Node,
+    runs: &mut Runs,
     number: u8,
     quantum: u16,
 ) -> Result<Turn, Refusal>
@@ -168,7 +170,7 @@ pub fn whole_turn(
 {
     let taken = open_whole(book, node, number)?;
     let takes = tokens_of(&taken.takes).len() as u64;
-    let stretch = run_node(node, quantum);
+    let stretch = run_node(node, runs, quantum);
     let ran = commit_whole(book, node, number, taken, stretch);
     Ok(Turn { takes, ran })
 }

@@ -12,7 +12,7 @@ use crate::commands::{put, refuse};
 use crate::refusal::Refusal;
 use std::alloc::Global;
 use std::io::Write;
-use tp_node::{ImageFault, Node, Standing};
+use tp_node::{ImageFault, Node, Runs, Standing};
 use tp_trace::{Seen, step_line, stop_line, trace_step};
 use tp_turn::TryFault;
 
@@ -44,6 +44,7 @@ fn put_stop<O: Write>(alloc: Global, standing: Standing, out: &mut O) -> Result<
 fn put_next<O: Write>(
     alloc: Global,
     node: &mut Node,
+    runs: &mut Runs,
     number: u64,
     out: &mut O,
 ) -> Result<bool, Refusal>
@@ -55,7 +56,7 @@ fn put_next<O: Write>(
     ensures thawed { node.new.frozen ≡ None }
     ensures bytes { IsNodeOfBytes node.new.live }
 {
-    match trace_step(node) {
+    match trace_step(node, runs) {
         Some(seen) => {
             put_step(alloc, number, seen, out)?;
             Ok(true)
@@ -68,14 +69,19 @@ fn put_next<O: Write>(
 }
 
 /// Prints how a node stands, where it has no step.
-fn put_last<O: Write>(alloc: Global, node: &mut Node, out: &mut O) -> Result<(), Refusal>
+fn put_last<O: Write>(
+    alloc: Global,
+    node: &mut Node,
+    runs: &mut Runs,
+    out: &mut O,
+) -> Result<(), Refusal>
     requires thawed { node.old.frozen ≡ None }
     requires bytes { IsNodeOfBytes node.old.live }
     ensures printed { OnOk result (Appends (O.contents out.old) (O.contents out.new) (last_text node.old.live)) }
     ensures front { AppendsFront (O.contents out.old) (O.contents out.new) (last_text node.old.live) }
     ensures refused { IfErr result IsLineFault }
 {
-    match trace_step(node) {
+    match trace_step(node, runs) {
         Some(_) => Ok(()),
         None => put_stop(alloc, node.standing(), out),
     }
@@ -85,6 +91,7 @@ fn put_last<O: Write>(alloc: Global, node: &mut Node, out: &mut O) -> Result<(),
 fn put_steps<O: Write>(
     alloc: Global,
     node: &mut Node,
+    runs: &mut Runs,
     steps: u32,
     out: &mut O,
 ) -> Result<(), Refusal>
@@ -95,11 +102,11 @@ fn put_steps<O: Write>(
     ensures refused { IfErr result IsLineFault }
 {
     for index in 0..steps {
-        if !put_next(alloc, node, u64::from(index) + 1, out)? {
+        if !put_next(alloc, node, runs, u64::from(index) + 1, out)? {
             return Ok(());
         }
     }
-    put_last(alloc, node, out)
+    put_last(alloc, node, runs, out)
 }
 
 /// The node of an image, whatever its links do.
@@ -118,7 +125,12 @@ fn trace<O: Write>(alloc: Global, image: &[u8], steps: u32, out: &mut O) -> Resu
     ensures { TraceAnswer image.now steps (O.contents out.old) (O.contents out.new) result }
 {
     match image_node(alloc, image) {
-        Ok(mut node) => put_steps(alloc, &mut node, steps, out),
+        Ok(mut node) => {
+            let Ok(mut runs) = Runs::new(alloc) else {
+                return Err(Refusal::Trial(TryFault::Memory));
+            };
+            put_steps(alloc, &mut node, &mut runs, steps, out)
+        }
         Err(fault) => Err(Refusal::Trial(fault)),
     }
 }

@@ -10,6 +10,7 @@ use crate::fault::TurnFault;
 use crate::seat::Seat;
 use crate::turn::Turn;
 use std::sync::Wait;
+use tp_node::Runs;
 use tp_ready::ReadyQueue;
 use tp_shared::gate::NUMBER_TAKEN;
 use tp_shared::{Gate, Naming, NodeTurn, Shared, Sights};
@@ -58,12 +59,13 @@ impl<J: Naming, G: Gate> Net<J, G> {
             answers,
             slips,
             seen,
+            runs,
         } = seat;
         let Some(taken) = self.queue.take(rt, hand, answers) else {
             return Err(TurnFault::Empty);
         };
         self.gate.at(taken.number(), NUMBER_TAKEN);
-        let done = self.turn_of(rt, slips, seen, taken.number());
+        let done = self.turn_of(rt, slips, seen, runs, taken.number());
         self.queue.put_back(rt, hand, taken);
         done
     }
@@ -75,6 +77,7 @@ impl<J: Naming, G: Gate> Net<J, G> {
         rt: &R,
         slips: &mut tp_shared::Seat<J>,
         seen: &mut Sights<J>,
+        runs: &mut Runs,
         process: u8,
     ) -> Result<Turn, TurnFault>
         requires there { process ≤ length J.start.nodes }
@@ -94,7 +97,7 @@ impl<J: Naming, G: Gate> Net<J, G> {
         }
         match self
             .shared
-            .turn(rt, &self.gate, slips, seen, process, self.quantum)
+            .turn(rt, &self.gate, slips, seen, runs, process, self.quantum)
         {
             Ok(NodeTurn { taken, ran }) => Ok(Turn {
                 process,

@@ -3,17 +3,20 @@
 ghost use Rattle.std.specs.Prelude.{◌≡◌};
 ghost use Rattle.tp_shared.specs.SlipCount.{IsSlipCount};
 
+use tp_node::Runs;
 use tp_ready::{Answers, Hand};
 use tp_shared::{Naming, Sights};
 
-/// Where a worker makes turns: it takes one process at a time, has the slips of what its turns journalled, and keeps what the ready queue
-/// answered and what was seen of the book under its lock, as proofs alone see. Nobody can copy it.
+/// Where a worker makes turns: it takes one process at a time, has the slips of what its turns journalled, and keeps what its thread has read
+/// of instructions, of whichever nodes; and what the ready queue answered and what was seen of the book under its lock, as proofs alone
+/// see. Nobody can copy it.
 #[derive(Drop)]
 pub struct Seat<J: Naming> {
     pub(crate) hand: Hand,
     pub(crate) answers: Answers,
     pub(crate) slips: tp_shared::Seat<J>,
     pub(crate) seen: Sights<J>,
+    pub(crate) runs: Runs,
 }
 
 impl<J: Naming> Seat<J> {

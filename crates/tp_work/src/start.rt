@@ -12,6 +12,7 @@ use crate::net::Net;
 use crate::seat::Seat;
 use std::alloc::{AllocError, Global};
 use std::sync::Wait;
+use tp_node::Runs;
 use tp_ready::{Answers, Hand, ReadyQueue};
 use tp_shared::{Gate, Naming, Parts, Shared, Sights, Told};
 use tp_token::Key;
@@ -39,6 +40,7 @@ fn seats_of<J: Naming>(
             answers: Answers::new(),
             slips: shared.seat(),
             seen: Sights::new(),
+            runs: Runs::new(alloc)?,
         })?;
     }
     Ok(seats)

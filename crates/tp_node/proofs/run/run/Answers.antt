@@ -6,7 +6,7 @@ use Rattle.tp_node.specs.declared.step.StepOutcome.TheVariants.{Step}
 use Rattle.tp_node.specs.Makes.{Makes}
 use Rattle.tp_node.specs.StateWith.{state_with}
 use Rattle.tp_node.proofs.Room.{room_step, room_few}
-use Rattle.tp_node.proofs.Runs.{Runs, runs_step, runs_on, runs_first}
+use Rattle.tp_node.proofs.RunSoFar.{Runs, runs_step, runs_on, runs_first}
 use Rattle.tp_node.proofs.run.run.Goals as goal
 use Rattle.tp_node.proofs.run.run.Goals.{In-Step}
 

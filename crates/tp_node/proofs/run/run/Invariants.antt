@@ -3,7 +3,7 @@ use Rattle.tp_model.specs.NodeState.{NodeState}
 use Rattle.tp_model.specs.SharedPages.{Kept}
 use Rattle.tp_model.specs.declared.link.Token.{Token}
 use Rattle.tp_node.specs.StateWith.{state_with}
-use Rattle.tp_node.proofs.Runs.{Runs}
+use Rattle.tp_node.proofs.RunSoFar.{Runs}
 use Rattle.tp_node.proofs.run.run.Given as goal
 
 -- the steps that were made are no more than were asked for

@@ -12,7 +12,7 @@ use Rattle.tp_pieces.specs.Whose.{whose}
 use Rattle.tp_pieces.specs.Held.{has}
 use Rattle.tp_pieces.specs.Inside.{nodes_held}
 use Rattle.tp_pieces.proofs.Acts.{other_rests, turn_does, turn_refused, turn_short}
-use Rattle.tp_pieces.proofs.Changed.{node_cannot, node_did, changed_inside, changed_processes}
+use Rattle.tp_pieces.proofs.Changed.{node_cannot, node_did, changed_inside, changed_processes, same_inside}
 use Rattle.tp_pieces.proofs.nodes.NodesPart.turn.Goals as goal
 
 pub returns-in_default : goal.returns-in_default
@@ -39,7 +39,7 @@ invariant_of-self-2 c =
     let n = c.self.inside in
     let below : c.in-Some.i < length n.nodes.items = omega (arith, c.len.ensures, n.nodes.ok.0, c.in-Some.ensures.1) in
     let there = slice_get_read n.nodes.items (length n.nodes.items) c.in-Some.i c.index_mut.result.now refl below c.index_mut.ensures.value in
-    changed_inside n c.self.invariant c.send_turn.new.self c.send_turn.ensures.same c.in-Some.i c.index_mut.result.now c.make_turn.new.node there c.make_turn.ensures.live
+    same_inside _ (changed_inside n c.self.invariant c.send_turn.new.self c.send_turn.ensures.same c.in-Some.i c.index_mut.result.now c.make_turn.new.node there c.make_turn.ensures.live) _ refl refl refl refl refl
 
 pub returns : goal.returns
 unfolding process
@@ -66,7 +66,7 @@ invariant_of-self c =
     let n = c.self.inside in
     let below : c.in-Some.i < length n.nodes.items = omega (arith, c.len.ensures, n.nodes.ok.0, c.in-Some.ensures.1) in
     let there = slice_get_read n.nodes.items (length n.nodes.items) c.in-Some.i c.index_mut.result.now refl below c.index_mut.ensures.value in
-    changed_inside n c.self.invariant n.lanes (record { wires = refl; count = refl }) c.in-Some.i c.index_mut.result.now c.make_turn.new.node there c.make_turn.ensures.live
+    same_inside _ (changed_inside n c.self.invariant n.lanes (record { wires = refl; count = refl }) c.in-Some.i c.index_mut.result.now c.make_turn.new.node there c.make_turn.ensures.live) _ refl refl refl refl refl
 
 pub returns-in_default-make_turn : goal.returns-in_default-make_turn
 unfolding process

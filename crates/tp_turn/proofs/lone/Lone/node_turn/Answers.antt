@@ -12,7 +12,7 @@ pub whole_turn-requires-clause-is : goal.whole_turn-requires-clause-is
 whole_turn-requires-clause-is c = c.requires.lone.node
 
 pub returns-in-Ok : goal.returns-in-Ok
-returns-in-Ok c = node_went c.args.self.now c.requires.lone c.requires.few c.args.quantum c.in-Ok._turn c.whole_turn.new.book c.whole_turn.new.node c.in-Ok.ensures.done c.in-Ok.ensures.is
+returns-in-Ok c = node_went c.args.self.now c.requires.lone c.requires.few c.args.quantum c.in-Ok._turn (record { book = c.whole_turn.new.book; node = c.whole_turn.new.node; runs = c.whole_turn.new.runs }) c.in-Ok.ensures.done c.in-Ok.ensures.is
 
 pub unreachable-requires : goal.unreachable-requires
 unreachable-requires c =

@@ -12,5 +12,5 @@ start-requires-clause-shaped c = lone_is_network c.args.image.now (network_made 
 
 pub returns : goal.returns
 returns c =
-    lone_starts c.args.image.now c.args.node.live (network_made c.in_ok-net.net) (record { book = c.in_ok-book.book; node = c.args.node }) (are_bytes c.args.image.now (λ i. let fit = c.type_inv.image i in omega arith))
+    lone_starts c.args.image.now c.args.node.live (network_made c.in_ok-net.net) (record { book = c.in_ok-book.book; node = c.args.node; runs = c.in_ok-runs.runs }) (are_bytes c.args.image.now (λ i. let fit = c.type_inv.image i in omega arith))
     c.requires.fresh c.in_ok-net.ensures c.in_ok-book.ensures refl c.requires.thawed
