@@ -37,7 +37,7 @@ pub fn crashes_hold()
 {}
 
 /// The whole theorem. Neighbours that are independent may be swapped. Each whole cut is the network after the entries in it, which may come
-/// first, also at each moment of a run with a flusher, a device, crashes and openings. After each run, whatever a crash leaves recovers: it
+/// first, also at each moment of a run with a flusher, a device, crashes and openings. After each run, whatever a crash leaves recovers. It
 /// has the entries of each acknowledged receipt, and all causes of each output byte that is shown.
 pub fn every_run_holds()
     ensures swaps { (s : Network NodeState) (e f : Entry) → (i : AreIndependent t414 s e f)
