@@ -1,5 +1,5 @@
--- How a memory is made up that copies a page before the first write to it: each page of the frozen bytes is either the
--- live one, while it is shared, or a copy in a frame.
+-- The parts of a memory that copies a page before the first write to it: each page of the frozen bytes is either the live one, while it is
+-- shared, or a copy in a frame.
 use Rattle.std.specs.Prelude.{◌≡◌, ℕ, ◌+◌, ◌*◌, ◌≤◌, Bool, false, not, ◌&&◌, List, [], ◌∷◌, ◌++◌, length, set, Option, Some, None, is_some, if◌then◌else◌}
 use Rattle.tp_model.specs.Frames.{Frames, owners_of, bytes_of, free_in}
 use Rattle.tp_model.specs.SharedPages.{Kept}
@@ -56,7 +56,7 @@ abbrev pub without_copy : Frames → Option ℕ → Frames
 without_copy frames None = frames
 without_copy frames (Some id) = set frames id None
 
--- what is so of every such memory
+-- what is true of every such memory
 pub record IsPaged (live : List ℕ) (shared : List Bool) (copies : List (Option ℕ)) (frames : Frames) (is_frozen : Bool) : Type 0 where
   pub whole : length live ≡ PAGE_BYTES * length copies
   pub few : length copies ≤ MAX_PAGES
@@ -64,7 +64,7 @@ pub record IsPaged (live : List ℕ) (shared : List Bool) (copies : List (Option
   pub own : AreCopies frames copies
   pub thawed : is_frozen ≡ false → copied_in copies ≡ 0
 
--- the frozen bytes, and all frames that are there for copies
+-- the frozen bytes, and all frames for copies
 abbrev pub frozen_of : Bool → List ℕ → List (Option ℕ) → Frames → Option (List ℕ)
 frozen_of is_frozen live copies frames = if is_frozen then Some (frozen_from 0 live copies frames) else None
 
