@@ -15,7 +15,7 @@ pub chain_up : (first past : ℕ) (rs : List NodeRun) → AreNeighbours first pa
 chain_up first past [] C = omega (arith, C)
 chain_up first past (r ∷ rs) C = let rest = chain_up r.1 past rs C.2 in let low = C.0 in let some = C.1 in omega (arith, rest, low, some)
 
--- each run has a node, and lies within
+-- each run has a node, and is within
 pub chain_within : (first past : ℕ) (rs : List NodeRun) (i : ℕ) → AreNeighbours first past rs → i < length rs → (first ≤ (run_at rs i).0) × ((run_at rs i).0 < (run_at rs i).1) × ((run_at rs i).1 ≤ past)
 chain_within first past [] i C below = absurd (omega (arith, below))
 chain_within first past (r ∷ rs) zero C below = (let low = C.0 in omega (arith, low), C.1, chain_up r.1 past rs C.2)
