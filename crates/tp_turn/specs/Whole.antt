@@ -108,9 +108,8 @@ pub record HasTurnedOn (b : BookValue) (number : ℕ) (takes : List Received) (c
 
 -- ## A whole turn
 
--- The node received all that stood there and ran on as far as it may, and that is one entry: a Run where nothing stood there, none
--- where it made no step, either. It ended for want of a frame only before a step that would write shared pages which outnumber the free
--- frames.
+-- The node received all that was there and ran on as far as it may, and that is one entry: a Run if nothing was there, and none if it made
+-- no step, too.
 pub record TurnsOnce (number quantum : ℕ) (turn : Turn) (s : TurnMoment) (acts : List Act) (t : TurnMoment) : Type 0 where
   pub takes : List Received
   pub sent : List (ℕ × Token)
