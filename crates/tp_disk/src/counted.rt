@@ -16,7 +16,7 @@ pub struct Counted<F: RawDisk> {
 impl<F: RawDisk> Counted<F> {
     ghost use Rattle.tp_disk.specs.Failures.{failure_count};
 
-    /// Makes a device of which no call has failed yet.
+    /// Makes a device without a failed call.
     pub fn new(raw: F) -> Counted<F>
         ensures raw { result.raw ≡ raw }
         ensures failures { failure_count result.failed ≡ 0 }

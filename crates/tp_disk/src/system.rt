@@ -48,7 +48,7 @@ pub struct NotedFile<F: Drop> {
 }
 
 impl<F: Drop> NotedFile<F> {
-    /// Takes a file of which no call was made.
+    /// Takes a file without any call so far.
     pub fn new(file: F) -> NotedFile<F>
         ensures { result.history.told.calls ≡ [] }
     {

@@ -1,4 +1,4 @@
--- A piece of a network: some of its processes, and the lines that these send. A part is a piece with its state: a network of which only
+-- A piece of a network: some of its processes, and the lines that these send. A part is a piece with its state: a network in which only
 -- what belongs to the piece's own processes and lines counts.
 use Rattle.std.specs.Prelude.{◌≡◌, ◌<◌, ℕ, Bool, true, if◌then◌else◌, List, [], ◌∷◌, length}
 use Rattle.tp_model.specs.declared.link.Token.{Token}

@@ -50,7 +50,7 @@ held_at image bytes place = record {
   base = small_byte bytes (place + 2);
 }
 
--- the same if its entries are possible
+-- what is held, if its entries are possible
 abbrev pub if_possible : {Node : Type 0} → Machine Node → Held Node → Option (Held Node)
 if_possible M h = after M h.network h.entries >>= λ last. Some h
 

@@ -1,4 +1,4 @@
--- The entries of which a turn is made.
+-- The entries that make up a turn.
 use Rattle.std.specs.Prelude.{◌≡◌, ℕ, zero, suc, true, List, [], ◌∷◌, ◌++◌, map, length, nat_lt, nat_le, Some, slice_get}
 use Rattle.tp_model.specs.declared.link.Token.{Token}
 use Rattle.tp_model.specs.declared.link.Received.{Received}

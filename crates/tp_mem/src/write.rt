@@ -18,7 +18,7 @@ pub(crate) fn read_word(live: &[u8], at: usize) -> u32
     u32::from_le_bytes([live[at], live[at + 1], live[at + 2], live[at + 3]])
 }
 
-/// Reads eight bytes at a place, of which the first is the lowest.
+/// Reads eight bytes at a place, the lowest first.
 #[inline(always)]
 pub(crate) fn read_eight(live: &[u8], at: usize) -> u64
     requires { at + 8 ≤ length live.now }
