@@ -37,8 +37,8 @@ pub fn resting_devices_open_alike()
     ensures alike { (h : Held NodeState) (s : State) → RestsAs h s → (left : List ℕ) → MayBe s.now left → StandsOpened h left }
 {}
 
-/// What finds room in the journal, each entry in a group of its own, always fits: a group after the ones that a device holds, and the tail
-/// of a checkpoint.
+/// What has room in the journal, each entry in a group of its own, always fits. That includes a group after the ones that a device holds,
+/// and the tail of a checkpoint.
 pub fn entries_with_room_fit()
     ensures appended { (bytes : List ℕ) (o : Opened) (count : ℕ) → AllByRecursion (λ byte. byte < 256) bytes → verdict bytes ≡ Ok o → 1 ≤ count
         → entry_room * (length o.kept + count) ≤ room o.head.topology o.head.areas.length → append_refusal false (place_at o) count ≡ None }

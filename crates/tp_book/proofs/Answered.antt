@@ -44,7 +44,7 @@ pub entry_answered : {A : Type 0} (r : Result A Refusal) (x y broken full : Bool
 entry_answered r x y broken full is_broken is_full answer =
     subst (λ x. IsAnswer (else_if (else_if None x StoreBroken) y JournalFull) r) (sym is_broken) (subst (λ y. IsAnswer (else_if (else_if None broken StoreBroken) y JournalFull) r) (sym is_full) answer)
 
--- for a take, of which the journal alone decides
+-- for a take; only the journal decides about it
 pub take_answered : {A : Type 0} (b : BookValue) (needed : Bool) (r : Result A Refusal) (full : Bool) → is_full_for_take b needed ≡ full → IsAnswer (else_if None full JournalFull) r → IsAnswer (take_refusal b needed None) r
 take_answered b needed r full is answer = subst (λ full. IsAnswer (else_if None full JournalFull) r) (sym is) answer
 

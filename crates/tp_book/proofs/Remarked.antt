@@ -159,7 +159,7 @@ asked_in (Some snap) p e = (snap, refl, not_true (has_recorded snap p) e)
     not_true true h = cc
     not_true false h = refl
 
--- whoever has recorded still has
+-- each process that has recorded still has
 closed_host : (given : Option Snapshot) (line host : ℕ) → HostRecorded given host → HostRecorded (option_map (λ x. with_closed x line) given) host
 closed_host None line host H snap e = cc
 closed_host (Some old) line host H snap e = let is : with_closed old line ≡ snap = cc in ap (λ x. has_recorded x host) (sym is) ∙ H old refl

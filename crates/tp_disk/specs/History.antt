@@ -2,8 +2,8 @@
 use Rattle.std.specs.Prelude.{ℕ, Bool, List, [], ◌∷◌, ◌++◌}
 use Rattle.tp_model.specs.Disk.{Moment}
 
--- A call of the system on an open file: where it reads or writes and which bytes came or went, the length that the system answered or was
--- given, and whether the call succeeded. `Syncs` forces the file and all that is kept of it, `SyncsData` its bytes.
+-- A call of the system on an open file: where it reads or writes, which bytes came or went, the length that the system answered or was
+-- given, and whether it succeeded. `Syncs` forces the file and all that is kept of it, `SyncsData` its bytes.
 pub data FileCall : Type 0 where
   Reads : (at : ℕ) → (came : List ℕ) → (ok : Bool) → FileCall
   Writes : (at : ℕ) → (bytes : List ℕ) → (ok : Bool) → FileCall

@@ -128,8 +128,8 @@ pub fn devices_can_be_formatted()
 {}
 
 /// Opening answers exactly what is spelt. A device with a head, an open area of highest generation, a cut and groups followed by a closed
-/// gate opens as those, and a device that opens as those is spelt like that. Whatever the bytes, the entries that are kept lead from the
-/// kept cut to the network in the answer.
+/// gate opens as those. A device that opens as those is spelt like that. Whatever the bytes, the entries that are kept lead from the kept
+/// cut to the network in the answer.
 pub fn opening_is_exact()
     ensures spelt { (bytes : List ℕ) (o : Opened) → DeviceSpells t414 t414_ends bytes o → verdict bytes ≡ Ok o }
     ensures read { (bytes : List ℕ) (o : Opened) → AllByRecursion (λ byte. byte < 256) bytes → verdict bytes ≡ Ok o → DeviceSpells t414 t414_ends bytes o }
@@ -147,7 +147,7 @@ pub fn openings_begin()
 /// At each moment of a run over a device that was formatted, the journal is possible from the start on. It leads to the network as it is
 /// without its Markers. So do the entries since the kept cut, in their own order and in that of a whole cut. A line has at most one Marker,
 /// the network is sound, and a line has at most three tokens. Since the start, a port's accepted number has grown by the bytes that the
-/// journal's entries hand to it, and its output number by the bytes that they take to it.
+/// journal's entries hand to it. Its output number has grown by the bytes that they take to it.
 pub fn histories_hold()
     ensures journal { (start : Network NodeState) (events : List (Event NodeState)) (first last : World NodeState)
         → BeginsFormatted t414 device_areas start first → Run t414 device_areas first events last → after t414 start last.journal ≡ Some (plain_network last.net.live) }
@@ -182,9 +182,9 @@ pub fn cuts_are_orders()
         → ((cut : WholeCut) → whole last.net ≡ Some cut → IsWhole last.net) × (IsWhole last.net → (cut : WholeCut) × (whole last.net ≡ Some cut)) }
 {}
 
-/// As long as the journal isn't full, groups end inside their area. If each entry counts 32 bytes, an area has room after its cut image for
-/// any division of the entries into groups, for one more group, and for the closed gate after that. Whatever the bytes of a device that
-/// opens, the next group has room after the entries that are kept. The tests of a full journal allow no more than that.
+/// As long as the journal isn't full, groups end inside their area. Let each entry count 32 bytes. Then an area has room after its cut
+/// image for any division of the entries into groups, for one more group, and for the closed gate after that. Whatever the bytes of a
+/// device that opens, the next group has room after the entries that are kept. The tests of a full journal allow no more than that.
 pub fn groups_fit()
     ensures divided { (t : Topology) (area : ℕ) (groups : List (List (Entry × ℕ))) (more : List (Entry × ℕ)) → AllByRecursion IsGroup groups → 1 ≤ length more
         → entry_room * (length (entries_in groups) + length more) ≤ room t area

@@ -61,7 +61,7 @@ pub fn cuts_are_spelt()
         → (o : Opened) → w.at ≡ Resting → AllByRecursion (λ byte. byte < 256) w.disk.bytes → verdict w.disk.bytes ≡ Ok o → CutSpelt o.head.topology w.base w.net.start }
 {}
 
-/// In a run over a device that was formatted, whenever the flusher rests, the copy that it makes of a whole cut has a spelling, with the
+/// In a run over a device that was formatted, let the flusher rest. Then the copy that it makes of a whole cut can be spelt, with the
 /// entries outside the cut and their numbers. It is of the device's topology.
 pub fn copies_are_spelt()
     ensures { (most : ℕ) (start : Network NodeState) (events : List (Event NodeState)) (first w : World NodeState) → BeginsFormatted t414 device_areas start first

@@ -66,8 +66,8 @@ four_one k (Some token) h = (h, tt)
 
 -- ## A step at a link
 
--- What a step does at the links: an output end begins to wait exactly when it sends Data, an input end gives up its byte exactly when it
--- sends an Ack, and no Marker leaves.
+-- What a step does at the links. An output end begins to wait exactly when it sends Data. An input end gives up its byte exactly when it
+-- sends an Ack. No Marker leaves.
 pub record StepKeeps (node : NodeState) (after : NodeState × List (ℕ × Token)) : Type 0 where
   pub out : (j : ℕ) → bit (waits after.0 j) ≡ bit (waits node j) + datas (for_line j after.1)
   pub inn : (j : ℕ) → bit (holds after.0 j) + acks (for_line j after.1) ≡ bit (holds node j)

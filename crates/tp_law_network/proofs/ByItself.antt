@@ -1,5 +1,5 @@
--- A process by itself, over entries that a network goes through: it goes on as it does in the network, and what the network has on a line
--- is what came there, without what was taken.
+-- A process by itself, over entries that a network goes through. It goes on as it does in the network. What the network has on a line is
+-- what came there, without what was taken.
 use Rattle.std.proofs.Common.{◌≡◌, ◌≢◌, inl, inr, ℕ, ◌*◌, ◌/◌, ◌<◌, Bool, true, false, cond, List, [], ◌∷◌, ◌++◌, length, refl, sym, ap, subst, ◌∙◌, arith, append_assoc, append-nil, Some, eq-eqb, ne_eqb, slice_get}
 use Rattle.std.proofs.lemmas.Bool.{cases_eq, cases_lt, lt-ltb, le-ltb}
 use Rattle.std.proofs.lemmas.Option.{slice_get_cases}

@@ -106,8 +106,8 @@ for_line-shift a k (m ∷ ms) = elim (cases_eq m.0 k) [
 
 -- ## A process
 
--- What the ends of process p do when its state changes, and tokens are sent: `ms` are those that come in, each with the line that the end
--- sends at which it comes in.
+-- What the ends of process p do when its state changes, and tokens are sent: `ms` are those that come in. Each has the line that its
+-- receiving end sends.
 pub record Moves {Node : Type 0} (E : EndsSeen Node) (N p : ℕ) (state : Own Node) (ms : List (ℕ × Token)) (change : Own Node × List (ℕ × Token)) : Type 0 where
   pub out : (z : ℕ) → owner N z ≡ p → bit (own_waits E N change.0 z) + acks (for_line z ms) ≡ bit (own_waits E N state z) + datas (for_line z change.1)
   pub inn : (z : ℕ) → owner N z ≡ p → bit (own_holds E change.0 z) + acks (for_line z change.1) ≡ bit (own_holds E state z) + datas (for_line z ms)

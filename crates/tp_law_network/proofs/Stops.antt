@@ -1,4 +1,4 @@
--- The whole network stops where the first of its pieces does, also if pieces stop before a line of theirs is overfull: in a sound network
+-- The whole network stops where the first of its pieces does. Pieces may stop before a line of theirs is overfull: in a sound network
 -- without Markers no line is.
 use Rattle.std.proofs.Common.{◌≡◌, inl, inr, ℕ, zero, suc, ◌+◌, ◌<◌, ◌≤◌, List, [], ◌∷◌, length, take, true, refl, sym, ap, subst, ◌∙◌, arith, Option, Some}
 use Rattle.std.proofs.lemmas.Bool.{cases_lt}

@@ -1,8 +1,8 @@
 -- A small format of a device with two areas. It shows that a format can meet what the laws of runs ask of it.
 --
--- The device has two areas of nine bytes. An area is its gate, its generation, the number of entries in its cut, an image of one byte, two
--- places for groups of two bytes each, and a last gate. A group is its gate and one entry: a byte that the host hands to port 0. Any
--- network may belong to an image.
+-- The device has two areas of nine bytes. An area is its gate, its generation, the number of entries in its cut and an image of one byte.
+-- Then come two places for groups of two bytes each, and a last gate. A group is its gate and one entry: a byte that the host hands to port
+-- 0. Any network may belong to an image.
 use Rattle.std.specs.Prelude.{ℕ, zero, suc, ◌+◌, ◌*◌, ◌==◌, nat_lt, nat_le, Bool, true, false, not, ◌||◌, if◌then◌else◌, List, [], ◌∷◌, length, get_or, Option, Some, None}
 use Rattle.std.specs.Option.{option_map}
 use Rattle.tp_model.specs.declared.entry.Entry.{Entry}

@@ -71,7 +71,7 @@ pub fn areas_can_hold()
     ensures stores { (x : ℕ) → Stores t414 (λ code. one_port) x }
 {}
 
-/// Whatever a call of the store does to the device is a piece of a run without an opening: each moment of the device is that of a world on
+/// Whatever a call of the store does to the device is a piece of a run without an opening. Each moment of the device is that of a world on
 /// the way. If all its device calls were done, it leads to the world in which its work is done. If one of them failed, or the run stopped
 /// in it, only the device and the flusher's position have changed.
 pub fn store_calls_walk()
@@ -91,8 +91,8 @@ pub fn store_calls_walk()
         → AreWalked t414 areas (switch_calls gate) w (record w { at = Opened copy upto; stored = upto }) old new }
 {}
 
-/// Pieces of a run follow one another. In a run that began with a formatted device, a crash at any moment of such a piece leaves only what
-/// holds the network after a prefix of the journal, and that prefix has each entry below the mark before the piece.
+/// Pieces of a run follow one another. In a run that began with a formatted device, let a crash come at any moment of such a piece. It
+/// leaves only what holds the network after a prefix of the journal, and that prefix has each entry below the mark before the piece.
 pub fn walks_recover()
     ensures joined { (areas : Areas NodeState) (w u v : World NodeState) (old mid new : State)
         → Walks t414 areas w u old mid → Walks t414 areas u v mid new → Walks t414 areas w v old new }

@@ -66,8 +66,8 @@ pub fn tokens_come_from_senders()
     ensures becomes { (s t : Network NodeState) → Sound t414_ends s → (es : List Entry) → after t414 s es ≡ Some t → (process : ℕ) → process ≤ length s.nodes → BecomesByItself t414 s process es t }
 {}
 
-/// If a row spells a Take of a token that isn't what came on its line, replaying the rows is refused: at that row's place, or at that of an
-/// earlier row.
+/// If a row spells a Take of a token other than the one that came on its line, replaying the rows fails: at that row's place, or at an
+/// earlier row's.
 pub fn another_token_is_refused()
     ensures { (r : Replay NodeState) (rows : List (ℕ × List ℕ)) → Sound t414_ends r.now → (xs ys : List Entry) (line : ℕ) (token : Token)
         → bare (readable r.form r.least r.next rows) ≡ xs ++ Take line token ∷ ys

@@ -91,8 +91,8 @@ pub fn reserved_turns_stay()
         → MayBeMade t414 w.live e was now sends → MayBeMade t414 v.live e was now sends }
 {}
 
-/// What a node did in a turn under its lock, from the tokens that it took on, and what the book does at the commit are together the
-/// turn's act: one entry, or none.
+/// A turn's act is one entry, or none. It has two parts: what a node did in the turn under its lock, from the tokens that it took on, and
+/// what the book does at the commit.
 pub fn turns_join()
     ensures { (b : BookState NodeState) (nodes : List NodeState) (frozen : List (Option NodeState)) → length nodes ≡ length b.start.nodes
         → (node : ℕ) (takes : List Received) (count : ℕ) (before after : NodeState) (tokens : List (ℕ × Token)) → slice_get nodes node ≡ Some before

@@ -1,4 +1,4 @@
--- The parts of a memory that copies a page before the first write to it: each page of the frozen bytes is either the live one, while it is
+-- The parts of a memory that copies a page before the first write to it. Each page of the frozen bytes is either the live one, while it is
 -- shared, or a copy in a frame.
 use Rattle.std.specs.Prelude.{◌≡◌, ℕ, ◌+◌, ◌*◌, ◌≤◌, Bool, false, not, ◌&&◌, List, [], ◌∷◌, ◌++◌, length, set, Option, Some, None, is_some, if◌then◌else◌}
 use Rattle.tp_model.specs.Frames.{Frames, owners_of, bytes_of, free_in}
@@ -6,8 +6,11 @@ use Rattle.tp_model.specs.SharedPages.{Kept}
 use Rattle.tp_model.specs.declared.limits.TheConstants.{MAX_PAGES, PAGE_BYTES}
 use Rattle.tp_mem.specs.Contents.{page_of}
 
--- What contracts see: the live bytes; while memory is frozen, the bytes as they were at the freeze; of each page, whether
--- both share it; and how many frames there are for copies.
+-- What contracts see:
+-- - the live bytes;
+-- - while memory is frozen, the bytes as they were at the freeze;
+-- - of each page, whether both share it;
+-- - how many frames there are for copies.
 pub record Paged : Type 0 where
   pub live : List ℕ
   pub frozen : Option (List ℕ)

@@ -96,7 +96,7 @@ one_byte name digit true h =
     sym (ap (λ b. cond (is_name name) (option_map f (cond b (Some (digit - 48)) None)) None) (h refl) ∙ cond_same (is_name name) None)
 one_byte name digit false h = both (λ k. (name, Some k)) (is_name name) (is_link_digit digit) (digit - 48)
 
--- more bytes after the dot, of which the first two may be dots
+-- more bytes after the dot; the first two may be dots
 more_bytes : (name : List ℕ) (d e : ℕ) (a b : Bool) (parts : List (List ℕ)) → ([] ≡ parts → ⊥)
     → named_parts (name ∷ cond a ([] ∷ cond b ([] ∷ parts) (onto_first e parts)) (onto_first d (cond b ([] ∷ parts) (onto_first e parts)))) ≡ None
 more_bytes name d e a b [] h = absurd (h refl)

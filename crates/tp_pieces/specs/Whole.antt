@@ -11,8 +11,8 @@ use Rattle.tp_model.specs.Sound.{Sound}
 use Rattle.tp_law_network.specs.Piece.{Agrees, Covers, Piece}
 use Rattle.tp_law_network.specs.Reach.{reach}
 
--- These parts are the whole of s, which is sound and has no Markers: each process is in at least one of them, and each has
--- its own as s has it.
+-- These parts are the whole of s, which is sound and has no Markers. Each process is in at least one of them, and each part has its own as
+-- s has it.
 pub record AreWhole (s : Network NodeState) (count : ℕ) (pieces : ℕ → Piece) (parts : ℕ → Network NodeState) : Type 0 where
   pub sound : Sound t414_ends s
   pub unmarked : (line : ℕ) → markers (on_line s.lines line) ≡ 0

@@ -33,8 +33,8 @@ SeatFits all seat v = ReachedBy (number_of all) seat v × RisesBy all v
 abbrev pub Marks : List ℕ → List View → Type 0
 Marks words views = (all : List Rise) × (words ≡ number_of all ∷ []) × ((seat : ℕ) (v : View) → get_elem? views seat ≡ some v → SeatFits all seat v)
 
--- What was found is at least what was seen and told before, and is what is seen afterwards: the last of the rises, which go on from those
--- that were seen.
+-- What was found is at least what was seen and told before, and is what is seen afterwards. It is the last of the rises, which go on from
+-- those that were seen.
 abbrev pub Loaded : View → ℕ → View → Type 0
 Loaded v found w =
     (v.at ≤ found) × (v.least ≤ found) × RisesOn v.rises w.rises × (found ≡ number_of w.rises)

@@ -61,8 +61,11 @@ pub record IsFinished (kept : Kept) (old new : Moment) : Type 0 where
 abbrev pub HasStayed : Kept → List ℕ → Type 0
 HasStayed kept source = area_front (kept_start kept) source ≡ record { is_open = true; generation = kept.generation }
 
--- A copy: the area that was copied stayed as it was opened, the copy has the device's bytes that count, opens to what the device opened to,
--- and all of it is synced.
+-- A copy:
+-- - the area that was copied stayed as it was opened;
+-- - the copy has the device's bytes that count;
+-- - it opens to what the device opened to;
+-- - all of it is synced.
 pub record IsCopy (kept : Kept) (source old : List ℕ) (new : Moment) (next : ℕ) : Type 0 where
   pub number : next ≡ kept.next
   pub stays : HasStayed kept source

@@ -136,7 +136,7 @@ fn copy_kept<D: Disk, K: Disk>(
 /// Copies a device that was `opened`, and that another process may be running, over what is in `copy`, which has to be at least as large.
 /// Writes nothing to the device, and a crash finds nothing there that the call made.
 ///
-/// Answers the number of the next entry. All of the copy is then synced, and it opens to the area, the generation, the form, the end of the
+/// Answers the number of the next entry. All of the copy is then synced. It opens to the area, the generation, the form, the end of the
 /// groups and the number to which the device was opened. Answers `None` if the area that is copied has another gate or generation after the
 /// copying. Then the copy's gates are closed, and it has to be made again, of the device as it then opens.
 ///

@@ -8,8 +8,11 @@ ghost use Rattle.tp_model.specs.declared.limits.TheConstants.{AREA_HEAD_BYTES};
 use crate::Opened;
 use tp_model::{Form, TwoAreas};
 
-/// What of an opened device is copied: where the areas are, and whether the second one is open; its generation and its form; where the
-/// closed gate after its groups is; and the number of the next entry.
+/// What of an opened device is copied:
+/// - where the areas are, and whether the second one is open;
+/// - its generation and its form;
+/// - where the closed gate after its groups is;
+/// - the number of the next entry.
 #[derive(Clone, Copy)]
 pub(crate) struct Kept {
     pub(crate) areas: TwoAreas,

@@ -97,7 +97,7 @@ module _ (n : Inside) (I : IsInside n) (i : ℕ) (node new : NodeContents) (ther
 -- ## What it is as an entry
 
 module _ (s : Network NodeState) (i most count : ℕ) (now : Network NodeState) (R : RanUpTo s i most count now) where
-  -- Where all steps were made, it is the entry.
+  -- If all steps were made, it is the entry.
   pub ran_all : count ≡ most → 0 < most → next t414 s (Run i most) ≡ Some now
   ran_all all some = subst (λ k. next t414 s (Run i k) ≡ Some now) all (R.some (omega (arith, all, some)))
 

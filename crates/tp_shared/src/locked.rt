@@ -35,8 +35,8 @@ use tp_turn::{Opened, Stretch};
 /// - the roll of all entries since the opening;
 /// - the seal of what the flusher was told, and the roll of what was seen of the book.
 ///
-/// Contracts see the book, the roll of entries, from which position on entries have their positions as numbers, and which nodes have kept
-/// pages, as they recorded.
+/// Contracts see the book and the roll of entries. They also see from which position on entries have their positions as numbers, and which
+/// nodes have kept pages, as they recorded.
 #[derive(Drop)]
 pub struct Locked<J: Naming> {
     pub(crate) book: Book,

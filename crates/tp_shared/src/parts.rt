@@ -22,8 +22,8 @@ use tp_node::Node;
 use tp_ready::Mark;
 use tp_token::{Key, Roll, Seal, pair, start, turn};
 
-/// What isn't under locks yet: a book, its nodes, their seals and keys, the roll of its entries, the mark, both halves of what the flusher
-/// is told, and the roll of what is seen of the book.
+/// What isn't under locks yet: a book, its nodes, their seals and keys, the roll of its entries, and the mark. Then both halves of what the
+/// flusher is told, and the roll of what is seen of the book.
 #[derive(Drop)]
 pub struct Parts {
     pub(crate) book: Book,

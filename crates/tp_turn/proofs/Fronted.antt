@@ -49,7 +49,7 @@ marker_ranges node link token is = rw is refl
 
 -- ## The node of a book
 
--- whoever has recorded still has
+-- each process that has recorded still has
 pub collected_recorded : (given : Option Snapshot) (q p : ℕ) (ms : List (ℕ × Token)) → has_recorded_in (option_map (collected q ms) given) p ≡ has_recorded_in given p
 collected_recorded None q p ms = refl
 collected_recorded (Some snap) q p ms = go (has_recorded snap q)

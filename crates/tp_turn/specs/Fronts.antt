@@ -49,8 +49,11 @@ pub record WantsFrame (number line : ℕ) (m : TurnMoment) : Type 0 where
   pub goes : receiver m.book.state.start.wires line ≡ Some (Link number link)
   pub wants : LacksFrames (memory_kept m.node) (took_ranges m.node.live link (front_of m.book line))
 
--- Why a line is left. It is empty; or a Marker is at the front, and no snapshot runs in which the node has recorded; or the token at the
--- front finds no frame; or the journal is full.
+-- Why a line is left:
+-- - it is empty;
+-- - or a Marker is at the front, and no snapshot runs in which the node has recorded;
+-- - or the token at the front finds no frame;
+-- - or the journal is full.
 abbrev pub IsLeft : ℕ → ℕ → Left → TurnMoment → Type 0
 IsLeft number line left.NoWire m = ⊥
 IsLeft number line left.Enough m = ⊥

@@ -41,8 +41,11 @@ pub record PortAtFront (line : ℕ) (s : BookValue) (acts : List Act) (t : BookV
   pub are : acts ≡ front_act line (front_of s line) ∷ []
   pub added : HostAdded acts s t
 
--- Why a line is left. It is empty; or a Marker is at the front, and no snapshot runs in which the host has recorded; or a byte is at the
--- front, and the port's outputs are full; or the journal is full.
+-- Why a line is left:
+-- - it is empty;
+-- - or a Marker is at the front, and no snapshot runs in which the host has recorded;
+-- - or a byte is at the front, and the port's outputs are full;
+-- - or the journal is full.
 abbrev pub PortIsLeft : ℕ → Left → BookValue → Type 0
 PortIsLeft line left.NoWire b = ⊥
 PortIsLeft line left.Enough b = ⊥

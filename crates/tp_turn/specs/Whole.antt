@@ -108,8 +108,8 @@ pub record HasTurnedOn (b : BookValue) (number : ℕ) (takes : List Received) (c
 
 -- ## A whole turn
 
--- The node received all that was there and ran on as far as it may, and that is one entry: a Run if nothing was there, and none if it made
--- no step, too.
+-- The node received all that was there and ran on as far as it may, and that is one entry. If nothing was there, the entry is a Run;
+-- without a step, too, there is none.
 pub record TurnsOnce (number quantum : ℕ) (turn : Turn) (s : TurnMoment) (acts : List Act) (t : TurnMoment) : Type 0 where
   pub takes : List Received
   pub sent : List (ℕ × Token)

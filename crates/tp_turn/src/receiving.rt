@@ -125,7 +125,7 @@ fn offered_on(book: &Book, number: u8, link: u8, all: bool) -> Received
     }
 }
 
-/// Has a node receive on links 0 to 3 in order: it takes the tokens before the line's first Marker, one after the other, and leaves a link
+/// Has a node receive on links 0 to 3 in order: it takes the tokens before the line's first Marker, one after the other. It leaves a link
 /// at a token for which memory has no frame. Without `all` it receives only on lines from which a running snapshot needs what is taken. The
 /// book stays as it is, so the node is ahead of it.
 #[inline(always)]

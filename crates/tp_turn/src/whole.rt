@@ -105,8 +105,8 @@ fn all_sent(answers: &[(u8, Token)], sent: &[(u8, Token)]) -> ArrayVec<(u8, Toke
     tokens
 }
 
-/// Journals a turn for which room was reserved, and in which `node` answered `sent` to what it took and then sent `more` as it ran: as
-/// `commit`, with the two joined.
+/// Journals a turn for which room was reserved. In the turn `node` answered `sent` to what it took and then sent `more` as it ran. It does
+/// what `commit` does, with the two joined.
 #[inline(never)]
 fn commit_all(
     book: &mut Book,

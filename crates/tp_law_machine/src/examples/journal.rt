@@ -63,8 +63,8 @@ pub fn a_group_is_read()
     ensures closed { group_at (0xA4 ∷ drop 1 short_run) ≡ Ok None }
 {}
 
-/// The head of the image of a node that runs a low process: version and pages, the instruction pointer, the workspace and three registers;
-/// then four words of queues, Error, the state, the slice count, and eight ends of links.
+/// The head of the image of a node that runs a low process. First version and pages, the instruction pointer, the workspace and three
+/// registers. Then four words of queues, Error, the state, the slice count, and eight ends of links.
 pub fn an_image_begins()
     ensures { image_head sending_node ≡ 1 ∷ 0 ∷ 4 ∷ 0 ∷ 0 ∷ 1 ∷ 0 ∷ 0x80 ∷ 0 ∷ 2 ∷ 0 ∷ 0x80 ∷ (zeros 12
         ++ (0 ∷ 0 ∷ 0 ∷ 0x80 ∷ 0 ∷ 0 ∷ 0 ∷ 0x80 ∷ 0 ∷ 0 ∷ 0 ∷ 0x80 ∷ 0 ∷ 0 ∷ 0 ∷ 0x80 ∷ [])

@@ -8,8 +8,12 @@ ghost use Rattle.tp_model.specs.Memory.{set_byte};
 ghost use Rattle.tp_model.specs.Opening.{verdict};
 ghost use Rattle.tp_law_machine.specs.OneDevice.{device_of, device_with, four_entries, fresh_device, later_device, opened_as};
 
-/// A formatted device with one byte too few for a head; with another version; with its open gate closed; with an open gate after the cut
-/// but no group there; and with an unknown form of its area.
+/// Formatted devices with one fault each:
+/// - one byte too few for a head;
+/// - another version;
+/// - a closed gate for its open one;
+/// - an open gate after the cut, but no group there;
+/// - an unknown form of its area.
 pub fn devices_are_refused()
     ensures short { verdict (take 511 fresh_device) ≡ Err NotFormatted }
     ensures version { verdict (set_byte fresh_device 7 9) ≡ Err BadVersion }
