@@ -14,7 +14,7 @@ StandsOpened h bytes = device_areas.verdict bytes ≡ Some h
 abbrev pub OpensToEither : Held NodeState → Held NodeState → List ℕ → Type 0
 OpensToEither h k bytes = StandsOpened h bytes ⊎ StandsOpened k bytes
 
--- The device holds this, and what is unsynced comes after the other area's closed gate. That is so while pieces are put there, and whenever
--- nothing is unsynced.
+-- The device holds this, and what is unsynced comes after the other area's closed gate. This is true while pieces are put there, and
+-- whenever nothing is unsynced.
 abbrev pub RestsAs : Held NodeState → State → Type 0
 RestsAs h s = RestsBetweenGroups device_areas h s.now

@@ -51,8 +51,8 @@ pub record Wrote (first head : List ℕ) (areas : TwoAreas) (old new : State) : 
   pub called : Called (put_calls pieces ++ (Sync ∷ Write 0 head ∷ Sync ∷ [])) old new
   pub bytes : new.now.bytes ≡ written (with_areas first areas old.now.bytes) 0 head
 
--- The device was formatted, with turns, for the network of the images, before its first entry, and so is whatever a crash leaves
--- from then on.
+-- The device was formatted, with turns, for the network of the images, before its first entry. Whatever a crash leaves from then on is
+-- formatted like this, too.
 pub record Formatted (t : Topology) (images : List (List ℕ)) (areas : TwoAreas) (old new : State) : Type 0 where
   pub start : Network NodeState
   pub is : start_of t images ≡ Some start

@@ -26,7 +26,7 @@ ghost use Rattle.tp_area.specs.Other.{Cleared, Switched, other_gate};
 ghost use Rattle.tp_area.specs.Places.{place_at, place_in};
 ghost use Rattle.tp_area.specs.Tails.{TailParts, TailPut, tail_pieces, tail_refusal};
 
-/// A device that opens says the place of its next group. So whoever opens a device has what `Store::new` needs.
+/// A device that opens says the place of its next group: it has what `Store::new` needs.
 pub fn open_devices_say_their_place()
     ensures { (bytes : List ℕ) (o : Opened) → verdict bytes ≡ Ok o → place_in bytes ≡ Some (place_at o) }
 {}

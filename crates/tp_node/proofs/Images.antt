@@ -54,7 +54,7 @@ has_pages n ruly =
     let bounds = and_parts _ _ parts.1 in
     record { whole = eqb-true _ _ parts.0; some = leb-true _ _ bounds.0; few = leb-true _ _ bounds.1 }
 
--- so is the memory of an image
+-- this is true of the memory of an image
 pub image_pages : (bytes : List ℕ) (n : NodeState) → node_of bytes ≡ Some n → HasPages n.memory
 unfolding node_of
 image_pages bytes n =

@@ -82,7 +82,7 @@ dealt_cover nodes rs count pieces D p = elim (cases_lt p nodes) [
   | inr past ↦ (let many = D.many in (length rs, omega (arith, many), ap (λ has. has p) D.host ∙ le-leb nodes p past))
 ]
 
--- so are pieces that are equal
+-- pieces that are equal have them, too
 pub dealt_same : (nodes : ℕ) (rs : List NodeRun) (count : ℕ) (pieces others : ℕ → Piece) → AreDealt nodes rs count pieces → ((i : ℕ) → i < count → others i ≡ pieces i) → AreDealt nodes rs count others
 dealt_same nodes rs count pieces others D same = record {
   chain = D.chain;

@@ -196,7 +196,7 @@ pub answered_form : (form : Form) (number : ℕ) (r : Result Opened Refusal) (s 
 answered_form form number (Ok opened) s t O takes given = opens_form form number opened s t O takes given
 answered_form form number (Err e) s t O takes given = cc
 
--- ## Why it is refused
+-- ## Why it fails
 
 stop_refused : (line : ℕ) (e : Refusal) (b : BookValue) → EndsTurn line e b → IsTurnRefusal e
 stop_refused line JournalFull b h = tt

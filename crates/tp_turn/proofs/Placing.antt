@@ -62,7 +62,7 @@ placed_beside j link token tokens node x did apart P =
     let out = K.out link in
     record { free = omega (arith, inn, bytes, P.free); awaited = omega (arith, out, answers, P.awaited) }
 
--- so is there when tokens were taken on one
+-- a place stays when tokens were taken on another link
 pub placed_apart : (j link : ℕ) (tokens others : List Token) (s : NodeContents) (answers : List (ℕ × Token)) (t : NodeContents) → j ≢ link → TakesEach j tokens s answers t → HasPlace link others s.live → HasPlace link others t.live
 unfolding TakesEach
 placed_apart j link [] others s answers t apart T P = subst (λ n. HasPlace link others n.live) (sym T.1) P

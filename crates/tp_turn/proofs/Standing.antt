@@ -22,7 +22,7 @@ pub record StandsOn (s : Network NodeState) (i link : ℕ) (tokens : List Token)
   pub rest : List Token
   pub front : on_line s.lines line ≡ tokens ++ rest
 
--- so are those of each link, from link k on, if there are any
+-- the tokens of each link, from link k on, are at the front of its line, if there are any
 abbrev pub AreStanding : Network NodeState → ℕ → ℕ → List Received → Type 0
 AreStanding s i k [] = Unit {0}
 AreStanding s i k (one ∷ more) = ((received one ≡ []) ⊎ StandsOn s i k (received one)) × AreStanding s i (k + 1) more
