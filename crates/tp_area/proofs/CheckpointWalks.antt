@@ -1,4 +1,4 @@
--- The calls of a checkpoint, one behind the other, are a piece of a run.
+-- The calls of a checkpoint, one after the other, are a piece of a run.
 use Rattle.std.proofs.Common.{◌≡◌, ℕ, ◌+◌, List, [], length, refl, sym, ap, subst, ◌∙◌, Some, Ok}
 use Rattle.std.specs.List.{AllByRecursion}
 use Rattle.tp_model.specs.NodeState.{NodeState}
@@ -27,7 +27,7 @@ use Rattle.tp_area.proofs.StoreCrashes.{keep}
 abbrev Piece : World NodeState → World NodeState → State → State → Type 0
 Piece w v old new = Walks t414 device_areas w v old new
 
--- one piece behind another
+-- one piece after another
 on : (w u v : World NodeState) (old mid new : State) → Piece w u old mid → Piece u v mid new → Piece w v old new
 on w u v old mid new first then = walks_then t414 device_areas w u v old mid new first then
 

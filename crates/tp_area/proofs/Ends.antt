@@ -1,4 +1,4 @@
--- The numbers of ends in a head: those of a topology stand for ends that a network may have.
+-- The numbers of ends in a head: those of a topology belong to ends that a network may have.
 use Rattle.std.proofs.Common.{◌≡◌, ℕ, ◌+◌, ◌-◌, ◌*◌, ◌/◌, ◌%◌, ◌<◌, ◌≤◌, true, cond, List, [], ◌∷◌, ◌++◌, map, refl, ap, subst, ◌∙◌, arith, inl, inr}
 use Rattle.std.specs.Prelude.{◌&&◌, ◌==◌, nat_le, nat_lt, Option, Some, None}
 use Rattle.std.specs.List.{list_all}
@@ -12,7 +12,7 @@ use Rattle.tp_model.specs.Head.{end_of_number, first_port}
 use Rattle.tp_model.specs.Topology.{all_lead_back, is_end, joins_link, leads_back}
 use Rattle.tp_area.specs.Ends.{is_end_number}
 
--- 0 stands for no end
+-- 0 is the number of no end
 none_number : (version : HeadVersion) → is_end_number version 0 ≡ true
 none_number Narrow = refl
 none_number Wide = refl

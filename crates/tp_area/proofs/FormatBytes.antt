@@ -51,7 +51,7 @@ bind_some : {A B : Type 0} (o : Option A) (f : A → Option B) (y : B) → o >>=
 bind_some None f y h = cc
 bind_some (Some x) f y h = (x, (refl, h))
 
--- the images of the nodes are those bytes, and so long
+-- the images of the nodes are those bytes, and as long
 pub images_are : (pages : List ℕ) (images : List (List ℕ)) (nodes : List NodeState) → fresh_nodes pages images ≡ Some nodes
     → (flat_map image nodes ≡ concat images) × (length (concat images) ≡ sum_by image_length pages)
 unfolding fresh_nodes
@@ -105,7 +105,7 @@ blank_ports (suc n) =
 
 -- ## The first area
 
--- what stands behind the images, with the closed gate
+-- what comes after the images, with the closed gate
 tail_is : (t : Topology) (rest : ℕ) → rest ≡ LINE_BYTES * line_count t + PORT_BYTES * t.ports + 1
     → (flat_map line_bytes (replicate (line_count t) []) ++ flat_map port_bytes (replicate t.ports fresh_port)) ++ GATE_CLOSED ∷ [] ≡ zeros rest
 tail_is t rest is =
@@ -148,7 +148,7 @@ length-area t images nodes cut rest fresh is_cut is_rest =
     let behind : length (zeros rest) ≡ rest = length-replicate rest 0 in
     ap length (sym (area_is t images nodes cut rest fresh is_cut is_rest)) ∙ (omega arith)
 
--- ## What stands on the device
+-- ## What is on the device
 
 pub record IsRoomy (size : ℕ) (t : Topology) (areas : TwoAreas) : Type 0 where
   pub both : areas_end areas ≤ size

@@ -12,7 +12,7 @@ use Rattle.tp_area.specs.Puts.{ButFor, Puts}
 use Rattle.tp_area.specs.Formatting.{area_front, Wrote, with_areas}
 use Rattle.tp_area.proofs.PutLaws.{put_calls-append, wider_leaves, then_leaves}
 
--- how many bytes of an area stand in front of its images
+-- how many bytes of an area are before its images
 abbrev pub front_size : ℕ
 front_size = AREA_HEAD_BYTES + BASE_BYTES
 

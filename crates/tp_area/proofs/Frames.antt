@@ -1,4 +1,4 @@
--- What stays where a range of an area's groups is written: the head, the gates, the generations, and the other content.
+-- What stays when a range of an area's groups is written: the head, the gates, the generations, and the other content.
 use Rattle.std.proofs.Common.{◌≡◌, ℕ, ◌+◌, ◌-◌, ◌≤◌, inl, inr, Bool, true, false, List, [], ◌∷◌, ◌++◌, length, take, drop, ap, ◌∙◌, arith, append_assoc, length-append}
 use Rattle.std.proofs.lemmas.List.{drop_at, length-take-le}
 use Rattle.std.proofs.Math.Seq.{take-append-add}
@@ -23,7 +23,7 @@ drop_behind old at bytes room =
     let size : length (take at old ++ bytes) ≡ at + length bytes = omega (arith, length-append (take at old) bytes, length-take-le at old room) in
     drop_at (take at old ++ bytes) (drop (at + length bytes) old) (at + length bytes) size
 
--- bytes behind a gate, and then the gate
+-- bytes after a gate, and then the gate
 abbrev pub with_gate : List ℕ → ℕ → List ℕ → List ℕ
 with_gate old gate body = written (written old (gate + 1) body) gate (GATE_OPEN ∷ [])
 
@@ -55,7 +55,7 @@ taken_gate m body rest le =
 
 -- ## The areas
 
--- where a range lies that holds none of the areas' gates and generations: in the groups of this area
+-- where a range is that holds none of the areas' gates and generations: in the groups of this area
 pub record InGroups (areas : TwoAreas) (second : Bool) (at count : ℕ) : Type 0 where
   pub behind : area_start areas second + AREA_HEAD_BYTES + BASE_BYTES ≤ at
   pub inside : at + count ≤ area_start areas second + areas.length

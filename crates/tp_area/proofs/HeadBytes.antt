@@ -15,7 +15,7 @@ use Rattle.tp_law_device.proofs.Heads.{keeps_nodes}
 use Rattle.tp_net.proofs.Topologies.{has_shape, end_number-bound}
 use Rattle.tp_area.specs.declared.head_places.TheConstants.{AREA_PLACE}
 
--- what is filled up behind other bytes
+-- what is filled up after other bytes
 pub padded-behind : (n m : ℕ) (front bytes : List ℕ) → m ≡ n + length front → padded m (front ++ bytes) ≡ front ++ padded n bytes
 padded-behind n m front bytes is =
     append_assoc front bytes (zeros (m - length (front ++ bytes)))
@@ -63,7 +63,7 @@ head_bytes-put version t areas byte ports size place count pages wires numbers e
 
 -- ## Its ends
 
--- what stands behind the pages fits into the head, two bytes an end
+-- what comes after the pages fits into the head, two bytes an end
 pub ends_fit : (version : HeadVersion) (count : ℕ) → count ≤ head_nodes version → ends_place version + 2 * (4 * count) ≤ head_length version
 ends_fit Narrow count few = omega arith
 ends_fit Wide count few = omega arith

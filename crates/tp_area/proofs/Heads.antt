@@ -32,7 +32,7 @@ and_false true true = refl
 and_false true false = refl
 and_false false b = refl
 
--- ## What can't be said
+-- ## What can't be stated
 
 module _ (version : HeadVersion) (bytes : List ℕ) where
   abbrev t : Topology
@@ -104,7 +104,7 @@ topology_at-read version bytes count line place pages numbers wires nodes line_i
     w ∙ ap (λ ns. all_wires (u8_at bytes NODES_PLACE) (u8_at bytes PORTS_PLACE) (map (end_of_number version) ns)) numbers_are in
     λ i. parts (pages_are i) (u8_at bytes PORTS_PLACE) (wires_are i)
 
--- where those are none, and where they are one
+-- if those are none, and if they are one
 unsaid : (b k : Bool) (t : Topology) → cond b (Some t) None ≡ None → (b && k) ≡ false
 unsaid true k t h = absurd (cc)
 unsaid false k t h = refl
@@ -128,7 +128,7 @@ pub fields_in-whole : (version : HeadVersion) (len : ℕ) (bytes : List ℕ) (he
     → fields_in version len bytes ≡ cond whole (Some head) None
 fields_in-whole version len bytes head whole is test = rw (is, test) refl
 
--- a head that can't be said is none
+-- a head that can't be stated is none
 fields_in-not : (version : HeadVersion) (len : ℕ) (bytes : List ℕ) → can_be_said version (head_at version bytes).topology ≡ false → None ≡ fields_in version len bytes
 unfolding head_at
 fields_in-not version len bytes none = rw none refl
@@ -153,7 +153,7 @@ fields_in-said version len bytes t areas whole told is test =
 
 -- ## Of a device
 
--- the first bytes of a device say the head that all its bytes say, where it has few enough nodes
+-- the first bytes of a device say the head that all its bytes say, if it has few enough nodes
 head_at-front : (version : HeadVersion) (xs : List ℕ) → u8_at xs NODES_PLACE ≤ head_nodes version → head_at version (take (head_length version) xs) ≡ head_at version xs
 head_at-front version xs few = head_at_same version xs (take (head_length version) xs) (whole_front (head_length version) xs) few
 

@@ -152,7 +152,7 @@ close_broke gate found s t u inside was same now goes broke =
 
 -- ## After a call
 
--- the gate after it was looked at, and closed where it was open
+-- the gate after it was read, and closed if it was open
 gate_then : (gate : ℕ) (b : Bool) (old new : State) → is_open (u8_at old.now.bytes gate) ≡ b → gate < length old.now.bytes → Called (clear_calls (if b then Some gate else None)) old new
     → (is_open (u8_at new.now.bytes gate) ≡ false) × SameOutside gate 1 old.now.bytes new.now.bytes
 gate_then gate false old new is inside called =
@@ -167,7 +167,7 @@ gate_then gate true old new is inside called =
       subst (SameOutside gate 1 old.now.bytes) (sym now) (written_same_outside old.now.bytes gate gate_closed (omega arith)),
     )
 
--- where the areas of an open device say that the other gate is open
+-- if the areas of an open device say that the other gate is open
 open_other_is : (place : Place) (bytes : List ℕ) → place_in bytes ≡ Some place → (o : Opened) → opening t414 t414_ends bytes ≡ Ok o
     → device_areas.open_other bytes ≡ if_open (other_gate place) bytes
 unfolding open_other_of
@@ -204,7 +204,7 @@ cleared_place place old new some said inside called =
     let t = gate_then (other_gate place) (is_open (u8_at old.now.bytes (other_gate place))) old new refl inside called in
     place_stays place old.now.bytes new.now.bytes (other_gate place) 1 some said (record { from = omega arith; upto = omega arith }) t.1 t.0
 
--- bytes behind the closed gate
+-- bytes after the closed gate
 pub put_same : (place : Place) (at : ℕ) (bytes : List ℕ) (old new : State) → other_gate place + 1 + at + length bytes ≤ length old.now.bytes
     → new.now ≡ done (Write (other_gate place + 1 + at) bytes) old.now → SameOutside (other_gate place + 1 + at) (length bytes) old.now.bytes new.now.bytes
 put_same place at bytes old new room was =

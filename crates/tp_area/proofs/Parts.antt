@@ -18,7 +18,7 @@ u16_at-take m place xs le = sym (u16_front place m xs (take m xs) le (whole_fron
 pub u8_at-take : (m place : ℕ) (xs : List ℕ) → place < m → u8_at (take m xs) place ≡ u8_at xs place
 u8_at-take m place xs lt = get_or-take m xs place 0 lt
 
--- what is said behind a place
+-- what is said after a place
 pub u64_at-drop : (start place there : ℕ) (xs : List ℕ) → there ≡ start + place → u64_at (drop start xs) place ≡ u64_at xs there
 u64_at-drop start place there xs is = ap (from_le_bytes w64) (drop-drop place start xs ∙ ap (λ n. drop n xs) (sym is))
 

@@ -33,7 +33,7 @@ said_few base bytes h =
     let shown_is : u16_at bytes 18 ≡ length port.outputs = sym (u16_at-take PORT_BYTES 18 bytes (omega arith)) ∙ ap (λ xs. u16_at xs 18) same ∙ outputs_count port (omega arith) in
     (omega arith, omega arith)
 
--- so where it says more, it is no port's
+-- so if it says more, it is no port's
 pub said_many : (base : ℕ) (bytes : List ℕ) → (MAX_HELD < u16_at bytes 16) ⊎ (MAX_HELD < u16_at bytes 18) → false ≡ is_port_at base bytes
 said_many base bytes many = elim (cases_Bool (is_port_at base bytes)) [
   | inl is ↦ absurd (elim many [

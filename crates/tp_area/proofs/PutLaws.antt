@@ -1,4 +1,4 @@
--- Pieces that are put one behind the other are put as one.
+-- Pieces that are put one after the other are put as one.
 use Rattle.std.proofs.Common.{◌≡◌, ℕ, ◌+◌, ◌-◌, ◌≤◌, List, [], ◌∷◌, ◌++◌, length, take, drop, refl, sym, ap, subst, ◌∙◌, arith, add-zero, append_assoc, append-nil, length-append, length-drop, get_or, ◌<◌, inl, inr, Result, OnOk, OnErr}
 use Rattle.std.specs.Prelude.{flat_map}
 use Rattle.std.specs.List.{AllByRecursion}
@@ -70,7 +70,7 @@ puts_one at bytes s t was goes = record {
   are = ap (λ (m : Moment). m.bytes) was;
 }
 
--- one behind the other
+-- one after the other
 pub puts_then : (at : ℕ) (first second : List ℕ) (s t u : State) → at ≤ length s.now.bytes → Puts at first s t → Puts (at + length first) second t u → Puts at (first ++ second) s u
 puts_then at first second s t u room one two =
     let all = length-append first second in
@@ -122,7 +122,7 @@ pub image_place : {X : Type 0} (f : X → List ℕ) (xs : List X) (i : ℕ) (x :
     → length (flat_map f (take (i + 1) xs)) ≡ length (flat_map f (take i xs)) + length (f x)
 image_place f xs i x lt is = ap length (flat_map_more f xs i x lt) ∙ length-append (flat_map f (take i xs)) (f (get_or xs i x)) ∙ ap (λ y. length (flat_map f (take i xs)) + length (f y)) (sym is)
 
--- three parts, one behind the other
+-- three parts, one after the other
 pub puts_three : (at : ℕ) (one two three : List ℕ) (second third : ℕ) (s t u v : State) → at ≤ length s.now.bytes → second ≡ at + length one → third ≡ second + length two
     → Puts at one s t → Puts second two t u → Puts third three u v → Puts at ((one ++ two) ++ three) s v
 puts_three at one two three second third s t u v room is_second is_third first next last =

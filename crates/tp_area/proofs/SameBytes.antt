@@ -21,7 +21,7 @@ bytes_eq-front : (a b d : List ℕ) → bytes_eq (a ++ b) (a ++ d) ≡ bytes_eq 
 bytes_eq-front [] b d = refl
 bytes_eq-front (x ∷ a) b d = ap (λ t. t && bytes_eq (a ++ b) (a ++ d)) (eq-eqb x x refl) ∙ bytes_eq-front a b d
 
--- behind a piece that is known to be equal, the rest alone is compared
+-- after a piece that is known to be equal, the rest alone is compared
 pub piece_same : (n start place : ℕ) (bytes front rest : List ℕ) → place ≡ start + n → take n (drop start bytes) ≡ front
     → bytes_eq (drop start bytes) (front ++ rest) ≡ bytes_eq (drop place bytes) rest
 piece_same n start place bytes front rest at same =

@@ -52,7 +52,7 @@ module _ (M : Machine NodeState) (A : Areas NodeState) (law : AreasHold M A) (h 
         ),
       )
 
-  -- the other area's gate is closed where it is open
+  -- the other area's gate is closed if it is open
   pub within_clear : (disk : Moment) → RestsBetweenGroups A h disk → (found : Option ℕ) → A.open_other disk.bytes ≡ found
       → AllWithin (clear_calls found) disk (λ left. A.verdict left ≡ Some h)
   within_clear disk rests None is = (λ left may. rests_may M A law h disk rests left may, λ left may. rests_may M A law h disk rests left may)

@@ -1,4 +1,4 @@
--- Numbers of two bytes that stand one behind the other.
+-- Numbers of two bytes, one after the other.
 use Rattle.std.proofs.Common.{◌≡◌, ℕ, suc, ◌+◌, ◌-◌, ◌<◌, List, [], ◌∷◌, ◌++◌, drop, sym, ap, ◌∙◌, arith, append_assoc}
 use Rattle.tp_model.specs.Bytes.{u16_at}
 use Rattle.tp_model.specs.Head.{u16s_at}

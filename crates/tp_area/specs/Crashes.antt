@@ -6,15 +6,15 @@ use Rattle.tp_model.specs.Areas.{Held}
 use Rattle.tp_model.specs.DeviceAreas.{device_areas}
 use Rattle.tp_law_network.specs.Standing.{RestsBetweenGroups}
 
--- opened, the bytes stand for this
+-- opened, the bytes hold this
 abbrev pub StandsOpened : Held NodeState → List ℕ → Type 0
 StandsOpened h bytes = device_areas.verdict bytes ≡ Some h
 
--- for the one, or for the other
+-- the one, or the other
 abbrev pub OpensToEither : Held NodeState → Held NodeState → List ℕ → Type 0
 OpensToEither h k bytes = StandsOpened h bytes ⊎ StandsOpened k bytes
 
--- The device stands for this, and what is unsynced lies behind the other area's closed gate. So it does while pieces are
--- put there, and at all times that nothing is unsynced.
+-- The device holds this, and what is unsynced comes after the other area's closed gate. This is true while pieces are put there, and
+-- whenever nothing is unsynced.
 abbrev pub RestsAs : Held NodeState → State → Type 0
 RestsAs h s = RestsBetweenGroups device_areas h s.now

@@ -21,7 +21,7 @@ use Rattle.tp_area.specs.Puts.{ButFor}
 use Rattle.tp_area.specs.declared.fault.FormatFault.{FormatFault}
 use Rattle.tp_area.specs.declared.fault.FormatFault.TheVariants.{BadImage, Memory, AreaFull, DeviceFailed}
 
--- Whether images may be on a formatted device, and the answer. Want of memory may be answered before a bad image is met.
+-- Whether images may be on a formatted device, and the answer. `Memory` may be answered before a bad image is found.
 abbrev pub Checks : {A : Type 0} → Option A → Result (Unit {0}) FormatFault → Type 0
 Checks (Some x) (Ok unit) = Unit {0}
 Checks None (Ok unit) = ⊥
@@ -51,8 +51,8 @@ pub record Wrote (first head : List ℕ) (areas : TwoAreas) (old new : State) : 
   pub called : Called (put_calls pieces ++ (Sync ∷ Write 0 head ∷ Sync ∷ [])) old new
   pub bytes : new.now.bytes ≡ written (with_areas first areas old.now.bytes) 0 head
 
--- The device was formatted, with turns, for the network of the images, before its first entry, and so is whatever a crash leaves
--- from then on.
+-- The device was formatted, with turns, for the network of the images, before its first entry. Whatever a crash leaves from then on is
+-- formatted like this, too.
 pub record Formatted (t : Topology) (images : List (List ℕ)) (areas : TwoAreas) (old new : State) : Type 0 where
   pub start : Network NodeState
   pub is : start_of t images ≡ Some start
@@ -66,13 +66,13 @@ pub record HasNewAreas (t : Topology) (images : List (List ℕ)) (areas : TwoAre
   pub is : start_of t images ≡ Some start
   pub same : SameOutside 0 areas.first (with_areas (fresh_area t start) areas old) left
 
--- What a crash since formatting began leaves: all outside the areas, the head too, as a crash before it might have left
--- that; or both areas complete.
+-- What a crash since formatting began leaves: everything outside the areas, the head too, as a crash before might have left it; or both
+-- areas complete.
 abbrev pub IsOldOrNew : Topology → List (List ℕ) → TwoAreas → State → List ℕ → Type 0
 IsOldOrNew t images areas old left = ButFor areas.first (2 * areas.length) old.now left ⊎ HasNewAreas t images areas old.now.bytes left
 
--- What is answered: images that don't fit the topology before a device that is too small, and both before any call of the
--- device. Want of memory may come before both.
+-- The answer: images that don't fit the topology before a device that is too small, and both before any call of the device. `Memory` may
+-- come before both.
 abbrev pub FormatAnswer : {A : Type 0} → Option A → Bool → Result (Unit {0}) FormatFault → Type 0
 FormatAnswer start fits (Err Memory) = Unit {0}
 FormatAnswer None fits (Err BadImage) = Unit {0}

@@ -1,4 +1,4 @@
--- The bytes in front of an area's cut image.
+-- The bytes before an area's cut image.
 use Rattle.std.specs.Prelude.{ℕ, ◌+◌, List, ◌++◌, Result, Ok}
 use Rattle.tp_model.specs.declared.form.Form.{Form}
 use Rattle.tp_model.specs.declared.opening.OpenFault.{OpenFault}
@@ -15,7 +15,7 @@ use Rattle.tp_area.specs.declared.front.CutFront.{CutFront}
 abbrev pub area_front : ℕ → List ℕ → AreaFront
 area_front start bytes = record { is_open = is_open (u8_at bytes start); generation = u64_at bytes (start + 1) }
 
--- the generation of a content of this form and the number of entries in its cut, if the fields in front of its images are good
+-- the generation of a content of this form and the number of entries in its cut, if the fields before its images are good
 abbrev pub cut_front : List ℕ → Form → CutFront
 cut_front content form = record { generation = generation_of content; form = form; base = base_of content }
 

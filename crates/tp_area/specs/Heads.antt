@@ -9,7 +9,7 @@ use Rattle.tp_model.specs.Device.{fits_device}
 use Rattle.tp_model.specs.Head.{Head, head_at, head_bytes, keeps_limits, magic, version_of}
 use Rattle.tp_model.specs.Topology.{Topology, is_topology}
 
--- the version that the bytes say, or why they are no head that is read here
+-- the version that the bytes say, or why they are no head
 abbrev pub version_given : Option HeadVersion → Result HeadVersion OpenFault
 version_given None = Err BadVersion
 version_given (Some version) = Ok version

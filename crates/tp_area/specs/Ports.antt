@@ -1,4 +1,4 @@
--- The record of a port, without any claim of it, and the port that it says.
+-- The record of a port, whether it is valid or not, and the port that it says.
 use Rattle.std.specs.Prelude.{ℕ, ◌+◌, ◌-◌, Bool, ◌&&◌, ◌==◌, nat_le, List, take, drop, bytes_eq}
 use Rattle.std.specs.List.{list_all}
 use Rattle.tp_model.specs.declared.limits.TheConstants.{MAX_HELD, PORT_BYTES}
@@ -18,7 +18,7 @@ is_port_at base bytes = bytes_eq (take PORT_BYTES bytes) (port_bytes (port_at by
 abbrev pub is_zero : ℕ → Bool
 is_zero byte = byte == 0
 
--- the port's rules, where the record holds these numbers of bytes: what fills it up is 00, and its positions were reached
+-- the port's rules, if the record holds these numbers of bytes: what fills it up is 00, and its positions were reached
 abbrev pub keeps_rules : ℕ → ℕ → ℕ → List ℕ → Bool
 keeps_rules base held shown bytes =
     list_all is_zero (take (MAX_HELD - held) (drop (20 + held) bytes))

@@ -13,7 +13,7 @@ use tp_model::TwoAreas;
 use tp_model::limits::AREA_HEAD_BYTES;
 use tp_net::Topology;
 
-/// How many bytes an area needs for `entries` entries that anyone may make, each in a group of its own.
+/// Gives how many bytes an area needs for `entries` entries that anyone may make, each in a group of its own.
 pub fn area_for(topology: &Topology, entries: u64) -> u64
     requires { entries < 2 ^ 32 }
     ensures value { result ≡ cut_length topology.now + (AREA_HEAD_BYTES + 1) + (reserve (line_count topology.now) + entry_room * entries) }
@@ -23,8 +23,7 @@ pub fn area_for(topology: &Topology, entries: u64) -> u64
     cut_length(topology) + (AREA_HEAD_BYTES + 1) as u64 + kept
 }
 
-/// Whether a device of `size` bytes has room for the two areas, and each of them for a cut image and for an entry that anyone
-/// may make.
+/// Whether a device of `size` bytes has room for the two areas, and each area for a cut image and for an entry that anyone may make.
 pub fn fits(size: u64, topology: &Topology, areas: TwoAreas) -> bool
     ensures { result ≡ fits_device size topology.now areas }
 {

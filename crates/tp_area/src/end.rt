@@ -11,7 +11,7 @@ use tp_model::limits::{MAX_NODES, MAX_PORTS, NARROW_PORT, WIDE_PORT};
 use tp_model::{HeadVersion, WireEnd};
 use tp_net::{MAX_LINES, link_line};
 
-/// The number that stands for port 0.
+/// Gives the number of port 0.
 fn first_port(version: HeadVersion) -> u16
     ensures { result ≡ first_port version }
 {
@@ -21,7 +21,7 @@ fn first_port(version: HeadVersion) -> u16
     }
 }
 
-/// The number that stands for the other end of a wire.
+/// Gives the number of the other end of a wire.
 fn end_number(version: HeadVersion, end: Option<WireEnd>) -> u16
     requires { end_number version end < first_port version + MAX_PORTS }
     ensures { result ≡ end_number version end }
@@ -33,7 +33,7 @@ fn end_number(version: HeadVersion, end: Option<WireEnd>) -> u16
     }
 }
 
-/// The numbers that stand for the other ends of wires.
+/// Gives the numbers of the other ends of wires.
 pub(crate) fn end_numbers(
     version: HeadVersion,
     ends: &[Option<WireEnd>],
@@ -49,7 +49,7 @@ pub(crate) fn end_numbers(
     numbers
 }
 
-/// Whether `number` stands for an end that a network may have, or for none.
+/// Whether `number` is that of an end that a network may have, or of none.
 fn is_number(version: HeadVersion, number: u16) -> bool
     ensures { result ≡ is_end_number version number }
 {
@@ -61,7 +61,7 @@ fn is_number(version: HeadVersion, number: u16) -> bool
     }
 }
 
-/// Whether each of `numbers` stands for such an end, or for none.
+/// Whether each of `numbers` is that of such an end, or of none.
 pub(crate) fn are_numbers(version: HeadVersion, numbers: &[u16]) -> bool
     ensures { result ≡ list_all (is_end_number version) numbers.now }
 {
@@ -73,7 +73,7 @@ pub(crate) fn are_numbers(version: HeadVersion, numbers: &[u16]) -> bool
     true
 }
 
-/// The end of a wire that `number` stands for.
+/// Gives the end of a wire with this number.
 fn end_of_number(version: HeadVersion, number: u16) -> Option<WireEnd>
     requires { is_end_number version number ≡ true }
     ensures { result ≡ end_of_number version number }
@@ -89,7 +89,7 @@ fn end_of_number(version: HeadVersion, number: u16) -> Option<WireEnd>
     }
 }
 
-/// The ends of wires that numbers stand for.
+/// Gives the ends of wires with these numbers.
 pub(crate) fn ends_of(version: HeadVersion, numbers: &[u16]) -> ArrayVec<Option<WireEnd>, MAX_LINES>
     requires few { length numbers.now ≤ MAX_LINES }
     requires ends { list_all (is_end_number version) numbers.now ≡ true }

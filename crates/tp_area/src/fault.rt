@@ -1,4 +1,4 @@
-//! Why a call of the store, or formatting, is refused.
+//! Why a call of the store, or formatting, fails.
 
 use thiserror::Error;
 
@@ -23,10 +23,10 @@ pub enum FormatFault {
     /// The device is too small for two such areas, or an area for an entry.
     #[error("AreaFull")]
     AreaFull,
-    /// Memory was refused.
+    /// Out of memory.
     #[error("Memory")]
     Memory,
-    /// There is not one image a node, or an image is none, has other pages than its node, or has a link that isn't idle.
+    /// Not every node has one image; or an image is none, has other pages than its node, or has a link that isn't idle.
     #[error("BadImage")]
     BadImage,
 }

@@ -1,4 +1,4 @@
-//! The form of an area as a number, which stands behind the base of its cut.
+//! The form of an area as a number, which follows the base of its cut.
 
 ghost use Rattle.std.specs.Prelude.{◌≡◌, ◌<◌};
 ghost use Rattle.tp_model.specs.declared.limits.TheConstants.{NUMBER_LIMIT};
@@ -8,7 +8,7 @@ ghost use Rattle.tp_model.specs.Opening.{form_at};
 use tp_model::Form;
 use tp_model::limits::{NUMBER_LIMIT, PLAIN_FORM, TURNS_FORM};
 
-/// The number that says a base and, behind it, the form of an area.
+/// Gives the number that says a base and then the form of an area.
 pub(crate) fn base_number(form: Form, base: u64) -> u64
     requires { base < NUMBER_LIMIT }
     ensures { result ≡ base_number form base }
@@ -20,7 +20,7 @@ pub(crate) fn base_number(form: Form, base: u64) -> u64
     base + NUMBER_LIMIT * form
 }
 
-/// The form that `number` says, if it is one that is read here.
+/// Gives the form that `number` says; `None` if it says none.
 pub(crate) fn form_at(number: u64) -> Option<Form>
     ensures { result ≡ form_at number }
 {

@@ -26,11 +26,10 @@ use tp_model::limits::{GATE_CLOSED, GATE_OPEN};
 use tp_model::{Form, TwoAreas};
 use tp_net::Topology;
 
-/// Bytes of an area in front of its images.
+/// Bytes of an area before its images.
 const FRONT_BYTES: usize = 1 + FIELDS_BYTES;
 
-/// How the first area is filled: the bytes of its images, of its cut, and of the records behind the images with the closed
-/// gate behind those.
+/// How the first area is filled: the bytes of its images, of its cut, and of the records after the images with the closed gate after those.
 #[derive(Clone, Copy)]
 struct Lengths {
     images: u64,
@@ -38,7 +37,7 @@ struct Lengths {
     rest: u64,
 }
 
-/// How many bytes the first area of a network is filled with.
+/// Counts the bytes with which the first area of a network is filled.
 fn lengths_of(topology: &Topology) -> Lengths
     ensures images { result.images ≡ images_length topology.now }
     ensures cut { result.cut ≡ cut_length topology.now }
@@ -52,8 +51,8 @@ fn lengths_of(topology: &Topology) -> Lengths
     }
 }
 
-/// Writes what the first area begins with: its gate, open; generation 1; its cut's length; and that the cut holds no entry and the area
-/// may hold turns.
+/// Writes what the first area begins with: its gate, open; generation 1; its cut's length; and that the cut holds no entry and the area may
+/// hold turns.
 #[tactic(auto, unfolding(crate::specs::Formatting::area_front))]
 fn put_front(cut: u32, out: &mut [u8])
     requires { FRONT_BYTES ≤ length out.old }
@@ -68,8 +67,8 @@ fn put_front(cut: u32, out: &mut [u8])
     put_fields(front, cut, &mut out[1..]);
 }
 
-/// Puts the first area, which begins at `at`, as far as it is written: its lines and ports are empty, so they are zeros, as
-/// the closed gate is.
+/// Puts the first area, which begins at `at`, as far as it is written. Its lines and ports are empty, so they are zeros, like the closed
+/// gate.
 fn put_first_area<D: Disk>(
     disk: &mut D,
     at: u64,
@@ -120,9 +119,10 @@ fn write_all<D: Disk>(
     write_through(disk, 0, head)
 }
 
-/// Formats a device for the network of `images`, one a node, with areas of `area` bytes: the head is a narrow one where that can say
-/// `topology`, else a wide one; the first area is open, with generation 1 and with turns, the network and no entry; the second one is
-/// closed. Memory is taken for one node's memory at a time.
+/// Formats a device for the network of `images`, one a node, with areas of `area` bytes. The head is a narrow one if that is enough for
+/// `topology`, else a wide one. The first area is open, with generation 1 and with turns, the network and no entry. The second one is
+/// closed. It takes memory for one node at a time. Fails with `BadImage`, `AreaFull` or `Memory` before any call of the device, or with
+/// `DeviceFailed`.
 pub fn format<D: Disk>(
     alloc: Global,
     disk: &mut D,

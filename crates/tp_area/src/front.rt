@@ -11,12 +11,12 @@ use tp_model::limits::{AREA_HEAD_BYTES, BASE_BYTES, GATE_OPEN, NUMBER_LIMIT};
 use tp_model::number::{u32_at, u64_at};
 use tp_model::{Form, OpenFault};
 
-/// Where the length of the cut image stands behind an area's gate, and where its base does, with the form of the area.
+/// Where the length of the cut image is after an area's gate, and where its base is, with the form of the area.
 const LENGTH_PLACE: usize = 8;
 
 const BASE_PLACE: usize = AREA_HEAD_BYTES - 1;
 
-/// Bytes of an area's gate and its generation, by which an area is chosen.
+/// Bytes of an area's gate and its generation, by which opening chooses an area.
 pub const AREA_FRONT_BYTES: usize = 1 + LENGTH_PLACE;
 
 /// Bytes of the fields between an area's gate and its node images.
@@ -37,7 +37,7 @@ pub struct CutFront {
     pub base: u64,
 }
 
-/// The gate and the generation of the area that begins with `bytes`.
+/// Reads the gate and the generation of the area that begins with `bytes`.
 pub fn area_front(bytes: &[u8]) -> AreaFront
     requires { AREA_FRONT_BYTES ≤ length bytes.now }
     ensures { result ≡ area_front 0 bytes.now }
@@ -48,8 +48,8 @@ pub fn area_front(bytes: &[u8]) -> AreaFront
     }
 }
 
-/// What the fields in front of `bytes` say, which stand behind the gate of an area that begins at `at` and whose cut image has
-/// to have `wanted` bytes.
+/// Reads the fields at the front of `bytes`, which follow the gate of an area that begins at `at` and whose cut image has to have `wanted`
+/// bytes. `Damaged` with `at` if they break a rule.
 pub fn cut_front(bytes: &[u8], wanted: u64, at: u64) -> Result<CutFront, OpenFault>
     requires { FIELDS_BYTES ≤ length bytes.now }
     ensures is { (t : Topology) → wanted ≡ cut_length t → result ≡ front_given t at bytes.now }

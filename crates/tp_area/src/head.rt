@@ -53,7 +53,7 @@ impl Model for Head {
 }
 
 impl Head {
-    /// The version, which can say the topology.
+    /// Gives the version, which can state the topology.
     pub fn version(&self) -> HeadVersion
         ensures value { result ≡ self.now.version }
         ensures limits { keeps_limits self.now.version self.now.topology ≡ true }
@@ -62,7 +62,7 @@ impl Head {
         self.version
     }
 
-    /// The topology, which keeps its rules.
+    /// Gives the topology, which keeps its rules.
     pub fn topology(&self) -> &Topology
         ensures value { result.now ≡ self.now.topology }
         ensures valid { is_topology self.now.topology ≡ true }
@@ -70,7 +70,7 @@ impl Head {
         &self.topology
     }
 
-    /// Where the areas are, which have enough bytes for an entry.
+    /// Tells where the areas are, which have enough bytes for an entry.
     pub fn areas(&self) -> TwoAreas
         ensures value { result ≡ self.now.areas }
         ensures roomy { is_roomy self.now.topology self.now.areas.length ≡ true }
@@ -80,7 +80,7 @@ impl Head {
     }
 }
 
-/// The bytes of the head of version `version` of a device for `topology`, with `areas` behind it.
+/// Gives the bytes of the head of version `version` of a device for `topology`, with `areas` after it.
 pub fn head_bytes(
     version: HeadVersion,
     topology: &Topology,
@@ -107,7 +107,7 @@ pub fn head_bytes(
     out
 }
 
-/// Decodes the topology from the `bytes` of a head, if it keeps the rules of topologies and the limits of the version.
+/// Decodes the topology from the `bytes` of a head; `None` if it breaks the rules of topologies or the limits of the version.
 #[inline(never)]
 fn topology_in(version: HeadVersion, bytes: &[u8]) -> Option<Topology>
     requires whole { length bytes.now ≡ head_length version }
@@ -162,7 +162,7 @@ fn is_whole(
     spells(version, bytes, topology, areas) && fits(len, topology, areas)
 }
 
-/// The head of version `version` that `bytes` are, if they are one and a device of `len` bytes has room for what it says.
+/// Reads the head of version `version` from `bytes`; `None` if they are none, or a device of `len` bytes has no room for what it says.
 fn fields_in(version: HeadVersion, bytes: &[u8], len: u64) -> Option<Head>
     requires { length bytes.now ≡ head_length version }
     ensures value { result ≡ fields_in version len bytes.now }
@@ -181,7 +181,8 @@ fn fields_in(version: HeadVersion, bytes: &[u8], len: u64) -> Option<Head>
     }
 }
 
-/// The version of the head of a device that begins with `bytes`.
+/// Reads the version of the head of a device that begins with `bytes`. `NotFormatted` if they begin no head, and `BadVersion` for an
+/// unknown version.
 pub fn head_version(bytes: &[u8]) -> Result<HeadVersion, OpenFault>
     requires { NARROW_HEAD_BYTES ≤ length bytes.now }
     ensures { result ≡ version_in bytes.now }
@@ -195,7 +196,8 @@ pub fn head_version(bytes: &[u8]) -> Result<HeadVersion, OpenFault>
     }
 }
 
-/// The head of a device of `len` bytes, which begins with `bytes` and whose head says that it is of version `version`.
+/// Reads the head of a device of `len` bytes, which begins with `bytes` and whose head says that it is of version `version`. `Damaged` at
+/// place 0 if it breaks a rule.
 pub fn head_in(version: HeadVersion, bytes: &[u8], len: u64) -> Result<Head, OpenFault>
     requires { length bytes.now ≡ head_length version }
     ensures value { result ≡ head_in version len bytes.now }

@@ -8,7 +8,7 @@ use crate::fault::FormatFault;
 use std::alloc::Global;
 use tp_node::{ImageFault, Node, has_idle_links};
 
-/// Whether `image` is that of a node with `pages` pages whose links are idle.
+/// Tests that `image` is that of a node with `pages` pages whose links are idle.
 fn check_image(alloc: Global, pages: u16, image: &[u8]) -> Result<(), FormatFault>
     ensures { Checks (fresh_node pages image.now) result }
 {
@@ -27,7 +27,7 @@ fn check_image(alloc: Global, pages: u16, image: &[u8]) -> Result<(), FormatFaul
     Ok(())
 }
 
-/// Whether there is one such image for each node.
+/// Tests that there is one such image for each node.
 pub(crate) fn check_images(
     alloc: Global,
     pages: &[u16],

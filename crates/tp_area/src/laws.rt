@@ -26,20 +26,19 @@ ghost use Rattle.tp_area.specs.Other.{Cleared, Switched, other_gate};
 ghost use Rattle.tp_area.specs.Places.{place_at, place_in};
 ghost use Rattle.tp_area.specs.Tails.{TailParts, TailPut, tail_pieces, tail_refusal};
 
-/// A device that opens says the place of its next group. So whoever opens a device has what `Store::new` asks.
+/// A device that opens says the place of its next group: it has what `Store::new` needs.
 pub fn open_devices_say_their_place()
     ensures { (bytes : List ℕ) (o : Opened) → verdict bytes ≡ Ok o → place_in bytes ≡ Some (place_at o) }
 {}
 
-/// A device that opens rests where all is synced, as it is after opening. Whatever a crash leaves of one that rests opens as
-/// it did.
+/// A device that opens and is synced rests, as it does after opening. Whatever a crash leaves of one that rests opens as it did.
 pub fn resting_devices_open_alike()
     ensures synced { (s : State) (o : Opened) → verdict s.now.bytes ≡ Ok o → IsSynced s → RestsAs (held_of o) s }
     ensures alike { (h : Held NodeState) (s : State) → RestsAs h s → (left : List ℕ) → MayBe s.now left → StandsOpened h left }
 {}
 
-/// What finds room in the journal, each entry in a group of its own, is never refused for want of room: a group behind the
-/// ones that a device holds, and the tail of a checkpoint.
+/// What has room in the journal, each entry in a group of its own, always fits. That includes a group after the ones that a device holds,
+/// and the tail of a checkpoint.
 pub fn entries_with_room_fit()
     ensures appended { (bytes : List ℕ) (o : Opened) (count : ℕ) → AllByRecursion (λ byte. byte < 256) bytes → verdict bytes ≡ Ok o → 1 ≤ count
         → entry_room * (length o.kept + count) ≤ room o.head.topology o.head.areas.length → append_refusal false (place_at o) count ≡ None }
@@ -47,10 +46,11 @@ pub fn entries_with_room_fit()
         → entry_room * length entries ≤ room t place.areas.length → tail_refusal false place t entries ≡ None }
 {}
 
-/// One behind the other, the calls of a checkpoint are a piece of a run without an opening, from a world on in which the flusher
-/// rests and a cut is whole: the other area is cleared, pieces of images are put there, then the rest, and its gate is opened.
-/// The run copies the cut with its tail before the rest is put, and trims the book behind the last sync. Where the area holds the
-/// copy then, the device stands for it, the cut is the kept one, and all entries are stored.
+/// The calls of a checkpoint, one after the other, are a piece of a run without an opening. It begins in a world in which the flusher rests
+/// and a cut is whole. The other area is cleared, pieces of images are put there, then the rest, and its gate is opened.
+///
+/// The run copies the cut with its tail before the rest is put, and trims the book after the last sync. If the area then holds the copy, so
+/// does the device, the cut is the kept one, and all entries are stored.
 pub fn checkpoints_walk()
     ensures { (w : World NodeState) (o : Opened) (cut : WholeCut) (nodes : List NodeState) (t : Topology) (p : TailParts) (pieces : List (ℕ × List ℕ)) (rested cleared put filled switched : State)
         → w.at ≡ Resting → w.disk ≡ rested.now → HasCut w.net cut nodes → verdict rested.now.bytes ≡ Ok o → RestsAs (held_of o) rested → Cleared (place_at o) rested cleared

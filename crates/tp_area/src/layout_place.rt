@@ -1,4 +1,4 @@
-//! Where areas and the records of a cut stand.
+//! Where areas and the records of a cut are.
 
 ghost use Rattle.std.specs.Prelude.{◌≡◌, ◌+◌, ◌^◌, ◌<◌, ◌≤◌, true, length};
 ghost use Rattle.tp_model.specs.Device.{area_start};
@@ -15,7 +15,7 @@ use tp_model::limits::{AREA_HEAD_BYTES, IMAGE_HEAD_BYTES, LINE_BYTES, PAGE_BYTES
 use tp_model::{HeadVersion, TwoAreas};
 use tp_net::Topology;
 
-/// The areas of `length` bytes each behind a head of version `version`.
+/// Gives the areas of `length` bytes each after a head of version `version`.
 pub fn areas_of_length(version: HeadVersion, length: u64) -> TwoAreas
     ensures { result ≡ areas_of_length version length }
 {
@@ -25,7 +25,7 @@ pub fn areas_of_length(version: HeadVersion, length: u64) -> TwoAreas
     }
 }
 
-/// Where an area begins: the first one, or the second one.
+/// Tells where an area begins: the first one, or the second one.
 pub fn area_start(areas: TwoAreas, second: bool) -> u64
     requires { areas.first + areas.length < 2 ^ 64 }
     ensures { result ≡ area_start areas second }
@@ -37,8 +37,8 @@ pub fn area_start(areas: TwoAreas, second: bool) -> u64
     }
 }
 
-/// Where piece `piece` of the image of node `node` stands behind an area's gate: piece 0 is the image's head, pieces from 1 on
-/// are its pages.
+/// Tells where piece `piece` of the image of node `node` is, counted from after an area's gate. Piece 0 is the image's head, and pieces
+/// from 1 on are its pages.
 pub fn piece_place(topology: &Topology, node: usize, piece: usize) -> u64
     requires node { node < length topology.now.pages }
     requires piece { piece ≤ MAX_PAGES }
@@ -53,7 +53,7 @@ pub fn piece_place(topology: &Topology, node: usize, piece: usize) -> u64
     }
 }
 
-/// Where the first node's image, the first line's record, the first port's record and the first group's gate stand.
+/// Where the first node's image, the first line's record, the first port's record and the first group's gate are.
 #[derive(Clone, Copy)]
 pub struct Places {
     pub nodes: u64,
@@ -63,7 +63,7 @@ pub struct Places {
 }
 
 impl Places {
-    /// The places in an area whose content, which is all behind its gate, begins at `at`.
+    /// Gives the places in an area whose content, which is all after its gate, begins at `at`.
     pub fn of(topology: &Topology, at: u64) -> Places
         requires { at + 2 ^ 33 < 2 ^ 64 }
         ensures nodes { result.nodes ≡ at + nodes_place }

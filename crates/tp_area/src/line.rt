@@ -29,7 +29,7 @@ pub enum LineTokens {
 }
 
 impl LineTokens {
-    /// The tokens as those of a cut; `None` where a cut has no line with them.
+    /// Reads the tokens as those of a cut; `None` if a cut has no line with them.
     pub fn of(tokens: &[Token]) -> Option<LineTokens>
         ensures { option_map tokens_on result ≡ (if has_record tokens.now then Some tokens.now else None) }
     {
@@ -43,7 +43,7 @@ impl LineTokens {
         }
     }
 
-    /// The tokens that the fields of a record spell, if they spell some.
+    /// Gives the tokens that the fields of a record spell, if they spell some.
     fn of_fields(count: u8, first: u8, byte: u8) -> LineTokens
         ensures { tokens_on result ≡ tokens_of count first byte }
     {
@@ -77,7 +77,7 @@ impl LineTokens {
     }
 }
 
-/// The tokens of a line with wire `wire`, whose record `bytes` is, if it is one.
+/// Reads the tokens of a line with wire `wire` from its record; `None` if `bytes` are no such record.
 pub fn line_in(wire: Option<WireEnd>, bytes: &[u8]) -> Option<LineTokens>
     requires { length bytes.now ≡ LINE_BYTES }
     ensures { option_map tokens_on result ≡ line_with wire bytes.now }
@@ -91,7 +91,7 @@ pub fn line_in(wire: Option<WireEnd>, bytes: &[u8]) -> Option<LineTokens>
     }
 }
 
-/// The tokens on line `line`, which a cut can have.
+/// Gives the tokens on line `line`, which a cut can have.
 fn tokens_on(lines: &Lines, line: usize) -> LineTokens
     requires there { line < length lines.now }
     requires recorded { has_record (on_line lines.now line) ≡ true }
@@ -106,7 +106,7 @@ fn tokens_on(lines: &Lines, line: usize) -> LineTokens
     }
 }
 
-/// The records of all lines, one behind the other.
+/// Gives the records of all lines, one after the other.
 pub fn lines_bytes(lines: &Lines) -> ArrayVec<u8, LINES_BYTES>
     requires few { length lines.now ≤ MAX_LINES }
     requires recorded { AllByRecursion (λ line. has_record line ≡ true) lines.now }

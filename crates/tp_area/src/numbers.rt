@@ -1,4 +1,4 @@
-//! Numbers one behind the other, in one byte each or in two.
+//! Numbers one after the other, in one byte each or in two.
 
 ghost use Rattle.std.specs.Prelude.{◌≡◌, ◌+◌, ◌*◌, ◌≤◌, ◌<◌, ◌^◌, ◌++◌, ℕ, length, flat_map, get_or};
 ghost use Rattle.arrayvec.specs.ArrayVec.{array_vec_len};
@@ -51,7 +51,7 @@ pub(crate) fn put_numbers<const N: usize>(
     }
 }
 
-/// The numbers in one byte each.
+/// Reads the numbers in one byte each.
 fn u8s_in<const N: usize>(bytes: &[u8]) -> ArrayVec<u16, N>
     requires few { length bytes.now ≤ N }
     ensures { result.items ≡ bytes.now }
@@ -63,7 +63,7 @@ fn u8s_in<const N: usize>(bytes: &[u8]) -> ArrayVec<u16, N>
     numbers
 }
 
-/// `count` numbers in two bytes each.
+/// Reads `count` numbers in two bytes each.
 pub(crate) fn u16s_in<const N: usize>(count: usize, bytes: &[u8]) -> ArrayVec<u16, N>
     requires few { count ≤ N }
     requires there { 2 * count ≤ length bytes.now }
@@ -80,7 +80,7 @@ pub(crate) fn u16s_in<const N: usize>(count: usize, bytes: &[u8]) -> ArrayVec<u1
     numbers
 }
 
-/// `count` numbers of ends, as a head of version `version` has them.
+/// Reads `count` numbers of ends, as a head of version `version` has them.
 pub(crate) fn numbers_in<const N: usize>(
     version: HeadVersion,
     count: usize,

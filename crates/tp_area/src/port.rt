@@ -13,7 +13,7 @@ use arrayvec::ArrayVec;
 use tp_model::limits::{MAX_HELD, PORT_BYTES};
 use tp_model::number::{u16_at, u64_at};
 
-/// Where the numbers of a port's record stand, its pending bytes and its outputs.
+/// Where a port's record has its numbers, its pending bytes and its outputs.
 const OUT_BASE_PLACE: usize = 8;
 
 const PENDING_COUNT_PLACE: usize = 16;
@@ -24,8 +24,8 @@ const PENDING_PLACE: usize = 20;
 
 const OUTPUTS_PLACE: usize = PENDING_PLACE + MAX_HELD;
 
-/// What a port's record says: the pending bytes behind `in_base` bytes that were taken off, and the outputs behind `out_base`
-/// bytes that were confirmed.
+/// What a port's record says: the pending bytes after `in_base` bytes that were taken off, and the outputs after `out_base` bytes that were
+/// confirmed.
 #[derive(Clone, Copy)]
 pub struct PortRecord<'a> {
     pub pending: &'a [u8],
@@ -46,7 +46,7 @@ fn are_zeros(bytes: &[u8]) -> bool
     true
 }
 
-/// Whether the positions of a port with `shown` outputs are no more than the entries that led to them.
+/// Whether the positions of a port with `shown` outputs are at most the entries that led to them.
 fn are_reached(base: u64, in_base: u64, out_base: u64, shown: usize) -> bool
     requires { shown ≤ MAX_HELD }
     ensures { result ≡ (nat_le in_base base && nat_le (out_base + shown) base) }
@@ -79,7 +79,7 @@ fn is_port_at(base: u64, bytes: &[u8]) -> bool
     keeps_rules(base, held, shown, bytes)
 }
 
-/// What the record of a port says that holds `held` bytes, and has `shown` outputs.
+/// Reads the record of a port that holds `held` bytes, and has `shown` outputs.
 fn record_in(held: usize, shown: usize, bytes: &[u8]) -> PortRecord<'_>
     requires whole { length bytes.now ≡ PORT_BYTES }
     requires few { held ≤ MAX_HELD }
@@ -94,7 +94,7 @@ fn record_in(held: usize, shown: usize, bytes: &[u8]) -> PortRecord<'_>
     }
 }
 
-/// The port of a cut of `base` entries, whose record `bytes` are, if they are one.
+/// Reads the port of a cut of `base` entries from its record; `None` if `bytes` are none.
 pub fn port_in(base: u64, bytes: &[u8]) -> Option<PortRecord<'_>>
     requires { length bytes.now ≡ PORT_BYTES }
     ensures { option_map port_said result ≡ port_with base bytes.now }
@@ -107,7 +107,7 @@ pub fn port_in(base: u64, bytes: &[u8]) -> Option<PortRecord<'_>>
     Some(record_in(held, shown, bytes))
 }
 
-/// Writes the record of a port in place of what `out` has. So the record is on the stack once, and nobody moves it.
+/// Writes the record of a port in place of what `out` has. So the record is on the stack once, and is never moved.
 pub(crate) fn put_port(port: PortRecord<'_>, out: &mut ArrayVec<u8, PORT_BYTES>)
     requires few { length port.pending.now ≤ MAX_HELD }
     requires few_outputs { length port.outputs.now ≤ MAX_HELD }

@@ -38,7 +38,7 @@ pub(crate) fn put_zeros<D: Disk>(disk: &mut D, at: u64, count: u64) -> Result<()
     Ok(())
 }
 
-/// Puts images, one behind the other.
+/// Puts images, one after the other.
 pub(crate) fn put_images<D: Disk>(
     disk: &mut D,
     at: u64,

@@ -1,4 +1,4 @@
-//! The versions of a head, and what each can say.
+//! The versions of a head, and what each can state.
 
 ghost use Rattle.std.specs.Prelude.{◌≡◌, ◌≤◌, true, nat_le};
 ghost use Rattle.std.specs.List.{list_all};
@@ -12,7 +12,7 @@ use tp_model::limits::{
 };
 use tp_net::Topology;
 
-/// How many bytes a head of version `version` has. Behind it the areas begin.
+/// Counts the bytes of a head of version `version`. The areas begin after it.
 pub fn head_length(version: HeadVersion) -> usize
     ensures value { result ≡ head_length version }
     ensures bound { result ≤ WIDE_HEAD_BYTES }
@@ -23,7 +23,7 @@ pub fn head_length(version: HeadVersion) -> usize
     }
 }
 
-/// The byte that says the version.
+/// Gives the byte that says the version.
 pub(crate) fn version_byte(version: HeadVersion) -> u8
     ensures { result ≡ version_byte version }
 {
@@ -33,7 +33,7 @@ pub(crate) fn version_byte(version: HeadVersion) -> u8
     }
 }
 
-/// The version that `byte` says, if it is one that is read here.
+/// Gives the version that `byte` says; `None` if it is unknown.
 pub(crate) fn version_of(byte: u8) -> Option<HeadVersion>
     ensures { result ≡ version_of byte }
 {
@@ -44,7 +44,7 @@ pub(crate) fn version_of(byte: u8) -> Option<HeadVersion>
     }
 }
 
-/// How many nodes a head has fields for.
+/// Counts the nodes that a head has fields for.
 pub(crate) fn head_nodes(version: HeadVersion) -> usize
     ensures value { result ≡ head_nodes version }
     ensures bound { result ≤ WIDE_HEAD_NODES }
@@ -55,7 +55,7 @@ pub(crate) fn head_nodes(version: HeadVersion) -> usize
     }
 }
 
-/// The most pages that a node may have in a head.
+/// Gives the most pages that a node may have in a head.
 fn head_pages(version: HeadVersion) -> usize
     ensures { result ≡ head_pages version }
 {
@@ -84,7 +84,7 @@ fn are_few_pages(version: HeadVersion, pages: &[u16]) -> bool
     true
 }
 
-/// Whether a head of version `version` can say `topology`.
+/// Whether a head of version `version` can state `topology`.
 pub fn keeps_limits(version: HeadVersion, topology: &Topology) -> bool
     ensures value { result ≡ keeps_limits version topology.now }
     ensures rules { is_topology topology.now ≡ true }
@@ -93,7 +93,7 @@ pub fn keeps_limits(version: HeadVersion, topology: &Topology) -> bool
     pages.len() <= head_nodes(version) && are_few_pages(version, pages)
 }
 
-/// The version of the head that formatting writes: a narrow one where it can say `topology`.
+/// Gives the version of the head that formatting writes: a narrow one if that is enough for `topology`.
 pub fn version_for(topology: &Topology) -> HeadVersion
     ensures value { result ≡ version_for topology.now }
     ensures limits { keeps_limits result topology.now ≡ true }

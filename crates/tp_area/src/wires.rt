@@ -22,7 +22,7 @@ fn is_port(port: u8, end: Option<WireEnd>) -> bool
     }
 }
 
-/// The first line that leads to port `port`.
+/// Gives the first line that leads to port `port`; `None` if none does.
 fn line_to_port(links: &[Option<WireEnd>], port: u8) -> Option<usize>
     ensures value { result ≡ position (is_port port) links.now }
     ensures bound { IfSome result (λ line. line < length links.now) }
@@ -30,7 +30,7 @@ fn line_to_port(links: &[Option<WireEnd>], port: u8) -> Option<usize>
     links.iter().position(|end| is_port(port, *end))
 }
 
-/// The link that names port `port`, by the wires of the links of `nodes` nodes.
+/// Gives the link that names port `port`, by the wires of the links of `nodes` nodes; `None` if none does.
 fn port_wire(nodes: usize, links: &[Option<WireEnd>], port: u8) -> Option<WireEnd>
     requires few { nodes ≤ MAX_NODES }
     requires all { length links.now ≤ 4 * nodes }
@@ -42,7 +42,7 @@ fn port_wire(nodes: usize, links: &[Option<WireEnd>], port: u8) -> Option<WireEn
     }
 }
 
-/// Puts the wires of `ports` ports behind those of the links.
+/// Puts the wires of `ports` ports after those of the links.
 fn add_ports(
     nodes: usize,
     links: &[Option<WireEnd>],
@@ -59,7 +59,7 @@ fn add_ports(
     }
 }
 
-/// The receivers of all lines, by the numbers of the ends to which the links of `nodes` nodes lead.
+/// Gives the receivers of all lines, by the numbers of the ends to which the links of `nodes` nodes lead.
 #[inline(never)]
 pub(crate) fn wires_in(
     version: HeadVersion,

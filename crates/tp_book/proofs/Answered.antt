@@ -23,7 +23,7 @@ answered_err (Some reason) r e is h =
     let this : e ≡ reason = cc in
     subst (λ r. IsAnswer (Some reason) r) (sym is) this
 
--- what it doesn't refuse may want memory,
+-- what it doesn't refuse may run out of memory,
 pub answered_memory : (A : Type 0) (why : Option Refusal) → answer_to why ≡ Ok tt → IsAnswer {A = A} why (Err Memory)
 answered_memory A None h = refl
 answered_memory A (Some reason) h = cc
@@ -44,7 +44,7 @@ pub entry_answered : {A : Type 0} (r : Result A Refusal) (x y broken full : Bool
 entry_answered r x y broken full is_broken is_full answer =
     subst (λ x. IsAnswer (else_if (else_if None x StoreBroken) y JournalFull) r) (sym is_broken) (subst (λ y. IsAnswer (else_if (else_if None broken StoreBroken) y JournalFull) r) (sym is_full) answer)
 
--- for a take, of which the journal alone decides
+-- for a take; only the journal decides about it
 pub take_answered : {A : Type 0} (b : BookValue) (needed : Bool) (r : Result A Refusal) (full : Bool) → is_full_for_take b needed ≡ full → IsAnswer (else_if None full JournalFull) r → IsAnswer (take_refusal b needed None) r
 take_answered b needed r full is answer = subst (λ full. IsAnswer (else_if None full JournalFull) r) (sym is) answer
 
@@ -58,19 +58,19 @@ begin_answered b r running broken full is_running is_broken is_full answer =
 
 -- ## Bytes handed in
 
--- where there are some, their test answers
+-- if there are some, their test answers
 pub input_answered : {A : Type 0} (b : BookValue) (p : ℕ) (bytes : List ℕ) (r : Result A Refusal) → (length bytes == 0) ≡ false → IsAnswer (some_input_refusal b p (length bytes)) r
     → IsAnswer (input_refusal b p (length bytes)) r
 input_answered b p bytes r some answer = subst (λ none. IsAnswer (cond none None (some_input_refusal b p (length bytes))) r) (sym some) answer
 
--- where there are none, nothing is refused
+-- if there are none, it always succeeds
 pub empty_answered : {A : Type 0} (b : BookValue) (p : ℕ) (bytes : List ℕ) (x : A) → (length bytes == 0) ≡ true → IsAnswer (input_refusal b p (length bytes)) (Ok x)
 empty_answered b p bytes x none = subst (λ none. IsAnswer (cond none None (some_input_refusal b p (length bytes))) (Ok x)) (sym none) tt
 
 -- ## Outputs confirmed
 
 module _ (b : BookValue) (p upto : ℕ) where
-  -- up to a position that was confirmed before nothing is refused, and nothing journalled
+  -- if the position was confirmed before, the call succeeds and journals nothing
   pub confirmed_answered : {A : Type 0} (x : A) → upto ≤ (port_in b p).out_base → IsAnswer (confirm_refusal b p upto) (Ok x)
   confirmed_answered x before =
       subst (λ before. IsAnswer (cond before None (else_if (else_if None b.broken StoreBroken) (is_journal_full b 1) JournalFull)) (Ok x)) (sym (le-leb upto (port_in b p).out_base before)) tt

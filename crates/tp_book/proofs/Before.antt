@@ -1,4 +1,4 @@
--- What stands on a line before its Marker, token by token.
+-- The tokens on a line before its Marker, one by one.
 use Rattle.std.proofs.Common.{◌≡◌, ℕ, ◌+◌, ◌<◌, ◌≤◌, true, false, cond, List, [], ◌∷◌, ◌++◌, length, take, drop, set, sym, ap, ◌∙◌, arith, append-nil, append_assoc, length-append, Some, slice_get}
 use Rattle.std.proofs.lemmas.List.{drop_more, take_more, set-set}
 use Rattle.std.proofs.lemmas.Option.{get_or_from_slice_get, slice_get_within}

@@ -1,4 +1,4 @@
--- Looking over lines, and over the tokens of one.
+-- Walks over lines, and over the tokens of one.
 use Rattle.std.proofs.Common.{◌≡◌, ℕ, ◌+◌, ◌<◌, ◌≤◌, true, false, cond, List, [], ◌∷◌, length, drop, refl, sym, ap, ◌∙◌, arith, Some, slice_get}
 use Rattle.std.specs.Prelude.{◌&&◌, get_or}
 use Rattle.std.specs.List.{list_all}
@@ -9,7 +9,7 @@ use Rattle.tp_model.specs.Markers.{is_marker}
 use Rattle.tp_model.specs.Network.{on_line}
 use Rattle.tp_book.specs.Clear.{is_clear}
 
--- what stands at a place, and behind it
+-- what is at a place, and after it
 pub drop_here : {A : Type 0} (xs : List A) (i : ℕ) (x : A) → slice_get xs i ≡ Some x → drop i xs ≡ x ∷ drop (i + 1) xs
 drop_here xs i x at = drop_more xs i x (slice_get_within xs i x at) ∙ ap (λ y. y ∷ drop (i + 1) xs) (get_or_from_slice_get xs i x x at)
 

@@ -6,7 +6,7 @@ use Rattle.tp_model.specs.Snapshot.{collected}
 use Rattle.tp_book.specs.Room.{HasRoom}
 use Rattle.tp_book.proofs.Sending.{Next}
 
--- Tokens from a place on have room and lead to the final lines: so does the token there, and what is left behind it.
+-- Tokens from a place on have room and lead to the final lines: so does the token there, and what is left after it.
 pub next_collected : (on : ℕ → Bool) (lines final : List (List Token)) (tokens : List (ℕ × Token)) (i : ℕ) (d : ℕ × Token) → i < length tokens
     → HasRoom on lines (drop i tokens) → sent on lines (drop i tokens) ≡ final → Next on lines final (get_or tokens i d) (drop (i + 1) tokens)
 unfolding sent

@@ -39,7 +39,7 @@ counts-set (r ∷ rs) [] p n e = absurd (omega arith)
 counts-set (r ∷ rs) (c ∷ cs) zero n e = refl
 counts-set (r ∷ rs) (c ∷ cs) (suc p) n e = ap (λ more. cond r (Some c) None ∷ more) (counts-set rs cs p n (omega arith))
 
--- as a snapshot begins
+-- when a snapshot begins
 none_counted : (n : ℕ) → counts_of (replicate n false) (replicate n 0) ≡ replicate n None
 none_counted zero = refl
 none_counted (suc n) = ap (λ more. None ∷ more) (none_counted n)
@@ -88,7 +88,7 @@ module _ (nodes lines hosts size : ℕ) (ports : List Port) (cut : WholeCut) (re
 
 -- ## Where all is closed
 
--- not all are, where one isn't
+-- not all are, if one isn't
 pub all_closed_not : (wired closed : ℕ → Bool) (n l : ℕ) → l < n → wired l ≡ true → closed l ≡ false → all_closed wired closed n ≡ false
 all_closed_not wired closed n l below y unclosed = elim (cases_Bool (all_closed wired closed n)) [
   | inl all ↦ absurd (true≢false (sym (all_closed_at wired closed n all l below y) ∙ unclosed))

@@ -47,7 +47,7 @@ taken_few wires N i tokens k one now is few =
     let same : length (by_line wires N i mine) ≡ length (received one) = length-map mine (λ m. (incoming wires N i m.0, m.1)) ∙ length-map {B = ℕ × Token} (received one) (λ t. (k, t)) in
     omega (arith, few, received_length one, ap length is, length-append tokens (by_line wires N i mine), same)
 
--- what is so of all elements is so of those in front, and of those behind
+-- what is true of all elements is true of those at the front, and of those after them
 all_front : {A : Type 0} (P : A → Type 0) (xs ys : List A) → AllByRecursion P (xs ++ ys) → AllByRecursion P xs
 all_front P [] ys all = tt
 all_front P (x ∷ xs) ys all = (all.0, all_front P xs ys all.1)
@@ -56,7 +56,7 @@ all_behind : {A : Type 0} (P : A → Type 0) (xs ys : List A) → AllByRecursion
 all_behind P [] ys all = all
 all_behind P (x ∷ xs) ys all = all_behind P xs ys all.1
 
--- where all tokens are on lines with low numbers, so are those of the link whose turn it is
+-- if all tokens are on lines with low numbers, so are those of the link whose turn it is
 pub low_on : (wires : List (Option WireEnd)) (N i most : ℕ) (links : List Received) (k : ℕ) (tokens : List (ℕ × Token)) → k < length links
     → tokens ++ by_line wires N i (by_link k (drop k links)) ≡ by_line wires N i (by_link 0 links) → AllByRecursion (λ m. m.0 < most) (by_line wires N i (by_link 0 links))
     → AllByRecursion (λ m. m.0 < most) (by_line wires N i (map (λ t. (k, t)) (received (get_or links k Nothing))))
@@ -75,7 +75,7 @@ there_is (Some x) is = (x, refl)
 abbrev pub without_front : List (List Token) → ℕ → List (List Token)
 without_front lines line = set lines line (drop 1 (on_line lines line))
 
--- The tokens from a place on: the one there stands in front of its line, and the others can be taken behind it.
+-- The tokens from a place on: the one there is at the front of its line, and the others can be taken after it.
 pub record NextOff (lines : List (List Token)) (m : ℕ × Token) (ms rest : List (ℕ × Token)) : Type 0 where
   pub there : m.0 < length lines
   pub some : IsSome (taken (without_front lines m.0) rest)
@@ -95,7 +95,7 @@ pub off_done : (lines : List (List Token)) (tokens : List (ℕ × Token)) (k : �
 unfolding taken
 off_done lines tokens k past = ap (taken lines) (drop_all k tokens past)
 
--- ## In front of the first Marker
+-- ## Before the first Marker
 
 none_before : (ts : List Token) → datas ts ≡ 0 → acks ts ≡ 0 → before ts ≡ []
 none_before [] d a = refl

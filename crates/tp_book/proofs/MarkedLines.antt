@@ -1,4 +1,4 @@
--- A journal's fields, where Markers are sent or taken.
+-- A journal's fields, if Markers are sent or taken.
 use Rattle.std.proofs.Common.{◌≡◌, ℕ, ◌≤◌, true, List, length, map, set, drop, sym, ap, subst, ◌∙◌, arith, length-set}
 use Rattle.std.proofs.lemmas.List.{length-map}
 use Rattle.tp_model.specs.declared.link.Token.{Token}

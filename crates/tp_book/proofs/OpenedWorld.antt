@@ -19,7 +19,7 @@ use Rattle.tp_book.specs.Opened.{cut_of, now_of, kept_entries, IsWellOpen, opene
 use Rattle.tp_book.proofs.Opened.{markers-plain}
 use Rattle.tp_book.proofs.Stood.{no_back}
 
--- a book that begins with entries behind a cut
+-- a book that begins with entries after a cut
 abbrev begun : Network NodeState → List Entry → Network NodeState → MarkedNetwork NodeState
 begun cut entries now = record { start = cut; entries = entries; live = now; snapshot = None; frozen = [] }
 

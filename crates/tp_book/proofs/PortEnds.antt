@@ -1,5 +1,5 @@
--- What a book keeps of its ports: each answers on a line of its own, and what stands in front of a line that goes to a port
--- the port can take, where it has room.
+-- What a book keeps of its ports. Each answers on a line of its own. A port can take the token at the front of a line that goes to it, if
+-- it has room.
 use Rattle.std.proofs.Common.{◌≡◌, ℕ, ◌+◌, ◌*◌, ◌<◌, ◌≤◌, true, false, cond, List, [], ◌∷◌, ◌++◌, length, get_or, refl, sym, ap, subst, ◌∙◌, arith, Option, Some, None, slice_get}
 use Rattle.std.specs.Option.{option_map}
 use Rattle.std.proofs.lemmas.Bool.{lt-ltb, leb-false}
@@ -29,7 +29,7 @@ use Rattle.tp_book.proofs.Commit.{length-agreed}
 
 -- ## What can be taken
 
--- it stands in front
+-- it is at the front
 pub takeable_first : (ts : List Token) (token : Token) → takeable_of ts ≡ Some token → (is_first ts token ≡ true) × (get_or ts 0 Marker ≡ token)
 takeable_first [] token e = cc
 takeable_first (Data b ∷ ts) token e =
@@ -40,7 +40,7 @@ takeable_first (Ack ∷ ts) token e =
     (subst (λ t. is_first (Ack ∷ ts) t ≡ true) same refl, same)
 takeable_first (Marker ∷ ts) token e = cc
 
--- an Ack that stands in front is there
+-- an Ack at the front is on the line
 first_ack : (ts : List Token) → takeable_of ts ≡ Some Ack → 1 ≤ acks ts
 first_ack [] e = cc
 first_ack (Data b ∷ ts) e = cc
@@ -58,7 +58,7 @@ can_be_acked : (pending : List ℕ) (port : Port) → port.pending ≡ pending �
 can_be_acked [] port is some = cc
 can_be_acked (x ∷ xs) port is some = record { after = (record port { pending = xs; in_base = port.in_base + 1 }, in_flight xs); is = rw is }
 
--- a port can take a token, where it has room for it and an Ack finds a byte pending
+-- a port can take a token, if it has room for it and an Ack finds a byte pending
 can_take_front : (ts : List Token) (token : Token) (port : Port) → takeable_of ts ≡ Some token → is_full_for (Some port) token ≡ false
     → (1 ≤ acks ts → is_some_byte port.pending ≡ true) → CanTake port token
 can_take_front ts (Data b) port front free pending =
@@ -94,7 +94,7 @@ module _ (b : BookState NodeState) (K : BookKeeps b) (line p : ℕ) (goes : rece
       ∙ ap (λ o. waits_at t414_ends N o (4 * N + p)) (own-host net)
       ∙ ap (λ q. is_pending (slice_get b.ports q)) (omega arith)
 
-  -- where an Ack is on its way, a byte is pending
+  -- if an Ack is on its way, a byte is pending
   is_acked : 1 ≤ acks (on_line b.lines line) → is_pending (slice_get b.ports p) ≡ true
   is_acked some =
       let flight = K.sound.flight (4 * N + p) line comes_back in

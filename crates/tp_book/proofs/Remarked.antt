@@ -39,7 +39,7 @@ use Rattle.tp_book.proofs.Told.{ages_kept, floor_kept}
 use Rattle.tp_book.proofs.Entered.{keeps_joined, cut_small}
 use Rattle.tp_book.proofs.Front.{front_begun, front_kept, front_recorded}
 
--- Other lines with the same tokens, Markers left out, and with no two Markers on one.
+-- Other lines with the tokens of these but for Markers, and with no two Markers on one.
 pub remarked : (b : BookState NodeState) → BookKeeps b → (lines : List (List Token)) → map plain lines ≡ map plain b.lines → ((line : ℕ) → markers (on_line lines line) ≤ 1) → BookKeeps (record b { lines = lines })
 unfolding agreed
 remarked b K lines same few = record {
@@ -159,7 +159,7 @@ asked_in (Some snap) p e = (snap, refl, not_true (has_recorded snap p) e)
     not_true true h = cc
     not_true false h = refl
 
--- who has recorded stays so
+-- each process that has recorded still has
 closed_host : (given : Option Snapshot) (line host : ℕ) → HostRecorded given host → HostRecorded (option_map (λ x. with_closed x line) given) host
 closed_host None line host H snap e = cc
 closed_host (Some old) line host H snap e = let is : with_closed old line ≡ snap = cc in ap (λ x. has_recorded x host) (sym is) ∙ H old refl

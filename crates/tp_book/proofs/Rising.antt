@@ -1,4 +1,4 @@
--- Rising numbers, as the marks of outputs are: what keeps them so, and how many of them a mark is no less than.
+-- Rising numbers, as the marks of outputs are: what keeps them rising, and how many of them are at most a mark.
 use Rattle.std.proofs.Common.{◌≡◌, ℕ, zero, suc, ◌+◌, ◌<◌, ◌≤◌, false, cond, inl, inr, List, [], ◌∷◌, ◌++◌, length, set, drop, get_or, replicate, refl, sym, ap, subst, ◌∙◌, arith, Some, slice_get, length-set}
 use Rattle.std.specs.Prelude.{count_by, nat_le}
 use Rattle.std.proofs.lemmas.Bool.{cases_eq, cases_Bool, leb-true, leb-false, lt-leb}
@@ -45,7 +45,7 @@ rising_set next later marks p ns all one more q ms at = elim (cases_eq q p) [
 
 -- ## How many
 
--- as many as a mark is no less than
+-- as many as are at most a mark
 abbrev within : ℕ → List ℕ → ℕ
 within mark ns = count_by (λ n. nat_le n mark) ns
 

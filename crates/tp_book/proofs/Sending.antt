@@ -11,7 +11,7 @@ use Rattle.tp_model.specs.Node.{on_link}
 use Rattle.tp_book.specs.Room.{HasRoom, from_line}
 use Rattle.tp_book.specs.Sends.{on_lines, sends_on}
 
--- There is room for what is sent, where no line is too long in the end.
+-- There is room for what is sent, if no line is too long in the end.
 pub room_before : (on : ℕ → Bool) (lines : List (List Token)) (ms : List (ℕ × Token)) → ((l : ℕ) → on l ≡ true → l < length lines)
     → ((l : ℕ) → length (on_line (sent on lines ms) l) ≤ 3) → HasRoom on lines ms
 unfolding sent
@@ -49,7 +49,7 @@ pub rest_from : (first : ℕ) (tokens : List (ℕ × Token)) (i : ℕ) (d : ℕ 
     → from_line first (drop i tokens) ≡ (first + (get_or tokens i d).0, (get_or tokens i d).1) ∷ from_line first (drop (i + 1) tokens)
 rest_from first tokens i d h = ap (from_line first) (drop-cons tokens i d h ∙ ap (λ n. get_or tokens i d ∷ drop n tokens) (sym (add-one i)))
 
--- What is left from a place on has room and leads to the final lines: so does the token there, and what is left behind it.
+-- What is left from a place on has room and leads to the final lines: so does the token there, and what is left after it.
 pub record Next (on : ℕ → Bool) (lines final : List (List Token)) (m : ℕ × Token) (rest : List (ℕ × Token)) : Type 0 where
   pub here : HasRoom on lines (m ∷ [])
   pub behind : HasRoom on (pushed on lines m.0 m.1) rest

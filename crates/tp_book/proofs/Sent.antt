@@ -3,7 +3,7 @@ use Rattle.std.proofs.Common.{◌≡◌, ℕ, suc, ◌+◌, ◌*◌, ◌-◌, �
 use Rattle.tp_model.specs.declared.link.Token.TheVariants.{Marker}
 use Rattle.tp_model.specs.Snapshot.{host_markers}
 
--- the ports that are left, where there is one
+-- the ports that are left, if there is one
 pub ports_left : (N ports done : ℕ) → done < ports → host_markers N (ports - done) ≡ (4 * N + (ports - 1 - done), Marker) ∷ host_markers N (ports - (done + 1))
 ports_left N ports done below =
     let next : ports - done ≡ suc (ports - 1 - done) = omega arith in

@@ -24,7 +24,7 @@ module _ (b : Inside) (B : IsJournal b) (p : ℕ) (was : PortValue) (at : slice_
   each_mark : length (marks_of (value_of b) p) ≡ length (port_in (value_of b) p).outputs
   each_mark = ap length marks_are ∙ len ∙ ap (λ port. length port.outputs) (sym (port_found b p was at))
 
-  -- a mark shows exactly the outputs in front of the position that is answered
+  -- a mark shows exactly the outputs before the position in the answer
   pub shows_upto : (mark : ℕ) → ShowsUpto (value_of b) p mark (shown_upto_of (value_of b) p mark)
   shows_upto mark =
       let rising = B.rising p (marks_of (value_of b) p) (marks_at ∙ ap Some (sym marks_are)) in

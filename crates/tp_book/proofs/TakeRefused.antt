@@ -1,4 +1,4 @@
--- Why a take is refused, once the token is known.
+-- Why a take fails, once the token is known.
 use Rattle.std.proofs.Common.{◌≡◌, ◌≤◌, ◌+◌, ◌*◌, ℕ, Bool, true, false, length, get_or, refl, ap, ◌∙◌, arith, Option, Some, None, slice_get}
 use Rattle.std.proofs.lemmas.Bool.{lt-ltb, ltb-true}
 use Rattle.std.specs.Prelude.{◌||◌, is_none}

@@ -2,11 +2,11 @@
 use Rattle.std.specs.Prelude.{◌≡◌, ◌≤◌, ℕ, ◌+◌, List, length, Some, slice_get}
 use Rattle.tp_model.specs.Network.{Port}
 
--- what a port has counted is no more than there are entries
+-- a port has counted at most as much as there are entries
 pub record IsCounted (next : ℕ) (port : Port) : Type 0 where
   pub inputs : port.in_base ≤ next
   pub outputs : port.out_base + length port.outputs ≤ next
 
--- what each port has counted is no more than there are entries
+-- each port has counted at most as much as there are entries
 abbrev pub AreCounted : ℕ → List Port → Type 0
 AreCounted next ports = (p : ℕ) (port : Port) → slice_get ports p ≡ Some port → IsCounted next port

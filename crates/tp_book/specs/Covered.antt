@@ -2,12 +2,12 @@
 use Rattle.std.specs.Prelude.{ℕ, List, Option}
 use Rattle.tp_model.specs.declared.entry.Entry.{Entry}
 
--- The entries that it is for and, for bytes that were handed in, the position of the first one. Contracts alone see them.
+-- The entries of a receipt and, for bytes that were handed in, the position of the first one. Only contracts see them.
 pub record Covering : Type 0 where
   pub entries : List Entry
   pub position : Option ℕ
 
--- Beside them the number that the mark has to reach.
+-- They come with the number that the mark has to reach.
 pub record ReceiptValue : Type 0 where
   pub number : ℕ
   pub entries : List Entry

@@ -1,4 +1,4 @@
--- What stands in front of a line's first Marker.
+-- The tokens before a line's first Marker.
 use Rattle.std.specs.Prelude.{Option, Some, None}
 use Rattle.tp_model.specs.declared.link.Token.{Token}
 use Rattle.tp_model.specs.declared.link.Token.TheVariants.{Data, Ack, Marker}

@@ -16,7 +16,7 @@ use Rattle.tp_book.specs.Calls.{with_journalled, marks_of}
 use Rattle.tp_book.specs.Sends.{sends_on}
 use Rattle.tp_book.specs.Refusals.{else_if, entry_refusal}
 
--- a port of the book; where there is none, one at which nothing has happened
+-- a port of the book; if there is none, one at which nothing has happened
 abbrev pub port_in : BookValue → ℕ → Port
 port_in b p = get_or b.state.ports p fresh_value.port
 
@@ -24,13 +24,13 @@ port_in b p = get_or b.state.ports p fresh_value.port
 abbrev pub accepted_of : Port → ℕ
 accepted_of port = port.in_base + length port.pending
 
--- how many bytes more it has room for
+-- how many bytes it still has room for
 abbrev pub room_of : Port → ℕ
 room_of port = MAX_HELD - length port.pending
 
 -- ## Bytes handed in
 
--- what goes out at once: the first byte, where none is pending before it
+-- what goes out at once: the first byte, if none is pending before it
 abbrev pub first_out : List ℕ → List ℕ → Option Token
 first_out [] [] = None
 first_out [] (x ∷ xs) = Some (Data x)
@@ -54,7 +54,7 @@ after_inputs b p bytes =
       history = b.history ++ map (HostIn p) bytes;
     }
 
--- why `count` bytes can't be handed in, where there are some
+-- why `count` bytes can't be handed in, if there are some
 abbrev pub some_input_refusal : BookValue → ℕ → ℕ → Option Refusal
 some_input_refusal b p count =
     entry_refusal b count (else_if (else_if None b.broken StoreBroken) (nat_lt (room_of (port_in b p)) count) PortFull)
@@ -69,14 +69,14 @@ input_refusal b p count = if count == 0 then None else some_input_refusal b p co
 abbrev pub confirmed_port : Port → ℕ → Port
 confirmed_port port upto = record port { outputs = drop (upto - port.out_base) port.outputs; out_base = upto }
 
--- the book after a port's outputs were confirmed up to a position that is past what was confirmed
+-- the book after a port's outputs were confirmed up to a position above what was confirmed
 abbrev pub with_confirmed : BookValue → ℕ → ℕ → BookValue
 with_confirmed b p upto =
     record (with_journalled b (Confirm p upto) (set b.state.ports p (confirmed_port (port_in b p) upto)) []) {
       marks = set b.marks p (drop (upto - (port_in b p).out_base) (marks_of b p));
     }
 
--- up to a position that was confirmed before nothing is done
+-- if the position was confirmed before, nothing is done
 abbrev pub after_confirm : BookValue → ℕ → ℕ → BookValue
 after_confirm b p upto = if nat_le upto (port_in b p).out_base then b else with_confirmed b p upto
 
@@ -87,7 +87,7 @@ confirm_refusal b p upto =
 
 -- ## Outputs shown
 
--- how many of a port's outputs a mark shows: those whose own marks it is no less than
+-- how many of a port's outputs a mark shows: those whose own marks are at most this one
 abbrev pub shown_of : BookValue → ℕ → ℕ → ℕ
 shown_of b p mark = count_by (λ least. nat_le least mark) (marks_of b p)
 
@@ -99,8 +99,8 @@ shown_upto_of b p mark = (port_in b p).out_base + shown_of b p mark
 abbrev pub shown_from : BookValue → ℕ → ℕ → ℕ → List ℕ
 shown_from b p mark from = drop (from - (port_in b p).out_base) (take (shown_of b p mark) (port_in b p).outputs)
 
--- A mark shows exactly the outputs in front of a position: there is a mark for each output, and it is no less than those of
--- the outputs in front of it, and less than those of the others.
+-- A mark shows exactly the outputs before a position. There is a mark for each output. The given mark is at least those of the outputs
+-- before the position, and less than those of the others.
 pub record ShowsUpto (b : BookValue) (p mark upto : ℕ) : Type 0 where
   pub each : length (marks_of b p) ≡ length (port_in b p).outputs
   pub within : upto ≤ (port_in b p).out_base + length (port_in b p).outputs

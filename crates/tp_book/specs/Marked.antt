@@ -38,7 +38,7 @@ after_record b node = record b {
   frozen = set b.frozen node (slice_get (agreed b.state) node);
 }
 
--- the book after the Marker in front of a line was taken
+-- the book after the Marker at the front of a line was taken
 abbrev pub after_close : BookValue → ℕ → BookValue
 after_close b line = record b {
   state = record b.state {
@@ -47,7 +47,7 @@ after_close b line = record b {
   };
 }
 
--- the book after the Marker of a line was taken, also from behind other tokens
+-- the book after the Marker of a line was taken, also from after other tokens
 abbrev pub after_close_over : BookValue → ℕ → BookValue
 after_close_over b line = record b {
   state = record b.state {

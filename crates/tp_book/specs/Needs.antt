@@ -1,4 +1,4 @@
--- What a book asks of the snapshot that may run.
+-- What a book needs of the snapshot that may run.
 use Rattle.std.specs.Prelude.{◌≡◌, ◌<◌, ◌≤◌, ◌++◌, ℕ, Bool, false, not, ◌&&◌, List, length, Option, Some, None}
 use Rattle.tp_model.specs.declared.link.Token.{Token}
 use Rattle.tp_model.specs.Markers.{before}
@@ -31,7 +31,7 @@ KnowsLine given line = (snap : Snapshot) → given ≡ Some snap → line < leng
 abbrev pub HasLines : Option Snapshot → ℕ → Type 0
 HasLines given lines = (snap : Snapshot) → given ≡ Some snap → lines ≡ length snap.closed
 
--- what stands on a line before its Marker finds room behind what the cut has of that line
+-- the tokens before a line's Marker find room after what the cut has of that line
 abbrev pub HasRoomBefore : Option Snapshot → List (List Token) → ℕ → Type 0
 HasRoomBefore given lines line = (snap : Snapshot) → given ≡ Some snap
     → (line < length snap.lines) × (length (on_line snap.lines line ++ before (on_line lines line)) ≤ LINE_TOKENS)

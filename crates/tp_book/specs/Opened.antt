@@ -35,9 +35,9 @@ kept_entries s = map (λ (e : Entry × ℕ). e.0) s.kept.items
 abbrev pub numbers_of : NetState → List ℕ
 numbers_of s = map (λ (e : Entry × ℕ). e.1) s.kept.items
 
--- What opening leaves: the kept entries are in the range of their bytes, are such as the area's form holds, and lead from the kept cut's
--- network to the one that is there, which is sound and has no Markers under way; each node's image spells it; each port holds what it has
--- room for, and has counted no more than there are entries; the number of the next entry and the generation are in their ranges.
+-- What opening leaves. The kept entries are in the range of their bytes, and the area's form may hold them. They lead from the kept cut's
+-- network to the one that is there, which is sound and has no Markers under way. Each node's image spells it. Each port holds what it has
+-- room for, and has counted at most as much as there are entries. The number of the next entry and the generation are in their ranges.
 pub record IsWellOpen (s : NetState) : Type 0 where
   pub history : after t414 (cut_of s) (kept_entries s) ≡ Some (now_of s)
   pub sound : Sound t414_ends (now_of s)
@@ -61,8 +61,7 @@ abbrev pub book_form : Option ℕ → Form → Form
 book_form None form = Turns
 book_form (Some most) form = form
 
--- The book of an opened device, whose groups may fill `room` bytes: nothing is reserved, and what the ports hold is shown
--- by every mark.
+-- The book of an opened device, whose groups may fill `room` bytes: nothing is reserved, and every mark shows what the ports hold.
 abbrev pub opened_book : NetState → Option ℕ → BookValue
 opened_book s room = record {
   state = record { start = cut_of s; entries = kept_entries s; ports = (now_of s).ports; lines = (now_of s).lines; snapshot = None };

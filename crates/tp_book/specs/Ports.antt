@@ -5,8 +5,8 @@ use Rattle.tp_model.specs.declared.link.Token.TheVariants.{Data, Ack, Marker}
 use Rattle.tp_model.specs.Network.{Port}
 use Rattle.tp_model.specs.Entries.{port_took}
 
--- A port, and for each of its outputs the least mark that shows it: one more than the number of the entry that made it.
--- What the opened state held is shown by every mark.
+-- A port, and for each of its outputs the least mark that shows it: one more than the number of the entry that made it. Every mark shows
+-- what the opened state held.
 pub record PortValue : Type 0 where
   pub port : Port
   pub marks : List ℕ

@@ -5,12 +5,12 @@ use Rattle.tp_book.specs.Book.{BookValue, next_in_book}
 use Rattle.tp_book.specs.Covered.{ReceiptValue}
 use Rattle.tp_book.specs.Host.{port_in, accepted_of}
 
--- For bytes that were handed to a port: each has its entry, and the first stands where what the port had accepted ended.
+-- For bytes that were handed to a port: each has its entry, and the first has the position up to which the port had accepted.
 abbrev pub input_receipt : BookValue → ℕ → List ℕ → ReceiptValue
 input_receipt b p bytes =
     record { number = next_in_book b + length bytes; entries = map (HostIn p) bytes; position = Some (accepted_of (port_in b p)) }
 
--- For outputs that were confirmed up to a position; there is no entry up to one that was confirmed before.
+-- For outputs that were confirmed up to a position. If that was confirmed before, there is no entry.
 abbrev pub confirm_receipt : BookValue → ℕ → ℕ → ReceiptValue
 confirm_receipt b p upto =
     if nat_le upto (port_in b p).out_base

@@ -1,5 +1,5 @@
--- Why a call is refused. Where several reasons hold, the first one is answered, in this order: nothing to take, a snapshot that
--- runs, a broken store, a full port, a full journal. Memory is answered only where none of them holds.
+-- Why a call fails. If several reasons hold, the first one is answered, in this order: nothing to take, a snapshot that runs, a broken
+-- store, a full port, a full journal. `Memory` is only answered if none of them holds.
 use Rattle.std.specs.Prelude.{◌≡◌, ℕ, Bool, false, nat_le, if◌then◌else◌, List, [], ◌∷◌, length, get_or, Option, Some, None, is_none, Result, Ok, Err, slice_get}
 use Rattle.tp_model.specs.declared.link.Token.{Token}
 use Rattle.tp_model.specs.declared.link.Token.TheVariants.{Data, Ack, Marker}
@@ -13,7 +13,7 @@ use Rattle.tp_book.specs.declared.refusal.Refusal.{Refusal}
 use Rattle.tp_book.specs.declared.refusal.Refusal.TheVariants.{JournalFull, StoreBroken, Memory, NothingToTake, PortFull}
 use Rattle.tp_book.specs.Book.{BookValue, next_in_book, reserved}
 
--- a reason, where it holds and no earlier one does
+-- a reason, if it holds and no earlier one does
 abbrev pub else_if : Option Refusal → Bool → Refusal → Option Refusal
 else_if (Some reason) holds other = Some reason
 else_if None holds other = if holds then Some other else None
@@ -32,7 +32,7 @@ abbrev pub is_full_for_take : BookValue → Bool → Bool
 is_full_for_take b needed =
     if needed then is_full_for_cut b.room (length b.state.entries) (reserved b) (next_in_book b) else is_journal_full b 1
 
--- what can be taken from a line: the token in front, unless that is a Marker
+-- what can be taken from a line: the token at the front, unless that is a Marker
 abbrev pub takeable_of : List Token → Option Token
 takeable_of [] = None
 takeable_of (Data b ∷ rest) = Some (Data b)
@@ -51,7 +51,7 @@ reserve_refusal b = entry_refusal b 1 (else_if None b.broken StoreBroken)
 abbrev pub take_refusal : BookValue → Bool → Option Refusal → Option Refusal
 take_refusal b needed earlier = else_if earlier (is_full_for_take b needed) JournalFull
 
--- why a line's front can't be made ready, where a running snapshot may need the take
+-- why a line's front can't be made ready, if a running snapshot may need the take
 abbrev pub front_refusal : BookValue → ℕ → Bool → Option Refusal
 front_refusal b line needed =
     take_refusal b needed (else_if (else_if None (is_none (takeable_of (on_line b.state.lines line))) NothingToTake) b.broken StoreBroken)
@@ -72,7 +72,7 @@ port_behind b None = None
 port_behind b (Some (Link i k)) = None
 port_behind b (Some (AtPort p)) = slice_get b.state.ports p
 
--- why no port can take a line's front, where a running snapshot may need the take
+-- why no port can take a line's front, if a running snapshot may need the take
 abbrev pub port_refusal : BookValue → ℕ → Bool → Option Refusal
 port_refusal b line needed =
     take_refusal b needed
@@ -83,7 +83,7 @@ port_refusal b line needed =
 abbrev pub host_refusal : BookValue → ℕ → Option Refusal
 host_refusal b line = port_refusal b line (needs_take b line)
 
--- The answer to a call that is refused for this reason, where there is one. A call that isn't may still want memory.
+-- The answer to a call that fails for this reason, if there is one. Without a reason it may still run out of memory.
 abbrev pub IsAnswer : {A : Type 0} → Option Refusal → Result A Refusal → Type 0
 IsAnswer None (Ok x) = Unit {0}
 IsAnswer None (Err e) = e ≡ Memory

@@ -4,7 +4,7 @@ use Rattle.tp_model.specs.declared.link.Token.{Token}
 use Rattle.tp_net.specs.declared.line.TheConstants.{LINE_TOKENS}
 use Rattle.tp_model.specs.Network.{on_line, pushed}
 
--- The tokens can be sent in order: each finds room on its line, where that is open.
+-- The tokens can be sent in order: each finds room on its line, if that is open.
 abbrev pub HasRoom : (ℕ → Bool) → List (List Token) → List (ℕ × Token) → Type 0
 HasRoom on lines [] = Unit {0}
 HasRoom on lines (m ∷ ms) = (on m.0 ≡ true → length (on_line lines m.0) < LINE_TOKENS) × HasRoom on (pushed on lines m.0 m.1) ms

@@ -3,7 +3,7 @@ use Rattle.std.specs.Prelude.{◌≡◌, ℕ, Bool, if◌then◌else◌, List, [
 use Rattle.tp_model.specs.Snapshot.{Snapshot}
 use Rattle.tp_book.specs.declared.running.Running.TheInside.{Inside}
 
--- what is known of each process: its count, where it has recorded
+-- what is known of each process: its count, if it has recorded
 abbrev pub counts_of : List Bool → List ℕ → List (Option ℕ)
 counts_of [] counts = []
 counts_of (recorded ∷ more) [] = []

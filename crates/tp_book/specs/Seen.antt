@@ -1,10 +1,10 @@
--- What contracts alone see of a book's snapshots.
+-- What only contracts see of a book's snapshots.
 use Rattle.std.specs.Prelude.{ℕ, List, Option}
 use Rattle.tp_model.specs.declared.entry.Entry.{Entry}
 use Rattle.tp_model.specs.NodeState.{NodeState}
 
--- Each node's frozen image where it recorded in the snapshot that runs, all entries since the book was opened, and how many
--- there were behind the kept cut as it was opened.
+-- Each node's frozen image once it has recorded in the snapshot that runs, and all entries since the book was opened. Then how many entries
+-- there were after the kept cut when it was opened.
 pub record Seen : Type 0 where
   pub frozen : List (Option NodeState)
   pub history : List Entry

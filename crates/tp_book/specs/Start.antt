@@ -15,7 +15,7 @@ pub record IsFresh (s : Network NodeState) : Type 0 where
   pub lines : s.lines ≡ replicate (length s.wires) []
   pub ports : s.ports ≡ replicate (length s.ports) fresh_value.port
 
--- A line for each link and each port, and no more nodes and ports than a network may have.
+-- A line for each link and each port, and at most as many nodes and ports as a network may have.
 pub record IsNetwork (s : Network NodeState) : Type 0 where
   pub wires : length s.wires ≡ 4 * length s.nodes + length s.ports
   pub few_nodes : length s.nodes ≤ MAX_NODES

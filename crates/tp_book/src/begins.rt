@@ -9,9 +9,9 @@ ghost use Rattle.tp_book.specs.declared.state.NetState.{NetState};
 ghost use Rattle.tp_book.specs.Book.{world_of};
 ghost use Rattle.tp_book.specs.Opened.{cut_of, kept_entries, now_of, IsWellOpen, opened_book};
 
-/// A state that `Book::open` asks for gives a book that the law of cuts begins with: no snapshot runs, and the entries lead from the
-/// kept cut to the network as it is, which has no Marker. Where the state is what opening answered, that book is the one with
-/// which a run goes on from the device. It does nothing.
+/// The law of cuts begins with the book of any state that `Book::open` needs. No snapshot runs, and the entries lead from the kept cut to
+/// the network as it is, which has no Marker. If the state is what opening answered, a run goes on from the device with that book. The
+/// function does nothing.
 pub fn opened_books_begin()
     ensures cuts { (s : NetState) (room : Option ℕ) → IsWellOpen s → IsFirst t414 (world_of (opened_book s room)) }
     ensures runs { (s : NetState) (room : Option ℕ) (o : Opened) → IsWellOpen s → cut_of s ≡ o.cut → kept_entries s ≡ map (λ e. e.0) o.kept → now_of s ≡ o.now

@@ -38,7 +38,7 @@ fn are_clear(lines: &Lines) -> bool
 }
 
 impl Journal {
-    /// Whether nothing is under way on a line, Markers left out.
+    /// Whether nothing but Markers is under way on any line.
     fn is_clear(&self) -> bool
         ensures { result ≡ list_all is_clear self.now.state.lines }
     {
@@ -47,7 +47,7 @@ impl Journal {
 }
 
 impl Book {
-    /// Whether nothing is under way on a line, Markers left out.
+    /// Whether nothing but Markers is under way on any line.
     pub fn is_clear(&self) -> bool
         ensures { result ≡ list_all is_clear self.now.state.lines }
     {

@@ -1,4 +1,4 @@
-//! The kept cut's network, as contracts alone see it.
+//! The kept cut's network, which only contracts see.
 
 ghost use Rattle.std.specs.Prelude.{◌≡◌};
 ghost use Rattle.std.specs.Borrow.{ftrue};
@@ -8,7 +8,7 @@ ghost use Rattle.tp_model.specs.Network.{Network};
 use crate::parts::NetParts;
 use std::marker::Model;
 
-/// The network of a kept cut. It has no bytes: contracts alone see it, and no call reads it.
+/// The network of a kept cut. It has no bytes: only contracts see it, and no call reads it.
 #[derive(Drop)]
 pub struct CutNetwork {
     pub ghost network: { Network NodeState },
@@ -26,7 +26,7 @@ unsafe impl Sync for CutNetwork {}
 impl CutNetwork {
     ghost use Rattle.tp_book.specs.Parts.{network_made};
 
-    /// Gives the ghost value `network`, which a contract says by what is lent as `_value`. It does nothing.
+    /// Gives the ghost value `network`, which a contract names by what is lent as `_value`. It does nothing.
     pub fn of<T>(_value: &T) -> CutNetwork
         ghost network: { Network NodeState }
         ensures { result.network ≡ network }
@@ -34,14 +34,14 @@ impl CutNetwork {
         CutNetwork {}
     }
 
-    /// The network of `parts`.
+    /// Gives the network of `parts`.
     pub fn of_parts(parts: &NetParts) -> CutNetwork
         ensures { result.network ≡ network_made parts.now }
     {
         CutNetwork::of(parts)
     }
 
-    /// Another value that names this network.
+    /// Makes another value that names this network.
     pub fn again(&self) -> CutNetwork
         ensures { result.network ≡ self.now.network }
     {

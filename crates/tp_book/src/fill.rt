@@ -25,7 +25,7 @@ fn fill_line(lines: &mut Lines, line: usize, tokens: &[Token])
     }
 }
 
-/// Makes lines that hold `tokens`, where no line has more than it has room for.
+/// Makes lines that hold `tokens`, with at most as many on each as it has room for. `AllocError` if memory is out.
 pub fn lines_with(alloc: Global, tokens: &[Vec<Token>]) -> Result<Lines, AllocError>
     requires few { All (λ line. vec_len line ≤ LINE_TOKENS) tokens.now }
     ensures { IfOk result (λ lines. lines ≡ map (λ line. line.items) tokens.now) }
@@ -37,7 +37,7 @@ pub fn lines_with(alloc: Global, tokens: &[Vec<Token>]) -> Result<Lines, AllocEr
     Ok(lines)
 }
 
-/// The ports of an opened state, where none holds more than it has room for.
+/// Makes the ports of an opened state, each holding at most what it has room for. `AllocError` if memory is out.
 pub fn ports_with(alloc: Global, parts: &[PortParts]) -> Result<Vec<HostPort>, AllocError>
     requires pending { All (λ port. vec_len port.pending ≤ MAX_HELD) parts.now }
     requires outputs { All (λ port. vec_len port.outputs ≤ MAX_HELD) parts.now }

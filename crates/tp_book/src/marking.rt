@@ -23,7 +23,7 @@ impl Journal {
         self.broken
     }
 
-    /// The receiver of each line.
+    /// Gives the receiver of each line.
     pub(crate) fn wires(&self) -> &[Option<WireEnd>]
         ensures value { result.now ≡ self.now.state.start.wires }
         ensures len { length result.now ≡ length self.now.state.lines }
@@ -31,7 +31,7 @@ impl Journal {
         self.wires.as_slice()
     }
 
-    /// The token in front of a line.
+    /// Gives the token at the front of a line; `None` if the line is empty.
     pub(crate) fn front(&self, line: u16) -> Option<Token>
         requires { line < length self.now.state.lines }
         ensures { result ≡ slice_get (on_line self.now.state.lines line) 0 }
@@ -39,7 +39,7 @@ impl Journal {
         self.lines.front(line as usize)
     }
 
-    /// The agreed image of a node. It has no bytes.
+    /// Gives the agreed image of a node. It has no bytes.
     pub(crate) fn image_of(&self, node: u8) -> Image
         ensures { result.image ≡ slice_get (agreed self.now.state) node }
     {
@@ -47,7 +47,7 @@ impl Journal {
         Image::of(&both)
     }
 
-    /// A snapshot begins, in which the host records the ports as they are.
+    /// Begins a snapshot, in which the host records the ports as they are.
     pub(crate) fn begin_in(
         &self,
         alloc: Global,
@@ -66,7 +66,7 @@ impl Journal {
         )
     }
 
-    /// A Marker goes onto each port's wired line.
+    /// Sends a Marker on each port's wired line.
     pub(crate) fn mark_ports(&mut self)
         requires { (line : ℕ) → markers (on_line (sent (has_wire self.old.state.start.wires) self.old.state.lines (host_markers (length self.old.state.start.nodes) (length self.old.state.ports))) line) ≤ 1 }
         ensures { self.new ≡ with_lines self.old (sent (has_wire self.old.state.start.wires) self.old.state.lines (host_markers (length self.old.state.start.nodes) (length self.old.state.ports))) }
@@ -79,7 +79,7 @@ impl Journal {
         );
     }
 
-    /// A Marker goes onto each of a node's wired lines.
+    /// Sends a Marker on each of a node's wired lines.
     pub(crate) fn mark_node(&mut self, node: u8)
         requires there { node < length self.old.state.start.nodes }
         requires few { (line : ℕ) → markers (on_line (sent (has_wire self.old.state.start.wires) self.old.state.lines (node_markers node)) line) ≤ 1 }
@@ -96,7 +96,7 @@ impl Journal {
         self.lines.has_marker(line as usize)
     }
 
-    /// What stands on a line before its Marker belongs to that line in the cut, which is closed.
+    /// Closes a line in the cut: the tokens before its Marker belong to that line there.
     pub(crate) fn close_over_in(&self, snapshots: &mut Snapshots, line: u16)
         requires known { KnowsLine snapshots.old.snapshot line }
         requires there { line < length self.now.state.lines }
@@ -106,7 +106,7 @@ impl Journal {
         snapshots.close_over(line as usize, &self.lines);
     }
 
-    /// The Marker of a line is taken off, also from behind other tokens.
+    /// Takes the Marker of a line off, also from after other tokens.
     pub(crate) fn unmark(&mut self, line: u16)
         requires there { line < length self.old.state.lines }
         requires few { (l : ℕ) → markers (on_line (set self.old.state.lines line (unmarked (on_line self.old.state.lines line))) l) ≤ 1 }
@@ -115,7 +115,7 @@ impl Journal {
         self.lines.unmark(line as usize);
     }
 
-    /// The Marker in front of a line is taken off.
+    /// Takes the Marker at the front of a line off.
     pub(crate) fn drop_marker(&mut self, line: u16)
         requires there { line < length self.old.state.lines }
         requires front { is_first (on_line self.old.state.lines line) Marker ≡ true }

@@ -10,7 +10,7 @@ use crate::{lines_with, ports_with};
 use std::alloc::{AllocError, Global};
 use tp_model::Form;
 
-/// The form of a book: that of the area on its device; without a device it may hold every entry.
+/// Gives the form of a book: that of the area on its device. Without a device it may hold every entry.
 fn book_form(room: Option<u64>, form: Form) -> Form
     ensures { result ≡ book_form room form }
 {

@@ -35,7 +35,7 @@ impl Model for HostPort {
 }
 
 impl HostPort {
-    /// A port at which nothing has happened.
+    /// Makes a port at which nothing has happened. `AllocError` if memory is out.
     pub fn new(alloc: Global) -> Result<HostPort, AllocError>
         ensures { IfOk result (λ port. port ≡ fresh_value) }
     {
@@ -48,7 +48,7 @@ impl HostPort {
         })
     }
 
-    /// The port of an opened state. What it held then is shown by every mark.
+    /// Makes the port of an opened state. Every mark shows what it held then. `AllocError` if memory is out.
     pub fn from_parts(alloc: Global, parts: &PortParts) -> Result<HostPort, AllocError>
         requires pending { vec_len parts.now.pending ≤ MAX_HELD }
         requires outputs { vec_len parts.now.outputs ≤ MAX_HELD }
@@ -70,7 +70,7 @@ impl HostPort {
         self.outputs.len() >= MAX_HELD
     }
 
-    /// Takes a token that it can take. An output is shown by this mark and by any above it.
+    /// Takes a token that it can take. This mark, and any above it, show an output. Gives what the port sends.
     pub fn take(&mut self, token: Token, mark: u64) -> Option<Token>
         requires possible { CanTake self.old.port token }
         requires counted { self.old.port.in_base + 1 < 2 ^ 64 }
@@ -95,7 +95,7 @@ impl HostPort {
         }
     }
 
-    /// Takes a byte from the host, for which there is room. It goes out at once where none is pending before it.
+    /// Takes a byte from the host, for which there is room. It goes out at once if none is pending before it.
     pub fn hand_in(&mut self, byte: u8) -> Option<Token>
         requires room { length self.old.port.pending < MAX_HELD }
         ensures handed { handed_in byte self.old.port ≡ Some (self.new.port, option_to_list result) }
@@ -110,7 +110,7 @@ impl HostPort {
         }
     }
 
-    /// Lets the outputs go up to a position, which is past what was confirmed and not past what there is.
+    /// Drops the outputs up to a position, which is above what was confirmed and at most what there is.
     pub fn confirm(&mut self, upto: u64)
         requires past { self.old.port.out_base < upto }
         requires there { upto ≤ self.old.port.out_base + length self.old.port.outputs }
@@ -123,28 +123,28 @@ impl HostPort {
         self.out_base = upto;
     }
 
-    /// The bytes handed in that no acknowledge has taken off.
+    /// Gives the bytes handed in that no acknowledge has taken off.
     pub fn pending(&self) -> &[u8]
         ensures { result.now ≡ self.now.port.pending }
     {
         self.pending.as_slice()
     }
 
-    /// How many bytes handed in were taken off.
+    /// Counts the bytes handed in that were taken off.
     pub fn in_base(&self) -> u64
         ensures { result ≡ self.now.port.in_base }
     {
         self.in_base
     }
 
-    /// The outputs that aren't confirmed yet.
+    /// Gives the outputs that aren't confirmed yet.
     pub fn outputs(&self) -> &[u8]
         ensures { result.now ≡ self.now.port.outputs }
     {
         self.outputs.as_slice()
     }
 
-    /// For each output the least mark that shows it.
+    /// Gives for each output the least mark that shows it.
     pub fn marks(&self) -> &[u64]
         ensures value { result.now ≡ self.now.marks }
         ensures len { length result.now ≡ length self.now.port.outputs }
@@ -152,7 +152,7 @@ impl HostPort {
         self.marks.as_slice()
     }
 
-    /// How many outputs were confirmed.
+    /// Counts the confirmed outputs.
     pub fn out_base(&self) -> u64
         ensures { result ≡ self.now.port.out_base }
     {
@@ -160,7 +160,7 @@ impl HostPort {
     }
 }
 
-/// Lets the first items go. It takes no memory.
+/// Drops the first items. It takes no memory.
 fn drop_first<T: Drop>(items: &mut Vec<T>, count: usize)
     requires { count ≤ vec_len items.old }
     ensures items { items.new.items ≡ drop count items.old.items }
@@ -172,7 +172,7 @@ fn drop_first<T: Drop>(items: &mut Vec<T>, count: usize)
     items.truncate(kept);
 }
 
-/// `count` ports at which nothing has happened.
+/// Makes `count` ports at which nothing has happened. `AllocError` if memory is out.
 pub fn fresh_ports(alloc: Global, count: usize) -> Result<Vec<HostPort>, AllocError>
     ensures { IfOk result (λ ports. ports.items ≡ replicate count fresh_value) }
 {

@@ -6,8 +6,8 @@ ghost use Rattle.tp_book.specs.PortParts.{port_made};
 use crate::port::HostPort;
 use std::alloc::{AllocError, Global};
 
-/// A host port: the bytes that no Ack has taken off and how many were taken off, the outputs that aren't confirmed and
-/// how many were.
+/// A host port. Of its input: the bytes that no Ack has taken off yet, and how many were taken off. Of its output: the bytes that aren't
+/// confirmed yet, and how many are.
 #[derive(Drop)]
 pub struct PortParts {
     pub pending: Vec<u8>,
@@ -16,7 +16,7 @@ pub struct PortParts {
     pub out_base: u64,
 }
 
-/// A port as its parts.
+/// Copies a port's parts. `AllocError` if memory is out.
 pub fn parts_of(alloc: Global, port: &HostPort) -> Result<PortParts, AllocError>
     ensures { IfOk result (λ parts. port_made parts ≡ port.now.port) }
 {
@@ -28,7 +28,7 @@ pub fn parts_of(alloc: Global, port: &HostPort) -> Result<PortParts, AllocError>
     })
 }
 
-/// Each port as its parts.
+/// Copies each port's parts. `AllocError` if memory is out.
 pub fn all_parts(alloc: Global, ports: &[HostPort]) -> Result<Vec<PortParts>, AllocError>
     ensures { IfOk result (λ parts. map port_made parts.items ≡ map (λ port. port.port) ports.now) }
 {

@@ -8,7 +8,7 @@ ghost use Rattle.tp_book.specs.Covered.{Covering};
 use crate::note::Note;
 use std::marker::Model;
 
-/// What contracts alone see of a receipt. It has no bytes, and no call reads it.
+/// What only contracts see of a receipt. It has no bytes, and no call reads it.
 #[derive(Drop)]
 struct Covered {
     pub ghost seen: { Covering },
@@ -24,7 +24,7 @@ unsafe impl Send for Covered {}
 unsafe impl Sync for Covered {}
 
 impl Covered {
-    /// Gives the ghost value `seen`, which a contract says by what is lent as `_value`. It does nothing.
+    /// Gives the ghost value `seen`, which a contract names by what is lent as `_value`. It does nothing.
     fn of<T>(_value: &T) -> Covered
         ghost seen: { Covering }
         ensures { result.seen ≡ seen }
@@ -33,9 +33,8 @@ impl Covered {
     }
 }
 
-/// That what was handed in or confirmed is journalled: it is on the device once the mark is at least this number. It shows the
-/// entries that it is for and, for bytes that were handed in, the position of the first. Only the calls that journal make one, and
-/// nobody can copy it.
+/// Proof that what was handed in or confirmed is journalled. It is on the device once the mark is at least this number. A receipt shows its
+/// entries and, for bytes that were handed in, the position of the first. Only the calls that journal make one, and nobody can copy it.
 #[derive(Drop)]
 pub struct Receipt {
     number: u64,
@@ -51,7 +50,8 @@ impl Model for Receipt {
 }
 
 impl Receipt {
-    /// For bytes that were handed to a port: `next` is the number of the first one's entry, and `accepted` is its position.
+    /// Makes the receipt for bytes that were handed to a port: `next` is the number of the first one's entry, and `accepted` is its
+    /// position.
     pub(crate) fn of_inputs(next: u64, accepted: u64, port: u8, bytes: &[u8]) -> Receipt
         requires { next + length bytes.now < 2 ^ 64 }
         ensures { result ≡ record { number = next + length bytes.now; entries = map (HostIn port) bytes.now; position = Some accepted } }
@@ -63,7 +63,7 @@ impl Receipt {
         }
     }
 
-    /// For outputs that were confirmed, by the entry of that note.
+    /// Makes the receipt for outputs that were confirmed by the entry of a note.
     pub(crate) fn of_note(note: Note) -> Receipt
         requires { note.number + 1 < 2 ^ 64 }
         ensures { result ≡ record { number = note.number + 1; entries = note.entry ∷ []; position = None } }
@@ -74,7 +74,7 @@ impl Receipt {
         }
     }
 
-    /// For outputs that were confirmed before: `next` is the number that the next entry gets.
+    /// Makes the receipt for outputs that were confirmed before: `next` is the number of the next entry.
     pub(crate) fn of_nothing(next: u64) -> Receipt
         ensures { result ≡ record { number = next; entries = []; position = None } }
     {

@@ -34,7 +34,7 @@ fn add_received(tokens: &mut ArrayVec<(u8, Token), 8>, link: u8, one: Received)
     }
 }
 
-/// The tokens that a turn takes, links in order, each with its link.
+/// Gives the tokens that a turn takes, links in order, each with its link.
 pub fn tokens_of(takes: &[Received; 4]) -> ArrayVec<(u8, Token), 8>
     ensures tokens { result.items ≡ by_link 0 takes.now }
     ensures few { length result.items ≤ 8 }
@@ -47,7 +47,7 @@ pub fn tokens_of(takes: &[Received; 4]) -> ArrayVec<(u8, Token), 8>
     tokens
 }
 
-/// The line that comes in on a link of a node, with `nodes` nodes; line 0 where the link has no wire.
+/// Gives the line that comes in on a link of a node, with `nodes` nodes; line 0 if the link has no wire.
 pub fn incoming(wires: &[Option<WireEnd>], nodes: usize, node: usize, link: usize) -> usize
     requires nodes { nodes ≤ 2 ^ 32 }
     requires node { node < 2 ^ 32 }
@@ -135,7 +135,7 @@ pub(crate) fn take_off(lines: &mut Lines, tokens: &[(u16, Token)])
     }
 }
 
-/// What stands in front of the first Marker of a line with at most one Data and one Ack, by its first two tokens.
+/// Gives the tokens before the first Marker of a line with at most one Data and one Ack, by its first two tokens.
 fn by_two(first: Option<Token>, second: Option<Token>) -> Received
     ensures { result ≡ by_two first second }
 {
@@ -151,7 +151,7 @@ fn by_two(first: Option<Token>, second: Option<Token>) -> Received
     }
 }
 
-/// What stands on a line in front of its first Marker.
+/// Gives the tokens on a line before its first Marker.
 pub(crate) fn waiting(lines: &Lines, line: usize) -> Received
     requires there { line < length lines.now }
     requires data { datas (on_line lines.now line) ≤ 1 }

@@ -1,4 +1,4 @@
-//! Why a call of the book is refused.
+//! Why a call of the book fails.
 
 use thiserror::Error;
 
@@ -11,13 +11,13 @@ pub enum Refusal {
     /// The store failed, and nothing is journalled until it is opened again.
     #[error("StoreBroken")]
     StoreBroken,
-    /// Memory was refused.
+    /// Out of memory.
     #[error("Memory")]
     Memory,
-    /// The line is empty, or a Marker is in front.
+    /// The line is empty, or has a Marker at the front.
     #[error("NothingToTake")]
     NothingToTake,
-    /// A snapshot runs already.
+    /// A snapshot is already running.
     #[error("SnapshotRunning")]
     SnapshotRunning,
     /// The port has no room for another byte.

@@ -75,7 +75,7 @@ fn all_set(flags: &[bool]) -> bool
 }
 
 impl Running {
-    /// A snapshot as it begins, in which the host has recorded its `ports` after `hosts` entries of its own.
+    /// Makes a snapshot that begins, in which the host has recorded its `ports` after `hosts` entries of its own.
     pub(crate) fn new(
         alloc: Global,
         ports: &[HostPort],
@@ -115,7 +115,7 @@ impl Running {
         self.closed[line]
     }
 
-    /// A process records, after `count` entries of its own.
+    /// Records a process, after `count` entries of its own.
     pub(crate) fn record(&mut self, process: usize, count: u64)
         requires { process < length self.old.counts }
         ensures { self.new ≡ with_count self.old process count }
@@ -124,7 +124,7 @@ impl Running {
         self.recorded[process] = true;
     }
 
-    /// A line's Marker is taken.
+    /// Closes a line, whose Marker is taken.
     pub(crate) fn close(&mut self, line: usize)
         requires { line < length self.old.closed }
         ensures { self.new ≡ with_closed self.old line }
@@ -132,7 +132,7 @@ impl Running {
         self.closed[line] = true;
     }
 
-    /// A line's Marker is taken off `lines` from behind what stands in front of it, which belongs to the line in the cut.
+    /// Closes a line whose Marker is taken off `lines`: the tokens before it belong to the line in the cut.
     pub(crate) fn close_over(&mut self, line: usize, lines: &Lines)
         requires closed { line < length self.old.closed }
         requires there { (line < length self.old.lines) × (line < length lines.now) }
@@ -143,7 +143,7 @@ impl Running {
         self.closed[line] = true;
     }
 
-    /// A token that is taken from a line belongs to it in the cut, where it isn't closed.
+    /// Adds a token that is taken from a line to that line in the cut, if it isn't closed.
     fn collect_token(&mut self, line: usize, token: Token)
         requires closed { line < length self.old.closed }
         requires there { line < length self.old.lines }
@@ -155,7 +155,7 @@ impl Running {
         }
     }
 
-    /// Tokens that are taken from lines in order belong to them in the cut, where they aren't closed.
+    /// Adds tokens that are taken from lines, in order, to those lines in the cut, if they aren't closed.
     fn collect_all(&mut self, tokens: &[(u16, Token)])
         requires there { AllByRecursion (λ m. (m.0 < length self.old.closed) × (m.0 < length self.old.lines)) tokens.now }
         requires room { HasRoom (λ line. not (is_closed self.old line)) self.old.lines tokens.now }
@@ -166,7 +166,7 @@ impl Running {
         }
     }
 
-    /// An entry of a process belongs to the cut, or what it takes to lines of the cut, or neither.
+    /// Adds an entry of a process to the cut, or what it takes to lines of the cut, or neither.
     pub(crate) fn collect(&mut self, process: usize, tokens: &[(u16, Token)])
         requires { FitsIn self.old process tokens.now }
         ensures { self.new ≡ collected process tokens.now self.old }
@@ -178,7 +178,7 @@ impl Running {
         }
     }
 
-    /// The cut, where all have recorded and each wired line is closed.
+    /// Gives the cut; `None` before all have recorded and each wired line is closed.
     pub(crate) fn whole(&self, wires: &[Option<WireEnd>]) -> Option<&Cut>
         requires { length wires.now ≡ length self.now.closed }
         ensures { option_copied result ≡ whole_of wires.now (length wires.now) (Some self.now) }
@@ -192,7 +192,7 @@ impl Running {
         Some(&self.cut)
     }
 
-    /// The cut, as the snapshot ends.
+    /// Ends the snapshot and gives its cut.
     pub(crate) fn into_cut(self) -> Cut
         ensures { (wires : List (Option WireEnd)) (lines : ℕ) (cut : WholeCut) → whole_of wires lines (Some self) ≡ Some cut → result ≡ cut }
     {

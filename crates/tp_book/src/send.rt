@@ -10,7 +10,7 @@ ghost use Rattle.tp_book.specs.Room.{HasRoom, from_line};
 use tp_model::{Token, WireEnd};
 use tp_net::{Lines, link_line};
 
-/// Sends a token on a line, where the line has a wire.
+/// Sends a token on a line, if the line has a wire.
 fn send(wires: &[Option<WireEnd>], lines: &mut Lines, line: usize, token: Token)
     requires wired { line < length wires.now }
     requires there { line < length lines.old }
@@ -34,7 +34,7 @@ pub fn send_all(wires: &[Option<WireEnd>], lines: &mut Lines, first: usize, toke
     }
 }
 
-/// Sends what a node answers to a token that came in on `line`, where it answers.
+/// Sends what a node answers to a token that came in on `line`, if it answers.
 #[tactic(auto, unfolding(tp_model::specs::Network::sent))]
 pub fn send_answer(wires: &[Option<WireEnd>], lines: &mut Lines, line: usize, answer: Option<Token>)
     requires known { line < length wires.now }

@@ -5,7 +5,7 @@ ghost use Rattle.tp_book.specs.Host.{port_in, shown_of, shown_upto_of, shown_fro
 
 use crate::journal::Journal;
 
-/// How many of `marks` are at most `mark`.
+/// Counts those of `marks` that are at most `mark`.
 fn count_within(marks: &[u64], mark: u64) -> usize
     ensures value { result ≡ count_by (λ least. nat_le least mark) marks.now }
     ensures bound { result ≤ length marks.now }
@@ -20,7 +20,7 @@ fn count_within(marks: &[u64], mark: u64) -> usize
 }
 
 impl Journal {
-    /// How many of a port's outputs a mark shows.
+    /// Counts the outputs of a port that a mark shows.
     fn shown_count(&self, port: u8, mark: u64) -> usize
         requires { port < length self.now.state.ports }
         ensures value { result ≡ shown_of self.now port mark }
@@ -31,8 +31,8 @@ impl Journal {
         count_within(self.ports[port as usize].marks(), mark)
     }
 
-    /// Up to which position a mark shows a port's outputs: an output is shown once the mark is above the number of the entry
-    /// by which the port took it.
+    /// Gives the position up to which a mark shows a port's outputs. An output is shown once the mark is above the number of the entry by
+    /// which the port took it.
     pub(crate) fn shown_upto(&self, port: u8, mark: u64) -> u64
         requires { port < length self.now.state.ports }
         ensures value { result ≡ shown_upto_of self.now port mark }
@@ -41,7 +41,7 @@ impl Journal {
         self.out_base(port) + self.shown_count(port, mark) as u64
     }
 
-    /// The outputs of a port from a position on that a mark shows.
+    /// Gives the outputs of a port that a mark shows, from a position on.
     pub(crate) fn shown(&self, port: u8, mark: u64, from: u64) -> &[u8]
         requires there { port < length self.now.state.ports }
         requires base { (port_in self.now port).out_base ≤ from }

@@ -33,7 +33,7 @@ impl Model for Cut {
 }
 
 impl Cut {
-    /// Makes a cut with `ports`, of `processes` processes and `lines` lines, on which nothing stands.
+    /// Makes a cut with `ports`, of `processes` processes and `lines` empty lines. `AllocError` if memory is out.
     pub(crate) fn new(
         alloc: Global,
         processes: usize,
@@ -51,42 +51,42 @@ impl Cut {
         })
     }
 
-    /// How many entries of each process it holds.
+    /// Gives the number of entries of each process in it.
     pub fn counts(&self) -> &[u64]
         ensures { result.now ≡ self.now.counts }
     {
         self.counts.as_slice()
     }
 
-    /// The ports in it.
+    /// Gives the ports in it.
     pub fn ports(&self) -> &[PortParts]
         ensures { map port_made result.now ≡ self.now.ports }
     {
         self.ports.as_slice()
     }
 
-    /// The lines in it.
+    /// Gives the lines in it.
     pub fn lines(&self) -> &Lines
         ensures { result.now ≡ self.now.lines }
     {
         &self.lines
     }
 
-    /// How many entries since the kept cut it holds in all.
+    /// Counts the entries since the kept cut in it.
     pub fn size(&self) -> u64
         ensures { result ≡ self.now.size }
     {
         self.size
     }
 
-    /// How many entries of each process it holds, for itself.
+    /// Gives the number of entries of each process in it, and drops the rest.
     pub fn into_counts(self) -> Vec<u64>
         ensures { result.items ≡ self.counts }
     {
         self.counts
     }
 
-    /// It holds `count` entries of `process`.
+    /// Sets the number of entries of `process` in it.
     pub(crate) fn put_count(&mut self, process: usize, count: u64)
         requires { process < length self.old.counts }
         ensures { self.new ≡ record self.old { counts = set self.old.counts process count } }
@@ -94,7 +94,7 @@ impl Cut {
         self.counts[process] = count;
     }
 
-    /// It holds one entry more.
+    /// Counts one entry more.
     pub(crate) fn grow(&mut self)
         requires { self.old.size + 1 < 2 ^ 64 }
         ensures { self.new ≡ record self.old { size = self.old.size + 1 } }
@@ -102,7 +102,7 @@ impl Cut {
         self.size += 1;
     }
 
-    /// A token more stands on a line of it.
+    /// Adds a token to a line of it.
     pub(crate) fn collect(&mut self, line: usize, token: Token)
         requires there { line < length self.old.lines }
         requires room { length (on_line self.old.lines line) < LINE_TOKENS }
@@ -110,7 +110,7 @@ impl Cut {
     {
         self.lines.push(line, token);
     }
-    /// What stands on a line of the network before its Marker stands on that line of it, behind what it has there.
+    /// Adds the tokens before the Marker of a line of the network to that line of it, after those that it has.
     pub(crate) fn collect_before(&mut self, line: usize, lines: &Lines)
         requires there { (line < length self.old.lines) × (line < length lines.now) }
         requires room { length (on_line self.old.lines line ++ before (on_line lines.now line)) ≤ LINE_TOKENS }

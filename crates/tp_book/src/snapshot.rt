@@ -1,7 +1,7 @@
 //! A book's calls for the snapshot that runs: begin, record, close, whole.
 //!
-//! With the node's half, under its lock, what a call does is the act: `tp_law_network::halves_join`. A whole cut stays, and neither it
-//! nor its images change, until the trim: `tp_law_network::whole_cuts_stay`.
+//! With the node's half, under its lock, what a call does is the act: `tp_law_network::halves_join`. Until the trim a whole cut stays
+//! whole, and neither it nor its images change: `tp_law_network::whole_cuts_stay`.
 
 ghost use Rattle.std.specs.Prelude.{◌≡◌, ◌<◌, ◌+◌, Some, true, length, IfOk, OnErr};
 ghost use Rattle.std.specs.Option.{option_copied};
@@ -23,8 +23,8 @@ use tp_model::Token;
 use tp_model::limits::NUMBER_LIMIT;
 
 impl Book {
-    /// Begins a snapshot: the host records its ports, and a Marker goes onto each of their wired lines. Each node is then asked
-    /// to record.
+    /// Begins a snapshot: the host records its ports, and a Marker goes onto each of their wired lines. Each node is then asked to record.
+    /// Fails with `SnapshotRunning`, `StoreBroken`, `JournalFull`, or `Memory`.
     pub fn begin(&mut self, alloc: Global) -> Result<(), Refusal>
         ensures answer { IsAnswer (begin_refusal self.old) result }
         ensures ok { IfOk result (λ done. self.new ≡ after_begin self.old) }
@@ -57,7 +57,7 @@ impl Book {
         self.snapshots.is_asked(node as usize)
     }
 
-    /// Whether a snapshot runs in which a process has recorded; the host is the last one.
+    /// Whether a snapshot runs in which a process has recorded; the host is the last process.
     pub fn recorded(&self, process: usize) -> bool
         requires { process < count_of_nodes self.now + 1 }
         ensures { result ≡ has_recorded_in self.now.state.snapshot process }
@@ -66,7 +66,7 @@ impl Book {
         self.snapshots.has_recorded(process)
     }
 
-    /// A node that was asked records: its image is frozen, and a Marker goes onto each of its wired lines. It takes no memory.
+    /// Records a node that was asked to: its image is frozen, and a Marker goes onto each of its wired lines. It takes no memory.
     pub fn record(&mut self, node: u8)
         requires there { node < count_of_nodes self.old }
         requires asked { is_asked self.old.state.snapshot node ≡ true }
@@ -79,7 +79,7 @@ impl Book {
         self.journal.mark_node(node);
     }
 
-    /// Whether a Marker is in front of a line.
+    /// Whether a Marker is at the front of a line.
     pub fn marker_ready(&self, line: u16) -> bool
         requires { line < length self.now.state.lines }
         ensures { result ≡ is_first (on_line self.now.state.lines line) Marker }
@@ -87,7 +87,7 @@ impl Book {
         self.journal.front(line) == Some(Token::Marker)
     }
 
-    /// Takes the Marker in front of a line off, whose receiver has recorded. It makes no entry, and takes no memory.
+    /// Takes off the Marker at the front of a line whose receiver has recorded. It makes no entry, and takes no memory.
     pub fn close_line(&mut self, line: u16)
         requires there { line < length self.old.state.lines }
         requires ready { is_first (on_line self.old.state.lines line) Marker ≡ true }
@@ -109,8 +109,8 @@ impl Book {
         self.journal.has_marker(line) && self.snapshots.has_recorded(self.journal.taker(line))
     }
 
-    /// Takes the Marker off a line whose receiver has recorded, also from behind other tokens. They were sent before it, so they belong
-    /// to the line in the cut; they stay on the line, and are taken later. It makes no entry, and takes no memory.
+    /// Takes the Marker off a line whose receiver has recorded, also from after other tokens. They were sent before it, so they belong to
+    /// the line in the cut. They stay on the line, and are taken later. It makes no entry, and takes no memory.
     pub fn close_over(&mut self, line: u16)
         requires there { line < length self.old.state.lines }
         requires ready { is_closable self.old line ≡ true }
@@ -122,8 +122,8 @@ impl Book {
         self.journal.unmark(line);
     }
 
-    /// The cut, where a snapshot runs, all have recorded and each wired line's Marker was taken. It holds then: it is the
-    /// network that the entries in it lead to, which may come first.
+    /// Gives the cut; `None` unless a snapshot runs, all have recorded and each wired line's Marker was taken. The cut is then the network
+    /// that the entries in it lead to, and these may come first.
     pub fn whole(&self) -> Option<&Cut>
         ensures value { option_copied result ≡ whole (world_of self.now) }
         ensures holds { (cut : WholeCut) → whole (world_of self.now) ≡ Some cut → CutHolds t414 (world_of self.now) cut }

@@ -1,4 +1,4 @@
-//! Values that contracts alone see.
+//! Values that only contracts see.
 
 ghost use Rattle.std.specs.Prelude.{◌≡◌, ◌++◌, ◌∷◌, [], ℕ, Option, None, map, set, replicate};
 ghost use Rattle.std.specs.Borrow.{ftrue};
@@ -9,8 +9,8 @@ ghost use Rattle.tp_book.specs.Seen.{Seen};
 use std::marker::Model;
 use tp_model::Entry;
 
-/// What contracts alone see of a book's snapshots: each node's frozen image where it recorded, all entries since the
-/// book was opened, and how many there were then. It has no bytes, and no call reads it.
+/// What only contracts see of a book's snapshots: each node's frozen image once it has recorded, all entries since the book was opened, and
+/// how many there were then. It has no bytes, and no call reads it.
 #[derive(Drop)]
 pub struct Trace {
     pub ghost seen: { Seen },
@@ -25,7 +25,7 @@ unsafe impl Send for Trace {}
 
 unsafe impl Sync for Trace {}
 
-/// The image that a node records, which contracts alone see.
+/// The image that a node records, which only contracts see.
 #[derive(Drop)]
 pub struct Image {
     pub ghost image: { Option NodeState },
@@ -36,7 +36,7 @@ impl Model for Image {
 }
 
 impl Image {
-    /// Gives the ghost value `image`, which a contract says by what is lent as `_value`. It does nothing.
+    /// Gives the ghost value `image`, which a contract names by what is lent as `_value`. It does nothing.
     pub fn of<T>(_value: &T) -> Image
         ghost image: { Option NodeState }
         ensures { result.image ≡ image }
@@ -46,7 +46,7 @@ impl Image {
 }
 
 impl Trace {
-    /// Gives the ghost value `seen`, which a contract says by what is lent as `_value`. It does nothing.
+    /// Gives the ghost value `seen`, which a contract names by what is lent as `_value`. It does nothing.
     pub fn of<T>(_value: &T) -> Trace
         ghost seen: { Seen }
         ensures { result.seen ≡ seen }
@@ -54,21 +54,21 @@ impl Trace {
         Trace {}
     }
 
-    /// Nothing yet.
+    /// Makes an empty trace of a book with `floor` entries.
     pub(crate) fn nothing(floor: usize) -> Trace
         ensures { result.seen ≡ record { frozen = []; history = []; floor = floor } }
     {
         Trace::of(&floor)
     }
 
-    /// An entry more.
+    /// Adds an entry.
     pub(crate) fn with_entry(&self, entry: Entry) -> Trace
         ensures { result.seen ≡ record self.now.seen { history = self.now.seen.history ++ entry ∷ [] } }
     {
         let both = (self, entry);
         Trace::of(&both)
     }
-    /// An entry more for each byte that was handed to a port.
+    /// Adds an entry for each byte that was handed to a port.
     pub(crate) fn with_inputs(&self, port: u8, bytes: &[u8]) -> Trace
         ensures { result.seen ≡ record self.now.seen { history = self.now.seen.history ++ map (HostIn port) bytes.now } }
     {
@@ -76,7 +76,7 @@ impl Trace {
         Trace::of(&all)
     }
 
-    /// No image is frozen yet, of `nodes` nodes.
+    /// Begins to record `nodes` nodes, none of them frozen yet.
     pub(crate) fn unfrozen(&self, nodes: usize) -> Trace
         ensures { result.seen ≡ record self.now.seen { frozen = replicate nodes None } }
     {
@@ -84,7 +84,7 @@ impl Trace {
         Trace::of(&both)
     }
 
-    /// The image of a node is frozen.
+    /// Adds the frozen image of a node.
     pub(crate) fn with_image(&self, node: u8, image: &Image) -> Trace
         ensures { result.seen ≡ record self.now.seen { frozen = set self.now.seen.frozen node image.now.image } }
     {
@@ -92,7 +92,7 @@ impl Trace {
         Trace::of(&all)
     }
 
-    /// There is no frozen image, and no entry from before the book was opened.
+    /// Drops the frozen images, and counts no entry from before the book was opened.
     pub(crate) fn ended(&self) -> Trace
         ensures { result.seen ≡ record self.now.seen { frozen = []; floor = 0 } }
     {

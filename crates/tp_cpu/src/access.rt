@@ -8,7 +8,7 @@ ghost use Rattle.tp_cpu.specs.Ends.{Finds, Writes};
 use crate::undone::{BAD_ADDRESS, Undone};
 use tp_mem::{Mem, WriteFault};
 
-/// Reads the word at `address`.
+/// Reads the word at `address`. `BadAddress` if it is outside memory.
 #[inline(always)]
 pub fn load<M: Mem>(mem: &M, address: u32) -> Result<u32, Undone>
     ensures { Finds (word_at (M.bytes mem.now) address) result }
@@ -19,7 +19,7 @@ pub fn load<M: Mem>(mem: &M, address: u32) -> Result<u32, Undone>
     }
 }
 
-/// Writes the word at `address`.
+/// Writes the word at `address`. `BadAddress` if it is outside memory, and `NoFrame` if a frame is missing.
 #[inline(always)]
 pub fn store<M: Mem>(mem: &mut M, address: u32, word: u32) -> Result<(), Undone>
     ensures written { Writes (stored (M.bytes mem.old) ((address, word) ∷ [])) (word_ranges ((address, word) ∷ [])) (M.kept mem.old) (M.bytes mem.old) result (M.bytes mem.new) }
@@ -32,7 +32,7 @@ pub fn store<M: Mem>(mem: &mut M, address: u32, word: u32) -> Result<(), Undone>
     }
 }
 
-/// Writes words, one after another.
+/// Writes words, one after another, or none: `BadAddress` if one is outside memory, and `NoFrame` if a frame is missing.
 #[inline(always)]
 pub fn store_all<M: Mem>(mem: &mut M, writes: &[(u32, u32)]) -> Result<(), Undone>
     ensures written { Writes (stored (M.bytes mem.old) writes.now) (word_ranges writes.now) (M.kept mem.old) (M.bytes mem.old) result (M.bytes mem.new) }
@@ -45,7 +45,8 @@ pub fn store_all<M: Mem>(mem: &mut M, writes: &[(u32, u32)]) -> Result<(), Undon
     }
 }
 
-/// Copies `count` bytes, all read before the first is written, and then writes words.
+/// Copies `count` bytes, all read before the first is written, and then writes words. `BadAddress` if any is outside memory, and `NoFrame`
+/// if a frame is missing.
 #[inline(always)]
 pub fn change<M: Mem>(
     mem: &mut M,

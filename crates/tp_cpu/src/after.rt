@@ -1,5 +1,5 @@
-//! Reads and writes behind a first word that is to be stored. Nothing is stored before all is known to lie inside
-//! memory: reads answer what they would after it, and the writes are made in one call.
+//! Reads and writes after a first word that is to be stored. Nothing is stored before everything is known to be inside memory. Reads answer
+//! what they would after the first word, and one call makes all writes.
 
 ghost use Rattle.std.specs.Prelude.{◌≡◌, [], ◌∷◌, ◌++◌, Some};
 ghost use Rattle.tp_model.specs.Memory.{word_offset};

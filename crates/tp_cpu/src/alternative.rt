@@ -22,7 +22,7 @@ pub const WAITING: u32 = 0x8000_0002;
 
 pub const READY: u32 = 0x8000_0003;
 
-/// What stands at the workspace while no branch is chosen.
+/// The word at the workspace while no branch is chosen.
 pub const NONE_CHOSEN: u32 = 0xFFFF_FFFF;
 
 /// Whether `state` is the state of an alternative.
@@ -33,7 +33,7 @@ pub fn is_alternative(state: u32) -> bool
     state == ENABLING || state == WAITING || state == READY
 }
 
-/// Queues the process of `descriptor` where its alternative was waiting.
+/// Queues the process of `descriptor` if its alternative was waiting.
 #[inline(always)]
 pub(crate) fn signal(state: u32, descriptor: u32, cpu: &mut Cpu)
     ensures { cpu.new ≡ signalled state descriptor cpu.old }
@@ -52,7 +52,7 @@ pub fn alt<M: Mem>(cpu: &mut Cpu, mem: &mut M) -> Result<(), Undone>
     store(mem, state_at(cpu.wptr), ENABLING)
 }
 
-/// Enables a branch that waits for nobody, where its guard is true.
+/// Enables a branch that waits for nobody, if its guard is true.
 #[inline]
 pub fn enbs<M: Mem>(cpu: &mut Cpu, mem: &mut M) -> Result<(), Undone>
     ensures does { Does enbs enbs_ranges (M.kept mem.old) cpu.old (M.bytes mem.old) result cpu.new (M.bytes mem.new) }
@@ -64,7 +64,7 @@ pub fn enbs<M: Mem>(cpu: &mut Cpu, mem: &mut M) -> Result<(), Undone>
     store(mem, state_at(cpu.wptr), READY)
 }
 
-/// Waits for a partner where none has come. No branch is chosen yet.
+/// Waits for a partner if none has come. No branch is chosen yet.
 #[inline]
 pub fn altwt<M: Mem>(cpu: &mut Cpu, mem: &mut M) -> Result<(), Undone>
     ensures does { Does altwt altwt_ranges (M.kept mem.old) cpu.old (M.bytes mem.old) result cpu.new (M.bytes mem.new) }
@@ -87,7 +87,7 @@ pub fn altwt<M: Mem>(cpu: &mut Cpu, mem: &mut M) -> Result<(), Undone>
     Ok(())
 }
 
-/// Puts into A whether the branch is chosen, by what stood at the workspace.
+/// Puts into A whether the branch is chosen, by the word that was at the workspace.
 #[inline(always)]
 pub fn note_choice(word: u32, cpu: &mut Cpu)
     ensures { cpu.new ≡ chosen word cpu.old }
@@ -95,7 +95,7 @@ pub fn note_choice(word: u32, cpu: &mut Cpu)
     cpu.regs.a = u32::from(word == NONE_CHOSEN);
 }
 
-/// Chooses a branch that is ready, where none is chosen.
+/// Chooses a branch that is ready, if none is chosen.
 #[inline]
 pub fn choose<M: Mem>(cpu: &mut Cpu, mem: &mut M) -> Result<(), Undone>
     ensures does { Does choose choose_ranges (M.kept mem.old) cpu.old (M.bytes mem.old) result cpu.new (M.bytes mem.new) }
@@ -109,7 +109,7 @@ pub fn choose<M: Mem>(cpu: &mut Cpu, mem: &mut M) -> Result<(), Undone>
     Ok(())
 }
 
-/// Passes over a branch that isn't ready.
+/// Skips a branch that isn't ready.
 #[inline(always)]
 pub fn pass_over(cpu: &mut Cpu)
     ensures { cpu.new ≡ passed_over cpu.old }

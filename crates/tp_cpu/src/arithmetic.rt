@@ -7,7 +7,7 @@ ghost use Rattle.tp_model.specs.Registers.{shl, shr};
 /// The most negative word.
 pub const MOST_NEG: u32 = 0x8000_0000;
 
-/// The low word of a whole number, and whether the number lies outside the signed words.
+/// The low word of a whole number, and whether the number is outside the signed words.
 #[derive(Clone, Copy)]
 pub struct Narrowed {
     pub word: u32,
@@ -66,7 +66,7 @@ fn product(b: u32, a: u32) -> i64
     wide(b) * wide(a)
 }
 
-/// Divides `b` by `a`, rounding towards zero. The caller leaves out quotients that lie outside the signed words.
+/// Divides `b` by `a`, rounding towards zero. The caller leaves out quotients that are outside the signed words.
 #[inline]
 pub fn quotient(b: u32, a: u32) -> u32
     requires { ((a == 0) || ((b == most_neg) && (a == 2 ^ 32 - 1))) ≡ false }

@@ -104,7 +104,7 @@ fn meets<M: Mem>(
     Ok(())
 }
 
-/// Writes what an output leaves where it finds an alternative in this state.
+/// Writes what an output leaves if it finds an alternative in this state.
 #[tactic(auto, using(crate::proofs::Behind::signals))]
 fn write_signal<M: Mem>(
     cpu: &Cpu,

@@ -18,7 +18,7 @@ pub struct Decoder {
 impl Decoder {
     ghost use Rattle.tp_cpu.specs.Decoding.{reads_on};
 
-    /// Starts in front of an instruction's first byte.
+    /// Starts before an instruction's first byte.
     #[inline]
     pub fn new() -> Self
         ensures answer { (bytes : List ℕ) → reads_on result bytes ≡ decoded bytes }
@@ -98,7 +98,7 @@ pub fn decode(bytes: &[u8]) -> Result<Instr, DecodeFault>
     Err(DecodeFault::NeedMore)
 }
 
-/// Makes the instruction `fun` with `operand`, spelt by `len` bytes. Refuses an operation that isn't listed.
+/// Makes the instruction `fun` with `operand`, spelt by `len` bytes. `UnknownOp` if it is an operation that isn't listed.
 #[inline(always)]
 fn instr_at(fun: Fun, operand: u32, len: u8) -> Result<Instr, DecodeFault>
     ensures { result ≡ instr_at (Some fun) operand len }
@@ -139,7 +139,7 @@ pub fn fun_at(byte: u8) -> Option<Fun>
     }
 }
 
-/// Gives the operation that `opr` selects by the operand `number`, if one is listed.
+/// Gives the operation that `opr` selects by the operand `number`; `None` if none is listed.
 #[inline(always)]
 pub fn op_at(number: u32) -> Option<Op>
     ensures { result ≡ op_of number }

@@ -9,7 +9,7 @@ use arrayvec::ArrayVec;
 use std::alloc::AllocError;
 use tp_model::Fun;
 
-/// Appends to `out` the spelling of `fun` with `operand`. Where memory is refused, `out` is as before.
+/// Appends to `out` the spelling of `fun` with `operand`. `AllocError` if memory is out; then `out` is as before.
 pub fn encode(fun: Fun, operand: i32, out: &mut Vec<u8>) -> Result<(), AllocError>
     ensures ok { OnOk result (out.new.items ≡ out.old.items ++ spelling fun (cast_unsigned w32 operand)) }
     ensures err { OnErr result (out.new.items ≡ out.old.items) }
@@ -32,7 +32,7 @@ fn spell(fun: Fun, operand: u32, bytes: &mut ArrayVec<u8, 8>)
     }
 }
 
-/// Appends the spelling of `code` with an operand that isn't negative, in at most `more` bytes and one.
+/// Appends the spelling of `code` with an operand from 0 on, in at most `more` + 1 bytes.
 fn spell_natural(more: u8, code: u8, operand: u32, bytes: &mut ArrayVec<u8, 8>)
     requires code { code < 16 }
     requires room { array_vec_len bytes.old + more < 8 }

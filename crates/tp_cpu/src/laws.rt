@@ -2,7 +2,7 @@
 
 ghost use Rattle.tp_cpu.specs.Laws.{ReadsExactly, SpellsOnce, ReadsBack, SpellingSpells, SpellingIsShortest};
 
-/// Reading gives an answer exactly where the bytes allow it, and bytes spell at most one instruction.
+/// Reading gives an answer exactly if the bytes allow it, and bytes spell at most one instruction.
 pub fn reading_is_exact()
     ensures exactly { ReadsExactly }
     ensures once { SpellsOnce }

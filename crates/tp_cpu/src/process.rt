@@ -100,7 +100,7 @@ fn count(cpu: &mut Cpu)
     }
 }
 
-/// Moves the instruction pointer to `next`, behind an instruction, which counts.
+/// Moves the instruction pointer to `next`, after an instruction, which counts.
 #[inline(always)]
 pub fn pass(cpu: &mut Cpu, next: u32)
     ensures { cpu.new ≡ past next cpu.old }
@@ -238,7 +238,8 @@ pub fn restore<M: Mem>(cpu: &mut Cpu, mem: &mut M, descriptor: u32) -> Result<()
     Ok(())
 }
 
-/// Does `startp`: queues a process with the workspace A that begins at N + B, at the running one's priority. N is the next instruction.
+/// Does `startp`: queues a process with the workspace A that begins at N + B, at the priority of the process that runs. N is the next
+/// instruction.
 pub fn startp<M: Mem>(cpu: &mut Cpu, mem: &mut M) -> Result<(), Undone>
     ensures does { Does startp startp_ranges (M.kept mem.old) cpu.old (M.bytes mem.old) result cpu.new (M.bytes mem.new) }
     ensures kept { M.kept mem.new ≡ kept_after result (M.kept mem.old) (startp_ranges cpu.old (M.bytes mem.old)) }
@@ -262,7 +263,7 @@ pub fn runp<M: Mem>(cpu: &mut Cpu, mem: &mut M) -> Result<(), Undone>
     enqueue(cpu, mem, cpu.regs.a)
 }
 
-/// Does `endp`: counts down the word behind A. The last process goes on for all, and each other one ends.
+/// Does `endp`: counts down the word after A. The last process goes on for all, and each other one ends.
 pub fn endp<M: Mem>(cpu: &mut Cpu, mem: &mut M) -> Result<(), Undone>
     ensures does { Does endp endp_ranges (M.kept mem.old) cpu.old (M.bytes mem.old) result cpu.new (M.bytes mem.new) }
     ensures kept { M.kept mem.new ≡ kept_after result (M.kept mem.old) (endp_ranges cpu.old (M.bytes mem.old)) }

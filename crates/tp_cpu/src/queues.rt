@@ -16,7 +16,7 @@ use tp_model::{Cpu, Queue};
 /// The word that names no process.
 pub const NOT_PROCESS: u32 = 0x8000_0000;
 
-/// Gives the write that links `wptr` behind the back of a queue, if there is one.
+/// Gives the write that links `wptr` to the back of a queue; `None` if the queue is empty.
 #[inline(always)]
 pub(crate) fn link_write(wptr: u32, queue: Queue) -> Option<(u32, u32)>
     ensures { option_to_list result ≡ link_writes wptr queue }
@@ -46,7 +46,7 @@ pub(crate) fn joined(wptr: u32, queue: Queue) -> Queue
     }
 }
 
-/// Gives the write that links the process of `descriptor` into the queue of its priority, if there is one.
+/// Gives the write that links the process of `descriptor` into the queue of its priority; `None` if that is empty.
 #[inline]
 pub fn queue_write(descriptor: u32, cpu: &Cpu) -> Option<(u32, u32)>
     ensures { option_to_list result ≡ queue_writes descriptor cpu.now }
@@ -58,7 +58,7 @@ pub fn queue_write(descriptor: u32, cpu: &Cpu) -> Option<(u32, u32)>
     }
 }
 
-/// Puts the process of `descriptor` at the back of the queue of its priority. The link isn't written.
+/// Puts the process of `descriptor` at the back of the queue of its priority, without writing the link.
 #[inline]
 pub fn queue(descriptor: u32, cpu: &mut Cpu)
     ensures { cpu.new ≡ queued descriptor cpu.old }
@@ -82,7 +82,7 @@ pub fn enqueue<M: Mem>(cpu: &mut Cpu, mem: &mut M, descriptor: u32) -> Result<()
     Ok(())
 }
 
-/// Gives the queue once its front process has left it.
+/// Gives the queue once its front process has left it. `BadAddress` if the link is outside memory.
 #[inline(always)]
 pub(crate) fn rest_of_queue<M: Mem>(queue: Queue, mem: &M) -> Result<Queue, Undone>
     ensures { Finds (rest_of_queue queue (M.bytes mem.now)) result }

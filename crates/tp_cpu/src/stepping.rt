@@ -94,8 +94,8 @@ fn act<M: Mem>(cpu: &mut Cpu, mem: &mut M) -> Option<Result<(), Undone>>
     }
 }
 
-/// Answers what a process asks of a link, where its next step is `in` at an input link's word or `out` at an output link's: that is all the
-/// step does, and the node ends it. Where it answers `None`, `act` says what the step is.
+/// Answers what a process asks of a link, if its next step is `in` at an input link's word or `out` at an output link's. That is all that
+/// the step does, and the node ends it. After `None`, `act` says what the step is.
 #[inline(always)]
 fn asked<M: Mem>(cpu: &Cpu, mem: &M) -> Option<StepEnd>
     ensures { AsksLink (step_of cpu.now (M.bytes mem.now)) result }

@@ -12,10 +12,10 @@ pub enum Undone {
     /// Memory is frozen, and the shared pages that the part would write outnumber the free frames.
     #[error("NoFrame")]
     NoFrame,
-    /// An output end of a link is asked for something.
+    /// The step asks an output end of a link for something.
     #[error("Asks")]
     Asks(OutRequest),
-    /// An input end of a link is asked for something.
+    /// The step asks an input end of a link for something.
     #[error("Wants")]
     Wants(InRequest),
 }

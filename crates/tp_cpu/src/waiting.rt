@@ -36,7 +36,7 @@ fn wait_first<M: Mem>(cpu: &mut Cpu, mem: &mut M) -> bool
     true
 }
 
-/// Does `in` or `out` where no process is at the channel: count A, channel B, pointer C.
+/// Does `in` or `out` if no process is at the channel: count A, channel B, pointer C.
 #[inline(always)]
 fn wait_at_channel<M: Mem>(cpu: &mut Cpu, mem: &mut M) -> bool
     ensures input { WasDone (operate Op.In) (operate_ranges Op.In) (M.kept mem.old) cpu.old (M.bytes mem.old) result cpu.new (M.bytes mem.new) (M.kept mem.new) }
@@ -66,8 +66,7 @@ fn wait_by<M: Mem>(cpu: &mut Cpu, mem: &mut M, code: u8, operand: u32) -> bool
     }
 }
 
-/// Makes one step, if it is an operation by which a process waits at a channel, and answers whether it is. Nothing changes
-/// where it isn't.
+/// Makes one step, if it is an operation by which a process waits at a channel, and answers whether it is. If it isn't, nothing changes.
 #[inline]
 pub(crate) fn wait<M: Mem>(cpu: &mut Cpu, mem: &mut M) -> bool
     ensures { LeadsByOne (record { cpu = cpu.old; memory = M.bytes mem.old; kept = M.kept mem.old }) result (record { cpu = cpu.new; memory = M.bytes mem.new; kept = M.kept mem.new }) }

@@ -1,4 +1,4 @@
--- Contents that agree but for one range, and what a crash may leave as such contents.
+-- Contents that are equal outside one range, and what a crash may leave as such contents.
 use Rattle.std.proofs.Common.{◌≡◌, ℕ, ◌+◌, ◌-◌, ◌<◌, ◌≤◌, ◌⊎◌, inl, inr, List, [], ◌++◌, length, take, drop, get_or, refl, sym, ap, ◌∙◌, arith, min, length-append, length-drop}
 use Rattle.std.proofs.lemmas.Bool.{cases_lt}
 use Rattle.std.proofs.lemmas.List.{length-take, length-take-le, get_or_append_left, get_or-take, get_or-append_right, get_or-drop, get_or_past}
@@ -20,7 +20,7 @@ same_trans at count old between new one two = record {
   same = λ place out. two.same place out ∙ one.same place out;
 }
 
--- a range that has the other one in it
+-- a range that contains the other one
 pub same_wider : (outer inner : ℕ × ℕ) (old new : List ℕ) → IsWithin outer inner → SameOutside inner.0 inner.1 old new → SameOutside outer.0 outer.1 old new
 same_wider outer inner old new inside same = record {
   same_length = same.same_length;
@@ -80,7 +80,7 @@ pub same_in : (at count : ℕ) (old new : List ℕ) (from size : ℕ) → SameOu
     → SameOutside (at - from) count (take size (drop from old)) (take size (drop from new))
 same_in at count old new from size same low = same_taken (at - from) count (drop from old) (drop from new) size (same_dropped at count old new from same low)
 
--- ## What stands in the range
+-- ## What is in the range
 
 -- ## What a crash may leave
 

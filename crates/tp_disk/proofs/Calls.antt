@@ -93,7 +93,7 @@ broke_first first second s t broke =
       past = broke.past;
     }
 
--- the moments before two runs of calls, one behind the other
+-- the moments before two runs of calls, one after the other
 past_then : (past : List Moment) (first second : List Call) (m : Moment)
     → (past ++ moments_of first m) ++ moments_of second (all_done first m) ≡ past ++ moments_of (first ++ second) m
 past_then past first second m =
@@ -188,7 +188,7 @@ call_leaves r call s t inside goes was failed =
 
 -- ## A write and a sync
 
--- where all was synced before, a crash within a write leaves what was there outside its range
+-- if all was synced before, a crash within a write leaves what was there outside its range
 pub same_outside_write : (m : Moment) (at : ℕ) (bytes left : List ℕ) → m.unsynced ≡ [] → MayBe (within (Write at bytes) m) left
     → SameOutside at (length bytes) m.bytes left
 same_outside_write m at bytes left synced may = record {
@@ -197,12 +197,12 @@ same_outside_write m at bytes left synced may = record {
       (subst (λ (ranges : List (ℕ × ℕ)). IsOutside (ranges ++ (at, length bytes) ∷ []) place) (sym synced) (out, tt));
 }
 
--- what stands after a write and a sync
+-- the bytes after a write and a sync
 pub written_through : (at : ℕ) (bytes : List ℕ) (s t : State) → Called (Write at bytes ∷ Sync ∷ []) s t
     → (t.now.bytes ≡ written s.now.bytes at bytes) × IsSynced t
 written_through at bytes s t called = (ap (λ (m : Moment). m.bytes) called.now, ap (λ (m : Moment). m.unsynced) called.now)
 
--- where all is synced a crash leaves what stands
+-- if all is synced a crash leaves the bytes as they are
 pub synced_stands : (s : State) (left : List ℕ) → IsSynced s → MayBe s.now left → left ≡ s.now.bytes
 synced_stands s left synced may =
     synced_may s.now.bytes left (subst (λ (ranges : List (ℕ × ℕ)). let m : Moment = record { bytes = s.now.bytes; unsynced = ranges } in MayBe m left) synced may)
@@ -213,7 +213,7 @@ synced_stands s left synced may =
 pub write_broke : (at : ℕ) (bytes : List ℕ) (s t : State) → MomentPassed s t → Fails (Write at bytes) s t → Broke (Write at bytes ∷ Sync ∷ []) s t
 write_broke at bytes s t goes failed = broke_first (Write at bytes ∷ []) (Sync ∷ []) s t (broke_one (Write at bytes) s t goes failed)
 
--- a sync that failed, behind the write
+-- a sync that failed, after the write
 pub sync_broke : (at : ℕ) (bytes : List ℕ) (s t u : State) → t.now ≡ done (Write at bytes) s.now → MomentPassed s t → MomentPassed t u → Fails Sync t u
     → Broke (Write at bytes ∷ Sync ∷ []) s u
 sync_broke at bytes s t u was goes then failed =

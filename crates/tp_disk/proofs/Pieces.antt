@@ -60,12 +60,12 @@ goes_by_kept place old between new goes kept = record {
   are = kept.are ∙ ap (λ calls. calls ++ kept.made) goes.are ∙ append_assoc old goes.made kept.made;
 }
 
--- what holds at either end of a call holds where it failed
+-- what holds at either end of a call holds if it failed
 pub on_err : {T E : Type 0} (result : Result T E) (P : Type 0) → P → OnErr result P
 on_err (Ok value) P has = tt
 on_err (Err error) P has = has
 
--- a sync more, where it succeeds
+-- a sync more, if it succeeds
 pub synced_more : {T E : Type 0} (result : Result T E) (old between new made : List FileCall)
     → between ≡ old ++ made → new ≡ between ++ Syncs (is_ok result) ∷ [] → OnOk result (new ≡ old ++ (made ++ Syncs true ∷ []))
 synced_more (Ok value) old between new made so_far more =

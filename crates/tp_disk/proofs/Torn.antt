@@ -27,7 +27,7 @@ torn_may m (Write at bytes) torn inside = may_be_torn m at bytes (take (length b
 torn_may m Sync torn inside = may_stand m
 torn_may m Read torn inside = may_stand m
 
--- a call that broke, where the given bytes stand
+-- a call that broke, with the bytes that it left
 broke : (call : Call) (left : List ℕ) (s t : State) → t.now ≡ broken call left s.now → MayBe (within call s.now) left → Fails call s t
 broke call left s t is may = record {
   unsynced = ap (λ (m : Moment). m.unsynced) is;

@@ -5,10 +5,11 @@ use Rattle.tp_disk.specs.declared.filling.Making.TheVariants.{Done, Empties, Fil
 use Rattle.tp_disk.specs.Filling.{GoesOn, IsLeft, asking, clearing}
 use Rattle.tp_disk.specs.History.{FileCall, Measures, Resizes, Syncs, SyncsData, Writes}
 
--- Files of the operating system keep the model. Nothing proves it, and no proof outside this crate unfolds it. What it asks of a
--- sync that succeeded: `fsync` (`Syncs`) makes last what was written, and the length that was given. Of a file whose length lasts `fdatasync`
--- (`SyncsData`) makes last what was written, with what else is needed to read it, as where its blocks lie; of one that another program put there,
--- and never synced, the length too, since it is needed to read the bytes. So POSIX says of both.
+-- The premise that files of the operating system keep the model. Nothing proves it, and no proof outside this crate unfolds it. It needs
+-- two things of a sync that succeeded. `fsync` (`Syncs`) makes last what was written, and the length that was given. `fdatasync`
+-- (`SyncsData`), of a file whose length lasts, makes last what was written, and what else is needed to read it, such as where its blocks
+-- are. If another program put the file there and never synced it, that includes the length, since it is needed to read the bytes. POSIX
+-- says this of both.
 unfoldable pub file_keeps : Type 0
 file_keeps = ⊥
 
@@ -16,20 +17,21 @@ pub no_file : file_keeps → ⊥
 unfolding file_keeps
 no_file keeps = keeps
 
--- The calls of the system that make a device of `size` bytes of a file: none where it is one; where it takes room as it is
--- written, it is emptied and gets its length; else it first has room for all of it, and only then is what it had written over.
+-- The calls of the system that make a device of `size` bytes of a file. If it is one, there are none. If it takes room as it is written, it
+-- is emptied and gets its length. Else it first gets room for all of the device, and only then what it had is written over.
 abbrev pub making : Making → ℕ → List FileCall
 making Done size = []
 making Empties size = Resizes 0 true ∷ Resizes size true ∷ Syncs true ∷ []
 making (Fills old) size = asking old size ++ clearing old size
 
--- What the calls left that didn't make a device of a file: nothing of one that is to be filled was written over before there was room for all.
+-- What the calls left that didn't make a device of a file. If the file was to be filled, nothing of it was written over before there was
+-- room for all.
 abbrev pub NotMade : Making → ℕ → (old new : List FileCall) → Type 0
 NotMade Done size old new = ⊥
 NotMade Empties size old new = GoesOn old new
 NotMade (Fills length) size old new = IsLeft length size old new
 
--- The system was asked once how many bytes a file has that is to be filled.
+-- For a file that is to be filled, the system was asked once how many bytes it has.
 abbrev pub IsMeasured : Making → (old new : List FileCall) → Type 0
 IsMeasured Done old new = ⊥
 IsMeasured Empties old new = ⊥

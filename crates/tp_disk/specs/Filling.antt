@@ -5,7 +5,7 @@ use Rattle.std.specs.List.{AllByRecursion, range_with_len}
 use Rattle.tp_disk.specs.declared.filling.TheConstants.{PIECE}
 use Rattle.tp_disk.specs.History.{FileCall, Measures, Reads, Resizes, Syncs, SyncsData, Writes}
 
--- of `count` bytes 00 from a place on, the piece of this number: as long as each, but the last one, which has what is left
+-- of `count` bytes 00 from a place on, the piece of this number: as long as each other, except the last one, which has what is left
 abbrev pub piece_at : (at count : ℕ) → (ok : Bool) → (number : ℕ) → FileCall
 piece_at at count ok number = Writes (at + number * PIECE) (replicate (min PIECE (count - number * PIECE)) 0) ok
 
@@ -13,7 +13,7 @@ piece_at at count ok number = Writes (at + number * PIECE) (replicate (min PIECE
 abbrev pub filling : (at count : ℕ) → List FileCall
 filling at count = map (piece_at at count true) (range_with_len 0 (div_ceil count PIECE)) ++ Syncs true ∷ []
 
--- a file of `length` bytes is asked for the room of a device of `size` bytes: what it hasn't is written behind its end
+-- a file of `length` bytes is asked for the room of a device of `size` bytes: what it lacks is written after its end
 abbrev pub asking : (length size : ℕ) → List FileCall
 asking length size = if nat_lt length size then filling length (size - length) else []
 
@@ -37,7 +37,7 @@ pub record KeepsFront (place : ℕ) (old new : List FileCall) : Type 0 where
   pub are : new ≡ old ++ made
   pub behind : AllByRecursion (IsBehind place) made
 
--- None reached the first `length` bytes, and the last gives the file just these.
+-- None reached the first `length` bytes, and the last call gives the file exactly these.
 pub record CutBack (length : ℕ) (old new : List FileCall) : Type 0 where
   pub before : List FileCall
   pub ok : Bool
@@ -49,7 +49,7 @@ pub record GoesOn (old new : List FileCall) : Type 0 where
   pub made : List FileCall
   pub are : new ≡ old ++ made
 
--- A file of `length` bytes didn't become a device of `size` bytes: the room was refused, and what was in it is there, or all of the room
--- was given, and only then a call could reach what was in it.
+-- A file of `length` bytes didn't become a device of `size` bytes. Either there was no room, and what was in it is there; or there was room
+-- for all, and only then a call could reach what was in it.
 abbrev pub IsLeft : (length size : ℕ) → (old new : List FileCall) → Type 0
 IsLeft length size old new = CutBack length old new ⊎ GoesOn (old ++ asking length size) new

@@ -1,9 +1,9 @@
--- What has become of a device, as far as no byte keeps it.
+-- What has happened to a device, as far as no byte keeps it.
 use Rattle.std.specs.Prelude.{ℕ, Bool, List, [], ◌∷◌, ◌++◌}
 use Rattle.tp_model.specs.Disk.{Moment}
 
--- A call of the system on an open file: where it reads or writes and which bytes came or went, the length that was answered
--- or asked for, and whether it was answered Ok. `Syncs` is of the file and all that is kept of it, `SyncsData` of its bytes.
+-- A call of the system on an open file: where it reads or writes, which bytes came or went, the length that the system answered or was
+-- given, and whether it succeeded. `Syncs` forces the file and all that is kept of it, `SyncsData` its bytes.
 pub data FileCall : Type 0 where
   Reads : (at : ℕ) → (came : List ℕ) → (ok : Bool) → FileCall
   Writes : (at : ℕ) → (bytes : List ℕ) → (ok : Bool) → FileCall
@@ -12,8 +12,8 @@ pub data FileCall : Type 0 where
   Measures : (length : ℕ) → FileCall
   Resizes : (length : ℕ) → (ok : Bool) → FileCall
 
--- How many calls have failed, the ranges written since the last sync that was done, the moments before each call, and the
--- calls of the system, the oldest first. Each kind of device keeps what its own contracts name.
+-- How many calls have failed, the ranges written since the last sync that succeeded, the moments before each call, and the calls of the
+-- system, the oldest first. Each kind of device keeps what its own contracts name.
 pub record DeviceTold : Type 0 where
   pub failures : ℕ
   pub unsynced : List (ℕ × ℕ)

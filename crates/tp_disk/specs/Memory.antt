@@ -1,4 +1,4 @@
--- A device in memory: what has become of it, and what a call of it comes to.
+-- A device in memory: what has happened to it, and what a call of it comes to.
 use Rattle.std.specs.Prelude.{◌≡◌, ℕ, ◌+◌, Bool}
 use Rattle.tp_model.specs.Disk.{Call}
 use Rattle.tp_model.specs.DiskHistory.{State, MomentPassed}
@@ -15,7 +15,7 @@ memory_state memory = record {
   past = memory.history.told.past;
 }
 
--- what its calls have led to, where it counts its failures
+-- what its calls have led to, if it counts its failures
 abbrev pub disk_state : Counted RawMemory → State
 disk_state disk = memory_state disk.raw
 

@@ -19,7 +19,7 @@ after_fault (Fails torn) = Done
 after_fault StopsBefore = Refused
 after_fault (StopsWithin torn) = Refused
 
--- the call of number n, where the one of number `call` has the fault
+-- the call of number n, if the one of number `call` has the fault
 abbrev pub planned : Option PlannedFault → (call n : ℕ) → Outcome
 planned None call n = Done
 planned (Some fault) call n = if nat_lt n call then Done else if nat_eq n call then faulty fault else after_fault fault

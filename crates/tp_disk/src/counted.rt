@@ -16,7 +16,7 @@ pub struct Counted<F: RawDisk> {
 impl<F: RawDisk> Counted<F> {
     ghost use Rattle.tp_disk.specs.Failures.{failure_count};
 
-    /// No call of it has failed.
+    /// Makes a device without a failed call.
     pub fn new(raw: F) -> Counted<F>
         ensures raw { result.raw ≡ raw }
         ensures failures { failure_count result.failed ≡ 0 }
@@ -27,7 +27,7 @@ impl<F: RawDisk> Counted<F> {
         }
     }
 
-    /// The device below the count.
+    /// Gives the device below the count.
     pub fn raw(&self) -> &F
         ensures { result.now ≡ self.now.raw }
     {

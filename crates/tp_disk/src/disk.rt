@@ -13,8 +13,8 @@ pub struct DeviceFailed;
 
 /// A device of a fixed number of bytes.
 ///
-/// What is said of its bytes and of crashes is said under a premise, `keeps`: that the devices of this type keep the model,
-/// whose moments and histories `tp_model` defines. The size and the count of failures are those of any device.
+/// What is said of its bytes and of crashes needs a premise, `keeps`: that the devices of this type keep the model, whose moments and
+/// histories `tp_model` defines. The size and the count of failures need none.
 pub trait Disk {
     /// How many bytes it has.
     ghost size_of: { Self → ℕ };
@@ -25,18 +25,18 @@ pub trait Disk {
     /// The premise: devices of this type keep the model.
     ghost keeps: { Type 0 };
 
-    /// What has become of it so far. Nothing is said of it but under the premise.
+    /// What has happened to it so far. Without the premise nothing is said of it.
     ghost state: { Self → State };
 
-    /// How many bytes it has.
+    /// Counts its bytes.
     fn size(&self) -> u64
         ensures { result ≡ size_of self.now };
 
-    /// How many calls have failed, or the greatest number where there are more.
+    /// Counts the calls that have failed, up to the greatest number.
     fn failures(&self) -> u64
         ensures { result ≡ min (failures_of self.now) (2 ^ 64 - 1) };
 
-    /// Fills `out` with the bytes from `at` on. After a failure `out` may hold anything.
+    /// Fills `out` with the bytes from `at` on. After `DeviceFailed`, `out` may hold anything.
     fn read(&mut self, at: u64, out: &mut [u8]) -> Result<(), DeviceFailed>
         requires { at + length out.old ≤ size_of self.old }
         ensures counts { Counts (is_ok result) (size_of self.old) (size_of self.new) (failures_of self.old) (failures_of self.new) }
@@ -45,7 +45,7 @@ pub trait Disk {
         ensures after { keeps → OnOk result ((state self.new).now ≡ done Read (state self.old).now) }
         ensures failed { keeps → OnErr result (Fails Read (state self.old) (state self.new)) };
 
-    /// Writes over what is there. Until a sync succeeds, a crash may leave any bytes in the range.
+    /// Writes over the bytes from `at` on. Until a sync succeeds, a crash may leave any bytes in the range, also after `DeviceFailed`.
     fn write_at(&mut self, at: u64, bytes: &[u8]) -> Result<(), DeviceFailed>
         requires { at + length bytes.now ≤ size_of self.old }
         ensures counts { Counts (is_ok result) (size_of self.old) (size_of self.new) (failures_of self.old) (failures_of self.new) }
@@ -53,7 +53,7 @@ pub trait Disk {
         ensures after { keeps → OnOk result ((state self.new).now ≡ done (Write at bytes.now) (state self.old).now) }
         ensures failed { keeps → OnErr result (Fails (Write at bytes.now) (state self.old) (state self.new)) };
 
-    /// After it, a crash leaves what a read gives.
+    /// Syncs what was written: after it, a crash leaves what a read gives. After `DeviceFailed` it may not.
     fn sync(&mut self) -> Result<(), DeviceFailed>
         ensures counts { Counts (is_ok result) (size_of self.old) (size_of self.new) (failures_of self.old) (failures_of self.new) }
         ensures goes { keeps → MomentPassed (state self.old) (state self.new) }
@@ -64,7 +64,7 @@ pub trait Disk {
     ghost whole: { keeps → (d : Self) → length (state d).now.bytes ≡ size_of d };
 }
 
-/// A device that is lent is one.
+/// A device that is lent is a device.
 impl<D: Disk> Disk for &mut D {
     ghost size_of = { λ d. D.size_of d.now };
 

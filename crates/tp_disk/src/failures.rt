@@ -24,14 +24,14 @@ impl Failures {
         }
     }
 
-    /// The count, or the greatest number where there are more.
+    /// Gives the count, up to the greatest number.
     pub fn get(&self) -> u64
         ensures { result ≡ min (failure_count self.now) (2 ^ 64 - 1) }
     {
         self.count
     }
 
-    /// One more.
+    /// Counts one more.
     pub fn add(&mut self)
         ensures { failure_count self.new ≡ failure_count self.old + 1 }
     {

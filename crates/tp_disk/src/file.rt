@@ -15,9 +15,8 @@ use std::io;
 use std::os::unix::fs::FileExt;
 use std::rt::Files;
 
-/// A file that doesn't count its failures. That it keeps the model is a premise: of it are proved its size, and that each call
-/// makes exactly the one call of the system that it stands for and is done only where that was. Its length never changes, so a sync is of the
-/// bytes alone.
+/// A file that doesn't count its failures. That it keeps the model is a premise. Its size is proved, and that each call makes exactly one
+/// call of the system, and succeeds only if that did. Its length never changes, so a sync forces the bytes alone.
 #[derive(Drop)]
 pub struct RawFile<F: SystemFile + Drop> {
     file: F,
@@ -28,7 +27,7 @@ pub struct RawFile<F: SystemFile + Drop> {
 /// A device in a file.
 pub type FileDisk = Counted<RawFile<NotedFile<File>>>;
 
-/// The device's answer where the system gave that one, and why it failed.
+/// Gives the device's answer to the system's, and keeps why it failed.
 pub(crate) fn answer(
     done: io::Result<()>,
     failure: &mut Option<io::Error>,
@@ -45,7 +44,7 @@ pub(crate) fn answer(
 }
 
 impl<F: SystemFile + Drop> RawFile<F> {
-    /// The device in an open file; its size is the file's.
+    /// Makes the device in an open file; its size is the file's. Fails if the system doesn't tell the length.
     pub fn new(mut file: F) -> io::Result<RawFile<F>>
         ensures { IfOk result (λ raw. F.calls raw.file ≡ F.calls file ++ Measures raw.size ∷ []) }
     {
@@ -57,7 +56,7 @@ impl<F: SystemFile + Drop> RawFile<F> {
         })
     }
 
-    /// What the system said of the last call that failed.
+    /// Gives what the system said of the last call that failed; `None` if none has.
     pub fn failure(&self) -> Option<&io::Error> {
         self.failure.as_ref()
     }
@@ -112,7 +111,7 @@ impl<F: SystemFile + Drop> RawDisk for RawFile<F> {
 }
 
 impl<F: FileExt + OpenFile + Drop> Counted<RawFile<NotedFile<F>>> {
-    /// The device in the file at this path; its size is the file's.
+    /// Opens the device in the file at this path; its size is the file's. Fails as the system does.
     pub fn open<R: Files<File = F>>(
         rt: &R,
         path: &str,
@@ -123,7 +122,8 @@ impl<F: FileExt + OpenFile + Drop> Counted<RawFile<NotedFile<F>>> {
         Ok(Counted::new(RawFile::new(NotedFile::new(file))?))
     }
 
-    /// Opens that device to be read alone: who may not write the file may do so, and no call of the device changes the file.
+    /// Opens that device only to read it. That works without the right to write the file, and no call of the device changes the file. Fails
+    /// as the system does.
     pub fn open_to_read<R: Files<File = F>>(
         rt: &R,
         path: &str,

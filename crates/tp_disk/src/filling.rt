@@ -11,13 +11,13 @@ use std::io;
 /// How many bytes 00 are written at once.
 pub(crate) const PIECE: usize = 65_536;
 
-/// These bytes. They lie in the program: on the stack they would be half of all that it has as the program begins.
+/// These bytes. The program has them: on the stack they would take half of what it has when the program begins.
 static ZEROS: [u8; PIECE] = [0; PIECE];
 
-/// What has to become of a file before it is a device.
+/// What has to happen to a file before it is a device.
 #[derive(Clone, Copy, Drop)]
 pub(crate) enum Making {
-    /// Nothing: it is one.
+    /// Nothing: it is one already.
     Done,
     /// It is emptied, and gets its length: it takes room as it is written.
     Empties,
@@ -25,7 +25,7 @@ pub(crate) enum Making {
     Fills { length: u64 },
 }
 
-/// Writes `count` bytes 00 from `at` on, and syncs the file with its length. What is before `at` stays, also where that fails.
+/// Writes `count` bytes 00 from `at` on, and syncs the file with its length. What is before `at` stays, also if that fails.
 fn fill<F: SystemFile>(file: &mut F, at: u64, count: u64) -> io::Result<()>
     requires { at + count < 2 ^ 64 }
     ensures filled { OnOk result (F.calls file.new ≡ F.calls file.old ++ filling at count) }
@@ -40,7 +40,7 @@ fn fill<F: SystemFile>(file: &mut F, at: u64, count: u64) -> io::Result<()>
     file.sync()
 }
 
-/// Asks for the room of a device of `size` bytes behind the end of a file of `length` bytes. Where there is none the file gets its old length
+/// Asks for the room of a device of `size` bytes after the end of a file of `length` bytes. If there is none, the file gets its old length
 /// again, and all that was in it is there.
 #[tactic(auto, using(crate::proofs::Pieces::cut_back))]
 fn ask_room<F: SystemFile>(file: &mut F, length: u64, size: u64) -> io::Result<()>
@@ -57,8 +57,8 @@ fn ask_room<F: SystemFile>(file: &mut F, length: u64, size: u64) -> io::Result<(
     asked
 }
 
-/// Clears what a file of `length` bytes had, where a device of `size` bytes is to be: its first byte first, alone, and synced, so that what
-/// had a head has none from then on; then the file gets its size, and all other bytes are written over.
+/// Clears what a file of `length` bytes had, to make room for a device of `size` bytes. Its first byte is cleared first, alone, and synced,
+/// so that a head in it is none from then on. Then the file gets its size, and all other bytes are written over.
 fn clear<F: SystemFile>(file: &mut F, length: u64, size: u64) -> io::Result<()>
     ensures cleared { OnOk result (F.calls file.new ≡ F.calls file.old ++ clearing length size) }
     ensures failed { OnErr result (GoesOn (F.calls file.old) (F.calls file.new)) }
@@ -72,8 +72,8 @@ fn clear<F: SystemFile>(file: &mut F, length: u64, size: u64) -> io::Result<()>
     fill(file, 1, length.min(size).saturating_sub(1))
 }
 
-/// Makes a device of `size` bytes 00 of a file of `length` bytes. Nothing of these is lost before there is room for all of the device, also
-/// where that fails.
+/// Makes a device of `size` bytes 00 of a file of `length` bytes. Nothing of the file is lost before there is room for all of the device,
+/// also if that fails.
 pub(crate) fn fill_over<F: SystemFile>(file: &mut F, length: u64, size: u64) -> io::Result<()>
     ensures made { OnOk result (F.calls file.new ≡ F.calls file.old ++ making (Fills length) size) }
     ensures failed { OnErr result (IsLeft length size (F.calls file.old) (F.calls file.new)) }

@@ -1,4 +1,4 @@
-//! What has become of a device, as contracts alone see it.
+//! What has happened to a device, as only contracts see it.
 
 ghost use Rattle.std.specs.Prelude.{◌≡◌, ◌+◌, [], ◌∷◌, ◌++◌};
 ghost use Rattle.std.specs.Borrow.{ftrue};
@@ -6,7 +6,7 @@ ghost use Rattle.tp_disk.specs.History.{DeviceTold, nothing_told, with_call, Mea
 
 use std::marker::Model;
 
-/// A history without bytes: contracts alone see it, and no call reads it.
+/// A history without bytes: only contracts see it, and no call reads it.
 #[derive(Drop)]
 pub struct History {
     pub ghost told: { DeviceTold },
@@ -22,7 +22,7 @@ unsafe impl Send for History {}
 impl History {
     ghost use Rattle.tp_disk.specs.History.{DeviceTold};
 
-    /// Gives the ghost value `told`, which a contract says by what is lent as `_value`. It does nothing.
+    /// Gives the ghost value `told`, which a contract names by what is lent as `_value`. It does nothing.
     pub(crate) fn of<T>(_value: &T) -> History
         ghost told: { DeviceTold }
         ensures { result.told ≡ told }
@@ -30,14 +30,14 @@ impl History {
         History {}
     }
 
-    /// Nothing has become of it.
+    /// Makes the history of a device to which nothing has happened.
     pub(crate) fn new() -> History
         ensures { result.told ≡ nothing_told }
     {
         History::of(&())
     }
 
-    /// One call more has failed.
+    /// Counts one more call that failed.
     pub(crate) fn failed(&self) -> History
         ensures { result.told ≡ record self.now.told { failures = self.now.told.failures + 1 } }
     {
@@ -51,14 +51,14 @@ impl History {
         History::of(&(self, bytes))
     }
 
-    /// A range more isn't synced.
+    /// Adds a range that isn't synced.
     pub(crate) fn wrote(&self, at: u64, count: u64) -> History
         ensures { result.told ≡ record self.now.told { unsynced = self.now.told.unsynced ++ (at, count) ∷ [] } }
     {
         History::of(&(self, at, count))
     }
 
-    /// Everything is synced.
+    /// Notes that everything is synced.
     pub(crate) fn synced(&self) -> History
         ensures { result.told ≡ record self.now.told { unsynced = [] } }
     {
@@ -86,21 +86,21 @@ impl History {
         History::of(&(self, at, came, ok))
     }
 
-    /// The system was given bytes to write.
+    /// Notes that the system was given bytes to write.
     pub(crate) fn has_written(&self, at: u64, bytes: &[u8], ok: bool) -> History
         ensures { result.told ≡ with_call self.now.told (Writes at bytes.now ok) }
     {
         History::of(&(self, at, bytes, ok))
     }
 
-    /// The system was asked to sync.
+    /// Notes that the system was asked to sync.
     pub(crate) fn has_synced(&self, ok: bool) -> History
         ensures { result.told ≡ with_call self.now.told (Syncs ok) }
     {
         History::of(&(self, ok))
     }
 
-    /// The system was asked to sync the bytes.
+    /// Notes that the system was asked to sync the bytes.
     pub(crate) fn has_synced_data(&self, ok: bool) -> History
         ensures { result.told ≡ with_call self.now.told (SyncsData ok) }
     {

@@ -7,13 +7,13 @@ ghost use Rattle.tp_disk.specs.Laws.{IsMomentInside};
 use crate::disk::Disk;
 use crate::memory::MemDisk;
 
-/// A device in memory keeps the model, whatever its plan. So the premise of `Disk` is met by something.
+/// A device in memory keeps the model, whatever its plan. So something meets the premise of `Disk`.
 pub fn memory_keeps()
     ensures { ⟦<MemDisk as Disk>⟧.keeps }
 {}
 
-/// What a crash within a call may leave is what one before it or one after it may leave, and after a call that broke it is
-/// the very same, so the moments between the calls say all. Nor may a crash before or after it leave anything else.
+/// A crash within a call leaves only what a crash before it or after it may leave, and nothing less. After a call that broke, a crash may
+/// leave exactly what one within it may. So the moments between the calls say all.
 pub fn moments_within_calls()
     ensures is_done { (call : Call) (m : Moment) (left : List ℕ) → IsMomentInside call m
         → (MayBe m left ⊎ MayBe (done call m) left) ↔ MayBe (within call m) left }

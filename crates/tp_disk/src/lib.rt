@@ -1,4 +1,4 @@
-//! Devices: a fixed number of bytes that a crash may leave torn where they aren't synced.
+//! Devices: a fixed number of bytes that a crash may leave torn if they aren't synced.
 #![tactic(auto)]
 
 mod counted;

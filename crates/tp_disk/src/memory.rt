@@ -36,7 +36,7 @@ impl RawMemory {
     ghost use Rattle.tp_disk.specs.Plan.{becomes};
     ghost use Rattle.tp_disk.specs.Memory.{memory_state, CameTo, PlanGoesOn};
 
-    /// The moment before a call is past, and the plan says what the call comes to.
+    /// Makes the moment before a call past, and tells what the plan makes of the call.
     fn begin(&mut self) -> Outcome
         ensures outcome { result ≡ becomes self.old.plan 0 }
         ensures later { (n : ℕ) → becomes self.new.plan n ≡ becomes self.old.plan (n + 1) }
@@ -145,7 +145,7 @@ impl Counted<RawMemory> {
         })
     }
 
-    /// Makes a device of `size` bytes, all of them 0. No call of it has a fault.
+    /// Makes a device of `size` bytes, all of them 0. No call of it has a fault. `AllocError` if memory is out.
     pub fn zeroed(alloc: Global, size: usize) -> Result<MemDisk, AllocError>
         ensures faultless { IfOk result (λ disk. (n : ℕ) → becomes (disk_plan disk) n ≡ Outcome.Done) }
         ensures failures { IfOk result (λ disk. ⟦<MemDisk as Disk>⟧.failures_of disk ≡ 0) }
@@ -156,7 +156,7 @@ impl Counted<RawMemory> {
         Ok(MemDisk::of_bytes(bytes))
     }
 
-    /// The call with this number from now on has the fault, where the next one has number 0, and no other one has one.
+    /// Gives the fault to the call with this number from now on, and to no other. The next call has number 0.
     pub fn with_fault(self, call: u64, fault: PlannedFault) -> MemDisk
         ensures state { disk_state result ≡ disk_state self }
         ensures planned { (n : ℕ) → becomes (disk_plan result) n ≡ planned (Some fault) call n }
@@ -167,14 +167,14 @@ impl Counted<RawMemory> {
         disk
     }
 
-    /// What a read would give.
+    /// Gives what a read would give.
     pub fn bytes(&self) -> &[u8]
         ensures { result.now ≡ (disk_state self.now).now.bytes }
     {
         &self.raw.bytes
     }
 
-    /// What is left after a crash: what stood, which is one of the contents that the crash may leave.
+    /// Gives what is left after a crash: the bytes as they were, which the crash may leave.
     pub fn crash(self) -> Vec<u8>
         ensures stood { result.items ≡ (disk_state self).now.bytes }
         ensures may { MayBe (disk_state self).now result.items }

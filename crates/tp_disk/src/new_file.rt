@@ -19,9 +19,9 @@ use std::os::unix::fs::FileExt;
 use std::rt::Files;
 use std::{fs, io};
 
-/// A file that becomes a device of `size` bytes 00 with the first call of it, and is synced. Until then it stays as it was. One that was
-/// made anew is a device already. Bytes at the front are written with the first of them last, alone, behind a sync: so a stop on
-/// the way, also within a write, leaves no first byte of a head without the rest.
+/// A file that becomes a device of `size` bytes 00 with its first call, and is synced. Until then it stays as it was. A new file is a
+/// device already. Bytes at the front are written after a sync of the others, the first one last and alone. So a stop on the way, also
+/// within a write, leaves no first byte of a head without the rest.
 #[derive(Drop)]
 pub struct NewFile<F: SystemFile + Drop> {
     file: F,
@@ -34,7 +34,7 @@ pub struct NewFile<F: SystemFile + Drop> {
 pub type NewDisk<F> = Counted<NewFile<NotedFile<F>>>;
 
 impl<F: SystemFile + Drop> NewFile<F> {
-    /// A file that is there, and stays as it is until the first call. Then it is emptied, and takes room as it is written.
+    /// Takes a file that exists and stays as it is until the first call. Then it is emptied, and takes room as it is written.
     pub fn over(file: F, size: u64) -> NewFile<F>
         ensures file { result.file ≡ file }
         ensures size { result.size ≡ size }
@@ -48,7 +48,8 @@ impl<F: SystemFile + Drop> NewFile<F> {
         }
     }
 
-    /// A file that is there, and stays as it is until the first call. Then it gets room for all of the device, before anything of it is lost.
+    /// Takes a file that exists and stays as it is until the first call. Then it gets room for all of the device, before anything of it is
+    /// lost. Fails if the system doesn't tell the length.
     pub fn filled(mut file: F, size: u64) -> io::Result<NewFile<F>>
         ensures size { IfOk result (λ new. new.size ≡ size) }
         ensures measured { IfOk result (λ new. IsMeasured new.making (F.calls file) (F.calls new.file)) }
@@ -62,7 +63,7 @@ impl<F: SystemFile + Drop> NewFile<F> {
         })
     }
 
-    /// A file that is a device.
+    /// Takes a file that is a device.
     fn made(file: F, size: u64) -> NewFile<F>
         ensures size { result.size ≡ size }
         ensures made { result.making ≡ Done }
@@ -75,12 +76,12 @@ impl<F: SystemFile + Drop> NewFile<F> {
         }
     }
 
-    /// What the system said of the last call that failed.
+    /// Gives what the system said of the last call that failed; `None` if none has.
     pub fn into_failure(self) -> Option<io::Error> {
         self.failure
     }
 
-    /// Makes a device of the file where it isn't one yet.
+    /// Makes a device of the file if it isn't one yet.
     fn make(&mut self) -> Result<(), DeviceFailed>
         ensures size { self.new.size ≡ self.old.size }
         ensures made { OnOk result ((self.new.making ≡ Done) × (F.calls self.new.file ≡ F.calls self.old.file ++ making self.old.making self.old.size)) }
@@ -92,7 +93,7 @@ impl<F: SystemFile + Drop> NewFile<F> {
         Ok(())
     }
 
-    /// Writes bytes; those at the front of the device but the first one, which is written alone once they are synced.
+    /// Writes bytes. At the front of the device it writes all but the first byte, syncs them, and then writes the first one alone.
     fn place(&mut self, at: u64, bytes: &[u8]) -> Result<(), DeviceFailed>
         ensures size { self.new.size ≡ self.old.size }
         ensures called { OnOk result (F.calls self.new.file ≡ F.calls self.old.file ++ placing at bytes.now) }
@@ -206,7 +207,8 @@ fn filled_new<R: Files, F: SystemFile + Drop>(
 }
 
 impl<F: FileExt + OpenFile + Drop> Counted<NewFile<NotedFile<F>>> {
-    /// A device of `size` bytes in a new file. A file of that path is refused with `AlreadyExists`. Where it can't be made whole, it is removed.
+    /// Makes a device of `size` bytes in a new file. `AlreadyExists` if there is a file of that path, and else fails as the system does. If
+    /// the file can't be made whole, it is removed.
     pub fn create_new<R: Files<File = F>>(rt: &R, path: &str, size: u64) -> io::Result<NewDisk<F>>
         ensures size { IfOk result (λ disk. ⟦<NewDisk<F> as Disk>⟧.size_of disk ≡ size) }
         ensures failures { IfOk result (λ disk. ⟦<NewDisk<F> as Disk>⟧.failures_of disk ≡ 0) }
@@ -223,7 +225,8 @@ impl<F: FileExt + OpenFile + Drop> Counted<NewFile<NotedFile<F>>> {
         }
     }
 
-    /// A device of `size` bytes over a file that is there, which stays as it is until the first call of the device.
+    /// Makes a device of `size` bytes over a file that exists, which stays as it is until the first call of the device. Fails as the system
+    /// does.
     pub fn create_over<R: Files<File = F>>(rt: &R, path: &str, size: u64) -> io::Result<NewDisk<F>>
         ensures size { IfOk result (λ disk. ⟦<NewDisk<F> as Disk>⟧.size_of disk ≡ size) }
         ensures failures { IfOk result (λ disk. ⟦<NewDisk<F> as Disk>⟧.failures_of disk ≡ 0) }
@@ -232,7 +235,7 @@ impl<F: FileExt + OpenFile + Drop> Counted<NewFile<NotedFile<F>>> {
         Ok(Counted::new(NewFile::filled(NotedFile::new(file), size)?))
     }
 
-    /// A device of `size` bytes in a new file, or over the file of that path where one is there.
+    /// Makes a device of `size` bytes in a new file, or over the file of that path if there is one. Fails as the system does.
     pub fn create<R: Files<File = F>>(rt: &R, path: &str, size: u64) -> io::Result<NewDisk<F>>
         ensures size { IfOk result (λ disk. ⟦<NewDisk<F> as Disk>⟧.size_of disk ≡ size) }
         ensures failures { IfOk result (λ disk. ⟦<NewDisk<F> as Disk>⟧.failures_of disk ≡ 0) }

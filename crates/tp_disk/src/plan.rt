@@ -9,7 +9,7 @@ pub enum PlannedFault {
     Fails { torn: Vec<u8> },
     /// The run stops before the call. It fails, and so does each later one.
     StopsBefore,
-    /// The run stops within the call: as `Fails`, but each later call fails too.
+    /// The run stops within the call: as `Fails`, but each later call fails, too.
     StopsWithin { torn: Vec<u8> },
 }
 
@@ -38,7 +38,7 @@ impl Plan {
     ghost use Rattle.tp_disk.specs.declared.plan.Outcome.{Outcome};
     ghost use Rattle.tp_disk.specs.Plan.{becomes, planned};
 
-    /// Every call is done.
+    /// Makes a plan in which every call is done.
     pub fn faultless() -> Plan
         ensures { (n : ℕ) → becomes result n ≡ Outcome.Done }
     {
@@ -49,7 +49,7 @@ impl Plan {
         }
     }
 
-    /// The call with this number has a fault, where the next call has number 0.
+    /// Makes a plan in which the call with this number has a fault. The next call has number 0.
     pub fn with_fault(call: u64, fault: PlannedFault) -> Plan
         ensures { (n : ℕ) → becomes result n ≡ planned (Some fault) call n }
     {
@@ -60,7 +60,7 @@ impl Plan {
         }
     }
 
-    /// What the next call comes to.
+    /// Tells what the next call comes to.
     pub fn next(&mut self) -> Outcome
         ensures now { result ≡ becomes self.old 0 }
         ensures later { (n : ℕ) → becomes self.new n ≡ becomes self.old (n + 1) }

@@ -14,14 +14,14 @@ pub trait RawDisk {
     /// The premise: devices of this type keep the model.
     ghost keeps: { Type 0 };
 
-    /// What has become of it so far. Nothing is said of it but under the premise.
+    /// What has happened to it so far. Without the premise nothing is said of it.
     ghost state: { Self → State };
 
-    /// How many bytes it has.
+    /// Counts its bytes.
     fn size(&self) -> u64
         ensures { result ≡ size_of self.now };
 
-    /// Fills `out` with the bytes from `at` on. After a failure `out` may hold anything.
+    /// Fills `out` with the bytes from `at` on. After `DeviceFailed`, `out` may hold anything.
     fn read(&mut self, at: u64, out: &mut [u8]) -> Result<(), DeviceFailed>
         requires { at + length out.old ≤ size_of self.old }
         ensures size { size_of self.new ≡ size_of self.old }
@@ -30,7 +30,7 @@ pub trait RawDisk {
         ensures after { keeps → OnOk result ((state self.new).now ≡ done Read (state self.old).now) }
         ensures failed { keeps → OnErr result (Fails Read (state self.old) (state self.new)) };
 
-    /// Writes over what is there. Until a sync succeeds, a crash may leave any bytes in the range.
+    /// Writes over the bytes from `at` on. Until a sync succeeds, a crash may leave any bytes in the range, also after `DeviceFailed`.
     fn write_at(&mut self, at: u64, bytes: &[u8]) -> Result<(), DeviceFailed>
         requires { at + length bytes.now ≤ size_of self.old }
         ensures size { size_of self.new ≡ size_of self.old }
@@ -38,7 +38,7 @@ pub trait RawDisk {
         ensures after { keeps → OnOk result ((state self.new).now ≡ done (Write at bytes.now) (state self.old).now) }
         ensures failed { keeps → OnErr result (Fails (Write at bytes.now) (state self.old) (state self.new)) };
 
-    /// After it, a crash leaves what a read gives.
+    /// Syncs what was written: after it, a crash leaves what a read gives. After `DeviceFailed` it may not.
     fn sync(&mut self) -> Result<(), DeviceFailed>
         ensures size { size_of self.new ≡ size_of self.old }
         ensures goes { keeps → MomentPassed (state self.old) (state self.new) }

@@ -13,23 +13,23 @@ pub trait SystemFile {
     /// The calls of the system that were made on it, the oldest first.
     ghost calls: { Self → List FileCall };
 
-    /// How many bytes it has.
+    /// Asks how many bytes it has.
     fn measure(&mut self) -> io::Result<u64>
         ensures { IfOk result (λ length. calls self.new ≡ calls self.old ++ Measures length ∷ []) };
 
-    /// Gives it `length` bytes: those behind go, and those that are new are 0.
+    /// Gives it `length` bytes: those after them go, and new ones are 0.
     fn resize(&mut self, length: u64) -> io::Result<()>
         ensures { calls self.new ≡ calls self.old ++ Resizes length (is_ok result) ∷ [] };
 
-    /// Fills `out` with the bytes from `at` on. Ok only where all of them came.
+    /// Fills `out` with the bytes from `at` on. Succeeds only if all of them came.
     fn read_all(&mut self, at: u64, out: &mut [u8]) -> io::Result<()>
         ensures { calls self.new ≡ calls self.old ++ Reads at out.new (is_ok result) ∷ [] };
 
-    /// Writes over what is there. Ok only where all bytes went.
+    /// Writes over the bytes from `at` on. Succeeds only if all bytes went.
     fn write_all(&mut self, at: u64, bytes: &[u8]) -> io::Result<()>
         ensures { calls self.new ≡ calls self.old ++ Writes at bytes.now (is_ok result) ∷ [] };
 
-    /// Has the system force what was written to the device below, with its length and all else that is kept of the file.
+    /// Has the system force what was written to the device below, with the file's length and all else that the system keeps of it.
     fn sync(&mut self) -> io::Result<()>
         ensures { calls self.new ≡ calls self.old ++ Syncs (is_ok result) ∷ [] };
 
@@ -38,9 +38,9 @@ pub trait SystemFile {
         ensures { calls self.new ≡ calls self.old ++ SyncsData (is_ok result) ∷ [] };
 }
 
-/// A file of the system, with a list of its calls that contracts alone see.
+/// A file of the system, with a list of its calls that only contracts see.
 ///
-/// That each method here makes the one call that it notes is held by reading alone: no contract can say what a file takes.
+/// That each method here makes the one call that it notes is known by reading alone: no contract can say what a file takes.
 #[derive(Drop)]
 pub struct NotedFile<F: Drop> {
     file: F,
@@ -48,7 +48,7 @@ pub struct NotedFile<F: Drop> {
 }
 
 impl<F: Drop> NotedFile<F> {
-    /// No call of it was made.
+    /// Takes a file without any call so far.
     pub fn new(file: F) -> NotedFile<F>
         ensures { result.history.told.calls ≡ [] }
     {

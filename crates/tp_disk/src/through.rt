@@ -7,10 +7,10 @@ ghost use Rattle.tp_model.specs.StoreCalls.{Called, Broke};
 
 use crate::disk::{DeviceFailed, Disk};
 
-/// Writes, and syncs all that was written.
+/// Writes, and syncs all that was written. `DeviceFailed` if either call does.
 ///
-/// A crash at any moment of it leaves what one within the write may leave. Where all was synced before, that is what
-/// differs from it nowhere outside the write's range.
+/// A crash at any moment of it leaves what one within the write may leave. If all was synced before, only bytes in the write's range can
+/// differ.
 pub fn write_through<D: Disk>(disk: &mut D, at: u64, bytes: &[u8]) -> Result<(), DeviceFailed>
     requires { at + length bytes.now ≤ D.size_of disk.old }
     ensures counts { Counts (is_ok result) (D.size_of disk.old) (D.size_of disk.new) (D.failures_of disk.old) (D.failures_of disk.new) }

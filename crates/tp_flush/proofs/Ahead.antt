@@ -1,4 +1,4 @@
--- The book's entries beside the flusher's journal, and where they lead.
+-- The book's entries compared with the flusher's journal, and where they lead.
 use Rattle.std.proofs.Common.{◌≡◌, ℕ, ◌++◌, length, sym, ap, subst, ◌∙◌, Some}
 use Rattle.tp_model.specs.NodeState.{NodeState}
 use Rattle.tp_model.specs.Node.{t414, t414_ends}

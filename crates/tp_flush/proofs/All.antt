@@ -1,4 +1,4 @@
--- All slips since the opening beside the flusher's journal.
+-- All slips since the opening compared with the flusher's journal.
 use Rattle.std.proofs.Common.{◌≡◌, ℕ, ◌+◌, ◌≤◌, List, [], ◌∷◌, ◌++◌, length, take, drop, refl, sym, ap, subst, ◌∙◌, arith, length-append, append-nil}
 use Rattle.std.proofs.Math.Seq.{drop-append_seam}
 use Rattle.tp_model.specs.declared.entry.Entry.{Entry}
@@ -21,7 +21,7 @@ none_more : {X : Type 0} (front more : List X) → length (front ++ more) ≤ le
 none_more front [] h = append-nil front
 none_more front (x ∷ more) h = absurd (let l = length-append front (x ∷ more) in omega (arith, h, l))
 
--- the entries since the opening are those of the journal from the first on, where all of them are below the mark
+-- the entries since the opening are those of the journal from the first on, if all of them are below the mark
 pub slips_are_all : (start : Network NodeState) (before : World NodeState) (first : ℕ) (stage : Stage) (key : Told) (w : World NodeState) (slips : List (ℕ × Entry)) → Reached start w → IsFirst key w
     → ToldSince key (told_of before first stage) → IsTied first stage.all stage.book → next_in_book stage.book ≤ w.mark → ((n : ℕ) → shown n slips ≡ item_of first stage.all n)
     → AreAll first (next_in_book stage.book) w.journal slips

@@ -17,7 +17,7 @@ use Rattle.tp_law_device.proofs.Heads.{head_same}
 use Rattle.tp_law_network.proofs.Moments.{written_same_outside}
 use Rattle.tp_law_device.proofs.Places.{content_put}
 
--- the head stays where bytes behind it are written
+-- the head stays if only bytes after it are written
 pub head_kept : (at n : ℕ) (old new : List ℕ) (t : Topology) (areas : TwoAreas) → SameOutside at n old new → areas.first ≤ at → HeadSays t areas old → HeadSays t areas new
 head_kept at n old new t areas same low says = record {
   version = says.version;
@@ -25,7 +25,7 @@ head_kept at n old new t areas same low says = record {
       (front_from areas.first old new (sym same.same_length) (λ i front. sym (same.same i (inl (omega (arith, front, low)))))) says.is;
 }
 
--- the other area's content, where bytes beside it are written
+-- the other area's content stays if only bytes outside it are written
 pub content_kept : (place : Place) (at n : ℕ) (s new : State) → SameOutside at n s.now.bytes new.now.bytes
     → (at + n ≤ other_gate place + 1) ⊎ (other_gate place + place.areas.length ≤ at) → 1 ≤ place.areas.length → content_beside place new ≡ content_beside place s
 content_kept place at n s new same apart some =
@@ -43,7 +43,7 @@ pub head_first : (areas : TwoAreas) (second : Bool) → areas.first ≤ area_sta
 head_first areas false = omega arith
 head_first areas true = omega arith
 
--- a piece that was put stands in the content, and nothing else changes there
+-- a piece that was put is in the content, and nothing else changes there
 module _ (place : Place) (at : ℕ) (bytes : List ℕ) (s new : State) (whole : areas_end place.areas ≤ length s.now.bytes) (small : at + length bytes < place.areas.length)
     (called : Called (put_calls ((other_gate place + 1 + at, bytes) ∷ [])) s new) where
   bytes_are : new.now.bytes ≡ written s.now.bytes (other_gate place + 1 + at) bytes

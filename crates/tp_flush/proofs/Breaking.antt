@@ -19,10 +19,10 @@ where_since broken old now seen since W = record { shows = since.broken ∙ W.sh
 pub where_whole : (broken : Bool) (now : Told) (seen : List BookValue) → now.broken ≡ false → broken ≡ false → ToldWhere broken now seen
 where_whole broken now seen whole not = record { shows = whole ∙ sym not; was = λ failed. absurd (true≢false (sym failed ∙ not)) }
 
--- it rests, so none is
+-- it rests, so no call failed
 pub whole_where : (broken : Bool) (told : Told) (seen : List BookValue) (at : Position NodeState) → ToldWhere broken told seen → at ≡ position broken → at ≡ Resting → told.broken ≡ false
 whole_where broken told seen at W is rests = W.shows ∙ rests_unbroken broken (sym is ∙ rests)
 
--- whether the store is broken is nothing of the world
+-- whether the store is broken isn't part of the world
 pub first_where : (told now : Told) (failed : Bool) (w : World NodeState) → now ≡ record told { broken = failed } → IsFirst told w → IsFirst now w
 first_where told now failed w is F = subst (λ (t : Told). IsFirst t w) (sym is) (record { net = F.net; base = F.base; journal = F.journal })

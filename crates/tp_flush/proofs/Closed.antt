@@ -44,7 +44,7 @@ use Rattle.tp_flush.proofs.Standing.{other_kept}
 
 -- ## A group
 
--- it lies apart from the other area
+-- it is apart from the other area
 apart : (areas : TwoAreas) (second : Bool) (end size : ℕ) → area_start areas second + AREA_HEAD_BYTES ≤ end → end + size < area_start areas second + areas.length
     → (area_start areas (not second) + areas.length ≤ end) ⊎ (end + (1 + size) ≤ area_start areas (not second))
 apart areas false end size low high = inr (omega (arith, high))
@@ -93,7 +93,7 @@ module _ (place : Place) (s new : State) (es : List Entry) (can : CanBeAppended 
       side (inl front) = inr front
       side (inr from) = inl (omega (arith, from))
 
--- what the flusher keeps for a snapshot's copy, behind a group that was appended or failed
+-- what the flusher keeps for a snapshot's copy, after a group that was appended or failed
 pub append_copies : (keeps : Type 0) (net : MarkedNetwork NodeState) (s new : State) (place to : Place) (t : Topology) (p : Progress) (es : List Entry) (r : Result Unit StoreFault) (broke : Bool) (filled : Option Place) (failures_old failures_new : ℕ)
     → KeepsCopy keeps net s place false t p → Answered r es place to broke filled failures_old failures_new → CanBeAppended place.form place.next es → has_room_at place (length es) ≡ true
     → area_start place.areas place.second + AREA_HEAD_BYTES ≤ place.end → (keeps → areas_end place.areas ≤ length s.now.bytes) → (keeps → OnOk r (Appended es place s new))
@@ -118,7 +118,7 @@ pub group_net : (broke : Bool) (next : ℕ) (w : World NodeState) (disk : Moment
 group_net true next w disk = refl
 group_net false next w disk = refl
 
--- ## Bytes behind the other area's gate
+-- ## Bytes after the other area's gate
 
 pub closed_when : (r : Result Unit StoreFault) (broke : Bool) (failures_old failures_new : ℕ) → PutAnswered r broke failures_old failures_new → (X : Type 0) → OnOk r X → broke ≡ false → X
 closed_when (Ok x) broke failures_old failures_new A X is unbroken = is

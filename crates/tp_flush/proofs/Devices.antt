@@ -1,4 +1,4 @@
--- The kept cut stays spelt and the device's head stays, whatever is appended, put into the other area, or looked at in the book.
+-- The kept cut stays spelt and the device's head stays, whatever is appended, put into the other area, or read in the book.
 use Rattle.std.proofs.Common.{◌≡◌, ℕ, ◌+◌, ◌≤◌, ◌<◌, List, [], ◌∷◌, length, refl, sym, ap, subst, ◌∙◌, Bool, true, false, Option, Some, None, Result, Ok, Err, OnOk, arith}
 use Rattle.std.specs.Prelude.{not, if◌then◌else◌}
 use Rattle.std.specs.List.{AllByRecursion}
@@ -65,7 +65,7 @@ first_device keeps most w s place broken t o topology areas base start spelt bou
   };
 }
 
--- ## A look at the book
+-- ## Reading the book
 
 pub start_since : (acts : List Act) (w v : MarkedNetwork NodeState) → AllByRecursion (λ act. is_trim act ≡ false) acts → acted t414 w acts ≡ Some v → v.start ≡ w.start
 unfolding acted
@@ -127,13 +127,13 @@ put_device keeps most w s new place to t r broke failures_old failures_new D A s
     same_device keeps most w (after_put broke w new.now) s new place to false broke t (put_base broke w new.now) (put_start broke w new.now) (ap (λ (q : Place). q.areas) same)
     (λ k unbroken. closed_when r broke failures_old failures_new A (HeadSays t place.areas new.now.bytes) (head k) unbroken) D
 
--- the head, behind a piece
+-- the head, after a piece
 pub piece_head : (place : Place) (at : ℕ) (bytes : List ℕ) (s new : State) (t : Topology) → areas_end place.areas ≤ length s.now.bytes → at + length bytes < place.areas.length
     → Called (put_calls ((other_gate place + 1 + at, bytes) ∷ [])) s new → HeadSays t place.areas s.now.bytes → HeadSays t place.areas new.now.bytes
 piece_head place at bytes s new t whole small called is =
     head_kept (other_gate place + 1 + at) (length bytes) s.now.bytes new.now.bytes t place.areas (put_same place at bytes s new whole small called) (omega (arith, head_first place.areas (not place.second))) is
 
--- and behind the other area's gate, which was closed, or was closed before
+-- and after the other area's gate was closed, now or before
 pub clear_head : (place : Place) (s new : State) (t : Topology) → areas_end place.areas ≤ length s.now.bytes → 1 ≤ place.areas.length
     → Called (clear_calls (if_open (other_gate place) s.now.bytes)) s new → HeadSays t place.areas s.now.bytes → HeadSays t place.areas new.now.bytes
 clear_head place s new t whole some called is = go (is_open (u8_at s.now.bytes (other_gate place))) called

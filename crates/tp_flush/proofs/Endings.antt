@@ -22,7 +22,7 @@ if_ok_three P Q R S (Err e) three p q r = tt
 pub never_both : {P : Type 0} (pos : Position NodeState) → pos ≡ Resting → pos ≡ Broken → P
 never_both pos rests broken = cc
 
--- a position is that of a failure only where one failed
+-- only a failure has the position of a failure
 pub broken_at : (failed : Bool) → position failed ≡ Broken → failed ≡ true
 broken_at true is = refl
 broken_at false is = never_both (position false) refl is

@@ -1,4 +1,4 @@
--- Nothing is lost of what a device had, where its flusher walks on.
+-- Nothing that a device had is lost, if its flusher goes on from it.
 use Rattle.std.proofs.Common.{◌≡◌, ℕ, ◌+◌, ◌≤◌, ◌⊎◌, inl, inr, List, take, Some, Ok, sym, ap, subst, ◌∙◌, arith}
 use Rattle.std.specs.Option.{option_map}
 use Rattle.std.specs.Result.{result_ok}
@@ -53,7 +53,7 @@ now_is start journal least bytes o is r =
     let one : Some r.now ≡ Some o.now = sym r.replayed ∙ led in
     (number, ap (λ n. after t414 start (take n journal)) (sym number) ∙ r.exact ∙ one)
 
--- where what the world that goes on from it has below its mark leads
+-- to which the entries below the mark lead, in the world that goes on from it
 reopened_has : (start : Network NodeState) (before : World NodeState) (bytes : List ℕ) (o : Opened) → Began start before bytes → verdict bytes ≡ Ok o
     → after t414 start (take (next_of o) (reopened before bytes (held_of o) o.now).journal) ≡ Some o.now
 reopened_has start before bytes o began is =

@@ -1,4 +1,4 @@
--- What the open area may hold, beside what is told of the book.
+-- What the open area may hold, compared with what is told of the book.
 use Rattle.std.proofs.Common.{◌≡◌, List, ap, subst, sym, ◌∙◌, true, ℕ, Bool, Option, Result, Ok, Err}
 use Rattle.std.proofs.ByRecursion.{All-weaker}
 use Rattle.tp_model.specs.declared.entry.Entry.{Entry}
@@ -12,14 +12,14 @@ use Rattle.tp_shared.specs.Told.{ToldSince}
 use Rattle.tp_flush.specs.Flushing.{HoldsAllOf}
 use Rattle.tp_flush.proofs.Appends.{Answered}
 
--- an area of the book's form holds what the book does, and so does one with turns, of whatever form the book is
+-- an area of the book's form holds what the book does; an area with turns does so for a book of either form
 pub holds_same : (area book : Form) → book ≡ area → HoldsAllOf area book
 holds_same area book same entry holds = ap (λ form. is_of form entry) (sym same) ∙ holds
 
 pub holds_turns : (area book : Form) → area ≡ Turns → HoldsAllOf area book
 holds_turns area book turns entry holds = ap (λ form. is_of form entry) turns
 
--- the book's form stays, whatever acts are done but a trim
+-- the book's form stays after all acts except a trim
 pub holds_since : (area : Form) (old now : Told) → ToldSince old now → HoldsAllOf area old.form → HoldsAllOf area now.form
 holds_since area old now since holds = subst (HoldsAllOf area) (sym since.form) holds
 

@@ -1,4 +1,4 @@
--- Parts of a turn, one behind the other.
+-- Parts of a turn, one after the other.
 use Rattle.std.proofs.Common.{◌≡◌, ℕ, ◌≤◌, ◌+◌, inr, sym, subst, refl, ◌∙◌, ap, Bool, true, false, Result, Ok, Err, arith}
 use Rattle.tp_model.specs.NodeState.{NodeState}
 use Rattle.tp_model.specs.FrozenAs.{IsFrozenAs}
@@ -106,7 +106,7 @@ rested_then a b c first then = record { began = first.began; rests = then.rests;
 
 -- ## The end of a checkpoint
 
--- whether the store switched, behind what went on
+-- whether the store switched, after what went on
 pub went_on : (switched : Bool) (a b c : Flushing) → NothingStored a b → WentOn switched b c → WentOn switched a c
 went_on true a b c first then = record {
   rested = rested_then a b c first.waits.rested then.rested;
@@ -133,7 +133,7 @@ checkpointed_before B q fault is a b c first then = subst (λ (x : Result Bool F
     by Memory then = absurd then
     by AreaFull then = absurd then
 
--- a fault behind what went on
+-- a fault after what went on
 pub checkpointed_behind : (q : Result Bool FlushFault) (fault : FlushFault) → q ≡ Err fault → (a b c : Flushing) → NothingStored a b → Checkpointed (Err fault) b c → Checkpointed q a c
 checkpointed_behind q fault is a b c first then = subst (λ (x : Result Bool FlushFault). Checkpointed x a c) (sym is) (checkpointed_on (Err fault) a b c first then)
 
@@ -146,7 +146,7 @@ pub went_on_mark : (switched : Bool) (a b : Flushing) → WentOn switched a b �
 went_on_mark true a b on = on.mark
 went_on_mark false a b on = on.waits.mark
 
--- a turn that was done, behind whose checkpoint the mark was raised again
+-- a turn that was done, and after whose checkpoint the mark was raised again
 pub done_rested : (switched : Bool) (a b c d : Flushing) → WaitsBehind a b → WentOn switched b c → OnlyLooked c d → Rested a d
 done_rested switched a b c d first on L =
     let R = went_on_rested switched b c on in

@@ -1,4 +1,4 @@
--- Nodes whose images are out, and of which no page is kept.
+-- Nodes whose images are out, and that have no kept pages.
 use Rattle.std.proofs.Common.{◌≡◌, inl, inr, ℕ, Bool, true, false, List, sym, subst, ◌∙◌, get_or-set_other}
 use Rattle.std.proofs.lemmas.Bool.{true≢false}
 use Rattle.std.proofs.lemmas.Bool.Decides.{eqb_tells}

@@ -29,7 +29,7 @@ stay_with old new node with is i out = elim (eqb_tells i node) [
 
 -- ## One node
 
--- the turn goes on behind a node that has recorded: its image is out
+-- the turn goes on after a node that has recorded: its image is out
 pub imaged_on : (done : Image) (recorded : Bool) (node : ℕ) (old new : Progress) → NodeImaged done recorded node old new → HasNextImage done → recorded ≡ true → is_out new node ≡ true
 imaged_on WasOut recorded node old new is on here = is
 imaged_on Unrecorded recorded node old new is on here = absurd (true≢false (sym here ∙ is))

@@ -1,4 +1,4 @@
--- What the flusher keeps as it looks at the book, and as it raises the mark.
+-- What the flusher keeps as it reads the book, and as it raises the mark.
 use Rattle.std.proofs.Common.{◌≡◌, ℕ, ◌+◌, ◌<◌, ◌≤◌, List, ◌++◌, length, refl, sym, ap, subst, ◌∙◌, Bool, arith, length-drop}
 use Rattle.std.specs.Prelude.{◌-◌, drop, max}
 use Rattle.std.specs.List.{AllByRecursion}
@@ -37,12 +37,12 @@ reached_then start w v R L = record {
   run = run_then t414 device_areas R.first w v R.events L.events R.run L.run;
 }
 
--- a look is a piece of a run, where the device is known
+-- reading the book is a piece of a run, if the device is known
 pub looked_walks : (a b : Flushing) → a.world.disk ≡ a.state.now → OnlyLooked a b → Walked a b
 looked_walks a b was L =
     subst (λ (s : State). Walks t414 device_areas a.world b.world a.state s) (sym L.state) (still_walks t414 device_areas a.world b.world a.state L.led (L.disk ∙ was))
 
--- a look at the book; the flusher then knows more of it
+-- the flusher reads the book, and then knows more of it
 pub learned_looked : (w : World NodeState) (old now : Told) (first : IsFirst old w) (since : ToldSince old now) (s : State) (size failures : ℕ) (opened : List ℕ) (place : Place) (t : Topology) (progress : Progress)
     → OnlyLooked (record { world = w; state = s; size = size; failures = failures; opened = opened; place = place; topology = t; progress = progress; frozen = old.frozen })
     (record { world = learned w now; state = s; size = size; failures = failures; opened = opened; place = place; topology = t; progress = progress; frozen = now.frozen })

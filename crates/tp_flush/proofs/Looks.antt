@@ -1,5 +1,4 @@
--- What is done between two calls of the device is a piece of a run: the acts of the book, a copy of the backlog, and the raising
--- of the mark.
+-- What is done between two calls of the device is a piece of a run: acts of the book, copying the backlog, and raising the mark.
 use Rattle.std.proofs.Common.{◌≡◌, ◌≤◌, false, List, [], ◌∷◌, map, length, refl, sym, ap, subst, ◌∙◌, Some, arith, length-append}
 use Rattle.std.specs.Prelude.{◌-◌, drop, max}
 use Rattle.std.specs.List.{AllByRecursion}
@@ -50,7 +49,7 @@ acts_keep_entries (act ∷ acts) w v none e =
     let F = bind_some (happens t414 w act) (λ u. acted t414 u acts) v e in
     omega (arith, acts_keep_entries acts F.0 v none.1 F.2, grown-length act w.entries, ap length (entries_grow t414 w F.0 act none.0 F.1))
 
--- ## The flusher looks at the book, and raises the mark
+-- ## The flusher reads the book, and raises the mark
 
 -- the world once the backlog was copied of the book that was told of
 abbrev pub copied : World NodeState → Told → World NodeState

@@ -22,7 +22,7 @@ use Rattle.tp_flush.specs.Made.{IsMadeOf}
 pub kept_is : (s : NetState) (o : Opened) → s.kept.items ≡ o.kept → kept_entries s ≡ map (λ e. e.0) o.kept
 kept_is s o same = ap (λ (kept : List (Entry × ℕ)). map (λ e. e.0) kept) same
 
--- the number behind its entries is the next one
+-- the number after its entries is the next one
 pub next_is : (s : NetState) (o : Opened) (room : Option ℕ) → s.base ≡ o.base → s.kept.items ≡ o.kept → next_in_book (opened_book s room) ≡ next_of o
 next_is s o room base kept =
     let entries : length (kept_entries s) ≡ length o.kept = ap length (kept_is s o kept) ∙ length-map o.kept (λ e. e.0) in

@@ -1,5 +1,4 @@
--- What is written into the other area while the flusher rests is a piece of a run, whether it was done or a call of the device
--- failed.
+-- What is written into the other area while the flusher rests is a piece of a run, whether it was done or a call of the device failed.
 use Rattle.std.proofs.Common.{◌≡◌, ℕ, zero, suc, ◌+◌, ◌-◌, ◌*◌, ◌<◌, ◌≤◌, refl, sym, ap, subst, ◌∙◌, Bool, true, false, Option, None, Result, Ok, Err, OnOk, OnErr, MatchResult, List, [], ◌∷◌, length, take, get_or, arith}
 use Rattle.std.specs.Prelude.{if◌then◌else◌, sum_by, nat_le, IfOk}
 use Rattle.std.specs.List.{list_all}
@@ -173,7 +172,7 @@ pub on_ok_same : {A E : Type 0} (r : Result A E) (P : Type 0) → P → OnOk r P
 on_ok_same (Ok x) P given = given
 on_ok_same (Err e) P given = tt
 
--- ## A piece of an image lies inside the other area
+-- ## A piece of an image is inside the other area
 
 pub sum_front : (pages : List ℕ) (i : ℕ) → i < length pages → sum_by image_length (take i pages) + image_length (get_or pages i 0) ≤ sum_by image_length pages
 sum_front [] i low = absurd (omega (arith, low))

@@ -16,7 +16,7 @@ use Rattle.tp_flush.specs.declared.unswitched.Unswitched.TheVariants.{CutOpen, P
 use Rattle.tp_flush.specs.Flushing.{Flushing}
 use Rattle.tp_flush.specs.Unswitched.{IsReason, WhyUnswitched}
 
--- what is borrowed is there where it is there
+-- an option of a borrow and its copy are both `Some`, or both `None`
 pub some_copied : {T : Type 0} → (o : Option (Bor T)) → is_some o ≡ is_some (option_copied o)
 some_copied None = refl
 some_copied (Some x) = refl
@@ -35,7 +35,7 @@ pub unready_reason : (why : Unswitched) (is_whole : Bool) (t : Topology) (p : Pr
 unready_reason why true t p generation net frozen is tells none = subst (λ (x : Unswitched). IsReason x t p generation net frozen) (sym is) (sym tells, left_false (none_kept frozen) (is_some (whole net)) (sym tells) none)
 unready_reason why false t p generation net frozen is tells none = subst (λ (x : Unswitched). IsReason x t p generation net frozen) (sym is) (sym tells)
 
--- the reason stays, where nothing that it speaks of changed
+-- the reason stays, if nothing that it speaks of changed
 pub why_still : (why : Option Unswitched) (images : Images) (a b : Flushing) → b.topology ≡ a.topology → b.progress ≡ a.progress → b.place ≡ a.place → b.world.net ≡ a.world.net → b.frozen ≡ a.frozen
     → WhyUnswitched why images a → WhyUnswitched why images b
 why_still None images a b topology progress place net frozen is = is

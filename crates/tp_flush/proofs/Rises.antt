@@ -1,4 +1,4 @@
--- What the device had as the mark was raised stays, as the flusher walks on.
+-- What the device had when the mark was raised stays, as the flusher goes on.
 use Rattle.std.proofs.Common.{◌≡◌, ℕ, ◌≤◌, ◌⊎◌, inl, inr, List, [], ◌∷◌, ◌++◌, sym, ap, subst, ◌∙◌, arith, le_refl, length-append}
 use Rattle.std.specs.Prelude.{drop}
 use Rattle.std.specs.List.{AllByRecursion}
@@ -40,14 +40,14 @@ all_push : (P : Rise → Type 0) (rises : List Rise) (rise : Rise) → AllByRecu
 all_push P [] rise all last = (last, tt)
 all_push P (r ∷ rises) rise all last = (all.0, all_push P rises rise all.1 last)
 
--- behind the first
+-- after the first
 later_push : (P : Rise → Type 0) (rises : List Rise) (rise : Rise) → AllByRecursion P (drop 1 rises) → P rise → AllByRecursion P (drop 1 (rises ++ rise ∷ []))
 later_push P [] rise all last = tt
 later_push P (r ∷ rises) rise all last = all_push P rises rise all last
 
 -- ## One rise
 
--- what recovers to a prefix of a journal recovers to one of that which goes on from it
+-- what recovers to a prefix of a journal recovers to a prefix of a longer journal
 recovers_more : (start : Network NodeState) (journal more : List Entry) (least : ℕ) (left : List ℕ) → RecoversTo t414 device_areas start journal least left → RecoversTo t414 device_areas start (journal ++ more) least left
 recovers_more start journal more least left r = record {
   held = r.held;
@@ -85,7 +85,7 @@ module _ (start : Network NodeState) (w v : World NodeState) (old new : State) (
       which left (inl earlier) = subst (λ journal. RecoversTo t414 device_areas start journal rise.to left) (sym on.1) (recovers_more start w.journal on.0 rise.to left (was.1.since left earlier))
       which left (inr later) = recovers_less start v.journal w.mark rise.to left was.0 later
 
-  -- each of them, as the flusher walks on
+  -- each of them, as the flusher goes on
   pub rises_walk : (rises : List Rise) → HaveRisen start w old rises → HaveRisen start v new rises
   rises_walk rises have = all_then rise_walks (drop 1 rises) have
 
@@ -113,7 +113,7 @@ module _ (start : Network NodeState) (w : World NodeState) (mark : ℕ) (state :
 
 -- ## What a pass saw
 
--- each rise that it saw, behind the first, was stored
+-- each rise that it saw, after the first, was stored
 pub rises_seen : (start : Network NodeState) (w : World NodeState) (state : State) (seen all : List Rise) → RisesOn seen all → HaveRisen start w state all → AllByRecursion (WasStored start w.journal state) (drop 1 seen)
 rises_seen start w state [] all goes have = tt
 rises_seen start w state (rise ∷ seen) all goes have =

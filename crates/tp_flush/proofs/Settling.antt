@@ -1,4 +1,4 @@
--- Slips beside the flusher's journal.
+-- Slips compared with the flusher's journal.
 use Rattle.std.proofs.Common.{◌≡◌, ℕ, zero, suc, ◌+◌, ◌<◌, ◌≤◌, List, [], ◌∷◌, ◌++◌, length, take, refl, sym, ap, subst, ◌∙◌, arith, Some, slice_get, length-append}
 use mathlib.Core.List.{cons≢nil}
 use Rattle.tp_model.specs.declared.entry.Entry.{Entry}
@@ -98,7 +98,7 @@ stand_behind : (journal : List Entry) (before slips : List (ℕ × Entry)) → S
 stand_behind journal [] slips stand = stand
 stand_behind journal (slip ∷ before) slips stand = stand_behind journal before slips stand.1
 
--- slips that stand beside each other among others
+-- slips that are next to each other among others
 pub stand_among : (journal : List Entry) (all before some behind : List (ℕ × Entry)) → all ≡ before ++ some ++ behind → SlipsStand journal all → SlipsStand journal some
 stand_among journal all before some behind is stand =
     stand_behind journal before some (all_front (λ slip. slip.0 < length journal → slice_get journal slip.0 ≡ Some slip.1) (before ++ some) behind (subst (SlipsStand journal) is stand))

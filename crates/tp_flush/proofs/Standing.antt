@@ -1,4 +1,4 @@
--- Pieces of frozen images stand where they were put, also once others are put beside them.
+-- Pieces of frozen images stay where they were put, also once others are put beside them.
 use Rattle.std.proofs.Common.{◌≡◌, ◌≢◌, ◌⊎◌, inl, inr, ℕ, zero, suc, ◌+◌, ◌*◌, ◌<◌, ◌≤◌, List, [], ◌∷◌, length, take, drop, get_or, slice_get, Some, sym, ap, subst, ◌∙◌, arith, length-take}
 use Rattle.std.specs.Prelude.{flat_map, sum_by}
 use Rattle.std.proofs.lemmas.Bool.{cases_lt}
@@ -27,7 +27,7 @@ use Rattle.tp_flush.specs.Ends.{NothingStored}
 use Rattle.tp_flush.specs.Copying.{IsPartOut}
 use Rattle.tp_flush.proofs.Puts.{length_suc, piece_ends, place_suc}
 
--- ## Pieces lie apart
+-- ## Pieces are apart
 
 front_sum : (pages : List ℕ) (i j : ℕ) → i < j → j < length pages → sum_by image_length (take i pages) + image_length (get_or pages i 0) ≤ sum_by image_length (take j pages)
 front_sum [] i j low there = absurd (omega (arith, there))
@@ -36,7 +36,7 @@ front_sum (p ∷ ps) zero (suc j) low there = omega (arith, sum_by-cons image_le
 front_sum (p ∷ ps) (suc i) (suc j) low there =
     omega (arith, front_sum ps i j (omega (arith, low)) (omega (arith, there)), sum_by-cons image_length p (take i ps), sum_by-cons image_length p (take j ps))
 
--- a piece ends before `at`, or begins behind `count` bytes from there
+-- a piece ends before `at`, or begins after `count` bytes from there
 abbrev pub LiesApart : Topology → ℕ → ℕ → ℕ → ℕ → Type 0
 LiesApart t i p at count = (piece_place t i p + piece_length p ≤ at) ⊎ (at + count ≤ piece_place t i p)
 
@@ -70,7 +70,7 @@ piece_kept content t i p at bytes more few (inl front) room there = there_kept c
 piece_kept content t i p at bytes more few (inr behind) room there = there_kept content (piece_place t i p) bytes at more room (inr behind) there
 
 module _ (t : Topology) (net : MarkedNetwork NodeState) (content : List ℕ) (at : ℕ) (more : List ℕ) (room : at + length more ≤ length content) where
-  -- what stood stands beside bytes that are put
+  -- what was there stays beside bytes that are put
   pub part_kept : (i count : ℕ) → LiesApart t i 0 at (length more) → ((page : ℕ) → page < count → LiesApart t i (suc page) at (length more)) → IsPartOut t net content i count
       → IsPartOut t net (written content at more) i count
   part_kept i count head each P = record {
@@ -104,7 +104,7 @@ head_out t net content i bytes H long room = record {
   pages = λ page low. absurd (omega (arith, low));
 }
 
--- a page behind those that stand
+-- a page after those that are there
 pub page_out : (t : Topology) (net : MarkedNetwork NodeState) (content : List ℕ) (i count : ℕ) (bytes : List ℕ) → IsPartOut t net content i count → IsFrozenPage net i count bytes → length bytes ≡ PAGE_BYTES
     → piece_place t i (suc count) + PAGE_BYTES ≤ length content → IsPartOut t net (written content (piece_place t i (suc count)) bytes) i (suc count)
 unfolding part_kept
@@ -133,7 +133,7 @@ page_out t net content i count bytes P F long room =
 page_next : (t : Topology) (i page : ℕ) → piece_place t i (suc page) + PAGE_BYTES ≡ piece_place t i (suc (suc page))
 page_next t i page = omega (arith, place_suc page, place_suc (suc page))
 
--- pages behind those that stand, in one piece
+-- pages after those that are there, in one piece
 pub pages_out : (t : Topology) (net : MarkedNetwork NodeState) (content : List ℕ) (i first : ℕ) (pages : List (List ℕ)) → IsPartOut t net content i first → AreFrozenPages net i first (length pages) pages
     → ((k : ℕ) → k < length pages → length (get_or pages k []) ≡ PAGE_BYTES) → piece_place t i (suc first) + PAGE_BYTES * length pages ≤ length content
     → IsPartOut t net (written content (piece_place t i (suc first)) (flat_map (λ page. page) pages)) i (first + length pages)
@@ -171,7 +171,7 @@ image_out t net content i cut nodes node P has at N count =
     subst (λ (n : NodeState). IsThere content (nodes_place + sum_by image_length (take i t.pages) + IMAGE_HEAD_BYTES + PAGE_BYTES * page) (take PAGE_BYTES (drop (PAGE_BYTES * page) n.memory))) same
     (subst (λ k. IsThere content k (take PAGE_BYTES (drop (PAGE_BYTES * page) P.node.memory))) here (P.pages page (omega (arith, low, count)))))
 
--- ## Behind a look, and behind a piece that was put
+-- ## After reading the book, and after a piece was put
 
 pub part_looked : (a b : Flushing) → NothingStored a b → b.state ≡ a.state → b.topology ≡ a.topology → (i count : ℕ) → IsPartOut a.topology a.world.net (content_beside a.place a.state) i count
     → IsPartOut b.topology b.world.net (content_beside b.place b.state) i count

@@ -1,4 +1,4 @@
--- Pieces of runs, one behind the other, and what a crash leaves on the way.
+-- Pieces of runs, one after the other, and what a crash leaves on the way.
 use Rattle.std.proofs.Common.{◌≡◌, ◌≤◌, take}
 use Rattle.tp_model.specs.NodeState.{NodeState}
 use Rattle.tp_model.specs.Node.{t414, t414_ends}

@@ -1,4 +1,4 @@
--- The book beside the journal that the flusher knows.
+-- The book and the journal that the flusher knows.
 use Rattle.std.specs.Prelude.{◌≡◌, ◌≤◌, List, ◌++◌, length, Some}
 use Rattle.tp_model.specs.declared.entry.Entry.{Entry}
 use Rattle.tp_model.specs.NodeState.{NodeState}
@@ -9,8 +9,8 @@ use Rattle.tp_model.specs.Order.{after}
 use Rattle.tp_model.specs.Runs.{World}
 use Rattle.tp_book.specs.Book.{BookValue, next_in_book, world_of}
 
--- The book has the journal of a world and some entries behind it. Together they are all entries below its next number, and lead from the
--- start to the network that it has, Markers left out. The mark is no more than the journal has.
+-- The book has the journal of a world and some entries after it. Together they are all entries below its next number. They lead from the
+-- start to the network that it has, without Markers. The mark is at most what the journal has.
 pub record IsAheadOf (start : Network NodeState) (w : World NodeState) (b : BookValue) : Type 0 where
   pub more : List Entry
   pub leads : after t414 start (w.journal ++ more) ≡ Some (plain_network (world_of b).live)

@@ -3,8 +3,8 @@ use Rattle.std.specs.Prelude.{◌≡◌, ℕ, List, length, drop}
 use Rattle.tp_model.specs.declared.entry.Entry.{Entry}
 use Rattle.tp_token.specs.Sound.{shown, item_of}
 
--- The journal has `next` entries. Of each number from `first` on that it has, there is one slip, which shows the
--- journal's entry; there is none of another number.
+-- The journal has `next` entries. For each number from `first` on that it has, there is one slip, which shows the journal's entry. No slip
+-- has another number.
 pub record AreAll (first next : ℕ) (journal : List Entry) (slips : List (ℕ × Entry)) : Type 0 where
   pub count : length journal ≡ next
   pub each : (n : ℕ) → shown n slips ≡ item_of first (drop first journal) n

@@ -1,4 +1,4 @@
--- What stands of a snapshot's frozen images in the other area.
+-- What the other area has of a snapshot's frozen images.
 use Rattle.std.specs.Prelude.{◌≡◌, ◌<◌, ℕ, suc, ◌*◌, Bool, false, List, length, take, drop}
 use Rattle.tp_model.specs.declared.limits.TheConstants.{IMAGE_HEAD_BYTES, PAGE_BYTES}
 use Rattle.tp_model.specs.NodeState.{NodeState}
@@ -10,7 +10,7 @@ use Rattle.tp_model.specs.Topology.{Topology}
 use Rattle.tp_area.specs.Pieces.{piece_place}
 use Rattle.tp_shared.specs.Frozen.{keeps_pages}
 
--- Of the frozen image of node i, the head and the first `count` pages stand at their places in a content.
+-- In a content, the head and the first `count` pages of node i's frozen image are at their places.
 pub record IsPartOut (t : Topology) (net : MarkedNetwork NodeState) (content : List ℕ) (i count : ℕ) : Type 0 where
   pub node : NodeState
   pub frozen : IsFrozenAs net i node
@@ -22,7 +22,7 @@ pub record IsPartOut (t : Topology) (net : MarkedNetwork NodeState) (content : L
 abbrev pub HasRecorded : MarkedNetwork NodeState → ℕ → Type 0
 HasRecorded net i = (node : NodeState) × IsFrozenAs net i node
 
--- It has, and no page of it is kept.
+-- It has recorded, and no page of it is kept.
 pub record IsGone (net : MarkedNetwork NodeState) (frozen : List Bool) (i : ℕ) : Type 0 where
   pub recorded : HasRecorded net i
   pub none : keeps_pages frozen i ≡ false

@@ -45,8 +45,8 @@ pub record WaitsBehind (old new : Flushing) : Type 0 where
   pub raised : MarkRaised old new
   pub rested : Rested old new
 
--- That the device failed earlier comes before everything. That memory was refused comes before the first call of the device, or
--- behind the raising of the mark, as the device may fail there too.
+-- An earlier failure of the device comes before everything else. Memory can be out before the first call of the device, or after the mark
+-- was raised; the device can fail there, too.
 abbrev pub Ended : {A : Type 0} → Result A FlushFault → Flushing → Flushing → Type 0
 Ended (Ok given) old new = Rested old new
 Ended (Err DeviceFailed) old new = Failed old new ⊎ FailedBehind old new
@@ -54,7 +54,7 @@ Ended (Err StoreBroken) old new = (old.world.at ≡ Broken) × (new ≡ old)
 Ended (Err Memory) old new = (Waits old new × OnlyLooked old new) ⊎ WaitsBehind old new
 Ended (Err AreaFull) old new = Waits old new
 
--- The area isn't said to be full.
+-- The answer isn't that the area is full.
 abbrev pub IsNotFull : {A : Type 0} → Result A FlushFault → Type 0
 IsNotFull (Ok given) = Unit {0}
 IsNotFull (Err DeviceFailed) = Unit {0}
@@ -62,12 +62,12 @@ IsNotFull (Err StoreBroken) = Unit {0}
 IsNotFull (Err Memory) = Unit {0}
 IsNotFull (Err AreaFull) = ⊥
 
--- the generation of the open area grew by one exactly where the flusher switched to the other area
+-- the generation of the open area grew by one exactly if the flusher switched to the other area
 abbrev pub generation_after : Bool → Flushing → Flushing → Type 0
 generation_after switched old new = new.place.generation ≡ old.place.generation + (if switched then 1 else 0)
 
--- Nothing was stored, the next group goes where it went, the other area stays closed where it was, and nodes stay frozen as they
--- were.
+-- Nothing was stored, and the next group goes where it would have gone. The other area stays closed if it was closed, and nodes stay frozen
+-- as they were.
 pub record NothingStored (old new : Flushing) : Type 0 where
   pub waits : Waits old new
   pub stored : new.world.stored ≡ old.world.stored
@@ -92,20 +92,19 @@ Stored (Err StoreBroken) count old new = ⊥
 Stored (Err Memory) count old new = ⊥
 Stored (Err AreaFull) count old new = Waits old new
 
--- The store switched to its other area, which holds all that was copied of the book then. No call failed, and the mark is where it
--- was.
+-- The store switched to its other area, which holds all that was copied of the book then. No call failed, and the mark is where it was.
 pub record StoreSwitched (old new : Flushing) : Type 0 where
   pub rested : Rested old new
   pub mark : new.world.mark ≡ old.world.mark
   pub stored : old.world.stored ≤ new.world.stored
   pub generation : new.place.generation ≡ old.place.generation + 1
 
--- whether the store switched; where it didn't, nothing was stored
+-- whether the store switched; if it didn't, nothing was stored
 abbrev pub WentOn : Bool → Flushing → Flushing → Type 0
 WentOn true old new = StoreSwitched old new
 WentOn false old new = NothingStored old new
 
--- That was done, or a call of the device failed, or memory was refused for the copy of the whole cut's tail.
+-- That was done, or a call of the device failed, or memory was out for the copy of the whole cut's tail.
 abbrev pub Checkpointed : Result Bool FlushFault → Flushing → Flushing → Type 0
 Checkpointed (Ok switched) old new = WentOn switched old new
 Checkpointed (Err DeviceFailed) old new = Failed old new × (new.world.stored ≡ old.world.stored)
@@ -113,7 +112,7 @@ Checkpointed (Err StoreBroken) old new = ⊥
 Checkpointed (Err Memory) old new = NothingStored old new
 Checkpointed (Err AreaFull) old new = ⊥
 
--- whether the store switched, beside what became of images
+-- whether the store switched, without what became of images
 abbrev pub switched_of : Result Checkpoint FlushFault → Result Bool FlushFault
 switched_of (Ok done) = Ok done.switched
 switched_of (Err fault) = Err fault

@@ -31,9 +31,13 @@ use Rattle.tp_flush.specs.declared.progress.Progress.{Progress}
 use Rattle.tp_flush.specs.Known.{Known, Began, Reached}
 use Rattle.tp_flush.specs.Risen.{HaveRisen}
 
--- The world as the flusher knows it; what has become of its device, how many bytes that has, and how many of its calls have
--- failed; the bytes that this process opened; the place of the next group, in the open area; the device's topology; how far the
--- copy of the snapshot that runs has come; and which nodes had kept pages as it was told of the book last.
+-- What contracts see of the flusher:
+-- - the world as the flusher knows it;
+-- - what has become of its device, how many bytes that has, and how many of its calls have failed;
+-- - the bytes that this process opened;
+-- - the place of the next group, in the open area;
+-- - the device's topology, and how far the copy of the snapshot that runs has come;
+-- - which nodes had kept pages when it was told of the book last.
 pub record Flushing : Type 0 where
   pub world : World NodeState
   pub state : State
@@ -49,9 +53,11 @@ pub record Flushing : Type 0 where
 abbrev pub position : Bool → Position NodeState
 position broken = if broken then Broken else Resting
 
--- What the flusher keeps of the world, beside the mark: the place of its store is the world's number; what was copied of the
--- book ends where the book did then; the world is reached by a run, whose device is the flusher's; and that device had all below each
--- number to which the mark was raised from the moment on at which it was.
+-- What the flusher keeps of the world, with the mark:
+-- - the place of its store is the world's number;
+-- - what was copied of the book ends where the book did then;
+-- - a run leads to the world, and the flusher's device is the world's;
+-- - for each number to which the mark was raised, that device had all below it from that moment on.
 pub record KeepsWorld (keeps : Type 0) (start : Network NodeState) (before : World NodeState) (known : Known) (state : State) (place : Place) (broken : Bool) (raiser : RaiserValue) : Type 0 where
   pub next : place.next ≡ known.world.stored
   pub cut : known.world.base ≤ known.world.stored
@@ -62,30 +68,30 @@ pub record KeepsWorld (keeps : Type 0) (start : Network NodeState) (before : Wor
   pub reached : keeps → Began start before known.opened → Reached start known.world
   pub rises : keeps → Began start before known.opened → HaveRisen start known.world state raiser.rises
 
--- What it keeps for the copy of a snapshot: its areas have room for any cut of its topology; the other area's gate is closed once
--- that was done for the snapshot; and each frozen image that is out stands there.
+-- What it keeps for the copy of a snapshot. Its areas have room for any cut of its topology. The other area's gate is closed, once that was
+-- done for the snapshot. Each frozen image that is out is there.
 pub record KeepsCopy (keeps : Type 0) (net : MarkedNetwork NodeState) (state : State) (place : Place) (broken : Bool) (t : Topology) (progress : Progress) : Type 0 where
   pub roomy : is_roomy t place.areas.length ≡ true
   pub closed : keeps → broken ≡ false → progress.cleared ≡ true → OtherIsClosed place state
   pub images : keeps → broken ≡ false → (i : ℕ) → i < length t.pages → is_out progress i ≡ true → IsPartOut t net (content_beside place state) i (get_or t.pages i 0)
 
--- A node whose image is out has no page that is kept: so it was told under the book's lock, and so it is until the trim.
+-- A node whose image is out has no kept pages: it was told this under the book's lock, and it stays true until the trim.
 abbrev pub AreGone : MarkedNetwork NodeState → List Bool → Progress → Type 0
 AreGone net frozen progress = (i : ℕ) → is_out progress i ≡ true → IsGone net frozen i
 
--- The device's head, of whatever version, says the topology, and where the areas are.
+-- The device's head, of whatever version, has the topology and the places of the areas.
 pub record HeadSays (t : Topology) (areas : TwoAreas) (bytes : List ℕ) : Type 0 where
   pub version : HeadVersion
   pub is : head_of bytes ≡ Ok (record { version = version; topology = t; areas = areas })
 
--- What it keeps for the switch to the other area: the kept cut has an image on a device of its topology; the book is bound to the
--- room of its areas; and the device's head says the topology, and where the areas are.
+-- What it keeps for the switch to the other area. The kept cut has an image on a device of its topology. The book is bound to the room of
+-- its areas. The device's head has the topology and the places of the areas.
 pub record IsOfDevice (keeps : Type 0) (most : Option ℕ) (w : World NodeState) (state : State) (place : Place) (broken : Bool) (t : Topology) : Type 0 where
   pub spelt : CutSpelt t w.base w.net.start
   pub bound : most ≡ Some (room t place.areas.length)
   pub head : keeps → broken ≡ false → HeadSays t place.areas state.now.bytes
 
--- What it keeps for the groups: an area of the one form may hold each entry that one of the other may.
+-- What it keeps for the groups: an area of the first form may hold each entry that a book of the second may.
 abbrev pub HoldsAllOf : Form → Form → Type 0
 HoldsAllOf area book = (e : Entry) → is_of book e ≡ true → is_of area e ≡ true
 
@@ -113,8 +119,7 @@ pub record IsSameProcess (old new : Flushing) : Type 0 where
   pub size : new.size ≡ old.size
   pub topology : new.topology ≡ old.topology
 
--- The backlog was copied: `entries`, which have a spelling and the numbers that come next on the device, and which end below
--- `upto`.
+-- The backlog was copied: `entries`, which can be spelt, have the numbers that come next on the device, and end below `upto`.
 pub record IsBacklog (w : World NodeState) (entries : List (Entry × ℕ)) (upto : ℕ) : Type 0 where
   pub same : unnumbered entries ≡ w.backlog
   pub each : AllByRecursion (λ e. IsSpelt e.0 e.1) entries
@@ -122,8 +127,8 @@ pub record IsBacklog (w : World NodeState) (entries : List (Entry × ℕ)) (upto
   pub reaches : upto ≡ w.stored + length entries
   pub numbers : w.stored + length entries < NUMBER_LIMIT
 
--- Where this process opened what a run had led to: each moment of the device since is that of a world on the way of one run. The
--- process and its device stay what they are.
+-- If this process opened what a run had led to, each moment of the device since is that of a world on the way of one run. The process and
+-- its device stay what they are.
 pub record FlushedOn (keeps : Type 0) (start : Network NodeState) (before : World NodeState) (old new : Flushing) : Type 0 where
   pub walks : keeps → Began start before old.opened → Walked old new
   pub process : IsSameProcess old new

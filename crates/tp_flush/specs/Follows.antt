@@ -1,4 +1,4 @@
--- What a device that had opened is left as: nothing is lost of what it had.
+-- What remains of a device that had opened: nothing that it had is lost.
 use Rattle.std.specs.Prelude.{◌≡◌, ◌≤◌, ℕ, List, take, Some, Ok}
 use Rattle.tp_model.specs.declared.entry.Entry.{Entry}
 use Rattle.tp_model.specs.NodeState.{NodeState}
@@ -12,8 +12,8 @@ use Rattle.tp_model.specs.Runs.{World}
 use Rattle.tp_model.specs.Walks.{RecoversTo}
 use Rattle.tp_flush.specs.Known.{Began}
 
--- `was` opens, to the network where the journal's entries below its next number lead. `left` opens to where a prefix
--- of the journal leads that has all of them, and each entry below `least`. A process may begin with it again.
+-- `was` opens to the network to which the journal's entries below its next number lead. `left` opens to where a prefix of the journal leads
+-- that has all of them, and each entry below `least`. A process may begin with it again.
 pub record Follows (start : Network NodeState) (journal : List Entry) (least : ℕ) (was left : List ℕ) : Type 0 where
   pub opened : Opened
   pub reads : verdict was ≡ Ok opened

@@ -5,7 +5,7 @@ use Rattle.tp_model.specs.Network.{Network}
 use Rattle.tp_model.specs.Runs.{World, fresh}
 use Rattle.tp_model.specs.WriteOrder.{Resting}
 
--- the network of the images that the device was formatted with, and the world before it was opened
+-- the network of the images with which the device was formatted, and the world before it was opened
 pub record History : Type 0 where
   pub formatted : Network NodeState
   pub before : World NodeState
@@ -13,7 +13,7 @@ pub record History : Type 0 where
 abbrev none : Network NodeState
 none = record { wires = []; nodes = []; ports = []; lines = [] }
 
--- nothing is told of
+-- nothing is told
 unfoldable pub untold : History
 untold = record {
   formatted = none;

@@ -13,7 +13,7 @@ use Rattle.tp_flush.specs.Flushing.{Flushing}
 
 -- ## One image
 
--- what was done with the image of a node, which has recorded where a look says so
+-- what was done with the image of a node; `recorded` tells whether the node has recorded
 abbrev pub NodeImaged : Image → Bool → ℕ → Progress → Progress → Type 0
 NodeImaged WasOut recorded node old new = is_out new node ≡ true
 NodeImaged Unrecorded recorded node old new = recorded ≡ false
@@ -31,7 +31,7 @@ HasNextImage Unrecorded = Unit {0}
 HasNextImage Lacking = ⊥
 HasNextImage (Copied pages) = Unit {0}
 
--- or its copying ends so
+-- or its copying ends with this
 abbrev pub EndsSo : Image → ℕ → Images → Type 0
 EndsSo WasOut node images = ⊥
 EndsSo Unrecorded node images = ⊥
@@ -46,8 +46,8 @@ pub record OneWentOut (old new : Progress) : Type 0 where
   pub waited : is_out old node ≡ false
   pub is : is_out new node ≡ true
 
--- What was done with the images of all `nodes` nodes that a device of `images` images may have, whether a snapshot ran, and as each had
--- recorded in it.
+-- What was done with the images of all `nodes` nodes, on a device that may have `images` images. `ran` tells whether a snapshot ran, and
+-- `recorded` which nodes had recorded in it.
 abbrev pub Imaged : Bool → (ℕ → Bool) → ℕ → ℕ → Images → Progress → Progress → Type 0
 Imaged ran recorded nodes images NoSnapshot old new = ran ≡ false
 Imaged ran recorded nodes images Out old new = (i : ℕ) → i < nodes → i < images → recorded i ≡ true → is_out new i ≡ true
@@ -56,18 +56,18 @@ Imaged ran recorded nodes images (Unkept i) old new = (i < nodes) × (recorded i
 
 -- ## In which book
 
--- what a look at the snapshot in a book finds; nothing where none runs
+-- what is read of the snapshot in a book; `None` if none runs
 abbrev pub IsLookAt : ℕ → Option Look → BookValue → Type 0
 IsLookAt nodes None b = has_recorded_in b.state.snapshot nodes ≡ false
 IsLookAt nodes (Some look) b = (has_recorded_in b.state.snapshot nodes ≡ true) × ((i : ℕ) → i < nodes → get_or look.recorded i false ≡ has_recorded_in b.state.snapshot i)
 
--- The book was seen then, behind those that were seen before.
+-- The book was seen then, after those that were seen before.
 pub record LookedIn (nodes : ℕ) (look : Option Look) (before seen : List BookValue) : Type 0 where
   pub found : BookValue
   pub shown : seen ≡ before ++ found ∷ []
   pub is : IsLookAt nodes look found
 
--- What a turn did with the images, that didn't switch, as it found the snapshot in a book that was seen.
+-- What a turn that didn't switch did with the images, as it found the snapshot in a book that was seen.
 pub record ImagedIn (nodes : ℕ) (images : Images) (before seen : List BookValue) (old new : Flushing) : Type 0 where
   pub found : BookValue
   pub shown : seen ≡ before ++ found ∷ []

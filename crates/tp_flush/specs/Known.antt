@@ -12,7 +12,7 @@ pub record Known : Type 0 where
   pub world : World NodeState
   pub opened : List ℕ
 
--- A run leads to the world from a device that was formatted, in whichever form, with this network.
+-- A run leads to the world from a device that was formatted, in either form, with this network.
 pub record Reached (start : Network NodeState) (w : World NodeState) : Type 0 where
   pub first : World NodeState
   pub events : List (Event NodeState)

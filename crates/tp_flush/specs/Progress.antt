@@ -11,6 +11,6 @@ not_begun = record { cleared = false; out = replicate MAX_NODES false }
 abbrev pub is_out : Progress → ℕ → Bool
 is_out p node = get_or p.out node false
 
--- the image of one more is
+-- with the image of one more node out
 abbrev pub with_out : Progress → ℕ → Progress
 with_out p node = record p { out = set p.out node true }

@@ -17,8 +17,9 @@ IsBeginRefusal NothingToTake = ⊥
 IsBeginRefusal SnapshotRunning = Unit {0}
 IsBeginRefusal PortFull = ⊥
 
--- A snapshot was to begin, with this answer, in a book that was found and left so: it is refused exactly for the first reason that holds
--- in the book that was found, before all others that one runs, and the book is then left as it was; else it began, or memory was refused.
+-- A snapshot was to begin, with this answer, in a book that was found and left like this. It fails exactly for the first reason that is
+-- true of the book that was found; that a snapshot runs comes first. The book is then left as it was. If there is no reason, it began, or
+-- memory is out.
 pub record SnapshotBegun (start : Network NodeState) (found left : BookValue) (answer : Result Unit Refusal) : Type 0 where
   pub nodes : length found.state.start.nodes ≡ length start.nodes
   pub ports : length found.state.ports ≡ length start.ports

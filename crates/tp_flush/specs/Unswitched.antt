@@ -16,20 +16,20 @@ use Rattle.tp_flush.specs.declared.unswitched.Unswitched.TheVariants.{ImageMissi
 use Rattle.tp_flush.specs.Progress.{is_out}
 use Rattle.tp_flush.specs.Flushing.{Flushing}
 
--- `why` is a reason not to switch: with `t` the device's topology, `p` the images that are out, `generation` that of the open area, and
--- `net` and `frozen` the book and the nodes with kept pages as the flusher was told of them last.
+-- `why` is a reason not to switch. `t` is the device's topology, `p` the images that are out, and `generation` that of the open area. `net`
+-- and `frozen` are the book and the nodes with kept pages, as the flusher was told of them last.
 abbrev pub IsReason : Unswitched → Topology → Progress → ℕ → MarkedNetwork NodeState → List Bool → Type 0
 IsReason ImageMissing t p generation net frozen = (i : ℕ) × (i < length t.pages) × (is_out p i ≡ false)
 IsReason LastGeneration t p generation net frozen = NUMBER_LIMIT ≤ generation + 1
 IsReason CutOpen t p generation net frozen = is_some (whole net) ≡ false
 IsReason PagesKept t p generation net frozen = (is_some (whole net) ≡ true) × (none_kept frozen ≡ false)
 
--- Where a turn didn't switch, no snapshot ran, or there is a reason.
+-- If a turn didn't switch, no snapshot ran, or there is a reason.
 abbrev pub WhyUnswitched : Option Unswitched → Images → Flushing → Type 0
 WhyUnswitched None images v = images ≡ NoSnapshot
 WhyUnswitched (Some why) images v = IsReason why v.topology v.progress v.place.generation v.world.net v.frozen
 
--- whether the store switched, beside why not
+-- whether the store switched, without the reason
 abbrev pub done_of : Result Switch FlushFault → Result Bool FlushFault
 done_of (Ok s) = Ok s.done
 done_of (Err fault) = Err fault

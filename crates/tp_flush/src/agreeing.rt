@@ -1,4 +1,4 @@
-//! What the flusher knows beside the book as it is.
+//! What the flusher knows, compared with the book as it is.
 
 ghost use Rattle.std.specs.Prelude.{◌≡◌};
 ghost use Rattle.tp_flush.specs.Ahead.{IsAheadOf};
@@ -10,9 +10,11 @@ use tp_disk::Disk;
 use tp_shared::{Locked, Naming};
 
 impl<J: Naming, D: Disk> Flusher<J, D> {
-    /// Changes nothing. The book has the flusher's journal and some entries behind it, and all of them lead from the network of the
-    /// images that the device was formatted with to the one that the book has. The book is broken exactly where a call of the device has
-    /// failed, whoever locks it, and when: nobody else breaks it, and nobody mends it.
+    /// Proves three things, and changes nothing:
+    /// - The book has the flusher's journal and some entries after it.
+    /// - All of them lead from the network of the images with which the device was formatted to the book's network.
+    /// - The book is broken exactly if a call of the device has failed, whoever locks it, and when: only the flusher breaks it, and nobody
+    ///   mends it.
     pub fn settle_book(&mut self, held: &mut Locked<J>)
         ensures same { (self.new ≡ self.old) × (held.new ≡ held.old) }
         ensures ahead { D.keeps → Began J.formatted J.before self.old.opened → IsAheadOf J.formatted self.old.world held.old.book }

@@ -25,7 +25,7 @@ pub(crate) struct Checkpoint {
     pub(crate) unswitched: Option<Unswitched>,
 }
 
-/// A look at the snapshot, once the book's lock is had; none where no snapshot runs, and then no node is looked at. The book was seen.
+/// Reads the state of the snapshot, once the book's lock is held. `None` if no snapshot runs; then no node is read. The book is seen.
 fn look_under<J: Naming>(held: &mut Locked<J>, looked: &mut Sights<J>) -> Option<Look>
     ensures { LookedIn (length J.start.nodes) result looked.old looked.new }
 {
@@ -39,7 +39,7 @@ fn look_under<J: Naming>(held: &mut Locked<J>, looked: &mut Sights<J>) -> Option
     Some(held.look())
 }
 
-/// Takes the book's lock, and looks at the snapshot under it.
+/// Takes the book's lock, and reads the state of the snapshot under it.
 fn look<J: Naming, R: Wait>(rt: &R, shared: &Shared<J>, looked: &mut Sights<J>) -> Option<Look>
     ensures { LookedIn (length J.start.nodes) result looked.old looked.new }
 {
@@ -48,9 +48,9 @@ fn look<J: Naming, R: Wait>(rt: &R, shared: &Shared<J>, looked: &mut Sights<J>) 
 }
 
 impl<J: Naming, D: Disk> Flusher<J, D> {
-    /// While a snapshot runs: closes the other area's gate, copies the frozen images there, and once all are out and the cut is
-    /// whole switches to that area. Answers what it did, and the book was seen in which it found the snapshot. No lock of a node is taken
-    /// while none runs.
+    /// Copies the snapshot that runs. It closes the other area's gate and copies the frozen images there. Once all are out and the cut is
+    /// whole, it switches to that area. Answers what it did; the book in which it found the snapshot was seen. While none runs, it takes no
+    /// node's lock.
     pub(crate) fn checkpoint<R: Wait, G: Gate>(
         &mut self,
         rt: &R,

@@ -1,4 +1,4 @@
-//! The flusher lets the frozen pages of a node go.
+//! The flusher drops the frozen pages of a node.
 
 ghost use Rattle.std.specs.Prelude.{◌≡◌, ◌<◌, true, length, get_or};
 ghost use Rattle.tp_model.specs.WriteOrder.{Resting};
@@ -14,8 +14,8 @@ use tp_disk::Disk;
 use tp_shared::{Naming, Shared};
 
 impl<J: Naming, D: Disk> Flusher<J, D> {
-    /// Lets the frozen pages of `node` go, which has recorded, and whose frozen image stands in the other area, the head and all pages: its
-    /// image is out, and of no node whose image is out a page is kept.
+    /// Drops the frozen pages of `node`, which has recorded. The head and all pages of its frozen image are in the other area: its image is
+    /// out. A node whose image is out has no kept pages.
     pub(crate) fn let_go<R: Wait>(&mut self, rt: &R, shared: &Shared<J>, node: u8)
         requires rests { self.old.world.at ≡ Resting }
         requires node { node < length self.old.topology.pages }

@@ -5,9 +5,11 @@ use crate::unswitched::Unswitched;
 use tp_book::Copied;
 use tp_shared::{Naming, Sights};
 
-/// The mark, which is the number that the turn raised it to; up to which number the book's entries were copied, and that book; what became
-/// of the images of the snapshot that ran, and the book in which it was found; and whether the store switched to its other area, or, where
-/// it didn't while a snapshot ran, why not.
+/// What a turn did:
+/// - the mark's number, to which the turn raised it;
+/// - up to which number the book's entries were copied, and that book;
+/// - what became of the images of the snapshot that ran, and the book in which it was found;
+/// - whether the store switched to its other area and, if it didn't while a snapshot ran, why not.
 #[derive(Drop)]
 pub struct Flushed<J: Naming> {
     pub mark: u64,

@@ -27,8 +27,11 @@ use tp_recover::Opened;
 use tp_shared::{Naming, Sights, Told};
 use tp_token::Key;
 
-/// The flusher's store, what it was told of the book, the mark's raiser, the device's topology, how far the copy of the snapshot that
-/// runs has come, how many pages a turn copies before it begins no further image, and the world as the flusher knows it.
+/// The parts of a flusher:
+/// - its store, what it was told of the book, the mark's raiser, and the device's topology;
+/// - how far the copy of the snapshot that runs has come;
+/// - how many pages a turn copies before it begins no further image;
+/// - the world as the flusher knows it.
 #[derive(Drop)]
 pub(crate) struct Parts<D: Disk> {
     pub(crate) store: Store<D>,
@@ -40,9 +43,9 @@ pub(crate) struct Parts<D: Disk> {
     pub(crate) whole: Whole,
 }
 
-/// What brings the book's entries to the device of one process, and raises its mark; and what was seen of the book as it was told that a
-/// call of the device had failed. Contracts see the world as it knows it, what has become of its device, and the bytes that the process
-/// opened.
+/// Brings the book's entries to the device of one process, and raises its mark. It has what was seen of the book when it was told that a
+/// call of the device had failed. Contracts see the world as the flusher knows it, what has become of its device, and the bytes that the
+/// process opened.
 #[derive(Drop)]
 pub struct Flusher<J: Naming, D: Disk> {
     pub(crate) parts: Parts<D>,
@@ -63,9 +66,9 @@ impl<J: Naming, D: Disk> Model for Flusher<J, D> {
 }
 
 impl<J: Naming, D: Disk> Flusher<J, D> {
-    /// The flusher over a store, where `opened`, `topology`, `store`, `key` and `raiser` come from one opening: the store is the one
-    /// over the device that was opened, the key's book goes on from it, and the mark has its next number. What was opened is known by
-    /// contracts alone, since its network is in the book already.
+    /// Makes the flusher over a store. `opened`, `topology`, `store`, `key` and `raiser` come from one opening. The store is over the
+    /// device that was opened, the key's book goes on from it, and the mark has its next number. Only contracts know what was opened, since
+    /// its network is in the book already.
     pub fn over(
         opened: Snapshot<Opened>,
         topology: Topology,
@@ -113,8 +116,8 @@ impl<J: Naming, D: Disk> Flusher<J, D> {
         }
     }
 
-    /// What every flusher keeps: a run leads to its world, from the device that was formatted, and its device is that world's; and
-    /// of each node whose image is out no page is kept. It does nothing.
+    /// Proves what every flusher keeps. A run leads to its world, from the device that was formatted, and its device is that world's. A
+    /// node whose image is out has no kept pages. The function does nothing.
     pub fn known(&self)
         ensures reached { D.keeps → Began J.formatted J.before self.now.opened → Reached J.formatted self.now.world }
         ensures disk { D.keeps → self.now.world.disk ≡ self.now.state.now }
@@ -123,7 +126,7 @@ impl<J: Naming, D: Disk> Flusher<J, D> {
         let _ = &self.parts;
     }
 
-    /// The mark's number, as the flusher raised it.
+    /// Gives the mark's number, as the flusher raised it.
     pub fn mark(&self) -> u64
         ensures { result ≡ self.now.world.mark }
     {
@@ -137,7 +140,7 @@ impl<J: Naming, D: Disk> Flusher<J, D> {
         self.parts.store.broken
     }
 
-    /// The device. It has to be opened again before it is written.
+    /// Gives the device. It has to be opened again before it is written.
     pub fn into_disk(self) -> D
         ensures state { D.state result ≡ self.state }
         ensures size { D.size_of result ≡ self.size }

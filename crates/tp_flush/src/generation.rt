@@ -7,7 +7,7 @@ use tp_disk::Disk;
 use tp_shared::Naming;
 
 impl<J: Naming, D: Disk> Flusher<J, D> {
-    /// The generation of the open area, to which groups are appended.
+    /// Gives the generation of the open area, to which groups are appended.
     pub fn generation(&self) -> u64
         ensures { result ≡ self.now.place.generation }
     {

@@ -30,7 +30,7 @@ pub(crate) enum Image {
 }
 
 impl Image {
-    /// How many pages a turn may copy behind this image of `node`, which was begun with `left`; or how the turn ends with it.
+    /// Tells how many pages a turn may still copy after this image of `node`, which began with `left`; or how the turn ends with it.
     pub(crate) fn left(self, node: u8, left: usize) -> Result<usize, Images>
         ensures goes_on { IfOk result (λ rest. HasNextImage self) }
         ensures ends { IfErr result (λ images. EndsSo self node images) }

@@ -1,4 +1,4 @@
-//! The flusher copies the frozen images of a snapshot, some pages a hold of the locks.
+//! The flusher copies the frozen images of a snapshot, some pages in each hold of the locks.
 
 ghost use Rattle.std.specs.Prelude.{◌≡◌, ◌+◌, ◌*◌, ◌<◌, ◌≤◌, ℕ, [], true, false, flat_map, length, get_or, IfOk};
 ghost use Rattle.tp_model.specs.declared.limits.TheConstants.{MAX_NODES, MAX_PAGES, PAGE_BYTES};
@@ -24,11 +24,11 @@ use tp_model::limits::{IMAGE_HEAD_BYTES, MAX_PAGES, PAGE_BYTES};
 use tp_shared::gate::PAGE_COPIED;
 use tp_shared::{Gate, Look, Naming, Shared};
 
-/// How many pages are read in one hold of a node's lock, at most. A turn of a node in that cell waits for all of them: for less than
-/// a microsecond, where a turn of 1,024 steps takes four.
+/// The most pages that are read in one hold of a node's lock. A turn of a node in that cell waits for all of them: for less than a
+/// microsecond, while a turn of 1,024 steps takes four.
 const PAGES_A_HOLD: usize = 4;
 
-/// The bytes of pages, which lie one behind the other.
+/// Gives the bytes of pages, one page after the other.
 fn joined(pages: &[[u8; PAGE_BYTES]]) -> &[u8]
     ensures bytes { result.now ≡ flat_map (λ page. page) pages.now }
     ensures len { length result.now ≡ PAGE_BYTES * length pages.now }
@@ -38,7 +38,7 @@ fn joined(pages: &[[u8; PAGE_BYTES]]) -> &[u8]
 }
 
 impl<J: Naming, D: Disk> Flusher<J, D> {
-    /// How many pages a node has.
+    /// Counts the pages of a node.
     fn pages_of(&self, node: usize) -> usize
         requires { node < length self.now.topology.pages }
         ensures is { result ≡ get_or self.now.topology.pages node 0 }
@@ -47,7 +47,7 @@ impl<J: Naming, D: Disk> Flusher<J, D> {
         self.parts.topology.pages()[node] as usize
     }
 
-    /// How many nodes the device has images of.
+    /// Counts the nodes with images on the device.
     fn nodes(&self) -> usize
         ensures { result ≡ length self.now.topology.pages }
     {
@@ -64,7 +64,7 @@ impl<J: Naming, D: Disk> Flusher<J, D> {
         self.parts.progress.is_out(node)
     }
 
-    /// Copies the head of a frozen image, which begins at `image` in the other area. False where the node isn't frozen.
+    /// Copies the head of a frozen image, which begins at `image` in the other area. False if the node isn't frozen.
     fn copy_head<R: Wait>(
         &mut self,
         rt: &R,
@@ -92,8 +92,8 @@ impl<J: Naming, D: Disk> Flusher<J, D> {
         Ok(true)
     }
 
-    /// Copies pages of a frozen image, which begins at `image`, from `first` on: as many as find room in `pages`, which they go by way of. They
-    /// are read in one hold of the node's lock, and put by one call of the device. False where the node isn't frozen, or has fewer.
+    /// Copies pages of a frozen image, which begins at `image`, from the page `first` on, through `pages`: as many as that has room for.
+    /// They are read in one hold of the node's lock, and put by one call of the device. False if the node isn't frozen, or has fewer.
     fn copy_pages<R: Wait, G: Gate>(
         &mut self,
         rt: &R,
@@ -128,7 +128,7 @@ impl<J: Naming, D: Disk> Flusher<J, D> {
         Ok(true)
     }
 
-    /// Copies a frozen image, which begins at `image`, by way of `pages`. False where the node isn't frozen.
+    /// Copies a frozen image, which begins at `image`, through `pages`. False if the node isn't frozen.
     fn copy_image<R: Wait, G: Gate>(
         &mut self,
         rt: &R,
@@ -165,8 +165,8 @@ impl<J: Naming, D: Disk> Flusher<J, D> {
         Ok(true)
     }
 
-    /// Copies the frozen image of a node that has recorded and isn't out yet, which begins at `image`, by way of `pages`, and lets its
-    /// frozen pages go behind the last one.
+    /// Copies the frozen image of a node, which begins at `image`, through `pages`, and drops its frozen pages after the last one. The node
+    /// has recorded and its image isn't out yet.
     fn copy_node<R: Wait, G: Gate>(
         &mut self,
         rt: &R,
@@ -201,8 +201,8 @@ impl<J: Naming, D: Disk> Flusher<J, D> {
         Ok(Image::Copied(self.pages_of(node as usize)))
     }
 
-    /// From now on a turn begins no further image once it has copied `pages` pages of frozen images, and the next turn goes on: what is
-    /// journalled meanwhile needn't wait for all of them. Where this was never said a turn copies all that it may.
+    /// Lets a turn begin no further image once it has copied `pages` pages of frozen images; the next turn goes on. So what is journalled
+    /// meanwhile doesn't wait for all of them. Without this call a turn copies all that it may.
     pub fn copy_at_most(&mut self, pages: usize)
         ensures { self.new ≡ self.old }
     {
@@ -210,8 +210,8 @@ impl<J: Naming, D: Disk> Flusher<J, D> {
         parts.pages_a_turn = pages.max(1);
     }
 
-    /// Copies the frozen images of all that have recorded, without waiting for the others, until enough pages were copied for a turn. Where
-    /// each begins in the other area is known from where the one before did, so no page asks for a sum over the images before.
+    /// Copies the frozen images of all that have recorded, without waiting for the others, until enough pages were copied for a turn. Each
+    /// image's place in the other area follows from the one before; so no page needs a sum over the images before.
     #[inline(never)]
     pub(crate) fn copy_images<R: Wait, G: Gate>(
         &mut self,

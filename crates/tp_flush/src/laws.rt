@@ -11,13 +11,13 @@ ghost use Rattle.tp_model.specs.Runs.{World};
 ghost use Rattle.tp_law_device.specs.FormattedWorld.{formatted_world, WasFormatted};
 ghost use Rattle.tp_flush.specs.Known.{Began, Reached};
 
-/// The first process begins with a device that was formatted, of either form: whatever a crash leaves of it from then on.
+/// The first process begins with a device that was formatted, of either form, or with what any crash leaves of it.
 pub fn first_process_begins()
     ensures { (t : Topology) (areas : TwoAreas) (form : Form) (images : List (List ℕ)) (start : Network NodeState) (bytes : List ℕ) → WasFormatted t areas form images start bytes
         → (left : List ℕ) → MayBe (formatted_world start bytes).disk left → Began start (formatted_world start bytes) left }
 {}
 
-/// What one process ends with, or what a crash leaves of it, is what the next one begins with.
+/// The next process begins with what a process ends with, or with what a crash leaves of it.
 pub fn next_process_begins()
     ensures { (start : Network NodeState) (w : World NodeState) (left : List ℕ) → Reached start w → MayBe w.disk left → Began start w left }
 {}

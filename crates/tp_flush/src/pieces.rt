@@ -24,7 +24,7 @@ use tp_model::limits::{IMAGE_HEAD_BYTES, PAGE_BYTES};
 use tp_shared::{Naming, Shared};
 
 impl<J: Naming, D: Disk> Flusher<J, D> {
-    /// Closes the other area's gate where it is open, once for a snapshot. Where a call of the device fails, the book is told.
+    /// Closes the other area's gate if it is open, once for a snapshot. Tells the book if a call of the device fails.
     #[inline(never)]
     pub(crate) fn clear<R: Wait>(&mut self, rt: &R, shared: &Shared<J>) -> Result<(), FlushFault>
         requires rests { self.old.world.at ≡ Resting }
@@ -45,8 +45,8 @@ impl<J: Naming, D: Disk> Flusher<J, D> {
         answer_of(done)
     }
 
-    /// Puts `bytes` into the other area where the frozen image of `node` has its place, which begins at `image`: the first of them at `inner`
-    /// of it. Where a call of the device fails, the book is told.
+    /// Puts `bytes` into the other area, from the byte `inner` of the place of `node`'s frozen image on, which begins at `image`. Tells the
+    /// book if a call of the device fails.
     pub(crate) fn put<R: Wait>(
         &mut self,
         rt: &R,
@@ -77,7 +77,7 @@ impl<J: Naming, D: Disk> Flusher<J, D> {
         answer_of(done)
     }
 
-    /// Reads the head of the frozen image of `node`. False where the node isn't frozen.
+    /// Reads the head of the frozen image of `node`. False if the node isn't frozen.
     pub(crate) fn read_head<R: Wait>(
         &mut self,
         rt: &R,
@@ -99,7 +99,7 @@ impl<J: Naming, D: Disk> Flusher<J, D> {
         found
     }
 
-    /// Reads pages of it from `first` on, as many as it has and as find room. Answers how many: none where the node isn't frozen.
+    /// Reads pages of it, from the page `first` on, until its last page or the end of `out`. Answers how many: 0 if the node isn't frozen.
     pub(crate) fn read_pages<R: Wait>(
         &mut self,
         rt: &R,
@@ -123,7 +123,7 @@ impl<J: Naming, D: Disk> Flusher<J, D> {
         found
     }
 
-    /// Lets the frozen pages of `node` go. From then on the flusher knows the book as it is.
+    /// Drops the frozen pages of `node`. From then on the flusher knows the book as it is.
     pub(crate) fn drop_pages<R: Wait>(&mut self, rt: &R, shared: &Shared<J>, node: u8)
         requires rests { self.old.world.at ≡ Resting }
         requires there { node < length J.start.nodes }
@@ -138,7 +138,7 @@ impl<J: Naming, D: Disk> Flusher<J, D> {
         parts.whole = Whole::of(&*parts);
     }
 
-    /// All pieces of the frozen image of `node` are in the other area, and its pages are gone.
+    /// Notes that all pieces of the frozen image of `node` are in the other area, and its pages are dropped.
     pub(crate) fn put_out(&mut self, node: usize)
         requires rests { self.old.world.at ≡ Resting }
         requires node { node < length self.old.topology.pages }

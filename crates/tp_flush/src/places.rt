@@ -1,4 +1,4 @@
-//! Where images and their pieces stand, without a sum over the images before.
+//! The places of images and their pieces, without a sum over the images before.
 
 ghost use Rattle.std.specs.Prelude.{◌≡◌, ◌+◌, ◌^◌, ◌<◌, ◌≤◌, length};
 ghost use Rattle.tp_model.specs.declared.limits.TheConstants.{MAX_PAGES};
@@ -10,7 +10,7 @@ use tp_disk::Disk;
 use tp_model::limits::{IMAGE_HEAD_BYTES, PAGE_BYTES};
 use tp_shared::Naming;
 
-/// Where a piece stands in its image: piece 0 is the image's head, pieces from 1 on are its pages.
+/// Gives the place of a piece in its image: piece 0 is the image's head, pieces from 1 on are its pages.
 pub(crate) fn place_in_image(piece: usize) -> u64
     requires { piece ≤ MAX_PAGES }
     ensures value { result ≡ place_in_image piece }
@@ -24,7 +24,7 @@ pub(crate) fn place_in_image(piece: usize) -> u64
 }
 
 impl<J: Naming, D: Disk> Flusher<J, D> {
-    /// Where the image behind that of `node` begins, where that one begins at `image`.
+    /// Gives the place of the image after that of `node`, which begins at `image`.
     pub(crate) fn image_behind(&self, node: usize, image: u64) -> u64
         requires node { node < length self.now.topology.pages }
         requires image { image ≡ piece_place self.now.topology node 0 }

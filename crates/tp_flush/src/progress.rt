@@ -15,7 +15,7 @@ pub struct Progress {
 }
 
 impl Progress {
-    /// Nothing was copied.
+    /// Makes the progress of a copy that hasn't begun.
     pub(crate) fn new() -> Progress
         ensures { result ≡ not_begun }
     {
@@ -33,7 +33,7 @@ impl Progress {
         self.out[node]
     }
 
-    /// The image of `node` is out.
+    /// Notes that the image of `node` is out.
     pub(crate) fn put_out(&mut self, node: usize)
         requires { node < MAX_NODES }
         ensures with { self.new ≡ with_out self.old node }

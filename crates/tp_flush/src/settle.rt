@@ -1,4 +1,4 @@
-//! What passes and slips are worth: what a pass saw beside the flusher's mark, and slips beside its journal.
+//! What passes and slips are worth: what a pass saw compared with the flusher's mark, and slips compared with its journal.
 
 ghost use Rattle.std.specs.Prelude.{◌≡◌, ◌≤◌, ◌++◌, ℕ, List, drop};
 ghost use Rattle.std.specs.List.{AllByRecursion};
@@ -22,10 +22,10 @@ use tp_ready::Pass;
 use tp_shared::{Locked, Naming, Seat, Shared};
 
 impl<J: Naming, D: Disk> Flusher<J, D> {
-    /// Changes nothing. What `pass` saw is at most the flusher's mark, and whatever it loaded, at whatever moment, also while a turn went on:
-    /// that is the last of its rises, each dated by a moment that the device had come to. Of each but the first, with which the mark began,
-    /// whatever a crash left of the device at that moment or at any since opens to what leads where a prefix of the journal leads, and the
-    /// prefix has each entry below the number.
+    /// Proves that what `pass` saw is at most the flusher's mark, at whatever moment `pass` loaded it, also during a turn. What it saw is
+    /// the last of its rises, each dated by a moment that the device had come to. The mark began with the first rise. For each other rise,
+    /// take what any crash left of the device at its moment or later. That opens to where a prefix of the journal leads, and the prefix has
+    /// each entry below the number. The function changes nothing.
     pub fn settle_pass(&mut self, shared: &Shared<J>, pass: &mut Pass)
         requires { pass.old.mark ≡ J.mark }
         ensures same { (self.new ≡ self.old) × (pass.new ≡ pass.old) }
@@ -38,7 +38,7 @@ impl<J: Naming, D: Disk> Flusher<J, D> {
         parts.raiser.settle(shared, pass);
     }
 
-    /// Changes nothing. Each slip's entry stands in the flusher's journal at its number, where that reaches so far.
+    /// Proves that each slip's entry is in the flusher's journal at its number, if the journal reaches so far. It changes nothing.
     pub fn settle_seat(&mut self, held: &mut Locked<J>, seat: &mut Seat<J>)
         ensures same { (self.new ≡ self.old) × (held.new ≡ held.old) × (seat.new ≡ seat.old) }
         ensures stand { D.keeps → Began J.formatted J.before self.old.opened → SlipsStand self.old.world.journal seat.old }
@@ -58,10 +58,10 @@ impl<J: Naming, D: Disk> Flusher<J, D> {
         self.settle_seat(&mut held, seat);
     }
 
-    /// Changes nothing. Take any slips that stand beside each other in `seat`, as those of a receipt do. Where `pass` saw a number above
-    /// theirs, as the receipt's is, so that it was told that they are stored, whatever a crash leaves from now on of the device as it is
-    /// opens to what leads where a prefix of the journal leads, and in the prefix each of their entries stands at its number, whatever
-    /// became of the other slips.
+    /// Proves what a receipt is worth. Take any slips that are next to each other in `seat`, as those of a receipt are. Let `pass` have
+    /// seen a number above theirs, as the receipt's is, so that it was told that they are stored. Whatever a crash leaves from now on of
+    /// the device as it is, that opens to where a prefix of the journal leads. The prefix has each of their entries at its number, whatever
+    /// became of the other slips. The function changes nothing.
     pub fn settle<R: Wait>(
         &mut self,
         rt: &R,
@@ -83,8 +83,8 @@ impl<J: Naming, D: Disk> Flusher<J, D> {
     }
 }
 
-/// Where the bytes that a crash left open to a prefix of the journal with each entry below `least`, they have the entries of all
-/// slips below that stand in the journal. The function does nothing; its contract is the law.
+/// Let the bytes that a crash left open to a prefix of the journal with each entry below `least`. Then they have the entries of all slips
+/// below it that are in the journal. The function does nothing; its contract is the law.
 pub fn stored_slips_are_recovered()
     ensures { (start : Network NodeState) (journal : List Entry) (least : ℕ) (slips : List (ℕ × Entry)) (bytes : List ℕ) → RecoversTo t414 device_areas start journal least bytes
         → AreBelow least slips → SlipsStand journal slips → RecoversWith start journal least slips bytes }

@@ -10,9 +10,9 @@ use tp_disk::Disk;
 use tp_shared::{Locked, Naming, Seat};
 
 impl<J: Naming, D: Disk> Flusher<J, D> {
-    /// Changes nothing. Whether `seat` has a slip for each entry since the opening, whose first number is `first`, and all
-    /// of them are below the flusher's mark. Then the flusher's journal has these entries and no further ones, and of each of them
-    /// there is one slip.
+    /// Whether `seat` has a slip for each entry since the opening, whose first number is `first`, and all of them are below the flusher's
+    /// mark. If so, these are all entries of the flusher's journal since the opening, and each of them has one slip. The function changes
+    /// nothing.
     pub fn settle_all(&mut self, held: &mut Locked<J>, seat: &mut Seat<J>, first: u64) -> bool
         requires first { first ≡ J.first }
         ensures same { (self.new ≡ self.old) × (held.new ≡ held.old) × (seat.new ≡ seat.old) }

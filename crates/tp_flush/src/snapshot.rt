@@ -10,7 +10,7 @@ use tp_book::Refusal;
 use tp_disk::Disk;
 use tp_shared::{Locked, Naming, Shared, Sights};
 
-/// What the book answered as a snapshot was to begin, and the book as it was found and as it was left.
+/// What the book answered as a snapshot was to begin, and the book before and after that.
 #[derive(Drop)]
 pub struct Begun<J: Naming> {
     pub answer: Result<(), Refusal>,
@@ -18,7 +18,7 @@ pub struct Begun<J: Naming> {
 }
 
 impl<J: Naming> Begun<J> {
-    /// What the book answered.
+    /// Gives what the book answered.
     pub fn answer(&self) -> Result<(), Refusal>
         ensures { result ≡ self.now.answer }
     {
@@ -26,7 +26,7 @@ impl<J: Naming> Begun<J> {
     }
 }
 
-/// Begins a snapshot, once the book's lock is had.
+/// Begins a snapshot, once the book's lock is held.
 fn begin<J: Naming>(held: &mut Locked<J>, alloc: Global) -> Begun<J>
     ensures refused { IfErr result.answer IsBeginRefusal }
     ensures begun { BegunIn J.start result.seen result.answer }
@@ -40,9 +40,8 @@ fn begin<J: Naming>(held: &mut Locked<J>, alloc: Global) -> Begun<J>
 }
 
 impl<J: Naming, D: Disk> Flusher<J, D> {
-    /// Begins a snapshot under the book's lock: the host records, and each node is then asked to. Refused where one runs, where the
-    /// store is broken, where no generation is left, and for want of memory, in this order. The book was seen as it was found and as it
-    /// was left.
+    /// Begins a snapshot under the book's lock: the host records, and each node is then asked to. It fails if one runs, the store is
+    /// broken, no generation is left, or memory is out, in this order. The book is seen before and after that.
     pub fn snapshot<R: Wait>(&self, rt: &R, alloc: Global, shared: &Shared<J>) -> Begun<J>
         ensures refused { IfErr result.answer IsBeginRefusal }
         ensures begun { BegunIn J.start result.seen result.answer }

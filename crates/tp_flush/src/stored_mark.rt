@@ -12,7 +12,7 @@ use tp_disk::Disk;
 use tp_ready::{Pass, Raiser};
 use tp_shared::{Naming, Shared};
 
-/// The mark's raiser. Its field is this file's alone: who raises the mark does it by `raise`, and shows what that asks for.
+/// The mark's raiser. Only this file uses its field: others raise the mark by `raise`, and prove what `raise` requires.
 #[derive(Drop)]
 pub(crate) struct StoredMark {
     raiser: Raiser,
@@ -27,23 +27,23 @@ impl Model for StoredMark {
 }
 
 impl StoredMark {
-    /// Over the raiser that came with the mark.
+    /// Makes it from the raiser that came with the mark.
     pub(crate) fn over(raiser: Raiser) -> StoredMark
         ensures { result ≡ raiser }
     {
         StoredMark { raiser }
     }
 
-    /// The mark's number.
+    /// Gives the mark's number.
     pub(crate) fn raised(&self) -> u64
         ensures { result ≡ self.now.at }
     {
         self.raiser.raised()
     }
 
-    /// Raises the mark to the number of the next group of `store`. Whoever calls it shows that a run leads to a world that has stored
-    /// so far, and whose device is the store's as it is at this moment: so whoever loads the mark, at whatever moment, loads a number
-    /// that the device had when the mark was raised to it. The rise is dated by the store's device.
+    /// Raises the mark to the number of the next group of `store`. The caller proves that a run leads to a world that has stored so far,
+    /// and whose device is the store's as it is now. So a thread that loads the mark, at whatever moment, loads a number that the device
+    /// had when the mark was raised to it. The rise is dated by the store's device.
     pub(crate) fn raise<J: Naming, D: Disk>(
         &mut self,
         shared: &Shared<J>,
@@ -61,7 +61,8 @@ impl StoredMark {
             .raise(&mut self.raiser, store.place.next, &store.disk);
     }
 
-    /// Changes nothing. What `pass` saw is at most the mark's number: the last of the rises that it saw, from which the raiser's go on.
+    /// Proves that what `pass` saw is at most the mark's number: the last of the rises that it saw, from which the raiser's go on. It
+    /// changes nothing.
     pub(crate) fn settle<J: Naming>(&mut self, shared: &Shared<J>, pass: &mut Pass)
         requires marks { (self.old.mark ≡ J.mark) × (pass.old.mark ≡ J.mark) }
         ensures same { (self.new ≡ self.old) × (pass.new ≡ pass.old) }

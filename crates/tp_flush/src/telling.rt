@@ -10,7 +10,7 @@ use tp_disk::Disk;
 use tp_shared::{Naming, Shared, Sights, Told};
 use tp_token::Key;
 
-/// Where a call of the device has failed, tells the book, which is then seen. `key` shows that, and else what it showed.
+/// Tells the book if a call of the device has failed; then the book is seen. `key` shows that, and otherwise what it showed.
 pub(crate) fn tell_where<J: Naming, R: Wait>(
     rt: &R,
     shared: &Shared<J>,
@@ -32,7 +32,7 @@ pub(crate) fn tell_where<J: Naming, R: Wait>(
 }
 
 impl<J: Naming, D: Disk> Flusher<J, D> {
-    /// What was seen of the book as it was told that a call of the device had failed: from then on it refuses what is to be journalled, and
+    /// Gives what was seen of the book when it was told that a call of the device had failed. From then on it journals nothing more, and
     /// nobody mends it (`settle_book`).
     pub fn told(&self) -> &Sights<J>
         ensures { self.now.world.at ≡ Broken → WasTold result.now }

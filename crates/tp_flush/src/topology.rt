@@ -34,7 +34,7 @@ fn copied_wires(wires: &[Option<WireEnd>]) -> ArrayVec<Option<WireEnd>, MAX_LINE
     copy
 }
 
-/// The topology of a device that opened. It takes no memory.
+/// Copies the topology of a device that opened. It takes no memory.
 #[inline(never)]
 pub fn topology_of(opened: &Opened) -> Topology
     ensures { result ≡ opened.now.head.topology }

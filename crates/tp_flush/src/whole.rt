@@ -1,4 +1,4 @@
-//! What contracts alone see of the flusher.
+//! What only contracts see of the flusher.
 
 ghost use Rattle.std.specs.Prelude.{◌≡◌};
 ghost use Rattle.std.specs.Borrow.{ftrue};
@@ -23,7 +23,7 @@ impl Whole {
     ghost use Rattle.std.specs.Prelude.{◌≡◌};
     ghost use Rattle.tp_flush.specs.Known.{Known};
 
-    // Gives the ghost value `known`, which a contract says by what is lent as `_value`. It does nothing.
+    // Gives the ghost value `known`, which a contract names by what is lent as `_value`. The function does nothing.
     pub(crate) fn of<T>(_value: &T) -> Whole
         ghost known: { Known }
         ensures { result.known ≡ known }

@@ -41,7 +41,7 @@ held_within [] i held = absurd (omega arith)
 held_within (count ∷ counts) zero held = omega arith
 held_within (count ∷ counts) (suc i) held = omega (arith, held_within counts i held)
 
--- one where a frame is free
+-- one if a frame is free
 abbrev pub vacancy : Option HeldFrame → ℕ
 vacancy None = 1
 vacancy (Some held) = 0
@@ -54,7 +54,7 @@ free_in-cons : (entry : Option HeldFrame) (frames : Frames) → free_in (entry �
 free_in-cons None frames = refl
 free_in-cons (Some held) frames = omega arith
 
--- what the change of one frame does to the number of those that are free
+-- what the change of one frame does to the number of free frames
 pub free_in-set : (frames : Frames) (i : ℕ) (entry : Option HeldFrame) → i < length frames → free_in (set frames i entry) + vacancy (frame frames i) ≡ free_in frames + vacancy entry
 free_in-set [] i entry within = absurd (omega arith)
 free_in-set (here ∷ frames) zero entry within = omega (arith, free_in-cons here frames, free_in-cons entry frames)

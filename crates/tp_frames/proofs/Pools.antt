@@ -1,4 +1,4 @@
--- What is so of every pool stays so.
+-- What is true of every pool stays true.
 use Rattle.std.proofs.Common.{◌≡◌, ℕ, zero, suc, ◌+◌, ◌-◌, ◌<◌, ◌^◌, List, [], ◌∷◌, Option, None, get_or, set, length, replicate, refl, sym, ap, subst, ◌∙◌, arith}
 use Rattle.std.proofs.lemmas.List.{length-set, get_or-set_same, get_or-set_other, set-get_or, length-replicate, get_or-replicate}
 use Rattle.tp_model.specs.Frames.{HeldFrame, Frames, frame, owned, owners_of, bytes_of, IsHeld, with_frame, free_in}
@@ -87,7 +87,7 @@ module _ (counts : List ℕ) (region : List (List ℕ)) (first free : ℕ) (pool
   chain_first [] long some chain = absurd (omega arith)
   chain_first (number ∷ numbers) long some chain = (omega (arith, chain.0, chain.1, length-frames_of counts region pool.matched), ap (λ i. frame frames i) chain.0 ∙ chain.2)
 
-  -- where a frame is free, so is the first one
+  -- if a frame is free, so is the first one
   pub first_is_free : 0 < free → (first < length counts) × (frame frames first ≡ None)
   first_is_free some = chain_first pool.chain.0 pool.chain.1 some pool.chain.2
 

@@ -1,4 +1,4 @@
--- How a pool's frames lie in its region: the owners beside it, and the free list in the free frames.
+-- How a pool's frames are kept in its region: the owners beside it, and the free list in the free frames.
 use Rattle.std.specs.Prelude.{◌≡◌, ◌+◌, ◌<◌, ◌^◌, ℕ, List, [], ◌∷◌, None, get_or, length}
 use Rattle.std.specs.Int.{from_le_bytes, w32}
 use Rattle.tp_model.specs.Frames.{Frames, frame, owned, free_in}
@@ -13,7 +13,7 @@ frames_of (count ∷ counts) (bytes ∷ region) = owned count bytes ∷ frames_o
 abbrev pub next_in : List ℕ → ℕ
 next_in bytes = from_le_bytes w32 (get_or bytes 0 0 ∷ get_or bytes 1 0 ∷ get_or bytes 2 0 ∷ get_or bytes 3 0 ∷ [])
 
--- Each frame leads to the one behind it.
+-- Each frame leads to the next.
 abbrev pub AreLinked : List (List ℕ) → Type 0
 AreLinked region = (i : ℕ) → i + 1 < length region → next_in (get_or region i []) ≡ i + 1
 
@@ -29,7 +29,7 @@ IsChain frames region first (number ∷ numbers) =
     (first ≡ number) × (number < length frames) × (frame frames number ≡ None) × IsApart number numbers
     × IsChain frames region (next_in (get_or region number [])) numbers
 
--- What is so of every pool: each frame has a count of owners, and the free list has as many frames as are free.
+-- What is true of every pool: each frame has a count of owners, and the free list has as many frames as are free.
 pub record IsPool (counts : List ℕ) (region : List (List ℕ)) (first free : ℕ) : Type 0 where
   pub matched : length counts ≡ length region
   pub small : length counts < 2 ^ 32

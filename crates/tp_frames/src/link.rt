@@ -5,7 +5,7 @@ ghost use Rattle.tp_frames.specs.FreeList.{next_in};
 
 use crate::region::Frame;
 
-/// The number of the next free frame.
+/// Reads the number of the next free frame.
 pub(crate) fn next(frame: &Frame) -> u32
     ensures value { result ≡ next_in frame.now }
     ensures len { length frame.now ≡ 1024 }
@@ -13,7 +13,7 @@ pub(crate) fn next(frame: &Frame) -> u32
     u32::from_le_bytes([frame[0], frame[1], frame[2], frame[3]])
 }
 
-/// A frame that leads to another.
+/// Makes a frame that leads to `number`.
 pub(crate) fn to(number: u32) -> Frame
     ensures value { next_in result ≡ number }
     ensures len { length result ≡ 1024 }
@@ -27,7 +27,7 @@ pub(crate) fn to(number: u32) -> Frame
     frame
 }
 
-/// How long a frame is.
+/// Gives the frame; its contract says how long it is.
 pub(crate) fn sized(frame: &Frame) -> &Frame
     ensures same { result.now ≡ frame.now }
     ensures len { length frame.now ≡ 1024 }

@@ -13,7 +13,7 @@ use std::marker::Model;
 #[derive(Clone, Copy)]
 pub struct PoolEmpty;
 
-/// Frames of one raw region. Each is free or held, by its owners, and a free one carries the free list in itself.
+/// Frames of one raw region. Each is free, or held by its owners, and a free one carries the free list in itself.
 #[derive(Drop)]
 pub struct FramePool {
     owners: Vec<u16>,
@@ -34,7 +34,7 @@ impl Model for FramePool {
 }
 
 impl FramePool {
-    /// A pool of `count` free frames.
+    /// Makes a pool of `count` free frames. `AllocError` if memory is out.
     pub fn new(alloc: Global, count: usize) -> Result<FramePool, AllocError>
         requires { count < 2 ^ 32 }
         ensures { IfOk result (λ p. p ≡ replicate count None) }
@@ -49,7 +49,7 @@ impl FramePool {
         })
     }
 
-    /// Takes a free frame, whose bytes may be any.
+    /// Takes a free frame, whose bytes may be any. `PoolEmpty` if none is free.
     pub fn take(&mut self) -> Result<FrameId, PoolEmpty>
         ensures ok { IfOk result (λ id. (id < length self.old) × (frame self.old id ≡ None) × ((bytes : List ℕ) × (length bytes ≡ 1024) × (self.new ≡ with_frame self.old id 1 bytes))) }
         ensures err { OnErr result (self.new ≡ self.old) }
@@ -78,7 +78,7 @@ impl FramePool {
         FrameId::new(id.number())
     }
 
-    /// Takes an owner from a held frame, which is free where that was the last one.
+    /// Takes an owner from a held frame. With its last owner gone, the frame is free.
     pub fn give_back(&mut self, id: FrameId)
         requires held { IsHeld self.old id }
         ensures { self.new ≡ with_frame self.old id (owners_of self.old id - 1) (bytes_of self.old id) }
@@ -93,7 +93,7 @@ impl FramePool {
         }
     }
 
-    /// The bytes of a held frame.
+    /// Gives the bytes of a held frame.
     pub fn bytes(&self, id: &FrameId) -> &Frame
         requires held { IsHeld self.now id.now }
         ensures bytes { result.now ≡ bytes_of self.now id.now }
@@ -127,7 +127,7 @@ impl FramePool {
         self.owners[id.number() as usize] == 1
     }
 
-    /// How many frames are free.
+    /// Counts the free frames.
     pub fn free(&self) -> usize
         ensures { result ≡ free_in self.now }
     {

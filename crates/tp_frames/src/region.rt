@@ -39,7 +39,7 @@ impl Model for Region {
 unsafe impl Send for Region {}
 
 impl Region {
-    /// Makes a region of `count` frames. Each leads to the one behind it.
+    /// Makes a region of `count` frames. Each leads to the next.
     pub(crate) fn new(alloc: Global, count: usize) -> Result<Region, AllocError>
         requires { count < 2 ^ 32 }
         ensures { IfOk result (λ r. (length r ≡ count) × AreLinked r) }
@@ -50,14 +50,14 @@ impl Region {
         Ok(enclose(slots, lease, alloc))
     }
 
-    /// How many frames there are.
+    /// Counts the frames.
     pub(crate) fn len(&self) -> usize
         ensures { result ≡ length self.now }
     {
         self.slots.len()
     }
 
-    /// The bytes of a frame.
+    /// Gives the bytes of a frame.
     pub(crate) fn get(&self, index: usize) -> &Frame
         requires { index < length self.now }
         ensures { result.now ≡ get_or self.now index [] }

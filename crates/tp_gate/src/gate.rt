@@ -1,6 +1,6 @@
 //! What is called at each point.
 
-/// What is called at each point, with the number of the process. A test waits there; what runs does nothing.
+/// What is called at each point, with the number of the process. A test waits there; a program's gate does nothing.
 pub trait Gate {
     fn at(&self, process: u8, point: u8);
 }

@@ -33,7 +33,7 @@ use Rattle.tp_law_device.specs.CutSpelt.{CutSpelt}
 use Rattle.tp_law_device.proofs.Kept.{CutKeeps, cut_keeps, keeps_after}
 use Rattle.tp_law_device.proofs.Ports.{port_of_cut}
 
--- what is so of each element by its place
+-- what is true of each element by its place
 all_from : {A : Type 0} (P : A → Type 0) (xs : List A) → ((i : ℕ) (x : A) → slice_get xs i ≡ Some x → P x) → AllByRecursion P xs
 all_from P [] each = tt
 all_from P (x ∷ xs) each = (each 0 x refl, all_from P xs (λ i y at. each (suc i) y at))

@@ -1,4 +1,4 @@
--- The other area is taken once its gate is open, where it spells what was copied; and so a checkpoint is a run.
+-- If the other area spells what was copied, opening chooses it once its gate is open; and so a checkpoint is a run.
 use Rattle.std.proofs.Common.{◌≡◌, ℕ, ◌+◌, ◌<◌, ◌≤◌, false, not, cond, List, [], ◌∷◌, ◌++◌, length, get_or, refl, sym, ap, subst, ◌∙◌, arith, Some, None, Ok}
 use Rattle.std.specs.Prelude.{map}
 use Rattle.std.specs.List.{AllByRecursion}
@@ -63,7 +63,7 @@ module _ (M : Machine NodeState) (E : EndsSeen NodeState) (bytes : List ℕ) (o 
       ∙ (λ i. cond (closed i) None (if_newer o (other_read i)))
       ∙ (λ i. cond (lt-ltb o.generation generation later i) (Some (other_start o, held_of other_opened)) None)
 
-  -- with its gate open the device opens so
+  -- with its gate open the device opens as that
   pub other_opens : opening M E (written bytes (other_start o) gate_open) ≡ Ok other_opened
   other_opens =
       let R = reads_of M E bytes o is in
@@ -73,10 +73,10 @@ module _ (M : Machine NodeState) (E : EndsSeen NodeState) (bytes : List ℕ) (o 
       let opened : get_or left place 0 ≡ get_or gate_open 0 0 = ap (λ q. get_or left q 0) (omega arith) ∙ get_or-written_inside bytes place gate_open room 0 (omega arith) in
       gate_switches M E bytes o R left (length-written bytes place gate_open room) (get_or-written_outside bytes place gate_open room) other_opened other_read later (ap (λ byte. is_open byte) opened)
 
--- ## Pieces that are written behind its gate
+-- ## Pieces that are written after its gate
 
 module _ (M : Machine NodeState) (E : EndsSeen NodeState) (o : Opened) where
-  -- the device opens so, and the other area is closed
+  -- the device opens as it did, and the other area is closed
   record Keeps (bytes : List ℕ) (spare : ℕ × ℕ) : Type 0 where
     opens : opening M E bytes ≡ Ok o
     closed : other_is_open o bytes ≡ false
@@ -103,7 +103,7 @@ module _ (M : Machine NodeState) (E : EndsSeen NodeState) (o : Opened) where
   puts_keep m spare (piece ∷ pieces) K inside =
       puts_keep (done (Write piece.0 piece.1) m) spare pieces (put_keeps m.bytes spare K piece.0 piece.1 inside.0) inside.1
 
--- behind the last of other calls
+-- after the last of other calls
 all_done-sync : (calls : List Call) (m : Moment) → ◌≡◌ {A = Moment} (all_done (calls ++ Sync ∷ []) m) (record { bytes = (all_done calls m).bytes; unsynced = [] })
 all_done-sync [] m = refl
 all_done-sync (call ∷ calls) m = all_done-sync calls (done call m)

@@ -49,7 +49,7 @@ chosen_later areas bytes true own other later =
     ∙ (λ i. cond (lt-ltb (age_in areas bytes true) (age_in areas bytes false) later i) (Ok false)
     (cond (nat_lt (age_in areas bytes false) (age_in areas bytes true)) (Ok true) (Err (Damaged (area_start areas true)))))
 
--- so is the one that the other is no later than
+-- this one, if the other has a lower generation
 pub chosen_higher : (areas : TwoAreas) (bytes : List ℕ) (second : Bool) → open_in areas bytes second ≡ true → open_in areas bytes (not second) ≡ true
     → age_in areas bytes (not second) < age_in areas bytes second → chosen_area areas bytes ≡ Ok second
 chosen_higher areas bytes false own other lower = chosen_later areas bytes true other own lower

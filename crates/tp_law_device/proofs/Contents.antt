@@ -1,4 +1,4 @@
--- Where the areas lie, and which bytes their contents are.
+-- Where the areas are, and which bytes their contents are.
 use Rattle.std.proofs.Common.{◌≡◌, ℕ, ◌+◌, ◌-◌, ◌<◌, ◌≤◌, ◌⊎◌, inl, inr, Bool, true, false, not, List, ◌++◌, length, take, drop, get_or, refl, sym, ap, ◌∙◌, arith, length-take, length-drop}
 use Rattle.std.proofs.lemmas.List.{take-take, take-append-drop, get_or-take, get_or-drop}
 use Rattle.std.proofs.lemmas.Grind.{same_number_lists}
@@ -7,7 +7,7 @@ use Rattle.tp_model.specs.Device.{area_start, content_of}
 use Rattle.tp_law_device.proofs.Fronts.{SameFront, part_from, u64_front}
 use Rattle.tp_law_device.proofs.Chosen.{age_in}
 
--- the two areas lie side by side
+-- the two areas are side by side
 pub places : (areas : TwoAreas) (second : Bool)
     → ((area_start areas second ≡ areas.first) × (area_start areas (not second) ≡ areas.first + areas.length)) ⊎ ((area_start areas second ≡ areas.first + areas.length) × (area_start areas (not second) ≡ areas.first))
 places areas false = inl (refl, refl)

@@ -64,7 +64,7 @@ outputs_count p fits = from_le_bytes-to_le_bytes_2 (length p.outputs) fits
 abbrev port_of : ℕ → List ℕ → ℕ → List ℕ → Port
 port_of in_base pending out_base outputs = record { pending = pending; in_base = in_base; outputs = outputs; out_base = out_base }
 
--- a port that has its record in front is read alike where that record stands again
+-- a port that has its record at the front is read alike wherever that record is
 port_read_same : (base : ℕ) (xs ys : List ℕ) → SameFront 8212 xs ys → take 8212 xs ≡ port_bytes (port_at xs) → is_port_of base (port_at xs) ≡ true → port_at ys ≡ port_at xs
 port_read_same base xs ys h record_is keeps =
     let p = port_at xs in
@@ -114,7 +114,7 @@ ports_same base at (suc count) xs ys ports h is =
 
 -- ## The cut
 
--- The cut is read alike in contents that agree in front of the groups.
+-- The cut is read alike in contents that agree before the groups.
 pub cut_same : (E : EndsSeen NodeState) (t : Topology) (at : ℕ) (xs ys : List ℕ) (s : Network NodeState) → length t.wires ≡ line_count t
     → SameFront (groups_place t) xs ys → cut_in E t at xs ≡ Ok s → cut_in E t at ys ≡ Ok s
 unfolding cut_in

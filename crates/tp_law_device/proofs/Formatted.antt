@@ -1,4 +1,4 @@
--- A device that was formatted stands for the network of its images, before its first entry.
+-- A device that was formatted holds the network of its images, before its first entry.
 use Rattle.std.proofs.Common.{◌≡◌, ℕ, zero, suc, ◌<◌, true, false, List, [], ◌∷◌, length, refl, sym, ap, ◌∙◌, arith, Option, Some, Ok}
 use Rattle.std.specs.Prelude.{map, replicate}
 use Rattle.std.proofs.lemmas.Bool.{false≢true}

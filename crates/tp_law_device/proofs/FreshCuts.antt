@@ -43,7 +43,7 @@ fresh_is pages bytes n is =
       idle = both.1;
     }
 
--- what is so of the nodes of images
+-- what is true of the nodes of images
 pub record AreFresh (pages : List ℕ) (nodes : List NodeState) : Type 0 where
   pub back : AllByRecursion IsReadBack nodes
   pub pages_are : pages_of nodes ≡ pages

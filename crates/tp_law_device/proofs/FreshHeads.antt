@@ -68,7 +68,7 @@ module _ (version : HeadVersion) (t : Topology) (L : HasShape t) (keeps : keeps_
   abbrev fields : List ℕ
   fields = padded (2 * head_nodes version) (flat_map u16_bytes t.pages)
 
-  -- all that is in front of the 00 at its end
+  -- all that is before the 00 at its end
   abbrev first : List ℕ
   first = magic ++ (version_byte version ∷ node_count t ∷ t.ports ∷ (zeros 6 ++ (u64_bytes areas.length ++ (fields ++ ends))))
 

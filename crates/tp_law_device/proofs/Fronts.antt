@@ -35,7 +35,7 @@ front_from n xs ys len each = record {
       get_or-take n xs i 0 below ∙ each i below ∙ sym (get_or-take n ys i 0 below));
 }
 
--- so is a part of them
+-- parts of lists whose bytes are equal there, one by one
 pub part_from : (at n : ℕ) (xs ys : List ℕ) → length xs ≡ length ys → ((place : ℕ) → at ≤ place → place < at + n → get_or xs place 0 ≡ get_or ys place 0)
     → SameFront n (drop at xs) (drop at ys)
 part_from at n xs ys len each =

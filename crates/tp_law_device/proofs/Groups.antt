@@ -1,4 +1,4 @@
--- A group that is written behind its closed gate, and then its gate is opened.
+-- A group is written after its closed gate, and then its gate is opened.
 use Rattle.std.proofs.Common.{◌≡◌, ℕ, ◌+◌, ◌<◌, ◌≤◌, ◌⊎◌, inl, inr, true, false, not, List, [], ◌∷◌, length, get_or, refl, sym, ap, subst, ◌∙◌, arith, le_refl, Some, Ok}
 use Rattle.std.proofs.lemmas.Bool.{cases_Bool, eqb-true}
 use Rattle.std.proofs.lemmas.Option.{cond_some}
@@ -22,11 +22,11 @@ use Rattle.tp_law_device.proofs.AreaReads.{group_can}
 use Rattle.tp_law_device.proofs.Opens.{Reads, held_in, held_from, layout, end_within, end_low, HeadStays, OwnStays, OtherStays, keeps, adds, found_in}
 use Rattle.tp_law_device.proofs.Spare.{loose_keeps}
 
--- what goes behind the gate
+-- what follows the gate
 abbrev pub body_of : Opened → List Entry → List ℕ
 body_of o es = group_body (rows_of (numbered (next_of o) es))
 
--- a group that can be written: where its gate is, what goes behind it, and that there is room for that
+-- a group that can be written: where its gate is, what follows the gate, and that there is room for that
 pub record Written (o : Opened) (es : List Entry) (gate : ℕ) (body : List ℕ) : Type 0 where
   pub can : can_add o (numbered (next_of o) es) ≡ true
   pub gate_is : gate ≡ o.end
@@ -123,7 +123,7 @@ module _ (M : Machine NodeState) (E : EndsSeen NodeState) (bytes : List ℕ) (o 
     group_there : (k : ℕ) → k < length body → get_or left (o.end + 1 + k) 0 ≡ get_or body k 0
     group_there k low = same (o.end + 1 + k) (inr (omega arith)) ∙ get_or-written_inside bytes (o.end + 1) body fits k low
 
-    -- it is read where its gate is open
+    -- it is read if its gate is open
     group_adds : can_add o (numbered (next_of o) es) ≡ true → ArePossible M (held_of o) es → get_or left o.end 0 ≡ GATE_OPEN
         → held_in (opening M E left) ≡ Some (with_more (held_of o) es)
     group_adds can possible opened = adds M E bytes o R left size es possible.last group_head group_own group_other possible.is can opened group_there

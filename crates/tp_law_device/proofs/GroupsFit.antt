@@ -42,7 +42,7 @@ length-groups (group ∷ groups) each =
     let rest : length (groups_bytes groups) ≤ entry_room * length (entries_in groups) = length-groups groups each.1 in
     omega (arith, length-append (group_bytes (rows_of group)) (groups_bytes groups), length-append group (entries_in groups), length-group_bytes group is, some, rest)
 
--- behind the cut image there is room for them, for one more group, and for the closed gate behind it
+-- after the cut image there is room for them, for one more group, and for the closed gate after it
 pub groups_fit : (t : Topology) (area : ℕ) (groups : List (List (Entry × ℕ))) (more : List (Entry × ℕ)) → AllByRecursion IsGroup groups → 1 ≤ length more
     → entry_room * (length (entries_in groups) + length more) ≤ room t area → AREA_HEAD_BYTES + cut_length t + length (groups_bytes groups) + group_length (length more) < area
 groups_fit t area groups more each some bound = let size = length-groups groups each in omega arith
@@ -114,7 +114,7 @@ opening_ends M E bytes o is =
     let most = listing_room 0 (groups_at o.head o.second) (drop (groups_place o.head.topology) content) in
     omega arith
 
--- so behind the entries that are kept there is room for a group
+-- so after the entries that are kept there is room for a group
 pub verdict_has_room : (bytes : List ℕ) (o : Opened) → verdict bytes ≡ Ok o → (count : ℕ) → 1 ≤ count → entry_room * (length o.kept + count) ≤ room o.head.topology o.head.areas.length
     → has_room o count ≡ true
 unfolding verdict

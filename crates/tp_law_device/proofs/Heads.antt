@@ -43,7 +43,7 @@ pub head_long : (version : HeadVersion) → NARROW_HEAD_BYTES ≤ head_length ve
 head_long Narrow = omega arith
 head_long Wide = omega arith
 
--- the fields of a head's nodes lie inside the head
+-- the fields of a head's nodes are inside the head
 pub pages_fit : (version : HeadVersion) (count : ℕ) → count ≤ head_nodes version → 24 + 2 * count ≤ head_length version
 pages_fit Narrow count few = omega arith
 pages_fit Wide count few = omega arith
@@ -68,7 +68,7 @@ pages_below (n ∷ ns) h =
     let most = leb-true n MAX_PAGES (and_parts (nat_le MIN_PAGES n) (nat_le n MAX_PAGES) both.0).1 in
     and_from (nat_le n WIDE_HEAD_PAGES) (list_all (λ m. nat_le m WIDE_HEAD_PAGES) ns) (le-leb n WIDE_HEAD_PAGES (omega arith)) (pages_below ns both.1)
 
--- a wide head can say every topology
+-- a wide head can state every topology
 pub wide_keeps : (t : Topology) → is_topology t ≡ true → keeps_limits Wide t ≡ true
 wide_keeps t h =
     let L = has_shape t h in
@@ -133,7 +133,7 @@ head_parts bytes head is =
       room = e.1;
     }
 
--- the head that bytes with an equal front say, where it has no more nodes than its version has fields for
+-- the head that bytes with an equal front say, if it has no more nodes than its version has fields for
 pub head_at_same : (version : HeadVersion) (xs ys : List ℕ) → SameFront (head_length version) xs ys → u8_at xs 8 ≤ head_nodes version → head_at version ys ≡ head_at version xs
 unfolding head_at
 head_at_same version xs ys h few =
@@ -176,7 +176,7 @@ head_from bytes head H =
     ∙ (λ i. cond (is_head (read i) bytes) (Ok (read i)) (Err (Damaged 0)))
     ∙ (λ i. cond (tests i) (Ok head) (Err (Damaged 0)))
 
--- Where the areas begin: behind the head.
+-- Where the areas begin: after the head.
 first_of : (version : HeadVersion) (bytes : List ℕ) (head : Head) → head_at version bytes ≡ head → head.areas.first ≡ head_length version
 unfolding head_at
 first_of version bytes head is = ap (λ (h : Head). h.areas.first) (sym is)
@@ -205,7 +205,7 @@ head_same xs ys head size h is =
       room = ap (λ n. fits_device n head.topology head.areas) size ∙ H.room;
     })
 
--- ## Where the areas lie
+-- ## Where the areas are
 
 pub record Layout (bytes : List ℕ) (areas : TwoAreas) : Type 0 where
   pub both : areas_end areas ≤ length bytes

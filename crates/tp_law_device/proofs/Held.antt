@@ -1,4 +1,4 @@
--- What the book of a run stands for has an image, at each moment.
+-- What the book of a run holds has an image, at each moment.
 use Rattle.std.proofs.Common.{◌≡◌, ℕ, ◌+◌, ◌-◌, true, not, List, [], ◌∷◌, ◌++◌, length, map, sym, ap, subst, ◌∙◌, arith, length-append, drop, Some, Ok}
 use Rattle.std.specs.Prelude.{nat_lt, nat_le, ◌<◌, ◌&&◌, ◌==◌}
 use Rattle.std.specs.List.{AllByRecursion, list_all}
@@ -49,7 +49,7 @@ use Rattle.tp_law_device.proofs.Kept.{cut_keeps, keeps_after}
 use Rattle.tp_law_device.proofs.Again.{cut_spelt}
 use Rattle.tp_law_device.proofs.Ranges.{in_range_next}
 
--- The kept cut has an image, the entries behind it are spelt, and a number is left.
+-- The kept cut has an image, the entries after it are spelt, and a number is left.
 pub record HeldSpelt (h : Held NodeState) : Type 0 where
   pub topology : Topology
   pub is : is_topology topology ≡ true
@@ -57,7 +57,7 @@ pub record HeldSpelt (h : Held NodeState) : Type 0 where
   pub entries : AllByRecursion (λ e. is_in_range e ≡ true) h.entries
   pub few : h.base + length h.entries < NUMBER_LIMIT
 
--- what the book of a world stands for
+-- what the book of a world holds
 abbrev pub held_by : World NodeState → Held NodeState
 held_by w = record { network = w.net.start; entries = w.net.entries; base = w.base }
 

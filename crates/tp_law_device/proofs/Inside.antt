@@ -43,7 +43,7 @@ length-groups_bytes (group ∷ groups) h =
     let first = h.0 in
     omega (arith, length-groups_bytes groups h.1, length-append (group_bytes (rows_of group)) (groups_bytes groups), length-group_bytes group first, first.some, length-append group (entries_in groups))
 
--- ## Behind a cut image
+-- ## After a cut image
 
 pub tail_inside : (t : Topology) (area : ℕ) (copy : Held NodeState) (tail : List (Entry × ℕ)) (groups : List (List (Entry × ℕ))) → is_roomy t area ≡ true → CopySpelt t copy tail
     → entries_in groups ≡ tail → AllByRecursion IsSized groups → entry_room * length tail ≤ room t area → groups_place t + length (groups_bytes groups) + 1 ≤ area - 1
@@ -51,7 +51,7 @@ tail_inside t area copy tail groups roomy C all sized few =
     let each = groups_are groups sized (subst (AllByRecursion (λ (e : Entry × ℕ). IsSpelt e.0 e.1)) (sym all) C.spelt) in
     omega (arith, few, ap length all, length-groups_bytes groups each, leb-true _ _ roomy)
 
--- ## Behind the groups that are there
+-- ## After the groups that are there
 
 group_inside : (bytes : List ℕ) (o : Opened) (count : ℕ) → opening t414 t414_ends bytes ≡ Ok o → 1 ≤ count
     → entry_room * (length o.kept + count) ≤ room o.head.topology o.head.areas.length → has_room o count ≡ true

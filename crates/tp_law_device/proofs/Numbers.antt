@@ -13,7 +13,7 @@ use Rattle.tp_law_network.proofs.Choice.{chosen-map}
 use Rattle.tp_law_network.proofs.Numbers.{numbered_outside}
 use Rattle.tp_model.specs.CutTail.{tail_of}
 
--- The numbers of a tail are numbers behind the cut.
+-- The numbers of a tail are numbers after the cut.
 pub tail_numbered : (start : Network NodeState) (cut : WholeCut) (kept : List (Entry × ℕ)) (base : ℕ) → AreNumbered 0 base (map (λ (e : Entry × ℕ). e.1) kept)
     → AreNumbered 0 (base + length (pre (process start.wires (length start.nodes)) (count_in cut) (map (λ (e : Entry × ℕ). e.0) kept))) (map (λ (e : Entry × ℕ). e.1) (tail_of start cut kept))
 tail_numbered start cut kept base h =

@@ -27,7 +27,7 @@ use Rattle.tp_law_device.proofs.OneDevice.{one_formatted, one_bytes, one_gate, o
 use Rattle.tp_law_device.proofs.OneSnapshot.{early, late, one_cut, early_acted, late_acted, late_cut, one_copy, one_trimmed, outside_leads}
 use Rattle.tp_law_device.proofs.Switching.{kept_then, cut_switches}
 
--- ## The worlds, one behind the other
+-- ## The worlds, one after the other
 
 abbrev formatted : World NodeState
 formatted = formatted_world one_before one_device
@@ -110,7 +110,7 @@ one_switches : Switches whole_world grouped one_cut (awaits ∷ []) 2 Turns
 one_switches =
     cut_switches one_room one_before formatted begins one_bytes one_events whole_world one_run grouped one_cut (awaits ∷ []) refl grouped_bytes late_cut grouped_opens (omega arith) (le_refl one_room)
 
--- the network that is answered is the one that the entries lead to
+-- the network in the answer is the one that the entries lead to
 opened_now : (bytes : List ℕ) (o : Opened) (h : Held NodeState) (now : Network NodeState) → verdict bytes ≡ Ok o → held_of o ≡ h → after t414 h.network h.entries ≡ Some now → o.now ≡ now
 opened_now bytes o h now is holds leads =
     let both : Some o.now ≡ Some now = sym (verdict_leads bytes o is) ∙ ap (λ (k : Held NodeState). after t414 k.network k.entries) holds ∙ leads in

@@ -58,7 +58,7 @@ one_bytes = bytes_from one_device refl
 
 -- ## With the group
 
--- where its gate is, what goes behind that, and the device with it
+-- where its gate is, what follows that, and the device with it
 abbrev pub one_gate : ℕ
 one_gate = area_start one_areas false + AREA_HEAD_BYTES + cut_length one_node
 

@@ -101,7 +101,7 @@ module _ (M : Machine NodeState) (E : EndsSeen NodeState) (bytes : List ℕ) (o 
   parts : AreaParts M E o.head o.second content o
   parts = area_parts M E o.head o.second content o R.area
 
-  -- how many bytes of the content lie in front of its first closed gate
+  -- how many bytes of the content are before its first closed gate
   abbrev count : ℕ
   count = before M E o.head o.second content o parts wires_are
 

@@ -1,4 +1,4 @@
--- An area that spells a cut and its tail behind its closed gate, at a higher generation, is what is held once that is open.
+-- An area that spells a cut and its tail after its closed gate, at a higher generation, is what is held once that is open.
 use Rattle.std.proofs.Common.{◌≡◌, ℕ, ◌+◌, ◌-◌, ◌<◌, ◌≤◌, false, not, List, length, map, sym, ◌∙◌, arith, Some, Ok}
 use Rattle.std.proofs.lemmas.Grind.{same_number_lists}
 use Rattle.tp_model.specs.declared.entry.Entry.{Entry}

@@ -1,4 +1,4 @@
--- Pieces that stand at their places are a content.
+-- Pieces at their places are a content.
 use Rattle.std.proofs.Common.{◌≡◌, ℕ, suc, ◌+◌, ◌-◌, ◌<◌, ◌≤◌, ◌⊎◌, inl, inr, true, List, [], ◌∷◌, ◌++◌, length, map, take, drop, get_or, refl, sym, ap, subst, ◌∙◌, arith, append_assoc, length-append, Some, slice_get}
 use Rattle.std.specs.Prelude.{sum_by, flat_map}
 use Rattle.std.specs.List.{AllByRecursion}
@@ -31,7 +31,7 @@ use Rattle.tp_model.specs.CopySpelt.{CopySpelt}
 use Rattle.tp_model.specs.PiecesStand.{IsThere, IsSized, PiecesStand}
 use Rattle.tp_law_device.proofs.Content.{cut_back}
 
--- ## Bytes that stand there
+-- ## Bytes that are there
 
 pub there_written : (content : List ℕ) (at : ℕ) (bytes : List ℕ) → at + length bytes ≤ length content → IsThere (written content at bytes) at bytes
 there_written content at bytes room k low = get_or-written_inside content at bytes room k low
@@ -53,7 +53,7 @@ there_append content at next xs ys size first rest k low = elim (cases_lt k (len
 pub there_whole : (content xs : List ℕ) → length xs ≤ length content → IsThere content 0 xs → content ≡ xs ++ drop (length xs) content
 there_whole content xs room there = drop_there content xs 0 (omega (arith, room)) there
 
--- images, one behind the other
+-- images, one after the other
 there_images : (content : List ℕ) (at : ℕ) (nodes : List NodeState) (pages : List ℕ) → AllByRecursion IsReadBack nodes → pages_of nodes ≡ pages
     → ((i : ℕ) (node : NodeState) → slice_get nodes i ≡ Some node → IsThere content (at + sum_by image_length (take i pages)) (image node)) → IsThere content at (flat_map image nodes)
 there_images content at [] pages back are each = λ k low. absurd (omega (arith, low))

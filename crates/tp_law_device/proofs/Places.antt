@@ -1,4 +1,4 @@
--- What a write leaves of an area's content: a piece stands in it, or it lies elsewhere.
+-- What a write leaves of an area's content: a piece is in it, or it is elsewhere.
 use Rattle.std.proofs.Common.{◌≡◌, ℕ, ◌+◌, ◌-◌, ◌<◌, ◌≤◌, ◌⊎◌, inl, inr, Bool, List, length, get_or, sym, ap, ◌∙◌, arith}
 use Rattle.std.proofs.lemmas.Bool.{cases_lt}
 use Rattle.std.proofs.lemmas.Grind.{same_number_lists}

@@ -1,4 +1,4 @@
--- A device that opens is spelt so.
+-- A device that opens is spelt as opening says.
 use Rattle.std.proofs.Common.{◌≡◌, ℕ, ◌+◌, ◌-◌, ◌^◌, ◌<◌, ◌≤◌, ◌⊎◌, inl, inr, Bool, true, false, not, cond, List, ◌∷◌, ◌++◌, length, drop, refl, sym, ap, subst, ◌∙◌, arith, length-drop, Ok, Err}
 use Rattle.std.specs.Prelude.{◌==◌, nat_lt, map}
 use Rattle.std.proofs.lemmas.Bool.{and_parts, cases_Bool, ltb-true}

@@ -1,4 +1,4 @@
--- What is read as a cut is spelt so.
+-- What is read as a cut is spelt as one.
 use Rattle.std.proofs.Common.{◌≡◌, ℕ, zero, suc, ◌+◌, ◌*◌, ◌^◌, ◌<◌, ◌≤◌, Bool, true, false, cond, List, [], ◌∷◌, ◌++◌, length, take, drop, get_or, refl, sym, ap, subst, ◌∙◌, arith, append_assoc, length-drop, length-take, Option, Some, Ok}
 use Rattle.std.specs.Prelude.{◌==◌, ◌&&◌, nat_lt, flat_map, sum_by, bytes_eq}
 use Rattle.std.specs.List.{AllByRecursion}
@@ -52,7 +52,7 @@ u64_below xs at h =
     let b : (i : ℕ) → get_or (drop at xs) i 0 < 256 = byte_below (drop at xs) (are_bytes-drop at xs h) in
     omega (arith, b 0, b 1, b 2, b 3, b 4, b 5, b 6, b 7)
 
--- bytes in front of others, one part after the other
+-- bytes before others, one part after the other
 parts_join : (front more xs : List ℕ) (n m : ℕ) → take n xs ≡ front → drop n xs ≡ more ++ drop m (drop n xs) → xs ≡ (front ++ more) ++ drop (n + m) xs
 parts_join front more xs n m first rest =
     sym (take-append-drop n xs) ∙ ap (λ zs. zs ++ drop n xs) first ∙ ap (λ zs. front ++ zs) (rest ∙ ap (λ zs. more ++ zs) (drop-drop m n xs))

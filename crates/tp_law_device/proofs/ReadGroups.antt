@@ -1,4 +1,4 @@
--- What is read as groups is spelt so.
+-- What is read as groups is spelt as groups.
 use Rattle.std.proofs.Common.{◌≡◌, ℕ, zero, suc, ◌+◌, ◌-◌, ◌*◌, ◌<◌, ◌≤◌, Bool, true, false, cond, List, [], ◌∷◌, ◌++◌, length, take, drop, refl, sym, ap, subst, ◌∙◌, arith, append_assoc, append-nil, length-append, length-drop, Option, Some, None, Ok}
 use Rattle.std.specs.Prelude.{◌==◌, ◌&&◌, nat_le, nat_lt, map, flat_map}
 use Rattle.std.specs.Option.{option_map}
@@ -62,7 +62,7 @@ pub record GroupsRead (found : Listing) (skip at : ℕ) (bytes : List ℕ) : Typ
   pub rows : bytes_of_rows found.rows ≡ all_rows groups
   pub end : found.end ≡ at + skip + length (all_bytes groups)
 
--- the group at an open gate, with what stands behind it
+-- the group at an open gate, with what follows it
 record GroupRead (gate : ℕ) (bytes : List ℕ) (rows : List (List ℕ)) : Type 0 where
   is : AreRows rows
   are : gate ∷ bytes ≡ group_bytes rows ++ drop (group_length (length rows) - 1) bytes

@@ -24,7 +24,7 @@ module _ (start : Network NodeState) (w : World NodeState) (bytes : List ℕ) (O
   number_is : next_of O.opened ≡ next_number (held_of O.opened)
   number_is = ap (λ n. O.opened.base + n) (sym (length-map O.opened.kept (λ (e : Entry × ℕ). e.0)))
 
-  -- what opens so is recovered
+  -- what opens like this recovers
   opens_recovers : Recovers t414 device_areas start w bytes
   unfolding verdict
   opens_recovers = record {

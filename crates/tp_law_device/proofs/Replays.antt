@@ -24,7 +24,7 @@ use Rattle.tp_law_device.proofs.Forms.{row_entry-spelt}
 
 -- ## What a replay keeps
 
--- of a replay from a network behind `base` entries
+-- of a replay from a network after `base` entries
 pub record Replays {Node : Type 0} (M : Machine Node) (s : Network Node) (base : ℕ) (r : Replay Node) : Type 0 where
   pub least : r.least ≤ r.next
   pub next : r.next ≡ base + length r.kept
@@ -116,7 +116,7 @@ rows_spelt {Node} M (e ∷ es) r at last possible numbers below spelt of =
       now = rest.now;
     }
 
--- ## Where they stand doesn't matter
+-- ## Their places don't matter
 
 abbrev pub bytes_of_rows : List (ℕ × List ℕ) → List (List ℕ)
 bytes_of_rows rows = map (λ row. row.1) rows

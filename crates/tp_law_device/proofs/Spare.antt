@@ -1,4 +1,4 @@
--- The range behind the other area's closed gate isn't read, nor is what lies behind the first closed gate of the groups.
+-- Opening reads neither the range after the other area's closed gate nor what comes after the first closed gate of the groups.
 use Rattle.std.proofs.Common.{◌≡◌, ℕ, ◌+◌, ◌-◌, ◌<◌, ◌≤◌, ◌⊎◌, inl, inr, Bool, true, false, not, cond, List, [], ◌∷◌, length, get_or, refl, sym, ap, subst, ◌∙◌, arith, le_refl, Some, Ok}
 use Rattle.tp_model.specs.declared.areas.TwoAreas.{TwoAreas}
 use Rattle.tp_model.specs.NodeState.{NodeState}
@@ -38,7 +38,7 @@ module _ (M : Machine NodeState) (E : EndsSeen NodeState) (bytes : List ℕ) (o 
   spare_is : spare_now ≡ range_of o (open_in o.head.areas bytes (not o.second))
   spare_is = ap (λ found. spare_of found bytes) is ∙ spare_found o bytes
 
-  -- the head, the area that is taken and the other gate lie outside it
+  -- the head, the chosen area and the other gate are outside it
   spare_apart : (q : ℕ) → (q < areas.first) ⊎ (((own ≤ q) × (q < own + areas.length)) ⊎ (q ≡ other)) → IsOut spare_now q
   spare_apart q there = subst (λ range. IsOut range q) (sym spare_is) (go (open_in areas bytes (not o.second)))
     where
@@ -58,7 +58,7 @@ module _ (M : Machine NodeState) (E : EndsSeen NodeState) (bytes : List ℕ) (o 
       go true = inr (omega arith)
       go false = elim low_or_high [ inl low ↦ inl low | inr high ↦ inr (let some = layout M E bytes o R in omega (arith, some.some)) ]
 
-  -- where the other gate is open it is empty
+  -- if the other gate is open it is empty
   pub spare_none : open_in areas bytes (not o.second) ≡ true → (q : ℕ) → IsOut spare_now q
   spare_none opened q = subst (λ range. IsOut range q) (sym (spare_is ∙ ap (range_of o) opened)) (inr (omega arith))
 
@@ -69,7 +69,7 @@ module _ (M : Machine NodeState) (E : EndsSeen NodeState) (bytes : List ℕ) (o 
       go true = omega arith
       go false = let L = layout M E bytes o R in omega (arith, places areas o.second, L.both, L.some)
 
-  -- ## Bytes that differ there, and in the area that is taken behind its first closed gate
+  -- ## Bytes that differ there, and in the chosen area after its first closed gate
 
   module _ (left : List ℕ) (size : length left ≡ length bytes)
       (same : (q : ℕ) → IsOut spare_now q → (q ≤ o.end) ⊎ (own + areas.length ≤ q) → get_or left q 0 ≡ get_or bytes q 0) where
@@ -106,7 +106,7 @@ module _ (M : Machine NodeState) (E : EndsSeen NodeState) (bytes : List ℕ) (o 
     pub loose_spare : spare_of (opening M E left) left ≡ spare_now
     loose_spare = ap (λ found. spare_of found left) loose_keeps ∙ spare_found o left ∙ ap (range_of o) loose_gate ∙ sym spare_is
 
--- Whatever stands behind the other area's closed gate.
+-- Any bytes after the other area's closed gate.
 pub spare_holds : (M : Machine NodeState) (E : EndsSeen NodeState) (bytes left : List ℕ) (h : Held NodeState) → held_in (opening M E bytes) ≡ Some h
     → MayBe (record { bytes = bytes; unsynced = spare_of (opening M E bytes) bytes ∷ [] }) left
     → (held_in (opening M E left) ≡ Some h) × (spare_of (opening M E left) left ≡ spare_of (opening M E bytes) bytes)

@@ -1,4 +1,4 @@
--- Once its pieces stand, the copy is what the other area holds, and what is opened once its gate is open.
+-- Once its pieces are written, the copy is what the other area holds, and what opens once its gate is open.
 use Rattle.std.proofs.Common.{◌≡◌, ℕ, ◌+◌, ◌<◌, false, List, map, ap, ◌∙◌, arith, Some, Ok}
 use Rattle.std.specs.List.{AllByRecursion}
 use Rattle.tp_model.specs.declared.entry.Entry.{Entry}

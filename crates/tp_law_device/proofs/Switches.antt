@@ -38,7 +38,7 @@ module _ (M : Machine NodeState) (E : EndsSeen NodeState) (bytes : List ℕ) (o 
   other_within = let L = layout M E bytes o R in omega (arith, places areas o.second, L.both, L.some)
 
   module _ (left : List ℕ) (size : length left ≡ length bytes) (same : (q : ℕ) → IsOut (other, 1) q → get_or left q 0 ≡ get_or bytes q 0) where
-    -- the area that is taken lies apart
+    -- the chosen area is apart
     apart : (q : ℕ) → own ≤ q → q < own + areas.length → IsOut (other, 1) q
     apart q low high = elim (places areas o.second) [
       | inl first ↦ inl (let a = first.0 in let b = first.1 in omega arith)
@@ -54,20 +54,20 @@ module _ (M : Machine NodeState) (E : EndsSeen NodeState) (bytes : List ℕ) (o 
     gate_end : is_open (get_or left o.end 0) ≡ false
     gate_end = ap (λ byte. is_open byte) (same o.end (apart o.end (omega (arith, end_low M E bytes o R)) (end_within M E bytes o R))) ∙ end_shut M E bytes o R
 
-    -- where it was open, or is closed, what was read is read again
+    -- if it was open, or is closed, what was read is read again
     pub gate_keeps : (open_in areas left (not o.second) ≡ true → open_in areas bytes (not o.second) ≡ true) → opening M E left ≡ Ok o
     gate_keeps was = keeps M E bytes o R left size gate_head gate_own
         (λ opened. (was opened, age_same areas (not o.second) bytes left (omega (arith, end_low M E bytes o R, end_within M E bytes o R)) size (λ q low high. same q (inr (omega arith)))))
         gate_end
 
-    -- where it is open and the area is of higher generation, that area is read
+    -- if it is open and the area is of higher generation, that area is read
     pub gate_switches : (k : Opened) → area_in M E o.head (not o.second) (content_of areas (not o.second) bytes) ≡ Ok k → o.generation < k.generation
         → open_in areas left (not o.second) ≡ true → opening M E left ≡ Ok k
     gate_switches k read later opened = switches M E bytes o R left size k gate_head gate_own read later (λ q low high. same q (inr (omega arith))) opened
 
 -- ## Closed
 
--- the other gate's place, where that is open
+-- the other gate's place, if that is open
 record OpenOther (o : Opened) (bytes : List ℕ) (at : ℕ) : Type 0 where
   opened : open_in o.head.areas bytes (not o.second) ≡ true
   place : at ≡ area_start o.head.areas (not o.second)

@@ -32,7 +32,7 @@ use Rattle.tp_law_device.proofs.CanPut.{run_tail_put}
 use Rattle.tp_law_device.proofs.Inside.{run_tail_room}
 use Rattle.tp_law_device.proofs.Other.{content_written}
 
--- ## Kept runs, one behind the other
+-- ## Kept runs, one after the other
 
 pub kept_then : (most : ℕ) (w u v : World NodeState) (es fs : List (Event NodeState)) → KeptRun most w es u → KeptRun most u fs v → KeptRun most w (es ++ fs) v
 kept_then most w u v [] fs first then = subst (λ x. KeptRun most x fs v) first then
@@ -42,7 +42,7 @@ pub kept_run : (most : ℕ) (w v : World NodeState) (es : List (Event NodeState)
 kept_run most w v [] run = run
 kept_run most w v (e ∷ es) run = (run.0, run.1, kept_run most run.0 v es run.3)
 
--- ## Entries with the numbers behind a cut
+-- ## Entries with the numbers after a cut
 
 pub numbered_entries : (number : ℕ) (es : List Entry) → map (λ (e : Entry × ℕ). e.0) (numbered number es) ≡ es
 numbered_entries number [] = refl

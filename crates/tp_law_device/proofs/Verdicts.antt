@@ -1,4 +1,4 @@
--- From what opening answers to the state that it stands for, whatever the bytes.
+-- From what opening answers to the state that it means, whatever the bytes.
 use Rattle.std.proofs.Common.{◌≡◌, ℕ, ◌+◌, ◌≤◌, List, take, refl, sym, ap, subst, ◌∙◌, arith, Some, Ok}
 use Rattle.std.specs.Prelude.{map}
 use Rattle.std.specs.List.{AllByRecursion}
@@ -71,7 +71,7 @@ verdict_sound bytes o is =
     let cut = opening_sound t414 t414_ends bytes o is in
     (cut, sound_after has_four_links keeps_flight o.cut o.now (map (λ e. e.0) o.kept) cut (opening_leads t414 t414_ends bytes o is))
 
--- the book that goes on from what was opened is one that the law of cuts speaks of
+-- the law of cuts holds of the book that goes on from what was opened
 pub verdict_begins : (bytes : List ℕ) (o : Opened) → verdict bytes ≡ Ok o → IsOpened t414 (book_of o)
 unfolding verdict
 verdict_begins bytes o is =

@@ -18,7 +18,7 @@ use Rattle.tp_model.specs.Head.{head_nodes, first_port, end_number, end_of_numbe
 
 -- ## Wires that lead back
 
--- what is so of a line with a wire
+-- what is true of a line with a wire
 record LeadsBack (N H : ℕ) (wires : List (Option WireEnd)) (line : ℕ) (other : WireEnd) : Type 0 where
   end : is_end N H other ≡ true
   joins : joins_link N line other ≡ true

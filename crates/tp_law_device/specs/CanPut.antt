@@ -1,4 +1,4 @@
--- A copy can be put into the other area.
+-- What it means that a copy can be put into the other area.
 use Rattle.std.specs.Prelude.{◌≡◌, ℕ, ◌+◌, ◌-◌, List, map, length, Some}
 use Rattle.tp_model.specs.declared.entry.Entry.{Entry}
 use Rattle.tp_model.specs.declared.form.Form.TheVariants.{Turns}
@@ -15,8 +15,8 @@ use Rattle.tp_model.specs.DeviceAreas.{other_start, device_areas}
 abbrev pub with_other : List ℕ → Opened → List ℕ → List ℕ
 with_other bytes o content = written bytes (other_start o + 1) content
 
--- There is a content of the other area that spells the copy, of the next generation and with turns; once it is there the device still
--- stands for what it did, and the other area is the copy, which is read once its gate is open.
+-- Some content of the other area spells the copy, of the next generation and with turns. Once it is written the device still holds what it
+-- did. The other area is the copy, which is read once its gate is open.
 pub record CanPut (bytes : List ℕ) (o : Opened) (copy : Held NodeState) : Type 0 where
   pub content : List ℕ
   pub long : length content ≡ o.head.areas.length - 1

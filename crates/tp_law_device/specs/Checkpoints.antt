@@ -1,4 +1,4 @@
--- A checkpoint as a piece of a run: what it asks, and what it leads to.
+-- A checkpoint as a piece of a run: what it needs, and what it leads to.
 use Rattle.std.specs.Prelude.{◌≡◌, ◌<◌, ℕ, ◌+◌, false, not, List, [], ◌∷◌, map, length, Some, None, Ok}
 use Rattle.std.specs.List.{AllByRecursion}
 use Rattle.tp_model.specs.declared.entry.Entry.{Entry}
@@ -23,8 +23,8 @@ use Rattle.tp_model.specs.WriteOrder.{Resting}
 use Rattle.tp_model.specs.Runs.{World, Event, Run, HasCut, copy_of, fresh}
 use Rattle.tp_law_device.specs.FormattedWorld.{formatted_world}
 
--- The world's device opens as `o`, whose other area is closed. The pieces lie behind that area's gate; once they are written,
--- the area spells the copy, with a higher generation and in this form.
+-- The world's device opens as `o`, whose other area is closed. The pieces are after that area's gate. Once they are written, the area
+-- spells the copy, with a higher generation and in this form.
 pub record SpellsCopy (w : World NodeState) (o : Opened) (pieces : List (ℕ × List ℕ)) (copy : Held NodeState) (generation : ℕ) (form : Form) : Type 0 where
   pub opens : verdict w.disk.bytes ≡ Ok o
   pub closed : other_is_open o w.disk.bytes ≡ false
@@ -35,8 +35,8 @@ pub record SpellsCopy (w : World NodeState) (o : Opened) (pieces : List (ℕ × 
   pub entries : map (λ e. e.0) (entries_in groups) ≡ copy.entries
   pub later : o.generation < generation
 
--- A run leads from the world to one in which the book is trimmed to the cut, and whose device opens as the other area, with
--- that generation and form, and holds the cut and all entries outside it.
+-- A run leads from the world to one in which the book is trimmed to the cut. The device of that world opens as the other area, with that
+-- generation and form, and holds the cut and all entries outside it.
 pub record Switches (w : World NodeState) (o : Opened) (cut : WholeCut) (nodes : List NodeState) (generation : ℕ) (form : Form) : Type 0 where
   pub events : List (Event NodeState)
   pub last : World NodeState

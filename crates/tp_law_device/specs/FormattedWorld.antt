@@ -24,8 +24,8 @@ formatted_world start bytes = record {
   seen = [];
 }
 
--- The bytes are a device that was formatted with the images, for a topology, in areas of a length for which there is
--- room and a field; its open area is of this form.
+-- The bytes are a device that was formatted with the images, for a topology, in areas of a length for which there is room and a field. Its
+-- open area is of this form.
 pub record WasFormatted (t : Topology) (areas : TwoAreas) (form : Form) (images : List (List ℕ)) (start : Network NodeState) (bytes : List ℕ) : Type 0 where
   pub topology : is_topology t ≡ true
   pub room : fits_device (length bytes) t areas ≡ true

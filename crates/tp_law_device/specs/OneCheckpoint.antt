@@ -57,10 +57,10 @@ checkpoint_network = network_of one_node (awaits ∷ []) ([] ∷ [] ∷ [] ∷ [
 abbrev pub one_room : ℕ
 one_room = 3862
 
--- From that device a run, in which each entry is made with room for it, leads to a world in which a mark of 2 was read, the device
--- holds the first two entries in its first area, of generation 1, and the cut is whole. From there a run switches: the book is
--- trimmed to the cut, and the device opens as the second area, of generation 2; it holds the cut, of two entries, and the two
--- entries outside it, which lead to the network as it is.
+-- From that device a run leads to a world in which a mark of 2 was read and the cut is whole. Each entry is made with room for it. The
+-- world's device holds the first two entries in its first area, of generation 1. From there a run switches. The book is trimmed to the cut,
+-- and the device opens as the second area, of generation 2. It holds the cut, of two entries, and the two entries outside it, which lead to
+-- the network as it is.
 pub record OneCheckpoint : Type 0 where
   pub formatted : WasFormatted one_node one_areas Turns (image sending_node ∷ []) one_before one_device
   pub events : List (Event NodeState)

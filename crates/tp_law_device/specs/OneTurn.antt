@@ -32,11 +32,11 @@ turned_device form =
     head_bytes Narrow one_node one_areas
     ++ (GATE_OPEN ∷ (turned_front form ++ (zeros (one_areas.length - 1 - length (turned_front form)) ++ (GATE_CLOSED ∷ zeros (one_areas.length - 1)))))
 
--- where the turn stands
+-- where the turn is
 abbrev pub turn_place : ℕ
 turn_place = area_start one_areas false + 1 + groups_place one_node + GROUP_HEAD_BYTES + 2 * ENTRY_BYTES
 
--- With an area with turns it opens to the three entries and to where they lead. With a plain area it is damaged where the turn stands.
+-- With an area with turns it opens to the three entries and to where they lead. With a plain area it is damaged at the turn's place.
 pub record OneTurn : Type 0 where
   pub opened : Opened
   pub opens : verdict (turned_device Turns) ≡ Ok opened

@@ -47,19 +47,18 @@ pub use the_copy::{
     groups_stay_inside, pieces_stay,
 };
 
-/// What each write leaves on a device, whatever bytes stand there: opening reads nothing behind the other area's closed
-/// gate, nor behind the first closed gate of the groups; a group's entries are read exactly once its gate is open; the
-/// other area is taken exactly once its gate is open. The device's format has this for any kind of step and of link ends.
+/// What each write leaves on a device, whatever bytes it holds. Opening reads nothing after the other area's closed gate, nor after the
+/// first closed gate of the groups. It reads a group's entries exactly once the group's gate is open, and chooses the other area exactly
+/// once that area's gate is open. The device's format has this for any kind of step and of link ends.
 pub fn areas_hold()
     ensures device { AreasHold t414 device_areas }
     ensures any { (M : Machine NodeState) (E : EndsSeen NodeState) → AreasHold M (areas_of M E) }
 {}
 
-/// After each run over a device that was formatted, whatever a crash leaves stands for the network after a prefix of the
-/// journal, and the prefix has each entry below a mark that was ever read. Opening it goes on with the run. What the
-/// journal has below the mark at some moment, it has at each later one. In one sentence: whatever a crash leaves opens, and
-/// opening answers the network after the journal's entries below its next number, and each entry below a mark that was ever
-/// read is among them.
+/// After each run over a device that was formatted, whatever a crash leaves holds the network after a prefix of the journal. The prefix has
+/// each entry below a mark that was ever read. Opening it goes on with the run. What the journal has below the mark at some moment, it has
+/// at each later one. In short: whatever a crash leaves opens. Opening answers the network after the journal's entries below its next
+/// number, and each entry below a mark that was ever read is among them.
 pub fn crashes_hold()
     ensures recovers { (start : Network NodeState) (events : List (Event NodeState)) (first last : World NodeState)
         → BeginsFormatted t414 device_areas start first → Run t414 device_areas first events last
@@ -74,10 +73,9 @@ pub fn crashes_hold()
         → (bytes : List ℕ) → MayBe last.disk bytes → OpensTo start last bytes }
 {}
 
-/// The whole theorem, over a device that was formatted. Neighbours that are independent may be swapped; each whole cut is
-/// the network after the entries in it, which may come first, also at each moment of a run with a flusher, a device,
-/// crashes and openings; after each run whatever a crash leaves is recovered; and it has the entries of each receipt that
-/// is acknowledged and all causes of each output byte that is shown.
+/// The whole theorem, over a device that was formatted. Neighbours that are independent may be swapped. Each whole cut is the network after
+/// the entries in it, which may come first, also at each moment of a run with a flusher, a device, crashes and openings. After each run,
+/// whatever a crash leaves recovers. It has the entries of each acknowledged receipt, and all causes of each output byte that is shown.
 pub fn every_run_holds()
     ensures swaps { (s : Network NodeState) (e f : Entry) → (i : AreIndependent t414 s e f)
         → (next t414 s f ≡ Some i.other) × (next t414 i.other e ≡ Some i.last) }
@@ -101,16 +99,16 @@ pub fn every_run_holds()
         → (number < next_number r.held) × (take (number + 1) last.journal ≡ take (number + 1) s.reading.journal) }
 {}
 
-/// A head of either version that was written is read back, where its version can say the topology: the topology, whose wires
-/// the head has for links alone, and the areas.
+/// A head of either version is read back as it was written, if its version can state the topology. It says the topology, with wires for the
+/// links alone, and the areas.
 pub fn heads_read_back()
     ensures { (version : HeadVersion) (t : Topology) (areas : TwoAreas) (bytes : List ℕ) → is_topology t ≡ true → keeps_limits version t ≡ true → fits_device (length bytes) t areas ≡ true
         → areas.first ≡ head_length version → areas.length < 2 ^ 64
         → take areas.first bytes ≡ head_bytes version t areas → head_of bytes ≡ Ok (record { version = version; topology = t; areas = areas }) }
 {}
 
-/// A device that was formatted, of either form, stands for the network of its images, with no entries behind it, and opens with
-/// that form. So a run may begin there, and then whatever a crash leaves is recovered.
+/// A device that was formatted, of either form, holds the network of its images without any entries, and opens with that form. So a run may
+/// begin there, and whatever a crash leaves then recovers.
 pub fn formatted_starts()
     ensures stands { (t : Topology) (areas : TwoAreas) (form : Form) (images : List (List ℕ)) (start : Network NodeState) (bytes : List ℕ)
         → WasFormatted t areas form images start bytes → StandsFor bytes start [] 0 }
@@ -123,33 +121,33 @@ pub fn formatted_starts()
         → (left : List ℕ) → MayBe last.disk left → Recovers t414 device_areas start last left }
 {}
 
-/// There is such a device of each form for each topology, each area with room for it, and each network of images.
+/// There is such a device of each form for each topology, for areas with enough room, and for each network of images.
 pub fn devices_can_be_formatted()
     ensures { (t : Topology) (areas : TwoAreas) (form : Form) (images : List (List ℕ)) (start : Network NodeState) → is_topology t ≡ true → is_roomy t areas.length ≡ true → areas.first ≡ head_length (version_for t) → areas.length < 2 ^ 64
         → start_of t images ≡ Some start → (bytes : List ℕ) × WasFormatted t areas form images start bytes }
 {}
 
-/// Opening answers exactly what is spelt: a device that has a head, an open area of highest generation, a cut and groups with
-/// a closed gate behind them opens as those, and a device that opens so is spelt so. Whatever the bytes, the entries that are
-/// kept lead from the kept cut to the network that is answered.
+/// Opening answers exactly what is spelt. A device with a head, an open area of highest generation, a cut and groups followed by a closed
+/// gate opens as those. A device that opens as those is spelt like that. Whatever the bytes, the entries that are kept lead from the kept
+/// cut to the network in the answer.
 pub fn opening_is_exact()
     ensures spelt { (bytes : List ℕ) (o : Opened) → DeviceSpells t414 t414_ends bytes o → verdict bytes ≡ Ok o }
     ensures read { (bytes : List ℕ) (o : Opened) → AllByRecursion (λ byte. byte < 256) bytes → verdict bytes ≡ Ok o → DeviceSpells t414 t414_ends bytes o }
     ensures leads { (bytes : List ℕ) (o : Opened) → verdict bytes ≡ Ok o → after t414 o.cut (map (λ e. e.0) o.kept) ≡ Some o.now }
 {}
 
-/// Whatever the bytes of a device that opens: its kept cut and the network that is answered are sound; and the book that goes
-/// on from it, as a run goes on with it, is one that the law of cuts speaks of.
+/// Whatever the bytes of a device that opens, its kept cut and the network in the answer are sound. The law of cuts holds of the book that
+/// goes on from it, as a run goes on with it.
 pub fn openings_begin()
     ensures sound { (bytes : List ℕ) (o : Opened) → verdict bytes ≡ Ok o → Sound t414_ends o.cut × Sound t414_ends o.now }
     ensures book { (bytes : List ℕ) (o : Opened) → verdict bytes ≡ Ok o → IsOpened t414 (book_of o) }
     ensures run { (w : World NodeState) (bytes : List ℕ) (o : Opened) → (reopened w bytes (held_of o) o.now).net ≡ book_of o }
 {}
 
-/// At each moment of a run over a device that was formatted, the journal is possible from the start on and leads to the network
-/// as it is, its Markers left out; so do the entries since the kept cut, in their own order and in that of a whole cut. There is
-/// at most one Marker on a line; the network is sound, and a line has at most three tokens. A port's accepted number has grown
-/// since the start by the count of bytes that the journal's entries hand to it, and what came out of it by the count that they take to it.
+/// At each moment of a run over a device that was formatted, the journal is possible from the start on. It leads to the network as it is
+/// without its Markers. So do the entries since the kept cut, in their own order and in that of a whole cut. A line has at most one Marker,
+/// the network is sound, and a line has at most three tokens. Since the start, a port's accepted number has grown by the bytes that the
+/// journal's entries hand to it. Its output number has grown by the bytes that they take to it.
 pub fn histories_hold()
     ensures journal { (start : Network NodeState) (events : List (Event NodeState)) (first last : World NodeState)
         → BeginsFormatted t414 device_areas start first → Run t414 device_areas first events last → after t414 start last.journal ≡ Some (plain_network last.net.live) }
@@ -170,9 +168,9 @@ pub fn histories_hold()
         × (accepted later ≡ accepted port + count_by (is_input p) last.journal) × (came_out later ≡ came_out port + count_by (is_output start.wires p) last.journal) }
 {}
 
-/// Over any number of checkpoints, crashes and openings: the base of the kept cut is the number of entries in it since the start,
-/// and they and the entries since are an order of the whole journal, got by swapping independent neighbours. So it is of a
-/// cut that is whole; and there is a whole cut exactly where a snapshot runs, all have recorded and each Marker was taken.
+/// Over any number of checkpoints, crashes and openings, the base of the kept cut is the number of entries in it since the start. They and
+/// the entries since are an order of the whole journal, made by swapping independent neighbours. A whole cut and the entries outside it are
+/// such an order, too. There is a whole cut exactly if a snapshot runs, all have recorded and each Marker was taken.
 pub fn cuts_are_orders()
     ensures kept { (start : Network NodeState) (events : List (Event NodeState)) (first last : World NodeState)
         → BeginsFormatted t414 device_areas start first → Run t414 device_areas first events last → HasOrder t414 start last.journal last.net.start last.net.entries last.base }
@@ -184,10 +182,9 @@ pub fn cuts_are_orders()
         → ((cut : WholeCut) → whole last.net ≡ Some cut → IsWhole last.net) × (IsWhole last.net → (cut : WholeCut) × (whole last.net ≡ Some cut)) }
 {}
 
-/// As long as the journal isn't full, groups end inside their area. However entries are divided into groups, behind a cut image
-/// there is room for them, for one more group, and for the closed gate behind it, where each entry is reckoned at 32 bytes;
-/// whatever the bytes of a device that opens, the next group has room behind the entries that are kept; and what the tests
-/// of a full journal let pass keeps to that.
+/// As long as the journal isn't full, groups end inside their area. Let each entry count 32 bytes. Then an area has room after its cut
+/// image for any division of the entries into groups, for one more group, and for the closed gate after that. Whatever the bytes of a
+/// device that opens, the next group has room after the entries that are kept. The tests of a full journal allow no more than that.
 pub fn groups_fit()
     ensures divided { (t : Topology) (area : ℕ) (groups : List (List (Entry × ℕ))) (more : List (Entry × ℕ)) → AllByRecursion IsGroup groups → 1 ≤ length more
         → entry_room * (length (entries_in groups) + length more) ≤ room t area
@@ -200,11 +197,14 @@ pub fn groups_fit()
         → entry_room * (entries + reserved + 1) ≤ most }
 {}
 
-/// A checkpoint is a piece of a run. Where the other area is closed, what it spells is what the device stands for once its gate is
-/// open; so from a world whose flusher rests and whose cut is whole, with pieces that make the other area spell the copy,
-/// a run copies cut and tail, writes them, syncs, opens the gate, syncs and trims the book: its last world's device opens as
-/// the other area, in the form that it is spelt in, and holds the copy. There is such a run, to an area with turns, for each device that
-/// was formatted, of either form, and each whole cut that acts without an entry lead to, and on one node acts lead to one.
+/// A checkpoint is a piece of a run. If the other area is closed, what it spells is what the device holds once its gate is open.
+///
+/// Let a world's flusher rest, its cut be whole, and pieces make the other area spell the copy. Then a run copies cut and tail, writes
+/// them, syncs, opens the gate, syncs and trims the book. Its last world's device opens as the other area, in the form in which it is
+/// spelt, and holds the copy.
+///
+/// There is such a run, to an area with turns, for each device that was formatted, of either form, and each whole cut that acts without an
+/// entry lead to. On one node, acts lead to a whole cut.
 pub fn checkpoints_switch()
     ensures other { (bytes : List ℕ) (o : Opened) → verdict bytes ≡ Ok o → other_is_open o bytes ≡ false
         → (generation : ℕ) (form : Form) (base : ℕ) (s : Network NodeState) (groups : List (List (Entry × ℕ))) (now : Network NodeState)
@@ -218,8 +218,8 @@ pub fn checkpoints_switch()
     ensures snapshot { (node : NodeState) → HasSnapshot node }
 {}
 
-/// What a receipt is acknowledged for is its entries: where the journal ended with them when it was made, the entries that opening
-/// replays after any crash from then on have just them at their numbers.
+/// What a receipt is acknowledged for is its entries. If the journal ended with them when the receipt was made, the entries that opening
+/// replays after any later crash have exactly them at their numbers.
 pub fn receipts_cover_entries()
     ensures { (start : Network NodeState) (before : List (Event NodeState)) (first made last : World NodeState)
         → BeginsFormatted t414 device_areas start first → Run t414 device_areas first before made

@@ -44,7 +44,7 @@ length-in_end (InIdle (Some byte)) = refl
 length-in_end (Inputs t) = refl
 length-in_end (Enabled process) = refl
 
--- ends that are one behind the other
+-- ends that are one after the other
 module _ {End : Type 0} (Fits : End → Type 0) (spelt : End → List ℕ) (read : List ℕ → End)
     (back : (end : End) (rest : List ℕ) → Fits end → read (spelt end ++ rest) ≡ end)
     (long : (end : End) → length (spelt end) ≡ 16)

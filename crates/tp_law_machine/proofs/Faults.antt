@@ -6,7 +6,7 @@ use Rattle.tp_model.specs.CutImage.{or_damaged, only_if}
 use Rattle.std.specs.Prelude.{ℕ}
 use Rattle.std.proofs.lemmas.Option.{cond_some}
 
--- where a chain of tests gives a value, the first test gives one
+-- if a chain of tests gives a value, the first test gives one
 pub bind_ok : {A B E : Type 0} (first : Result A E) (f : A → Result B E) (y : B) → (first >>= f) ≡ Ok y → (x : A) × (first ≡ Ok x) × (f x ≡ Ok y)
 bind_ok (Ok x) f y e = (x, refl, e)
 bind_ok (Err fault) f y e = cc
@@ -15,7 +15,7 @@ pub or_damaged_ok : {A : Type 0} (at : ℕ) (given : Option A) (x : A) → or_da
 or_damaged_ok at None x e = cc
 or_damaged_ok at (Some y) x e = cc
 
--- a fault where the test holds, and where it doesn't
+-- a fault if the test holds, and if it doesn't
 pub fault_or : {A E : Type 0} (b : Bool) (fault : E) (rest : Result A E) (x : A) → cond b (Err fault) rest ≡ Ok x → (b ≡ false) × (rest ≡ Ok x)
 fault_or true fault rest x e = cc
 fault_or false fault rest x e = (refl, e)

@@ -28,13 +28,13 @@ abbrev pub tokens : Option Token → List Token
 tokens None = []
 tokens (Some token) = token ∷ []
 
--- An output end begins to wait exactly as it sends Data, and sends nothing else.
+-- An output end begins to wait exactly when it sends Data, and sends nothing else.
 pub record OutMoves (before after : OutEnd) (token : Option Token) : Type 0 where
   pub sent : bit (is_waiting after) ≡ bit (is_waiting before) + datas (tokens token)
   pub no_acks : acks (tokens token) ≡ 0
   pub no_markers : markers (tokens token) ≡ 0
 
--- An input end gives up its byte exactly as it sends an Ack, and sends nothing else.
+-- An input end gives up its byte exactly when it sends an Ack, and sends nothing else.
 pub record InMoves (before after : InEnd) (token : Option Token) : Type 0 where
   pub sent : bit (is_holding after) + acks (tokens token) ≡ bit (is_holding before)
   pub no_datas : datas (tokens token) ≡ 0

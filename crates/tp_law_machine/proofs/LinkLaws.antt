@@ -66,8 +66,8 @@ four_one k (Some token) h = (h, tt)
 
 -- ## A step at a link
 
--- What a step does at the links: an output end begins to wait exactly as it sends Data, an input end gives up its byte
--- exactly as it sends an Ack, and no Marker leaves.
+-- What a step does at the links. An output end begins to wait exactly when it sends Data. An input end gives up its byte exactly when it
+-- sends an Ack. No Marker leaves.
 pub record StepKeeps (node : NodeState) (after : NodeState × List (ℕ × Token)) : Type 0 where
   pub out : (j : ℕ) → bit (waits after.0 j) ≡ bit (waits node j) + datas (for_line j after.1)
   pub inn : (j : ℕ) → bit (holds after.0 j) + acks (for_line j after.1) ≡ bit (holds node j)
@@ -177,8 +177,8 @@ tell_ends Nobody node = record { outputs = refl; inputs = refl }
 tell_ends (Process descriptor) node = wake_ends descriptor node
 tell_ends (Alternative descriptor) node = signal_ends (word_at node.memory (state_at (workspace descriptor))) descriptor node
 
--- What a token that comes in on link k does at the links: an Ack ends a wait, which Data begins; Data is held, and an
--- Ack gives it up. No Marker leaves.
+-- What a token that comes in on link k does at the links. An Ack ends a wait, which Data begins. Data is held, and an Ack gives it up. No
+-- Marker leaves.
 pub record TookKeeps (node : NodeState) (k : ℕ) (token : Token) (after : NodeState × List (ℕ × Token)) : Type 0 where
   pub out : (j : ℕ) → bit (waits after.0 j) + acks (for_line j ((k, token) ∷ [])) ≡ bit (waits node j) + datas (for_line j after.1)
   pub inn : (j : ℕ) → bit (holds after.0 j) + acks (for_line j after.1) ≡ bit (holds node j) + datas (for_line j ((k, token) ∷ []))
@@ -209,7 +209,7 @@ ack_keeps node last k end now token h is moves i o = record {
   four = four_one k token h;
 }
 
--- the end took it, and then the node hears of it
+-- the end took it, and then the node is told
 abbrev after_data : NodeState → ℕ → InEnd × Arrival → List ℕ → NodeState × List (ℕ × Token)
 after_data node k arrived memory = (tell arrived.1.news (record node { memory = memory; inputs = set node.inputs k arrived.0 }), on_link k arrived.1.token)
 
@@ -278,8 +278,8 @@ never_marks = record {
   none = took_no_marker;
 }
 
--- An output end sends Data exactly as it begins to wait, and an Ack ends that; an input end sends an Ack exactly as it
--- gives up its byte, or at once.
+-- An output end sends Data exactly when it begins to wait, and an Ack ends that. An input end sends an Ack exactly when it gives up its
+-- byte, or at once.
 pub keeps_flight : KeepsFlight t414 t414_ends
 keeps_flight = record {
   step_out = λ node after k h e. (node_step_keeps node after e).out k;

@@ -30,7 +30,7 @@ use Rattle.tp_law_machine.proofs.Processors.{IsCpu, descriptor_below, without_b_
 
 -- ## A message that goes on
 
--- what is left behind a byte lies inside too
+-- what is left after a byte is inside, too
 pub advanced_inside : (memory : List ℕ) (t : Transfer) → length memory ≤ 2 ^ 32 → is_under_way memory t ≡ true → has_more t ≡ true
     → (is_under_way memory (advanced t) ≡ true) × (offset (advanced t).pointer < length memory)
 advanced_inside memory t small inside more =
@@ -115,7 +115,7 @@ message_fits pointer count cpu memory n same some inside low few =
 
 -- ## What is done at an end
 
--- what leaves, where something does, carries a byte
+-- what leaves, if something does, carries a byte
 abbrev pub MayCarryByte : Option Token → Type 0
 MayCarryByte None = Unit {0}
 MayCarryByte (Some token) = CarriesByte token
@@ -124,7 +124,7 @@ abbrev DidFit : {End : Type 0} → (ℕ → End → Type 0) → ℕ → LinkOutc
 DidFit fits n (Did cpu memory end token) = IsCpu cpu × Holds n memory × fits n end × MayCarryByte token
 DidFit fits n (Fails fault) = Unit {0}
 
--- the processor, the memory and the end are still so
+-- the processor, the memory and the end stay like that
 pub record LinkKeeps {End : Type 0} (fits : ℕ → End → Type 0) (n : ℕ) (outcome : LinkOutcome End) : Type 0 where
   pub is : DidFit fits n outcome
 

@@ -69,7 +69,7 @@ pub record Holds (n : ℕ) (memory : List ℕ) : Type 0 where
   pub whole : n % 4 ≡ 0
   pub bytes : AreBytes memory
 
--- so is memory that may be there
+-- this is true of memory that may exist
 pub record HoldsIf (n : ℕ) (o : Option (List ℕ)) : Type 0 where
   pub is : (memory : List ℕ) → o ≡ Some memory → Holds n memory
 

@@ -1,4 +1,4 @@
--- What a crash may leave of a device: after a write, after a call that broke, and with ranges that lie in one range.
+-- What a crash may leave of a device: after a write, after a call that broke, and with ranges that are all inside one range.
 use Rattle.std.proofs.Common.{◌≡◌, ℕ, ◌+◌, ◌-◌, ◌<◌, ◌≤◌, ◌⊎◌, inl, inr, List, [], ◌∷◌, ◌++◌, length, take, drop, get_or, refl, sym, ap, ◌∙◌, arith, length-append, length-drop}
 use Rattle.std.proofs.lemmas.List.{length-take-le, get_or_append_left, get_or-take, get_or-append_right, get_or-drop}
 use Rattle.std.proofs.lemmas.Grind.{same_number_lists}
@@ -69,11 +69,11 @@ within_last outer (first ∷ ranges) range all one = (all.0, within_last outer r
 
 -- ## What a crash may leave
 
--- what stands
+-- the bytes as they are
 pub may_stand : (m : Moment) → MayBe m m.bytes
 may_stand m = record { same_length = refl; same_outside = λ place out. refl }
 
--- what stands after a write, of a crash within it
+-- the bytes after a write, of a crash within it
 pub may_be_written : (m : Moment) (at : ℕ) (bytes : List ℕ) → at + length bytes ≤ length m.bytes → MayBe (within (Write at bytes) m) (written m.bytes at bytes)
 may_be_written m at bytes room = record {
   same_length = length-written m.bytes at bytes room;
@@ -118,11 +118,11 @@ broken_may m Read stood left may more = record {
   same_outside = λ place out. more.same_outside place out ∙ may.same_outside place out;
 }
 
--- where all is synced, what stands
+-- once all is synced, the bytes as they are
 pub synced_may : (bytes left : List ℕ) → MayBe (record { bytes = bytes; unsynced = [] }) left → left ≡ bytes
 synced_may bytes left may = same_number_lists left bytes may.same_length (λ k _. may.same_outside k tt)
 
--- ranges that lie in one range count as that one
+-- ranges that are inside one range count as that one
 pub loose_may : (m : Moment) (outer : ℕ × ℕ) (left : List ℕ) → AreWithin outer m.unsynced → MayBe m left
     → MayBe (record { bytes = m.bytes; unsynced = outer ∷ [] }) left
 loose_may m outer left all may = record {

@@ -36,7 +36,7 @@ are_bytes-append front rest h k = all_append (λ byte. byte < 256) front rest h 
 more_power : (a k : ℕ) → a * 256 ^ suc k ≡ 256 * (a * 256 ^ k)
 more_power a k = ap (λ p. a * p) (pow-suc 256 k) ∙ sym (mul_assoc a (256 ^ k) 256) ∙ mul_comm (a * 256 ^ k) 256
 
--- between which powers a numeral lies
+-- between which powers a numeral is
 numeral_least : (front : ℕ) (bytes : List ℕ) → front * 256 ^ length bytes ≤ numeral front bytes
 unfolding numeral
 numeral_least front [] = omega arith

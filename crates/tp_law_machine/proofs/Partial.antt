@@ -30,7 +30,7 @@ slice_get-set_other (z ∷ zs) zero (suc j) y n = refl
 slice_get-set_other (z ∷ zs) (suc i) zero y n = refl
 slice_get-set_other (z ∷ zs) (suc i) (suc j) y n = slice_get-set_other zs i j y (λ e. n (ap suc e))
 
--- what is so of each element
+-- what is true of each element
 pub all_at : {A : Type 0} (P : A → Type 0) (xs : List A) (i : ℕ) (x : A) → AllByRecursion P xs → slice_get xs i ≡ Some x → P x
 all_at P [] i x all e = cc
 all_at P (y ∷ ys) zero x all e = let same : y ≡ x = cc in subst P same all.0
@@ -45,7 +45,7 @@ pub all_append : {A : Type 0} (P : A → Type 0) (xs ys : List A) → AllByRecur
 all_append P [] ys h k = k
 all_append P (x ∷ xs) ys h k = (h.0, all_append P xs ys h.1 k)
 
--- where all elements of a list pass a test, each one does
+-- if all elements of a list pass a test, each one does
 pub list_all_at : {A : Type 0} (test : A → Bool) (xs : List A) (i : ℕ) (x : A) → list_all test xs ≡ true → slice_get xs i ≡ Some x → test x ≡ true
 list_all_at test [] i x all e = cc
 list_all_at test (y ∷ ys) zero x all e = let same : y ≡ x = cc in rw (← same) (and_parts (test y) (list_all test ys) all).0

@@ -134,7 +134,7 @@ pub restored_cpu : {cpu : Cpu} (descriptor iptr a b c : ℕ) (state : State) →
 restored_cpu descriptor iptr a b c state C hd hi ha hb hc =
     record { iptr = hi; wptr = is_workspace descriptor hd; regs = record { a = ha; b = hb; c = hc }; high = C.high; low = C.low; slice = C.slice }
 
--- what is left of a queue, where it is known
+-- what is left of a queue, if it is known
 pub record RestsQueue (rest : Option Queue) : Type 0 where
   pub is : (queue : Queue) → rest ≡ Some queue → IsQueue queue
 

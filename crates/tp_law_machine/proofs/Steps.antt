@@ -1,4 +1,4 @@
--- Steps behind others that send nothing.
+-- Steps after others that send nothing.
 use Rattle.std.proofs.Common.{◌≡◌, ℕ, zero, suc, ◌+◌, List, [], ◌∷◌, ◌++◌, Option, Some, None, refl, sym, ap, ◌∙◌, arith}
 use Rattle.tp_model.specs.Network.{◌>>=◌, Machine, steps}
 use Rattle.tp_model.specs.declared.link.Token.{Token}
@@ -38,7 +38,7 @@ module _ {Node : Type 0} (M : Machine Node) (a b : ℕ) (after : Node) (behind :
   onwards None all = absurd (cc)
   onwards (Some first) all = on first (steps M a first.0) refl all
 
--- steps behind others that send nothing
+-- steps after others that send nothing
 pub steps-behind : {Node : Type 0} (M : Machine Node) (a b : ℕ) (node after : Node) → steps M a node ≡ Some (after, []) → steps M (a + b) node ≡ steps M b after
 unfolding steps
 steps-behind {Node} M zero b node after is =

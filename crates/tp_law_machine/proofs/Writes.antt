@@ -5,7 +5,7 @@ use Rattle.std.proofs.lemmas.Bool.{cond_both, ltb-true, leb-true, and_parts}
 use Rattle.std.proofs.lemmas.Grind.{common_steps}
 use Rattle.tp_model.specs.Memory.{offset, word_offset, set_byte, set_word, byte_stored, stored, is_inside, moved, copied, changed}
 
--- a word that begins inside memory of whole words lies inside
+-- a word that begins inside memory of whole words ends inside it
 pub word_within : (address n : ℕ) → n % 4 ≡ 0 → word_offset address < n → word_offset address + 4 ≤ n
 word_within address n whole within = omega arith
 
@@ -18,7 +18,7 @@ length-set_byte memory at byte within = search (rules, common_steps)
 pub length-moved : (memory : List ℕ) (to from count : ℕ) → to + count ≤ length memory → from + count ≤ length memory → length (moved memory to from count) ≡ length memory
 length-moved memory to from count a b = search (rules, common_steps)
 
--- the memory that writes leave, where they have a meaning, is as long as it was
+-- the memory that writes leave, if they are possible, is as long as it was
 pub length-stored : (memory : List ℕ) (writes : List (ℕ × ℕ)) (after : List ℕ) → length memory % 4 ≡ 0 → stored memory writes ≡ Some after → length after ≡ length memory
 length-stored memory [] after whole is = ap length (cc)
 length-stored memory (write ∷ writes) after whole is =
@@ -52,7 +52,7 @@ length-copied memory to from count after =
     (λ some. length-moved memory (offset to) (offset from) count (leb-true _ _ (rw some at both.0)) (leb-true _ _ (rw some at both.1))))
     (λ _ is. absurd (cc))
 
--- the length behind a first change that keeps it
+-- the length after a first change that keeps it
 pub length-then : (first : Option (List ℕ)) (writes : List (ℕ × ℕ)) (n : ℕ) (after : List ℕ) → ((memory : List ℕ) → first ≡ Some memory → length memory ≡ n) → n % 4 ≡ 0 → option_and_then (λ memory. stored memory writes) first ≡ Some after → length after ≡ n
 length-then None writes n after keeps whole is = absurd (cc)
 length-then (Some memory) writes n after keeps whole is =

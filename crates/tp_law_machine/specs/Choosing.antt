@@ -19,7 +19,7 @@ choosing = record (node (running 0x8000_0100 0x8000_0200) (start_word 0x8000_020
   inputs = inputs (Idle (Some 0x5A));
 }
 
--- Behind `altwt` no branch is chosen, and the alternative is ready.
+-- After `altwt` no branch is chosen, and the alternative is ready.
 abbrev pub may_choose : NodeState
 may_choose = record choosing {
   cpu = record (running 0x8000_010B 0x8000_0200) { regs = regs 1 1 0; slice = 7 };
@@ -41,8 +41,8 @@ has_chosen = record choosing {
 abbrev pub hears : Queue → NodeState
 hears low = record (node (record resting { low = low }) (start_word 0x8000_01F4 0x8000_0002 blank)) { inputs = inputs (Enabled 0x8000_0201) }
 
--- The byte is held and the alternative is ready. Its process is behind the last one of the queue; or that one's word
--- lies outside memory, so the queue stays and the node halts.
+-- The byte is held and the alternative is ready. Its process is after the last one of the queue; or the last one's word is outside memory,
+-- so the queue stays and the node halts.
 abbrev pub has_heard : NodeState
 has_heard = record (hears (queue 0x8000_0300 0x8000_0200)) {
   memory = start_word 0x8000_01F4 0x8000_0003 (start_word 0x8000_02F8 0x8000_0200 blank);

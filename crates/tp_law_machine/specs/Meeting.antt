@@ -27,8 +27,8 @@ sender_first = node (record (running 0x8000_0100 0x8000_0200) { low = queue 0x80
 abbrev pub getter_first : NodeState
 getter_first = node (record (running 0x8000_0140 0x8000_0280) { low = queue 0x8000_0200 0x8000_0200 }) apart_memory
 
--- The bytes have arrived, the first comer is in the queue and the second one goes on. The first comer's pointer and
--- instruction pointer stand below its workspace.
+-- The bytes have arrived, the first comer is in the queue and the second one goes on. The first comer's pointer and instruction pointer are
+-- below its workspace.
 abbrev pub sender_waited : NodeState
 sender_waited = node
     (record (running 0x8000_014A 0x8000_0280) { regs = regs 4 0x8000_0300 0x8000_0320; low = queue 0x8000_0200 0x8000_0200; slice = 6 })

@@ -15,11 +15,11 @@ use Rattle.tp_model.specs.Opening.{Opened}
 use Rattle.tp_model.specs.DeviceAreas.{numbered}
 use Rattle.tp_law_machine.specs.OneNode.{one_node, one_before, one_byte, one_after}
 
--- the areas behind a head of this version
+-- the areas after a head of this version
 abbrev pub areas_behind : HeadVersion → TwoAreas
 areas_behind version = areas_of_length version 16384
 
--- area 0 is open and of this form, with the cut of the network before its first entry and with the given bytes behind it
+-- area 0 is open and of this form, with the cut of the network before its first entry, followed by the given bytes
 abbrev pub device_of : HeadVersion → Form → List ℕ → List ℕ
 device_of version form behind =
     padded (areas_end (areas_behind version)) (head_bytes version one_node (areas_behind version) ++ (GATE_OPEN ∷ (front_bytes one_node 1 form 0 one_before ++ behind)))

@@ -14,7 +14,7 @@ use Rattle.tp_law_machine.specs.Transfers.{sending_node, jumps}
 abbrev pub one_node : Topology
 one_node = record { pages = 4 ∷ []; ports = 1; wires = Some (AtPort 0) ∷ None ∷ None ∷ None ∷ Some (Link 0 0) ∷ [] }
 
--- the network before its first entry, where the node is about to send a byte
+-- the network before its first entry, when the node is about to send a byte
 abbrev pub one_before : Network NodeState
 one_before = network_of one_node (sending_node ∷ []) ([] ∷ [] ∷ [] ∷ [] ∷ [] ∷ []) (fresh_port ∷ [])
 

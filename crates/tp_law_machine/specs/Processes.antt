@@ -13,8 +13,8 @@ about_to_run_another = node (running 0x8000_0100 0x8000_0200)
     (with_bytes 0x8000_0180 (0x21 ∷ 0xF5 ∷ [])
     (with_bytes 0x8000_0100 (0x71 ∷ 0x23 ∷ 0xF9 ∷ []) blank))))
 
--- The low process is behind `runp`, with its register A as before. What was kept of it is still in memory, but its
--- descriptor, and the high process is behind its `stopp`.
+-- The low process is past its `runp`, with its register A as before, and the high process is past its `stopp`. Of what was kept of the low
+-- process only its descriptor is gone from memory.
 abbrev pub has_run_another : NodeState
 has_run_another = record about_to_run_another {
   cpu = record (running 0x8000_0103 0x8000_0200) { regs = regs 0x8000_0300 0 0; high = queue 0x8000_0000 0x8000_0300; slice = 2 };

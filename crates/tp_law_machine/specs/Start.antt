@@ -56,7 +56,7 @@ blank = start_word 0x8000_002C not_process (zeros 4096)
 abbrev pub transfer : ℕ → ℕ → ℕ → Transfer
 transfer process pointer left = record { process = process; pointer = pointer; left = left }
 
--- links where only the first one may be at work
+-- links; only the first may be at work
 abbrev pub outputs : OutEnd → List OutEnd
 outputs end = end ∷ NoOutput ∷ NoOutput ∷ NoOutput ∷ []
 

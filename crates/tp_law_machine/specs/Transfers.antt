@@ -34,7 +34,7 @@ jumps count = record has_sent {
 abbrev pub has_jumped : NodeState
 has_jumped = record has_sent { cpu = record resting { low = queue 0x8000_0200 0x8000_0200; slice = 1024 } }
 
--- A low process is at `in` of `count` bytes from link 0 to 80000300, where link 0 is at this end.
+-- A low process is at `in` of `count` bytes from link 0 to 80000300, with this end at link 0.
 abbrev pub gets : ℕ → InEnd → NodeState
 gets count end = record (node (record (running 0x8000_0100 0x8000_0200) { regs = regs count 0x8000_0013 0x8000_0300 }) (with_bytes 0x8000_0100 (0xF7 ∷ []) blank)) {
   inputs = inputs end;

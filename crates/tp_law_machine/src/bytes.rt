@@ -17,7 +17,7 @@ pub fn images_determine_nodes()
     ensures only_nodes { (bytes : List ℕ) (n : NodeState) → AllByRecursion (λ byte. byte < 256) bytes → node_of bytes ≡ Some n → IsNode n }
 {}
 
-/// Lists of bytes that spell one number are one list.
+/// Two lists of bytes with one number are equal.
 pub fn numbers_determine_images()
     ensures { (b c : List ℕ) → AllByRecursion (λ byte. byte < 256) b → AllByRecursion (λ byte. byte < 256) c → number b ≡ number c → b ≡ c }
 {}
@@ -27,7 +27,7 @@ fn is_byte(byte: u8)
     ensures { byte < 256 }
 {}
 
-/// What a token carries is a byte, as its type says.
+/// The byte that a token carries is below 256, as its type says.
 pub fn carries_byte(token: Token)
     ensures { (byte : ℕ) → token ≡ Data byte → byte < 256 }
 {

@@ -1,5 +1,4 @@
-//! What is true of the node's machine itself, apart from any network that it stands in, and worked examples of the
-//! definitions.
+//! What is true of a node's machine itself, whatever network it is in, and worked examples of the definitions.
 #![tactic(auto)]
 
 mod bytes;

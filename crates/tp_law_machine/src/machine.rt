@@ -23,15 +23,14 @@ pub fn machine_never_marks()
     ensures { NeverMarks t414 }
 {}
 
-/// An output end sends Data exactly as it begins to wait, and an Ack ends that. An input end sends an Ack exactly as it
-/// gives up its byte, or at once.
+/// An output end sends Data exactly when it begins to wait, and an Ack ends that. An input end sends an Ack exactly when it gives up its
+/// byte, or at once.
 pub fn links_keep_flight()
     ensures { KeepsFlight t414 t414_ends }
 {}
 
-/// A node that bytes spell has an image, and has one after each run and each token that comes in: it keeps the rules of
-/// images, its registers and pointers fit 32 bits, and there are bytes in its memory and at its links. What it sends carries
-/// bytes too.
+/// A node that bytes spell has an image, and still has one after each run and each token that comes in. It keeps the rules of images, its
+/// registers and pointers fit 32 bits, and its memory and links hold bytes. What it sends carries bytes, too.
 pub fn nodes_stay_nodes()
     ensures spelt { (bytes : List ℕ) (node : NodeState) → AllByRecursion (λ byte. byte < 256) bytes → node_of bytes ≡ Some node → IsNodeOfBytes node }
     ensures runs { (count : ℕ) (node : NodeState) (after : NodeState × List (ℕ × Token)) → IsNodeOfBytes node → steps t414 count node ≡ Some after → IsNodeOfBytes after.0 × CarryBytes after.1 }

@@ -1,5 +1,5 @@
--- What a host may rely on: entries of an acknowledged receipt, and the causes of output that is shown, are in the journal
--- for good, and in what any crash leaves.
+-- What a host may rely on. Entries of an acknowledged receipt, and the causes of output that is shown, are in the journal for good, and in
+-- what any crash leaves.
 use Rattle.std.proofs.Common.{◌≡◌, ℕ, ◌+◌, ◌<◌, ◌≤◌, false, List, [], ◌∷◌, ◌++◌, length, take, refl, sym, ap, subst, ◌∙◌, arith, append_assoc, append-nil}
 use Rattle.std.specs.List.{AllByRecursion}
 use Rattle.std.proofs.lemmas.List.{take-append-le, take-take}

@@ -1,5 +1,5 @@
--- A process by itself, over entries that a network goes through: it goes on as it does in the network, and what the network has
--- on a line is what came there, but for what was taken.
+-- A process by itself, over entries that a network goes through. It goes on as it does in the network. What the network has on a line is
+-- what came there, without what was taken.
 use Rattle.std.proofs.Common.{◌≡◌, ◌≢◌, inl, inr, ℕ, ◌*◌, ◌/◌, ◌<◌, Bool, true, false, cond, List, [], ◌∷◌, ◌++◌, length, refl, sym, ap, subst, ◌∙◌, arith, append_assoc, append-nil, Some, eq-eqb, ne_eqb, slice_get}
 use Rattle.std.proofs.lemmas.Bool.{cases_eq, cases_lt, lt-ltb, le-ltb}
 use Rattle.std.proofs.lemmas.Option.{slice_get_cases}
@@ -70,7 +70,7 @@ module _ {Node : Type 0} (M : Machine Node) (four : HasFourLinks M) (s : Network
     whose : process t.wires (length t.nodes) e ≡ process s.wires (length s.nodes) e
     whose = process_same s t shape.wires shape.nodes e
 
-    -- a line after the entry, where the entry sent this on it
+    -- a line after the entry, if the entry sent this on it
     behind : (l : ℕ) → on_line u.lines l ≡ on_line S.out l ++ arriving (has_wire s.wires l) l S.sends
     behind l =
         ap (λ ls. on_line ls l) (step_lines M four t e u S)
@@ -89,7 +89,7 @@ module _ {Node : Type 0} (M : Machine Node) (four : HasFourLinks M) (s : Network
         let one = step_shape M four t e u S in
         record { wires = one.wires ∙ shape.wires; nodes = one.nodes ∙ shape.nodes; ports = one.ports ∙ shape.ports; lines = one.lines ∙ shape.lines }
 
-    -- a line that the process sends, where it then sends more
+    -- a line that the process sends, if it then sends more
     line_further : (l : ℕ) (more : List (ℕ × Token)) → on_line u.lines l ++ arriving (has_wire s.wires l) l more ≡ named s l es ++ on_line v.lines l
         → on_line t.lines l ++ (arriving (has_wire s.wires l) l S.sends ++ arriving (has_wire s.wires l) l more) ≡ (for_line l (takes s.wires (length s.nodes) e) ++ named s l es) ++ on_line v.lines l
     line_further l more h =

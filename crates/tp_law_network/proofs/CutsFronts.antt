@@ -20,7 +20,7 @@ use Rattle.tp_law_network.proofs.Partial.{bind_some}
 use Rattle.tp_law_network.specs.Reserved.{MayBeMade, IsOfOthers, IsNotOf, IsReceived}
 use Rattle.tp_law_network.proofs.Acts.{begin_parts, record_parts, close_parts, journal_parts, trim_parts}
 
--- a Marker is taken out from behind tokens that are none
+-- a Marker is taken out from after tokens that are none
 unmarked-behind : (us vs : List Token) → HasNoMarker us → unmarked (us ++ vs) ≡ us ++ unmarked vs
 unmarked-behind [] vs all = refl
 unmarked-behind (u ∷ us) vs all = ap (λ b. cond b (us ++ vs) (u ∷ unmarked (us ++ vs))) all.0 ∙ ap (λ ts. u ∷ ts) (unmarked-behind us vs all.1)
@@ -143,7 +143,7 @@ module _ {Node : Type 0} (M : Machine Node) (four : HasFourLinks M) (never : Nev
       let one = stays_possible w F.0 act F.1 all.0 may in
       stays_possible_after F.0 v acts F.2 (others_still w.live F.0.live one.1 acts all.1) one.0
 
--- ## Tokens that were received stay in front
+-- ## Tokens that were received stay at the front
 
 module _ {Node : Type 0} (M : Machine Node) (four : HasFourLinks M) (i : ℕ) (links : List Received) where
   abbrev tokens : Network Node → List (ℕ × Token)
@@ -204,7 +204,7 @@ module _ {Node : Type 0} (M : Machine Node) (four : HasFourLinks M) (i : ℕ) (l
       one (Close line) h = tt
       one Trim h = tt
 
-  -- What a node has received stays in front of its lines, whatever others do.
+  -- What a node has received stays at the front of its lines, whatever others do.
   pub received_after : (w v : MarkedNetwork Node) (acts : List Act) → acted M w acts ≡ Some v → AllByRecursion (IsNotOf w.live i) acts → IsReceived w.live i links → IsReceived v.live i links
   unfolding acted
   received_after w v [] h all R = let is : w ≡ v = cc in subst (λ u. IsReceived u.live i links) is R

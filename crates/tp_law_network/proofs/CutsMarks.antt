@@ -1,4 +1,4 @@
--- Lines with Markers: what stands before the first one, how many there are, and the line without them.
+-- Lines with Markers: what comes before the first one, how many there are, and the line without them.
 use Rattle.std.proofs.Common.{◌≡◌, ℕ, ◌+◌, ◌<◌, ◌≤◌, Bool, true, false, cond, inl, inr, List, [], ◌∷◌, ◌++◌, map, length, set, drop, refl, sym, ap, ◌∙◌, arith, append-nil}
 use Rattle.std.specs.Prelude.{◌==◌}
 use Rattle.std.specs.List.{AllByRecursion}
@@ -14,7 +14,7 @@ use Rattle.tp_law_network.proofs.Room.{on_line-plain}
 
 -- ## One line
 
--- a line without Markers is as it is without them, and all of it stands before the first one
+-- a line without Markers is as it is without them, and all of it comes before the first one
 pub plain_unmarked : (us : List Token) → markers us ≡ 0 → plain us ≡ us
 plain_unmarked [] h = refl
 plain_unmarked (u ∷ us) h = go (is_marker u) h (plain_unmarked us)
@@ -31,7 +31,7 @@ before_unmarked (u ∷ us) h = go (is_marker u) h (before_unmarked us)
     go true h f = absurd (omega arith)
     go false h f = ap (λ ts. u ∷ ts) (f h)
 
--- where no Marker is in front, what stands before it goes on
+-- if there is no Marker at the front, what comes before one goes on
 pub before-append : (us vs : List Token) → markers us ≡ 0 → before (us ++ vs) ≡ us ++ before vs
 before-append [] vs h = refl
 before-append (u ∷ us) vs h = go (is_marker u) h (before-append us vs)
@@ -40,7 +40,7 @@ before-append (u ∷ us) vs h = go (is_marker u) h (before-append us vs)
     go true h f = absurd (omega arith)
     go false h f = ap (λ ts. u ∷ ts) (f h)
 
--- what comes behind a Marker, or is a Marker itself, changes nothing before the first one
+-- what comes after a Marker, or is a Marker itself, changes nothing before the first one
 pub before-append_marked : (us vs : List Token) → 0 < markers us → before (us ++ vs) ≡ before us
 before-append_marked [] vs h = absurd (omega arith)
 before-append_marked (u ∷ us) vs h = go (is_marker u) h (before-append_marked us vs)
@@ -81,7 +81,7 @@ unmarked_plain (u ∷ us) = elim (cases_Bool (is_marker u)) [
       ∙ sym (ap (λ b. cond b (plain us) (u ∷ plain us)) n)
 ]
 
--- where there is no second one, it is the line without Markers
+-- if there is no second one, it is the line without Markers
 pub unmarked_all : (us : List Token) → markers us ≤ 1 → plain us ≡ unmarked us
 unmarked_all [] few = refl
 unmarked_all (u ∷ us) few = elim (cases_Bool (is_marker u)) [
@@ -133,7 +133,7 @@ marker_gone lines l =
     ∙ ap (λ ts. set (map plain lines) l ts) (unmarked_plain (on_line lines l) ∙ sym (on_line-plain lines l))
     ∙ set-get_or (map plain lines) l []
 
--- or that is taken from in front
+-- or that is taken from the front
 pub taken_marker : (lines : List (List Token)) (l : ℕ) → is_first (on_line lines l) Marker ≡ true → map plain (set lines l (drop 1 (on_line lines l))) ≡ map plain lines
 taken_marker lines l e = ap (λ ts. map plain (set lines l ts)) (sym (ap unmarked (first_is (on_line lines l) Marker e))) ∙ marker_gone lines l
 

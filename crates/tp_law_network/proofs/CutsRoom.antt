@@ -25,6 +25,6 @@ module _ {Node : Type 0} (M : Machine Node) (w : MarkedNetwork Node) (H : CutInv
         | inr n ↦ let none = ap markers (H.base.unwired l n) in omega arith
       ]
 
-  -- Over a sound network a line has at most a Data and an Ack beside its Marker.
+  -- Over a sound network a line has at most a Data and an Ack besides its Marker.
   pub line_room : (E : EndsSeen Node) → Sound E (plain_network w.live) → (l : ℕ) → length (on_line w.live.lines l) ≤ 2 + markers (on_line w.live.lines l)
   line_room E sound l = sound_room (sound_marked w.live sound H.base.unwired) l

@@ -1,4 +1,4 @@
--- What the device stands for at each position of the flusher, and what a crash may leave of it.
+-- What the device holds at each position of the flusher, and what a crash may leave of it.
 use Rattle.std.proofs.Common.{◌≡◌, ℕ, ◌+◌, ◌≤◌, ◌⊎◌, List, [], ◌∷◌, ◌++◌, length, refl, sym, ap, subst, ◌∙◌, arith, Some}
 use Rattle.tp_model.specs.declared.entry.Entry.{Entry}
 use Rattle.tp_model.specs.Network.{Machine}
@@ -13,7 +13,7 @@ module _ {Node : Type 0} (M : Machine Node) (A : Areas Node) (law : AreasHold M 
   pub rests_may : (disk : Moment) → RestsBetweenGroups A h disk → (left : List ℕ) → MayBe disk left → A.verdict left ≡ Some h
   rests_may disk r left may = (law.spare disk.bytes left h r.reads (loose_may disk (A.spare disk.bytes) left r.loose may)).0
 
-  -- a piece is written behind the other area's closed gate
+  -- a piece is written after the other area's closed gate
   pub put_may : (disk : Moment) → RestsBetweenGroups A h disk → (at : ℕ) (bytes : List ℕ) → IsWithin (A.spare disk.bytes) (at, length bytes)
       → (left : List ℕ) → MayBe (within (Write at bytes) disk) left → (A.verdict left ≡ Some h) × (A.spare left ≡ A.spare disk.bytes)
   put_may disk r at bytes inside left may =
@@ -53,7 +53,7 @@ module _ {Node : Type 0} (M : Machine Node) (A : Areas Node) (law : AreasHold M 
   pub clear_synced : (disk : Moment) → Clearing A h disk → RestsBetweenGroups A h (done Sync disk)
   clear_synced disk c = record { reads = clear_may disk c disk.bytes (may_stand disk); loose = tt }
 
-  -- ## A group is written behind its closed gate
+  -- ## A group is written after its closed gate
 
   pub body_within : (disk : Moment) → RestsBetweenGroups A h disk → (place : ℕ) (es : List Entry) (body : List ℕ) → A.group disk.bytes es ≡ Some (place, body)
       → (left : List ℕ) → MayBe (within (Write (place + 1) body) disk) left → A.verdict left ≡ Some h

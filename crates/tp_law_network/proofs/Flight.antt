@@ -34,8 +34,7 @@ acks-append (t ∷ ts) us = omega (arith, acks-append ts us)
 
 -- ## A node
 
--- What a node's links do where it goes from one state to another: `ms` are the tokens that it takes, each with its
--- link.
+-- What a node's links do when it goes from one state to another: `ms` are the tokens that it takes, each with its link.
 pub record NodeMoves {Node : Type 0} (E : EndsSeen Node) (node : Node) (ms : List (ℕ × Token)) (after : Node × List (ℕ × Token)) : Type 0 where
   pub out : (k : ℕ) → k < 4 → bit (E.waits after.0 k) + acks (for_line k ms) ≡ bit (E.waits node k) + datas (for_line k after.1)
   pub inn : (k : ℕ) → k < 4 → bit (E.holds after.0 k) + acks (for_line k after.1) ≡ bit (E.holds node k) + datas (for_line k ms)
@@ -107,8 +106,8 @@ for_line-shift a k (m ∷ ms) = elim (cases_eq m.0 k) [
 
 -- ## A process
 
--- What the ends of process p do where its state changes, and tokens are sent: `ms` are those that come in, each with
--- the line that the end sends at which it comes in.
+-- What the ends of process p do when its state changes, and tokens are sent: `ms` are those that come in. Each has the line that its
+-- receiving end sends.
 pub record Moves {Node : Type 0} (E : EndsSeen Node) (N p : ℕ) (state : Own Node) (ms : List (ℕ × Token)) (change : Own Node × List (ℕ × Token)) : Type 0 where
   pub out : (z : ℕ) → owner N z ≡ p → bit (own_waits E N change.0 z) + acks (for_line z ms) ≡ bit (own_waits E N state z) + datas (for_line z change.1)
   pub inn : (z : ℕ) → owner N z ≡ p → bit (own_holds E change.0 z) + acks (for_line z change.1) ≡ bit (own_holds E state z) + datas (for_line z ms)
@@ -126,7 +125,7 @@ node_moves {E = E} N i node ms after h moves = record {
 
 -- ## A port
 
--- What a port does where it goes from one state to another: `ms` are the tokens that it takes.
+-- What a port does when it goes from one state to another: `ms` are the tokens that it takes.
 pub record PortMoves (port : Port) (ms : List Token) (after : Port × List Token) : Type 0 where
   pub out : bit (is_some_byte after.0.pending) + acks ms ≡ bit (is_some_byte port.pending) + datas after.1
   pub inn : acks after.1 ≡ datas ms

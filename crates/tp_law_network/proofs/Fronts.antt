@@ -47,7 +47,7 @@ taken_in has N ks ls ms out same e =
       | inr n ↦ (on_line ks l, ap (λ ts. ts ++ on_line ks l) (sym (for_line-left has N l ms n)))
     ]
 
--- what a piece can take is in front on its lines
+-- what a piece can take is at the front of its lines
 pub front_in : (has : Piece) (N : ℕ) (ks ls : List (List Token)) (ms : List (ℕ × Token)) (left : List (List Token)) → SameSent has N ks ls → taken ks (from_piece has N ms) ≡ Some left
     → (l : ℕ) → sends has N l ≡ true → (rest : List Token) × (on_line ls l ≡ for_line l ms ++ rest)
 front_in has N ks ls ms left same e l h =

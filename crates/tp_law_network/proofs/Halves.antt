@@ -108,7 +108,7 @@ module _ {Node : Type 0} (M : Machine Node) (b : BookState Node) (nodes : List N
       ∙ ap (λ c. cond (c && has_recorded snap (taker (live b nodes) line)) (Some (marked (with_close_over b snap line) nodes frozen)) None) marker
       ∙ ap (λ c. cond c (Some (marked (with_close_over b snap line) nodes frozen)) None) (ap (λ N. has_recorded snap (process_at N (receiver b.start.wires line))) as_many ∙ has)
 
-  -- nothing stands in front of a Marker that is in front
+  -- nothing is before a Marker at the front
   over_front : (snap : Snapshot) (line : ℕ) → is_first (on_line b.lines line) Marker ≡ true → with_close_over b snap line ≡ with_close b snap line
   over_front snap line front =
       let first = first_is (on_line b.lines line) Marker front in
@@ -117,7 +117,7 @@ module _ {Node : Type 0} (M : Machine Node) (b : BookState Node) (nodes : List N
       ∙ ap (λ ls. record b { lines = set b.lines line (drop 1 (on_line b.lines line)); snapshot = Some (record snap { lines = ls; closed = set snap.closed line true }) })
       (ap (λ ts. set snap.lines line ts) (append-nil (on_line snap.lines line)) ∙ set-get_or snap.lines line [])
 
-  -- The Marker in front of a line is taken.
+  -- The Marker at the front of a line is taken.
   pub close_joins : (snap : Snapshot) (line : ℕ) → b.snapshot ≡ Some snap → is_first (on_line b.lines line) Marker ≡ true → has_recorded snap (taker b.start line) ≡ true
       → happens M (marked b nodes frozen) (Close line) ≡ Some (marked (with_close b snap line) nodes frozen)
   close_joins snap line runs front has =

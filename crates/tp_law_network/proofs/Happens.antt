@@ -89,7 +89,7 @@ module _ {Node : Type 0} (M : Machine Node) (four : HasFourLinks M) (never : Nev
   pub cut_after : (cut : WholeCut) → whole v ≡ Some cut → CutHolds M v cut
   cut_after cut is = whole_holds M four v holds_after cut is
 
-  -- and there is one exactly where a snapshot runs, all have recorded and each Marker was taken.
+  -- and there is one exactly if a snapshot runs, all have recorded and each Marker was taken.
   pub whole_after : ((cut : WholeCut) → whole v ≡ Some cut → IsWhole v) × (IsWhole v → (cut : WholeCut) × (whole v ≡ Some cut))
   whole_after = (whole_only M v holds_after, whole_there M v holds_after)
 

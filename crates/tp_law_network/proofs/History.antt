@@ -1,4 +1,4 @@
--- What a run's journal is at each moment, and which orders of it the cuts stand for.
+-- What a run's journal is at each moment, and which orders of it the cuts mean.
 use Rattle.std.proofs.Common.{◌≡◌, ℕ, ◌+◌, ◌≤◌, List, length, take, sym, subst, ◌∙◌, arith, Some}
 use Rattle.tp_model.specs.Network.{Machine, Network, on_line}
 use Rattle.tp_model.specs.Entries.{process, HasFourLinks}

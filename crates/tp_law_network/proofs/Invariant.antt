@@ -25,15 +25,15 @@ KeptOf M start w = Kept M start w.net.start w.net.entries w.base w.journal w.sto
 abbrev pub CopiedOf : {Node : Type 0} → Machine Node → Network Node → World Node → Held Node → ℕ → Type 0
 CopiedOf M start w copy upto = Copied M start w.net.start w.net.entries w.base w.journal w.stored w.net.snapshot copy upto
 
--- the kept entries, and what the device is for what it stands for by them
+-- the kept entries, and what the device is for what it holds by them
 abbrev pub WithKept : {Node : Type 0} → Machine Node → Network Node → World Node → (Held Node → Type 0) → Type 0
 WithKept M start w P = (K : KeptOf M start w) × P (held_of w.net.start K.tail K.durable w.base)
 
 abbrev pub BeginsWith : List Entry → List Entry → Type 0
 BeginsWith es backlog = (more : List Entry) × (backlog ≡ es ++ more)
 
--- What holds of the device, and of the entries on it, at each position of the flusher. While the copy of a tail is kept
--- nothing of the book is copied; and after the other area's gate is synced the device stands for the copy.
+-- What holds of the device, and of the entries on it, at each position of the flusher. While the copy of a tail is kept, nothing of the
+-- book is copied. After the other area's gate is synced, the device holds the copy.
 abbrev pub At : {Node : Type 0} → Machine Node → Areas Node → Network Node → World Node → Position Node → Type 0
 At M A start w Resting = WithKept M start w (λ h. RestsBetweenGroups A h w.disk)
 At M A start w (Body place es) = WithKept M start w (λ h. Bodied A h w.disk place es) × BeginsWith es w.backlog
@@ -45,9 +45,8 @@ At M A start w (Opening copy upto) = WithKept M start w (λ h. Switching A h w.d
 At M A start w (Opened copy upto) = (A.verdict w.disk.bytes ≡ Some copy) × (w.disk.unsynced ≡ []) × CopiedOf M start w copy upto × (w.backlog ≡ []) × (w.stored ≡ upto)
 At M A start w Broken = (left : List ℕ) → MayBe w.disk left → Reads M A start w.journal w.stored left
 
--- The marker argument holds of the network with its book; the book's entries lead where the journal leads, and with the
--- entries in the kept cut they are an order of it; the mark is no more than what the synced gates reach, and each mark
--- that was read no more than the mark.
+-- The marker argument holds of the network with its book. The book's entries lead where the journal leads, and with the entries in the kept
+-- cut they are an order of it. The mark is at most what the synced gates reach, and each mark that was read is at most the mark.
 pub record Inv {Node : Type 0} (M : Machine Node) (A : Areas Node) (start : Network Node) (w : World Node) : Type 0 where
   pub net : CutInvariant M w.net
   pub agree : after M w.net.start w.net.entries ≡ after M start w.journal

@@ -31,7 +31,7 @@ late_line true wired kept mid live out ms sends m l u b = m ∙ sym (append-nil 
 late_line false wired kept mid live out ms sends m l u b =
     m ∙ ap (λ ts. kept ++ before ts) l ∙ ap (λ ts. kept ++ ts) (before-append ms out u) ∙ sym (append_assoc kept ms (before out)) ∙ ap (λ ts. (kept ++ ms) ++ ts) (sym (b refl))
 
--- What an unrecorded receiver takes stands in front in the cut too; what is left there is what is left before the Marker.
+-- What an unrecorded receiver takes is at the front in the cut, too; what is left there is what is left before the Marker.
 rest_line : (closed : Bool) (kept mid rest live out ms : List Token)
     → mid ≡ cond closed kept (kept ++ before live) → live ≡ ms ++ out → mid ≡ ms ++ rest → markers ms ≡ 0
     → (ms ≡ []) ⊎ ((closed ≡ false) × (kept ≡ [])) → rest ≡ cond closed kept (kept ++ before out)
@@ -44,14 +44,14 @@ rest_line closed kept mid rest live out ms m l r u one = elim one [
     plainly : closed ≡ false → kept ≡ [] → (ts : List Token) → cond closed kept (kept ++ ts) ≡ ts
     plainly shut none ts = ap (λ b. cond b kept (kept ++ ts)) shut ∙ ap (λ us. us ++ ts) none
 
--- What it sends then comes behind on both.
+-- What it sends then comes last on both.
 early_line : (closed : Bool) (kept rest out sends : List Token) → rest ≡ cond closed kept (kept ++ before out)
     → (closed ≡ true → sends ≡ []) → (closed ≡ false → before (out ++ sends) ≡ before out ++ sends)
     → rest ++ sends ≡ cond closed kept (kept ++ before (out ++ sends))
 early_line true kept rest out sends r none b = ap (λ ts. rest ++ ts) (none refl) ∙ append-nil rest ∙ r
 early_line false kept rest out sends r none b = ap (λ ts. ts ++ sends) r ∙ append_assoc kept (before out) sends ∙ ap (λ ts. kept ++ ts) (sym (b refl))
 
--- what comes behind a line without Markers
+-- what comes after a line without Markers
 behind_unmarked : (out sends : List Token) → markers out ≡ 0 → markers sends ≡ 0 → before (out ++ sends) ≡ before out ++ sends
 behind_unmarked out sends h k = before-append out sends h ∙ ap (λ ts. out ++ ts) (before_unmarked sends k) ∙ ap (λ ts. ts ++ sends) (sym (before_unmarked out h))
 
@@ -68,7 +68,7 @@ recorded_out : (count : Option ℕ) (n : ℕ) → is_some count ≡ true → ((k
 recorded_out None n h most = cc
 recorded_out (Some k) n h most = le-ltb n k (most k refl)
 
--- one of a process that hasn't recorded is never out of the cut
+-- an entry of a process that hasn't recorded is never out of the cut
 out_recorded : (count : Option ℕ) (n : ℕ) → not (in_count count n) ≡ true → is_some count ≡ true
 out_recorded None n h = absurd (false≢true h)
 out_recorded (Some k) n h = refl
@@ -102,7 +102,7 @@ module _ {Node : Type 0} (M : Machine Node) (four : HasFourLinks M) (never : Nev
   sends_elsewhere : (l : ℕ) → owner (length w.live.nodes) l ≢ whose → for_line l S.sends ≡ []
   sends_elsewhere l other = for_line-elsewhere (owner (length w.live.nodes)) (process w.live.wires (length w.live.nodes) e) l S.sends (step_sends M four w.live e v S) (λ h. other (h ∙ whose_live))
 
-  -- what it sends on a line, where that has a wire
+  -- what it sends on a line, if that has a wire
   abbrev goes_out : ℕ → List Token
   goes_out l = cond (has_wire w.live.wires l) (for_line l S.sends) []
 
@@ -160,7 +160,7 @@ module _ {Node : Type 0} (M : Machine Node) (four : HasFourLinks M) (never : Nev
         go true h = refl
         go false h = h refl
 
-    -- what it sends on an open line stands behind the Marker
+    -- what it sends on an open line comes after the Marker
     late_behind : (l : ℕ) → is_closed snap l ≡ false → before (on_line S.out l ++ goes_out l) ≡ before (on_line S.out l)
     late_behind l n = elim (cases_eq (owner (length w.live.nodes) l) whose) [
       | inl same ↦ elim (cases_Bool (has_wire w.live.wires l)) [
@@ -226,7 +226,7 @@ module _ {Node : Type 0} (M : Machine Node) (four : HasFourLinks M) (never : Nev
     untouched : (l : ℕ) → taker w.live l ≡ whose → (is_closed snap l ≡ false) × (on_line snap.lines l ≡ [])
     untouched l same = K.fresh l (ap (has_recorded snap) same ∙ has)
 
-    -- what it takes stands in front in the cut too
+    -- what it takes is at the front in the cut, too
     mid_front : (l : ℕ) → (rest : List Token) × (on_line K.mid.lines l ≡ for_line l (takes w.live.wires (length w.live.nodes) e) ++ rest)
     mid_front l = elim (cases_eq (taker w.live l) whose) [
       | inl same ↦ (
@@ -277,7 +277,7 @@ module _ {Node : Type 0} (M : Machine Node) (four : HasFourLinks M) (never : Nev
             subst (λ n. l < n) (sym (length_taken K.mid.lines (takes w.live.wires (length w.live.nodes) e) mid_out.0 mid_out.1 ∙ mid_lines M four w B snap K))
             (B.wired l (ap (λ wires. has_wire wires l) (sym (mid_wires M four w B snap K)) ∙ y))
 
-    -- what it sends stands behind no Marker
+    -- no Marker comes before what it sends
     early_behind : (l : ℕ) → before (on_line S.out l ++ goes_out l) ≡ before (on_line S.out l) ++ goes_out l
     early_behind l = elim (cases_eq (owner (length w.live.nodes) l) whose) [
       | inl same ↦ elim (cases_Bool (has_wire w.live.wires l)) [
@@ -363,7 +363,7 @@ module _ {Node : Type 0} (M : Machine Node) (four : HasFourLinks M) (never : Nev
     early_fresh : (l : ℕ) → has_recorded snap (taker v l) ≡ false → (is_closed snap l ≡ false) × (on_line snap.lines l ≡ [])
     early_fresh l n = K.fresh l (ap (has_recorded snap) (sym (taker_now l)) ∙ n)
 
-    -- The entry is in the cut, which makes it too, and goes in front of all that are outside.
+    -- The entry is in the cut, which makes it, too, and goes before all that are outside.
     journal_early : Marking M w.start (w.entries ++ e ∷ []) v w.frozen counts
     journal_early = record {
       mid = mid_next;

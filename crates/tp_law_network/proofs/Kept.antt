@@ -27,7 +27,7 @@ cut_network {Node} M four w cut nodes C e =
     ∙ ap (λ lines. record C.consistent.state { lines = lines }) (sym C.lines)
 
 module _ {Node : Type 0} (M : Machine Node) (w : MarkedNetwork Node) (H : CutInvariant M w) (cut : WholeCut) (is : whole w ≡ Some cut) where
-  -- where a cut is whole no Marker is on its way
+  -- if a cut is whole no Marker is on its way
   pub whole_unmarked : (l : ℕ) → ◌≡◌ {A = ℕ} (markers (on_line w.live.lines l)) 0
   whole_unmarked l =
       let P = whole_parts w cut is in

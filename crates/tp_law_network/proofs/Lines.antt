@@ -28,7 +28,7 @@ same_token-self (Data a) = eq-eqb a a refl
 same_token-self Ack = refl
 same_token-self Marker = refl
 
--- what stands in front, and the rest
+-- what is at the front, and the rest
 pub first_is : (ts : List Token) (t : Token) → is_first ts t ≡ true → ts ≡ t ∷ drop 1 ts
 first_is [] t e = cc
 first_is (u ∷ us) t e = ap (λ v. v ∷ us) (same_token_is u t e)
@@ -45,7 +45,7 @@ line_there lines l t e = elim (cases_lt l (length lines)) [
   | inr h ↦ absurd (false≢true (sym (ap (λ ts. is_first ts t) (get_or_past lines l [] h)) ∙ e))
 ]
 
--- lists of lines are equal where each line has equal tokens
+-- lists of lines are equal if each line has equal tokens
 pub same_lines : (ks ls : List (List Token)) → length ks ≡ length ls → ((l : ℕ) → l < length ks → on_line ks l ≡ on_line ls l) → ks ≡ ls
 same_lines ks ls = ext_get_or [] ks ls
 
@@ -79,7 +79,7 @@ for_line-elsewhere of p l (m ∷ ms) all h =
 
 -- ## What is taken
 
--- the first of them stands in front, and the others can be taken behind it
+-- the first of them is at the front, and the others can be taken after it
 pub taken_cons : (lines : List (List Token)) (m : ℕ × Token) (ms : List (ℕ × Token)) (out : List (List Token)) → taken lines (m ∷ ms) ≡ Some out
     → (is_first (on_line lines m.0) m.1 ≡ true) × (taken (set lines m.0 (drop 1 (on_line lines m.0))) ms ≡ Some out)
 unfolding taken
@@ -101,7 +101,7 @@ unfolding taken without
 without_taken lines [] out e = cc
 without_taken lines (m ∷ ms) out e = without_taken _ ms out (taken_cons lines m ms out e).1
 
--- a line, before the token in front of one of them is taken
+-- a line, before the token at the front of one of them is taken
 pub on_rest_same : (lines : List (List Token)) (k : ℕ) (t : Token) → is_first (on_line lines k) t ≡ true
     → on_line lines k ≡ t ∷ on_line (set lines k (drop 1 (on_line lines k))) k
 on_rest_same lines k t e = first_is (on_line lines k) t e ∙ ap (λ ts. t ∷ ts) (sym (on_set_same lines k (drop 1 (on_line lines k)) (line_there lines k t e)))
@@ -117,7 +117,7 @@ on_taken lines (m ∷ ms) out e l = elim (cases_eq m.0 l) [
       ∙ ap (λ ts. ts ++ on_line out l) (sym (for_line-other m.0 l m.1 ms other))
 ]
 
--- they can be taken where each line has its own in front
+-- they can be taken if each line has its own at the front
 pub taken_from : (lines : List (List Token)) (ms : List (ℕ × Token)) → ((l : ℕ) → (rest : List Token) × (on_line lines l ≡ for_line l ms ++ rest))
     → (out : List (List Token)) × (taken lines ms ≡ Some out)
 unfolding taken
@@ -179,7 +179,7 @@ on_pushed on lines k t l there = elim (cases_eq k l) [
     nothing true = refl
     nothing false = refl
 
--- A line is what it was, and then what was sent on it, where it is open.
+-- A line is what it was, and then what was sent on it, if it is open.
 pub on_sent : (on : ℕ → Bool) (lines : List (List Token)) (ms : List (ℕ × Token)) (l : ℕ) → (on l ≡ true → l < length lines)
     → on_line (sent on lines ms) l ≡ on_line lines l ++ cond (on l) (for_line l ms) []
 unfolding sent
@@ -276,7 +276,7 @@ sent-swap on of p q lines ms ns apart a b = same_lines (sent on (sent on lines m
     long : (xs ys : List (ℕ × Token)) → length (sent on (sent on lines xs) ys) ≡ length lines
     long xs ys = length_sent on (sent on lines xs) ys ∙ length_sent on lines xs
 
-    -- each line of either, where nothing of xs is on it
+    -- each line of either, if nothing of xs is on it
     apart_from : (xs ys : List (ℕ × Token)) (l : ℕ) → for_line l xs ≡ [] → on_line (sent on (sent on lines xs) ys) l ≡ on_line (sent on (sent on lines ys) xs) l
     apart_from xs ys l none = elim (cases_lt l (length lines)) [
       | inl h ↦ on_sent on (sent on lines xs) ys l (λ _. subst (λ n. l < n) (sym (length_sent on lines xs)) h)
@@ -302,7 +302,7 @@ taken_both of p q lines ms ns first other apart a b e f =
     let G = taken_from other ms (behind ns ms other first f e (λ l. one_of_two of q p l ns ms (λ x. apart (sym x)) b a)) in
     (F.0, F.1, G.1 ∙ ap Some (same F.0 G.0 F.1 G.1))
   where
-    -- what the second takes still stands in front
+    -- what the second takes is still at the front
     behind : (xs ys : List (ℕ × Token)) (left right : List (List Token)) → taken lines xs ≡ Some left → taken lines ys ≡ Some right
         → ((l : ℕ) → (for_line l xs ≡ []) ⊎ (for_line l ys ≡ [])) → (l : ℕ) → (rest : List Token) × (on_line left l ≡ for_line l ys ++ rest)
     behind xs ys left right x y one l = elim (one l) [

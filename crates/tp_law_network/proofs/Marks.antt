@@ -32,7 +32,7 @@ plain-append (u ∷ us) vs = elim (cases_Bool (is_marker u)) [
 
 -- ## Without Markers
 
--- what isn't a Marker and stands in front does so without Markers too
+-- a token at the front that isn't a Marker is at the front without Markers, too
 pub first_plain : (ts : List Token) (t : Token) → is_marker t ≡ false → is_first ts t ≡ true → (is_first (plain ts) t ≡ true) × (drop 1 (plain ts) ≡ plain (drop 1 ts))
 first_plain ts t n e =
     let split : plain ts ≡ t ∷ plain (drop 1 ts) = ap plain (first_is ts t e) ∙ ap (λ b. cond b (plain (drop 1 ts)) (t ∷ plain (drop 1 ts))) n in

@@ -1,4 +1,4 @@
--- The order of the journal that a cut and the entries behind it stand for, as entries follow and as a cut is taken.
+-- Which order of the journal a cut and the entries after it are, as entries follow and as a cut is taken.
 use Rattle.std.proofs.Common.{◌≡◌, ℕ, ◌+◌, List, [], ◌++◌, length, refl, sym, subst, ◌∙◌, arith, append_assoc, length-append, Some}
 use Rattle.tp_model.specs.declared.entry.Entry.{Entry}
 use Rattle.tp_model.specs.Network.{Machine, Network}

@@ -23,7 +23,7 @@ readable_most form least next (row ∷ rows) = go (row_entry form row.1) (λ ent
     go None rest = omega arith
     go (Some entry) rest = chosen entry (may_have least next entry.1) (rest entry)
 
--- below the limit, the number behind the last of them is, too
+-- below the limit, the number after the last of them is, too
 pub readable_below : (form : Form) (least next : ℕ) (rows : List (ℕ × List ℕ)) → next < NUMBER_LIMIT → next + length (readable form least next rows) < NUMBER_LIMIT
 unfolding readable
 readable_below form least next [] below = omega (arith, below)
@@ -59,7 +59,7 @@ readable_none form least next (row ∷ rows) high = go (row_entry form row.1)
     go None = refl
     go (Some entry) = chosen entry (may_have least next entry.1) (lower entry)
 
--- Either none is read, or the number behind the last of them is below the limit.
+-- Either none is read, or the number after the last of them is below the limit.
 pub readable_few : (form : Form) (least next : ℕ) (rows : List (ℕ × List ℕ)) → (readable form least next rows ≡ []) ⊎ (next + length (readable form least next rows) < NUMBER_LIMIT)
 readable_few form least next rows = elim (cases_lt next NUMBER_LIMIT) [
   | inl below ↦ inr (readable_below form least next rows below)

@@ -109,7 +109,7 @@ module _ {Node : Type 0} (M : Machine Node) (A : Areas Node) where
       (λ i. record w { disk = all_done (group_calls gate body) w.disk; at = sym rests i; stored = r i + length es; backlog = b i })
       old new was
 
-  -- ## The other area's gate is looked at, and closed
+  -- ## The other area's gate is read, and closed
 
   pub clear_walks : (w : World Node) (old new : State) (gate : Option ℕ) → w.at ≡ Resting → w.disk ≡ old.now → A.open_other w.disk.bytes ≡ gate
       → AreWalked M A (clear_calls gate) w w old new
@@ -127,7 +127,7 @@ module _ {Node : Type 0} (M : Machine Node) (A : Areas Node) where
       ) (r, l, (refl, refl, tt))
       (λ i. record w { disk = all_done (clear_calls (Some gate)) w.disk; at = sym rests i; stored = r i; backlog = l i }) old new was
 
-  -- ## Bytes are written behind the other area's closed gate
+  -- ## Bytes are written after the other area's closed gate
 
   -- at a position in which the flusher stays, whatever it writes there
   record IsStill (pos : Position Node) : Type 0 where
@@ -170,7 +170,7 @@ module _ {Node : Type 0} (M : Machine Node) (A : Areas Node) where
   put_then_calls pos [] last = refl
   put_then_calls pos (piece ∷ pieces) last = ap (λ calls. Write piece.0 piece.1 ∷ calls) (put_then_calls pos pieces last)
 
-  -- the pieces lie behind the other area's closed gate
+  -- the pieces are after the other area's closed gate
   abbrev AreInside : ℕ × ℕ → List (ℕ × List ℕ) → Type 0
   AreInside spare pieces = AllByRecursion (λ piece. IsWithin spare (piece.0, length piece.1)) pieces
 

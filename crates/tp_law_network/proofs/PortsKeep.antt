@@ -1,4 +1,4 @@
--- What each change of a port keeps, each entry keeps of all ports, where it holds the more the more entries there are.
+-- If each change of a port keeps a property, so does each entry for all ports. The property may grow with the number of entries.
 use Rattle.std.proofs.Common.{◌≡◌, ℕ, ◌+◌, inl, inr, List, length, set, sym, ap, subst, ◌∙◌, Option, Some, None, slice_get}
 use Rattle.std.specs.Prelude.{nat_lt, nat_le, ◌&&◌, length}
 use Rattle.std.specs.Option.{option_map}
@@ -26,7 +26,7 @@ abbrev pub AllPorts : (ℕ → Port → Type 0) → ℕ → List Port → Type 0
 AllPorts Holds n ports = (p : ℕ) (port : Port) → slice_get ports p ≡ Some port → Holds n port
 
 module _ {Node : Type 0} (M : Machine Node) (Holds : ℕ → Port → Type 0) (K : EachKeeps Holds) where
-  -- a process's ports, where it is the host
+  -- a process's ports, if it is the host
   abbrev InHost : ℕ → Own Node → Type 0
   InHost n (OfNode node) = Unit {0}
   InHost n (OfHost ports) = AllPorts Holds n ports

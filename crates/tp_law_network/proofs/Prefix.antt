@@ -1,4 +1,4 @@
--- How what the device holds, and what a copy for it holds, lie to the journal.
+-- How what the device holds, and what a copy for it holds, relate to the journal.
 use Rattle.std.proofs.Common.{◌≡◌, ℕ, ◌+◌, ◌-◌, ◌≤◌, List, [], ◌∷◌, ◌++◌, length, take, drop, get_or, sym, ap, subst, ◌∙◌, arith, append_assoc, append-nil, length-append, Option, Some}
 use Rattle.std.proofs.Math.Seq.{drop-append_seam}
 use Rattle.std.proofs.lemmas.List.{take_at}
@@ -28,8 +28,8 @@ pub record Stands {Node : Type 0} (M : Machine Node) (start : Network Node) (jou
 pub stands_taken : {Node : Type 0} (M : Machine Node) (start : Network Node) (journal : List Entry) (least : ℕ) (h : Held Node) → (S : Stands M start journal least h) → take (next_number h) journal ≡ S.first
 stands_taken M start journal least h S = ap (λ es. take (next_number h) es) S.parts ∙ take_at S.first S.rest (next_number h) S.count
 
--- How the book's entries lie to the journal. Up to where the tail of the kept cut reached they are others, which lead
--- to the same network; from there on they are the same: those on the device, those copied, and the rest.
+-- How the book's entries relate to the journal. Up to where the tail of the kept cut reached they are others, which lead to the same
+-- network. From there on they are equal: those on the device, those copied, and the rest.
 pub record Kept {Node : Type 0} (M : Machine Node) (start kept : Network Node) (entries : List Entry) (base : ℕ) (journal : List Entry) (stored : ℕ) (backlog : List Entry) : Type 0 where
   pub front : List Entry
   pub tail : List Entry
@@ -42,7 +42,7 @@ pub record Kept {Node : Type 0} (M : Machine Node) (start kept : Network Node) (
   pub order : HasOrder M start front kept tail base
   pub reach : stored ≡ length front + length durable
 
--- what the device then stands for
+-- what the device then holds
 abbrev pub held_of : {Node : Type 0} → Network Node → List Entry → List Entry → ℕ → Held Node
 held_of kept tail durable base = record { network = kept; entries = tail ++ durable; base = base }
 
@@ -95,7 +95,7 @@ module _ {Node : Type 0} (M : Machine Node) (start kept : Network Node) (entries
   -- ## A group of the backlog
 
   module _ (backlog es more : List Entry) (begins : backlog ≡ es ++ more) (K : Kept M start kept entries base journal stored backlog) where
-    -- with the group the device stands for more of the journal
+    -- with the group the device holds more of the journal
     pub group_stands : Stands M start journal stored (with_more (held_of kept K.tail K.durable base) es)
     group_stands = record {
       first = (K.front ++ K.durable) ++ es;
@@ -107,7 +107,7 @@ module _ {Node : Type 0} (M : Machine Node) (start kept : Network Node) (entries
       no_less = let r = K.reach in omega (arith, length-append (K.front ++ K.durable) es, length-append K.front K.durable);
     }
 
-    -- the group is possible behind what is held, since it is a front of the book's entries
+    -- the group is possible after what is held, since it is a front of the book's entries
     pub group_possible : (last : Network Node) → after M kept entries ≡ Some last → ArePossible M (held_of kept K.tail K.durable base) es
     group_possible last now =
         let F = front_possible M kept last ((K.tail ++ K.durable) ++ es) (more ++ K.rest)
@@ -168,7 +168,7 @@ module _ {Node : Type 0} (M : Machine Node) (start kept : Network Node) (entries
           ∙ ap (λ ys. xs ++ ys) (append_assoc K.durable (backlog ++ K.rest) (e ∷ []))
           ∙ ap (λ ys. xs ++ (K.durable ++ ys)) (append_assoc backlog K.rest (e ∷ []))
 
-  -- the backlog is copied again: all entries behind those on the device
+  -- the backlog is copied again: all entries after those on the device
   pub copy_kept : (backlog : List Entry) (P : Held Node → Type 0) → (K : Kept M start kept entries base journal stored backlog) → P (held_of kept K.tail K.durable base)
       → (L : Kept M start kept entries base journal stored (drop (stored - base) entries)) × P (held_of kept L.tail L.durable base)
   copy_kept backlog P K p =
@@ -241,7 +241,7 @@ module _ {Node : Type 0} (M : Machine Node) (start kept : Network Node) (entries
       no_less = C.no_less;
     }
 
-    -- the copy stays where the snapshot's counts stay
+    -- the copy stays while the snapshot's counts stay
     pub copied_stays : (later : Option Snapshot) → HasCounts later C.counts → Copied M start kept entries base journal stored later copy upto
     copied_stays later whole = record {
       counts = C.counts;

@@ -10,7 +10,7 @@ use Rattle.tp_law_network.proofs.Partial.{bind_some}
 use Rattle.tp_law_network.proofs.Local.{SameShape, next_shape, process_kept}
 use Rattle.tp_law_network.proofs.Swap.{diamond, swaps_agree}
 
--- ## One list behind another
+-- ## One list after another
 
 pub after-append : {Node : Type 0} (M : Machine Node) (s : Network Node) (xs ys : List Entry) → after M s (xs ++ ys) ≡ (after M s xs >>= λ t. after M t ys)
 unfolding after
@@ -22,7 +22,7 @@ after-append {Node} M s (x ∷ xs) ys = go (next M s x) (λ t. after-append M t 
     go None h = refl
     go (Some t) h = h t
 
--- behind a list whose network is known
+-- after a list whose network is known
 pub after_front : {Node : Type 0} (M : Machine Node) (s t : Network Node) (xs ys : List Entry) → after M s xs ≡ Some t → after M s (xs ++ ys) ≡ after M t ys
 after_front M s t xs ys h = after-append M s xs ys ∙ ap (λ u. u >>= λ v. after M v ys) h
 
@@ -52,7 +52,7 @@ pub first_possible : {Node : Type 0} (M : Machine Node) (s t : Network Node) (e 
 unfolding after
 first_possible M s t e es h = bind_some (next M s e) (λ u. after M u es) t h
 
--- the same entries behind lists that lead to the same network
+-- the same entries after lists that lead to one network
 pub same_behind : {Node : Type 0} (M : Machine Node) (s t : Network Node) (xs ys zs : List Entry) → after M s xs ≡ after M t ys → after M s (xs ++ zs) ≡ after M t (ys ++ zs)
 same_behind M s t xs ys zs h = after-append M s xs zs ∙ ap (λ u. u >>= λ v. after M v zs) h ∙ sym (after-append M t ys zs)
 
@@ -77,7 +77,7 @@ module _ {Node : Type 0} (M : Machine Node) where
   reorder_trans s xs ys zs (same es) r = r
   reorder_trans s xs ys zs (swap front e f back es at h i rest) r = swap front e f back zs at h i (reorder_trans s (front ++ f ∷ e ∷ back) es zs rest r)
 
-  -- behind a front whose network is known
+  -- after a front whose network is known
   pub reorder_front : (s t : Network Node) (front xs ys : List Entry) → after M s front ≡ Some t → Reorder M t xs ys → Reorder M s (front ++ xs) (front ++ ys)
   reorder_front s t front xs ys h (same es) = same (front ++ es)
   reorder_front s t front xs ys h (swap before e f back es at g i rest) =
@@ -85,7 +85,7 @@ module _ {Node : Type 0} (M : Machine Node) where
       (swap (front ++ before) e f back (front ++ es) at (after_front M s t front before h ∙ g) i
       (subst (λ zs. Reorder M s zs (front ++ es)) (sym (append_assoc front before (f ∷ e ∷ back))) (reorder_front s t front (before ++ f ∷ e ∷ back) es h rest)))
 
-  -- in front of a back
+  -- before a back
   pub reorder_back : (s : Network Node) (xs ys back : List Entry) → Reorder M s xs ys → Reorder M s (xs ++ back) (ys ++ back)
   reorder_back s xs ys back (same es) = same (es ++ back)
   reorder_back s xs ys back (swap front e f between es at h i rest) =
@@ -93,13 +93,13 @@ module _ {Node : Type 0} (M : Machine Node) where
       (swap front e f (between ++ back) (es ++ back) at h i
       (subst (λ zs. Reorder M s zs (es ++ back)) (append_assoc front (f ∷ e ∷ between) back) (reorder_back s (front ++ f ∷ e ∷ between) es back rest)))
 
-  -- two independent neighbours in front
+  -- two independent neighbours at the front
   pub reorder_two : (s : Network Node) (e f : Entry) (back : List Entry) → AreIndependent M s e f → Reorder M s (e ∷ f ∷ back) (f ∷ e ∷ back)
   unfolding after
   reorder_two s e f back i = swap [] e f back (f ∷ e ∷ back) s refl i (same (f ∷ e ∷ back))
 
   module _ (four : HasFourLinks M) where
-    -- Both orders lead to the same network.
+    -- Both orders lead to one network.
     pub reorder_end : (s : Network Node) (xs ys : List Entry) → Reorder M s xs ys → after M s xs ≡ after M s ys
     reorder_end s xs ys (same es) = refl
     reorder_end s xs ys (swap front e f back es at h i rest) =
@@ -111,7 +111,7 @@ module _ {Node : Type 0} (M : Machine Node) where
         ∙ sym (after_front M s at front (f ∷ e ∷ back) h)
         ∙ reorder_end s (front ++ f ∷ e ∷ back) es rest
 
-    -- An entry that is possible before a list of entries of other processes may go in front of it.
+    -- An entry that is possible before a list of entries of other processes may go before it.
     pub move_left : (s t u : Network Node) (es : List Entry) (e : Entry) → after M s es ≡ Some u → next M s e ≡ Some t
         → AllByRecursion (λ f. process s.wires (length s.nodes) f ≢ process s.wires (length s.nodes) e) es → Reorder M s (es ++ e ∷ []) (e ∷ es)
     move_left s t u [] e h g apart = same (e ∷ [])

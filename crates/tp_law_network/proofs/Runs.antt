@@ -1,4 +1,4 @@
--- The invariant holds at each moment of a run, and so what a crash leaves stands for a prefix of the journal.
+-- The invariant holds at each moment of a run, and so what a crash leaves holds a prefix of the journal.
 use Rattle.std.proofs.Common.{◌≡◌, ℕ, ◌+◌, ◌-◌, ◌*◌, ◌<◌, ◌≤◌, max, true, false, List, [], ◌∷◌, ◌++◌, length, take, drop, refl, sym, ap, subst, ◌∙◌, arith, append_assoc, append-nil, length-append, le_refl, Option, Some, None}
 use Rattle.std.specs.List.{AllByRecursion}
 use Rattle.std.specs.Option.{option_map}
@@ -36,7 +36,7 @@ pub all_up : (rs : List ℕ) (m n : ℕ) → m ≤ n → AllByRecursion (λ r. r
 all_up [] m n up all = tt
 all_up (r ∷ rs) m n up all = (let low = all.0 in omega arith, all_up rs m n up all.1)
 
--- The mark and the marks that were read are nothing to what the device stands for.
+-- What the device holds doesn't depend on the mark and the marks that were read.
 mark_at : {Node : Type 0} (M : Machine Node) (A : Areas Node) (start : Network Node) (w : World Node) (mark : ℕ) (seen : List ℕ) (pos : Position Node) → At M A start w pos
     → At M A start (record w { mark = mark; seen = seen }) pos
 mark_at M A start w mark seen Resting a = a

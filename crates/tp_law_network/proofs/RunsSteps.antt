@@ -14,7 +14,7 @@ use Rattle.tp_law_network.proofs.Prefix.{Copied, held_of, kept_stands, group_sta
 use Rattle.tp_law_network.proofs.Invariant.{Reads, KeptOf, CopiedOf, BeginsWith, At}
 
 module _ {Node : Type 0} (M : Machine Node) (A : Areas Node) (law : AreasHold M A) (start : Network Node) (w : World Node) where
-  -- what the device stands for by the kept entries
+  -- what the device holds by the kept entries
   abbrev kept_held : KeptOf M start w → Held Node
   kept_held K = held_of w.net.start K.tail K.durable w.base
 

@@ -38,7 +38,7 @@ unfolding entries_at
 entries_closed bytes zero place is = refl
 entries_closed bytes (suc more) place is = ap (λ b. cond b (HostIn 0 (small_byte bytes (place + 1)) ∷ entries_at bytes more (place + 2)) []) (is (omega arith))
 
--- bytes that agree as far as groups were read are read alike so far, and reading goes on there
+-- bytes that agree up to where groups were read are read alike up to there, and reading goes on there
 entries_split : (bytes left : List ℕ) (more place : ℕ)
     → ((q : ℕ) → place ≤ q → q < place + 2 * length (entries_at bytes more place) → small_byte left q ≡ small_byte bytes q)
     → entries_at left more place
@@ -68,7 +68,7 @@ entries_split bytes left (suc more) place same = go (is_small_open bytes place) 
         let here_still : place ≡ place + 0 = omega arith in
         λ i. entries_at left (all i) (here_still i)
 
--- where the next gate is closed, what was read is read again
+-- if the next gate is closed, what was read is read again
 pub entries_same : (bytes left : List ℕ) (more place : ℕ)
     → ((q : ℕ) → place ≤ q → q < place + 2 * length (entries_at bytes more place) → small_byte left q ≡ small_byte bytes q)
     → (length (entries_at bytes more place) < more → is_small_open left (place + 2 * length (entries_at bytes more place)) ≡ false)
@@ -79,7 +79,7 @@ entries_same bytes left more place same closed =
     (entries_closed left (more - length (entries_at bytes more place)) (place + 2 * length (entries_at bytes more place)) (λ some. closed (omega arith)))
     ∙ append-nil (entries_at bytes more place)
 
--- where it is open and the one behind it is closed, one entry more
+-- if it is open and the one after it is closed, one entry more
 pub entries_added : (bytes left : List ℕ) (more place x : ℕ)
     → ((q : ℕ) → place ≤ q → q < place + 2 * length (entries_at bytes more place) → small_byte left q ≡ small_byte bytes q)
     → length (entries_at bytes more place) < more
@@ -114,7 +114,7 @@ entries_end bytes more place room = elim (cases_Bool (is_small_open bytes gate))
 
 -- ## The current area
 
--- the two areas lie side by side
+-- the two areas are side by side
 pub places : (second : Bool) → ((begins second ≡ 0) × (begins (not second) ≡ 9)) ⊎ ((begins second ≡ 9) × (begins (not second) ≡ 0))
 places false = inl (refl, refl)
 places true = inr (refl, refl)

@@ -1,4 +1,4 @@
--- The small format meets what the laws of runs ask.
+-- The small format meets what the laws of runs ask of it.
 use Rattle.std.proofs.Common.{◌≡◌, ℕ, zero, ◌+◌, ◌*◌, ◌<◌, ◌≤◌, ◌⊎◌, inl, inr, Bool, true, false, not, List, [], ◌∷◌, length, refl, sym, ap, subst, ◌∙◌, arith, le_refl, Some}
 use Rattle.std.specs.Prelude.{◌==◌, nat_lt, nat_le, ◌||◌}
 use Rattle.std.specs.Option.{option_map}
@@ -16,11 +16,11 @@ use Rattle.tp_law_machine.proofs.Faults.{none_or}
 use Rattle.tp_law_network.proofs.Moments.{length-written, get_or-written_outside, get_or-written_inside}
 use Rattle.tp_law_network.proofs.Small.{same_gate, entries_most, entries_same, entries_added, entries_end, places, current_open, current_alone, current_later, current_same, Verdict, verdict_parts, verdict_from}
 
--- the place lies outside the range
+-- the place is outside the range
 abbrev pub IsOut : ℕ × ℕ → ℕ → Type 0
 IsOut range q = (q < range.0) ⊎ (range.0 + range.1 ≤ q)
 
--- the areas lie apart
+-- the areas are apart
 apart : (second : Bool) (q : ℕ) → begins second ≤ q → q < begins second + 9 → IsOut (begins (not second), 1) q
 apart second q low high = elim (places second) [
   | inl first ↦ inl (let a = first.0 in let o = first.1 in omega arith)
@@ -130,7 +130,7 @@ module _ {Node : Type 0} (M : Machine Node) (image : ℕ → Network Node) (byte
   spare_is : spare_now ≡ behind (is_small_open bytes (begins (not V.second))) (begins (not V.second))
   spare_is = ap (spare_of bytes) V.is
 
-  -- the current area and the other gate lie outside it
+  -- the current area and the other gate are outside it
   spare_apart : (q : ℕ) → ((begins V.second ≤ q) × (q < begins V.second + 9)) ⊎ (q ≡ begins (not V.second)) → IsOut spare_now q
   spare_apart q where_it_is = subst (λ range. IsOut range q) (sym spare_is) (go (is_small_open bytes (begins (not V.second))))
     where
@@ -147,7 +147,7 @@ module _ {Node : Type 0} (M : Machine Node) (image : ℕ → Network Node) (byte
       go true = inr (omega arith)
       go false = elim low_or_high [ inl low ↦ inl low | inr high ↦ inr (omega arith) ]
 
-  -- where the other gate is open it is empty
+  -- if the other gate is open it is empty
   spare_none : is_small_open bytes (begins (not V.second)) ≡ true → (q : ℕ) → IsOut spare_now q
   spare_none opened q = subst (λ range. IsOut range q) (sym (spare_is ∙ ap (λ b. behind b (begins (not V.second))) opened)) (inr (omega arith))
 
@@ -158,7 +158,7 @@ module _ {Node : Type 0} (M : Machine Node) (image : ℕ → Network Node) (byte
       go true = omega arith
       go false = omega (arith, places V.second, V.size)
 
-  -- ## Bytes that differ in that range, and in the current area behind its first closed gate
+  -- ## Bytes that differ in that range, and in the current area after its first closed gate
 
   module _ (left : List ℕ) (size : length left ≡ length bytes)
       (same : (q : ℕ) → IsOut spare_now q → (q ≤ gate) ⊎ (begins V.second + 9 ≤ q) → small_byte left q ≡ small_byte bytes q) where
@@ -243,7 +243,7 @@ module _ {Node : Type 0} (M : Machine Node) (image : ℕ → Network Node) (byte
       | inl opened ↦ inr (adds left size x group_head group_other room opened group_first group_next possible)
     ]
 
-  -- ## The other area, once all of it is there, at any byte of its gate
+  -- ## The other area, once all of it is written, at any byte of its gate
 
   module _ (left : List ℕ) (size : length left ≡ length bytes) (k : Held Node) (later : small_byte bytes (begins V.second + 1) < small_byte bytes (begins (not V.second) + 1))
       (held : held_at image bytes (begins (not V.second)) ≡ k) (last : Network Node) (possible : after M k.network k.entries ≡ Some last)

@@ -17,14 +17,14 @@ use Rattle.tp_law_network.proofs.Flight.{datas-append, acks-append, Moves, came,
 
 -- ## The ends and the lines, before and after
 
--- an end, where the state of its process is known
+-- an end, if the state of its process is known
 pub end_waits_is : {Node : Type 0} (E : EndsSeen Node) (s : Network Node) (N z : ℕ) (x : Own Node) → length s.nodes ≡ N → own s (owner N z) ≡ Some x → end_waits E s z ≡ own_waits E N x z
 end_waits_is E s N z x n o = rw (n, o) refl
 
 pub end_holds_is : {Node : Type 0} (E : EndsSeen Node) (s : Network Node) (N z : ℕ) (x : Own Node) → length s.nodes ≡ N → own s (owner N z) ≡ Some x → end_holds E s z ≡ own_holds E x z
 end_holds_is E s N z x n o = rw (n, o) refl
 
--- an end, where the state of its process is as in another network
+-- an end, if the state of its process is as in another network
 pub end_waits_as : {Node : Type 0} (E : EndsSeen Node) (s t : Network Node) (z : ℕ) → length t.nodes ≡ length s.nodes → own t (owner (length s.nodes) z) ≡ own s (owner (length s.nodes) z) → end_waits E t z ≡ end_waits E s z
 end_waits_as E s t z n o = rw (n, o) refl
 
@@ -146,7 +146,7 @@ module _ {Node : Type 0} {E : EndsSeen Node} {s t : Network Node} {e : Entry} (s
   back-across : (x : ℕ) → back t x ≡ back s x
   back-across x = rw (a.wires, a.nodes) refl
 
-  -- what stands on a line with a wire
+  -- what is on a line with a wire
   datas_across : (x y : ℕ) → back s x ≡ Some y → datas (on_line t.lines x) + datas (for_line x (takes s.wires (length s.nodes) e)) ≡ datas (on_line s.lines x) + datas (for_line x a.sends)
   datas_across x y b =
       rw (a.behind x (sound.there x), wired-back s x y b, a.front x, datas-append (for_line x (takes s.wires (length s.nodes) e)) (on_line a.rest x), datas-append (on_line a.rest x) (for_line x a.sends)) (omega arith)

@@ -167,7 +167,7 @@ piece_follows M four has s u A e t h =
 
 -- ## From the pieces to the whole network
 
--- An entry that is possible in each piece, where the pieces have all processes, is possible in the whole network.
+-- If the pieces have all processes, an entry that is possible in each piece is possible in the whole network.
 pub whole_follows : {Node : Type 0} (M : Machine Node) (count : ℕ) (pieces : ℕ → Piece) → Covers count pieces → (s : Network Node) (u : ℕ → Network Node) → ((i : ℕ) → i < count → Agrees (pieces i) s (u i))
     → (e : Entry) → ((i : ℕ) → i < count → (v : Network Node) × (next_in M (pieces i) (u i) e ≡ Some v)) → (t : Network Node) × (next M s e ≡ Some t)
 whole_follows {Node} M count pieces covers s u A e all =

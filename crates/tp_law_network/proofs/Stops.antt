@@ -1,5 +1,5 @@
--- The whole network stops where the first of its pieces does, also where pieces stop before a line of theirs is overfull: in
--- a sound network without Markers no line is.
+-- The whole network stops where the first of its pieces does. Pieces may stop before a line of theirs is overfull: in a sound network
+-- without Markers no line is.
 use Rattle.std.proofs.Common.{◌≡◌, inl, inr, ℕ, zero, suc, ◌+◌, ◌<◌, ◌≤◌, List, [], ◌∷◌, length, take, true, refl, sym, ap, subst, ◌∙◌, arith, Option, Some}
 use Rattle.std.proofs.lemmas.Bool.{cases_lt}
 use Rattle.tp_model.specs.declared.entry.Entry.{Entry}
@@ -54,7 +54,7 @@ module _ {Node : Type 0} (M : Machine Node) (E : EndsSeen Node) (four : HasFourL
       let long = subst (λ ts. 2 < length ts) line O.long in
       omega (arith, room, none, long)
 
-  -- The whole network reaches just as far as the piece that stops first.
+  -- The whole network reaches exactly as far as the piece that stops first.
   pub least_stop : (count : ℕ) (pieces : ℕ → Piece) → Covers count pieces → (u : ℕ → Network Node) → ((i : ℕ) → i < count → Agrees (pieces i) s (u i))
       → (at : ℕ → ℕ) → ((i : ℕ) → i < count → StopsAt M (pieces i) (u i) es (at i)) → IsLeastOf count at (reach (next M) s es)
   least_stop count pieces covers u A at stops =

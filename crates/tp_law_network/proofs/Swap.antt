@@ -62,8 +62,7 @@ module _ {Node : Type 0} (M : Machine Node) (four : HasFourLinks M) (s : Network
       whose : process a.wires (length a.nodes) f ≡ process s.wires (length s.nodes) f
       whose = process_kept s a shape f
 
-  -- Two entries of different processes that are both possible: each is possible after the other, and both orders lead to
-  -- the same network.
+  -- Two entries of different processes that are both possible: each is possible after the other, and both orders lead to one network.
   pub diamond : (e f : Entry) (a b : Network Node) → next M s e ≡ Some a → next M s f ≡ Some b → process s.wires (length s.nodes) e ≢ process s.wires (length s.nodes) f
       → (c : Network Node) × (next M a f ≡ Some c) × (next M b e ≡ Some c)
   diamond e f a b h i apart =
@@ -83,7 +82,7 @@ module _ {Node : Type 0} (M : Machine Node) (four : HasFourLinks M) (s : Network
           ∙ put-put (record s { lines = sent (has_wire s.wires) (sent (has_wire s.wires) both T.sends) S.sends }) (process s.wires (length s.nodes) e) (process s.wires (length s.nodes) f) S.was S.now T.was T.now apart
           (own-lines s _ (process s.wires (length s.nodes) e) ∙ S.own_was) (own-lines s _ (process s.wires (length s.nodes) f) ∙ T.own_was) (step_alike M four s e a S) (step_alike M four s f b T)
 
-  -- Two neighbours that are independent may be swapped, and lead to the same network.
+  -- Two neighbours that are independent may be swapped, and lead to one network.
   pub swaps_agree : (e f : Entry) (i : AreIndependent M s e f) → (next M s f ≡ Some i.other) × (next M i.other e ≡ Some i.last)
   swaps_agree e f i =
       let D = diamond e f i.between i.other i.e_first i.f_already i.apart in

@@ -69,14 +69,14 @@ module _ {Node : Type 0} (M : Machine Node) (four : HasFourLinks M) where
           no_less = omega (arith, K.reach, ap length K.all, length-append K.front (K.durable ++ (w.backlog ++ K.rest)), length-append K.durable (w.backlog ++ K.rest));
         }
 
-    -- a book that starts at a network, with the entries behind a cut of `base`, agrees with journal and device
+    -- a book that starts at a network, with the entries after a cut of `base`, agrees with journal and device
     abbrev Goes : Network Node → List Entry → ℕ → List Entry → Type 0
     Goes kept entries base backlog =
         (after M kept entries ≡ after M start w.journal) × HasOrder M start w.journal kept entries base
         × ((K : Kept M start kept entries base w.journal w.stored backlog) × RestsBetweenGroups A (held_of kept K.tail K.durable base) w.disk)
 
-    -- The book is trimmed: it starts at the copied cut, and its entries are the copied tail and those since. The device
-    -- stands for the cut and the tail already.
+    -- The book is trimmed: it starts at the copied cut, and its entries are the copied tail and those since. The device already holds the
+    -- cut and the tail.
     pub trims : (copy : Held Node) (upto : ℕ) → CopiedOf M start w copy upto → w.stored ≡ upto → A.verdict w.disk.bytes ≡ Some copy → w.disk.unsynced ≡ [] → w.backlog ≡ []
         → Goes (network_in w.net.start cut nodes) (post (process w.net.start.wires (length w.net.start.nodes)) (count_in cut) w.net.entries) (w.base + cut.size) w.backlog
     trims copy upto C reached reads synced none =

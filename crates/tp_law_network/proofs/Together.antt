@@ -69,7 +69,7 @@ together_is {Node} count pieces covers t w v A T =
     (λ l. (let i = covers (owner (length t.nodes) l) in
     T.lines i.0 i.1 l (subst (λ n. pieces i.0 (owner n l) ≡ true) (sym (C.nodes ∙ B.nodes)) i.2) ∙ (A i.0 i.1).lines l i.2))
 
--- Where the whole network goes through entries, so do its pieces, and what they then hold is the network.
+-- If the whole network goes through entries, so do its pieces, and what they then hold is the network.
 pub pieces_together : {Node : Type 0} (M : Machine Node) → HasFourLinks M → (s t w : Network Node) (es : List Entry) → after M s es ≡ Some t
     → (count : ℕ) (pieces : ℕ → Piece) (parts ends : ℕ → Network Node) → Covers count pieces → ((i : ℕ) → i < count → Agrees (pieces i) s (parts i))
     → ((i : ℕ) → i < count → after_by (next_in M (pieces i)) (parts i) es ≡ Some (ends i)) → IsTogether count pieces ends w → w ≡ t

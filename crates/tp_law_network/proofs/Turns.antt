@@ -24,7 +24,7 @@ use Rattle.std.proofs.lemmas.Option.{slice_get_within}
 abbrev from : ℕ → List (ℕ × Token) → List (ℕ × Token)
 from i ms = map (λ m. (4 * i + m.0, m.1)) ms
 
--- the network after node i has changed, where its takes left `out`
+-- the network after node i has changed, if its takes left `out`
 abbrev changed : {Node : Type 0} → Network Node → List (List Token) → ℕ → Node × List (ℕ × Token) → Network Node
 changed s out i r = record s { nodes = set s.nodes i r.0; lines = sent (has_wire s.wires) out (from i r.1) }
 
@@ -186,7 +186,8 @@ module _ {Node : Type 0} (M : Machine Node) where
       let Q = map_some (of_node i) (steps M (suc k) n) (S.now, S.sends) C.1 in
       (Q.0, Q.1)
 
-  -- A turn is possible where its takes and then its run are possible one after the other, and its tokens are fronts of their lines already.
+  -- A turn is possible if its takes and then its run are possible one after the other, and its tokens are already at the fronts of their
+  -- lines.
   pub entries_are_turn : (s t : Network Node) (i : ℕ) (links : List Received) (k : ℕ) → IsFront s i links k → after M s (entries_of_turn s i links k) ≡ Some t → next M s (Turn i links k) ≡ Some t
   unfolding does turned process takes put
   entries_are_turn s t i links k F e =

@@ -1,4 +1,4 @@
--- Pieces of a run without an opening, one behind the other, and what crashes leave of the device on the way.
+-- Pieces of a run without an opening, one after the other, and what crashes leave of the device on the way.
 use Rattle.std.proofs.Common.{◌≡◌, ℕ, ◌≤◌, ◌⊎◌, inl, inr, false, List, [], ◌∷◌, ◌++◌, length, take, drop, refl, sym, ap, subst, ◌∙◌, arith, append_assoc, append-nil, length-append, Some}
 use Rattle.std.specs.Prelude.{map}
 use Rattle.std.specs.List.{AllByRecursion}
@@ -23,7 +23,7 @@ use Rattle.tp_law_network.proofs.Stay.{stays}
 use Rattle.tp_law_network.proofs.Acknowledged.{run_goes_on}
 
 module _ {Node : Type 0} (M : Machine Node) (A : Areas Node) where
-  -- ## One behind the other
+  -- ## One after the other
 
   pub run_then : (w u v : World Node) (es fs : List (Event Node)) → Run M A w es u → Run M A u fs v → Run M A w (es ++ fs) v
   run_then w u v [] fs first then = subst (λ x. Run M A x fs v) first then
@@ -102,7 +102,7 @@ module _ {Node : Type 0} (M : Machine Node) (A : Areas Node) where
       further (inl early) = inl (inr early)
       further (inr late) = inr late
 
-  -- what is so of whatever a crash leaves at each world on the way
+  -- what is true of whatever a crash leaves at each world on the way
   pub walks_leave : (P : List ℕ → Type 0) (w v : World Node) (old new : State) → Walks M A w v old new
       → ((u : World Node) → RunLeads M A w u → RunLeads M A u v → (left : List ℕ) → MayBe u.disk left → P left) → LeavesOnly old new P
   walks_leave P w v old new W each = record {

@@ -183,7 +183,7 @@ module _ {Node : Type 0} (M : Machine Node) (w : MarkedNetwork Node) (H : CutInv
   pub running : (snap : Snapshot) → w.snapshot ≡ Some snap → Marking M w.start w.entries w.live w.frozen snap
   running snap runs = subst (λ given. Inside M w given) runs H.inside
 
-  -- There is one exactly where a snapshot runs, all have recorded and each Marker was taken.
+  -- There is one exactly if a snapshot runs, all have recorded and each Marker was taken.
   pub whole_only : (cut : WholeCut) → whole w ≡ Some cut → IsWhole w
   whole_only cut e =
       let P = whole_parts w cut e in

@@ -1,4 +1,4 @@
--- What a process by itself becomes, where a network goes through the entries.
+-- What a process by itself becomes, if a network goes through the entries.
 use Rattle.std.specs.Prelude.{◌≡◌, ℕ, List, ◌++◌, length, Some}
 use Rattle.tp_model.specs.declared.entry.Entry.{Entry}
 use Rattle.tp_model.specs.Network.{Machine, Network, own, on_line}
@@ -6,8 +6,8 @@ use Rattle.tp_model.specs.Sound.{owner}
 use Rattle.tp_law_network.specs.ByItself.{AloneState, by_itself}
 use Rattle.tp_law_network.specs.Arrivals.{arrivals, named}
 
--- It goes through its own entries, and is then what it is in the network `t`. On each line that it sends, what came is what the
--- entries named there, and behind it what t has on the line.
+-- It goes through its own entries, and is then what it is in the network `t`. On each line that it sends, what came is what the entries
+-- named there, followed by what t has on the line.
 pub record BecomesByItself {Node : Type 0} (M : Machine Node) (s : Network Node) (process : ℕ) (es : List Entry) (t : Network Node) : Type 0 where
   pub last : AloneState Node
   pub leads : by_itself M s process es ≡ Some last

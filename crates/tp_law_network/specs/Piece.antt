@@ -1,5 +1,5 @@
--- A piece of a network: some of its processes, and the lines that these send. A part is a piece with its state: a network, where
--- only what belongs to the piece's own processes and lines counts.
+-- A piece of a network: some of its processes, and the lines that these send. A part is a piece with its state: a network in which only
+-- what belongs to the piece's own processes and lines counts.
 use Rattle.std.specs.Prelude.{◌≡◌, ◌<◌, ℕ, Bool, true, if◌then◌else◌, List, [], ◌∷◌, length}
 use Rattle.tp_model.specs.declared.link.Token.{Token}
 use Rattle.tp_model.specs.Network.{Network, own, on_line}
@@ -18,13 +18,13 @@ unfoldable pub from_piece : Piece → ℕ → List (ℕ × Token) → List (ℕ 
 from_piece has N [] = []
 from_piece has N (m ∷ ms) = if sends has N m.0 then m ∷ from_piece has N ms else from_piece has N ms
 
--- Each process is in at least one of the first `count` pieces. That is said of every number: an entry of a node that isn't
--- there belongs to a process, too, and so does a line that isn't there.
+-- Each process is in at least one of the first `count` pieces. That is said of every number, since an entry of a node that doesn't exist
+-- belongs to a process, too, and so does a line that doesn't exist.
 abbrev pub Covers : ℕ → (ℕ → Piece) → Type 0
 Covers count pieces = (p : ℕ) → (i : ℕ) × (i < count) × (pieces i p ≡ true)
 
--- In u, the piece's processes and the lines that they send are as they are in s. The wires of u are those of s, and its
--- numbers of nodes, ports and lines are, too; whatever else it has may differ.
+-- In u, the piece's processes and the lines that they send are as they are in s. The wires of u and its numbers of nodes, ports and lines
+-- are those of s, too. Whatever else it has may differ.
 pub record Agrees {Node : Type 0} (has : Piece) (s u : Network Node) : Type 0 where
   pub wires : u.wires ≡ s.wires
   pub nodes : length u.nodes ≡ length s.nodes

@@ -43,7 +43,7 @@ all_does plan = map (λ step. Does step.0 step.1) plan
 abbrev pub group_plan : {Node : Type 0} → ℕ → List ℕ → List Entry → List (Call × Position Node)
 group_plan gate body es = (Write (gate + 1) body, Body gate es) ∷ (Sync, Ready gate es) ∷ (Write gate gate_open, Gate gate es) ∷ (Sync, Resting) ∷ []
 
--- the other area's gate is looked at, and closed where it is open
+-- the other area's gate is read, and closed if it is open
 abbrev pub clear_plan : {Node : Type 0} → Option ℕ → List (Call × Position Node)
 clear_plan None = (Read, Resting) ∷ []
 clear_plan (Some gate) = (Read, Resting) ∷ (Write gate gate_closed, Cleared) ∷ (Sync, Resting) ∷ []

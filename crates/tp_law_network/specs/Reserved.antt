@@ -12,7 +12,7 @@ use Rattle.tp_model.specs.Halves.{BookState, with_half}
 use Rattle.tp_law_network.specs.Turns.{run_of}
 use Rattle.tp_model.specs.Acts.{Act, Begin, Record, Journal, Close, Trim}
 
--- The entry is possible: what it takes stands in front of its lines, and its process goes from `was` to `now` and sends this.
+-- The entry is possible: what it takes is at the front of its lines, and its process goes from `was` to `now` and sends this.
 pub record MayBeMade {Node : Type 0} (M : Machine Node) (s : Network Node) (e : Entry) (was now : Own Node) (sends : List (ℕ × Token)) : Type 0 where
   pub out : List (List Token)
   pub front : taken s.lines (takes s.wires (length s.nodes) e) ≡ Some out
@@ -29,14 +29,14 @@ IsOfOthers s e Trim = Unit {0}
 
 -- ## What the book is given at a turn's commit
 
--- the entry of a turn: a Turn where it took tokens, else a Run, else none
+-- the entry of a turn: a Turn if it took tokens, else a Run, else none
 abbrev pub turn_entries : ℕ → List Received → ℕ → List Entry
 turn_entries node takes count = if nat_lt 0 (length (by_link 0 takes)) then Turn node takes count ∷ [] else run_of node count
 
 abbrev pub turn_acts : ℕ → List Received → ℕ → List Act
 turn_acts node takes count = map Journal (turn_entries node takes count)
 
--- the book's half of it, where the turn sent `tokens`, each with its link
+-- the book's half of it, with the `tokens` that the turn sent, each with its link
 abbrev pub with_made : {Node : Type 0} → BookState Node → List Entry → List (ℕ × Token) → BookState Node
 with_made b [] sends = b
 with_made b (e ∷ es) sends = with_half b e b.ports sends
@@ -44,7 +44,7 @@ with_made b (e ∷ es) sends = with_half b e b.ports sends
 abbrev pub with_turn : {Node : Type 0} → BookState Node → ℕ → List Received → ℕ → List (ℕ × Token) → BookState Node
 with_turn b node takes count tokens = with_made b (turn_entries node takes count) (map (λ m. (4 * node + m.0, m.1)) tokens)
 
--- Node i took these tokens, which still stand in front of their lines, made `count` steps, and sent `tokens` for all of it.
+-- Node i took these tokens, which are still at the front of their lines, made `count` steps, and sent `tokens` for all of it.
 pub record HasTurned {Node : Type 0} (M : Machine Node) (b : BookState Node) (i : ℕ) (takes : List Received) (count : ℕ) (tokens : List (ℕ × Token)) (before after : Node) : Type 0 where
   pub into : comes_in b.start.wires (length b.start.nodes) i (by_link 0 takes) ≡ true
   pub out : List (List Token)

@@ -1,8 +1,8 @@
--- A small format of a device with two areas. It shows that what the laws of runs ask of a format can be met.
+-- A small format of a device with two areas. It shows that a format can meet what the laws of runs ask of it.
 --
--- The device has two areas of nine bytes. An area is its gate, its generation, the number of entries in its cut, an image
--- of one byte, two places for groups of two bytes each, and a last gate. A group is its gate and one entry: a byte that
--- the host hands to port 0. Which network an image stands for is left open.
+-- The device has two areas of nine bytes. An area is its gate, its generation, the number of entries in its cut and an image of one byte.
+-- Then come two places for groups of two bytes each, and a last gate. A group is its gate and one entry: a byte that the host hands to port
+-- 0. Any network may belong to an image.
 use Rattle.std.specs.Prelude.{ℕ, zero, suc, ◌+◌, ◌*◌, ◌==◌, nat_lt, nat_le, Bool, true, false, not, ◌||◌, if◌then◌else◌, List, [], ◌∷◌, length, get_or, Option, Some, None}
 use Rattle.std.specs.Option.{option_map}
 use Rattle.tp_model.specs.declared.entry.Entry.{Entry}
@@ -25,8 +25,8 @@ abbrev pub begins : Bool → ℕ
 begins false = 0
 begins true = 9
 
--- which area is the current one, by which gates are open and by whether the second is of higher generation: the only open
--- one, or the one of higher generation
+-- which area is the current one, by which gates are open and by whether the second is of higher generation: the only open one, or the one
+-- of higher generation
 abbrev pub current_of : Bool → Bool → Bool → Option Bool
 current_of true true later = Some later
 current_of true false later = Some false
@@ -50,7 +50,7 @@ held_at image bytes place = record {
   base = small_byte bytes (place + 2);
 }
 
--- that, where its entries are possible
+-- what is held, if its entries are possible
 abbrev pub if_possible : {Node : Type 0} → Machine Node → Held Node → Option (Held Node)
 if_possible M h = after M h.network h.entries >>= λ last. Some h
 
@@ -59,7 +59,7 @@ unfoldable pub small_verdict : {Node : Type 0} → Machine Node → (ℕ → Net
 small_verdict M image bytes =
     if length bytes == 18 then (current bytes >>= λ second. if_possible M (held_at image bytes (begins second))) else None
 
--- the range behind a gate, where it is closed; and the gate's place, where it is open
+-- the range after a gate, if it is closed; and the gate's place, if it is open
 abbrev pub behind : Bool → ℕ → ℕ × ℕ
 behind true place = (0, 0)
 behind false place = (place + 1, 8)
@@ -71,7 +71,7 @@ spare_of bytes (Some second) = behind (is_small_open bytes (begins (not second))
 abbrev pub open_of : List ℕ → Bool → Option ℕ
 open_of bytes second = if is_small_open bytes (begins (not second)) then Some (begins (not second)) else None
 
--- a group of one entry, where there is a place for it
+-- a group of one entry, if there is a place for it
 abbrev pub spelt : ℕ → ℕ → List Entry → Option (ℕ × List ℕ)
 spelt place count (HostIn zero x ∷ []) = if nat_lt count 2 then Some (place + 2 * count, x ∷ GATE_CLOSED ∷ []) else None
 spelt place count _ = None
@@ -79,7 +79,7 @@ spelt place count _ = None
 abbrev pub group_of : List ℕ → List Entry → Bool → Option (ℕ × List ℕ)
 group_of bytes es second = spelt (begins second + 4) (length (entries_at bytes 2 (begins second + 4))) es
 
--- the other area as it is once its gate is open, where it is closed and the area's generation is higher
+-- the other area as it is once its gate is open, if that is closed and the area's generation is higher
 abbrev pub other_of : {Node : Type 0} → Machine Node → (ℕ → Network Node) → List ℕ → Bool → Option (ℕ × Held Node)
 other_of M image bytes second =
     if is_small_open bytes (begins (not second)) || nat_le (small_byte bytes (begins (not second) + 1)) (small_byte bytes (begins second + 1))

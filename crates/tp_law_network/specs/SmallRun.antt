@@ -14,8 +14,8 @@ use Rattle.tp_law_network.specs.Small.{small_areas}
 abbrev pub first_area : List ℕ
 first_area = GATE_OPEN ∷ 1 ∷ 0 ∷ 0 ∷ replicate 5 0
 
--- a device as it is made; one whose other area holds a cut of three entries with image 7, and its gate is closed; and
--- that gate opened
+-- three devices: one as it is made, one whose other area holds a cut of three entries with image 7 after a closed gate, and that one with
+-- the gate opened
 abbrev pub formatted : List ℕ
 formatted = first_area ++ replicate 9 0
 

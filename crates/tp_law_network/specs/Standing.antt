@@ -1,16 +1,16 @@
--- What stands on the device, by the flusher's position in its orders of writing.
+-- What the device holds, by the flusher's position in its orders of writing.
 use Rattle.std.specs.Prelude.{◌≡◌, ℕ, ◌+◌, List, [], ◌∷◌, ◌++◌, length, Some}
 use Rattle.tp_model.specs.declared.entry.Entry.{Entry}
 use Rattle.tp_model.specs.Disk.{Moment, AreWithin, written}
 use Rattle.tp_model.specs.Areas.{Areas, Held, gate_open, gate_closed}
 use Rattle.tp_model.specs.WriteOrder.{Gate}
 
--- Between groups: what is unsynced lies behind the other area's closed gate.
+-- Between groups: what is unsynced comes after the other area's closed gate.
 pub record RestsBetweenGroups {Node : Type 0} (A : Areas Node) (h : Held Node) (disk : Moment) : Type 0 where
   pub reads : A.verdict disk.bytes ≡ Some h
   pub loose : AreWithin (A.spare disk.bytes) disk.unsynced
 
--- A group was written behind its closed gate, over bytes that rested.
+-- A group was written after its closed gate, over bytes that rested.
 pub record Bodied {Node : Type 0} (A : Areas Node) (h : Held Node) (disk : Moment) (place : ℕ) (es : List Entry) : Type 0 where
   pub old : List ℕ
   pub ranges : List (ℕ × ℕ)
@@ -46,7 +46,7 @@ pub record Clearing {Node : Type 0} (A : Areas Node) (h : Held Node) (disk : Mom
   pub other : A.open_other old ≡ Some place
   pub is : disk ≡ record { bytes = written old place gate_closed; unsynced = ranges ++ (place, 1) ∷ [] }
 
--- The other area's gate was written open, where all behind it was there and synced.
+-- The other area's gate was written open, after everything that follows it was written and synced.
 pub record Switching {Node : Type 0} (A : Areas Node) (h : Held Node) (disk : Moment) (copy : Held Node) : Type 0 where
   pub old : List ℕ
   pub place : ℕ

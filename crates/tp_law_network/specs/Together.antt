@@ -9,8 +9,8 @@ pub record IsShapedAs {Node : Type 0} (v w : Network Node) : Type 0 where
   pub nodes : length w.nodes ≡ length v.nodes
   pub count : length w.lines ≡ length v.lines
 
--- In w, each process and each line that it sends is as the pieces have it in which the process is; `v` gives the network of
--- each piece. Wires and counts are those of one of them.
+-- In w, each process and each line that it sends is as the pieces with that process have it; `v` gives the network of each piece. Wires and
+-- counts are those of one of them.
 pub record IsTogether {Node : Type 0} (count : ℕ) (pieces : ℕ → Piece) (v : ℕ → Network Node) (w : Network Node) : Type 0 where
   pub shape : (i : ℕ) × (i < count) × IsShapedAs (v i) w
   pub own : (i : ℕ) → i < count → (p : ℕ) → pieces i p ≡ true → own w p ≡ own (v i) p

@@ -1,4 +1,4 @@
--- The entries that a turn stands for.
+-- The entries that make up a turn.
 use Rattle.std.specs.Prelude.{◌≡◌, ℕ, zero, suc, true, List, [], ◌∷◌, ◌++◌, map, length, nat_lt, nat_le, Some, slice_get}
 use Rattle.tp_model.specs.declared.link.Token.{Token}
 use Rattle.tp_model.specs.declared.link.Received.{Received}
@@ -13,7 +13,7 @@ use Rattle.tp_model.specs.Entries.{takes}
 abbrev pub takes_in : List (ℕ × Token) → List Entry
 takes_in tokens = map (λ m. Take m.0 m.1) tokens
 
--- the run that a turn ends with, where it has steps
+-- the run that a turn ends with, if it has steps
 abbrev pub run_of : ℕ → ℕ → List Entry
 run_of node zero = []
 run_of node (suc k) = Run node (suc k) ∷ []

@@ -23,9 +23,8 @@ ghost use Rattle.tp_model.specs.Acknowledged.{IsAcknowledged, IsShown};
 ghost use Rattle.tp_law_network.specs.Small.{small_areas};
 ghost use Rattle.tp_law_network.specs.SmallRun.{EachAnswers, Stores, one_port, made_world};
 
-/// After each run, whatever a crash leaves stands for the network after a prefix of the journal, and the prefix has each
-/// entry below a mark that was ever read. Opening it goes on with the run. What the journal has below the mark at some
-/// moment, it has at each later one.
+/// After each run, whatever a crash leaves holds the network after a prefix of the journal, and the prefix has each entry below a mark that
+/// was ever read. Opening it goes on with the run. What the journal has below the mark at some moment, it has at each later one.
 pub fn crashes_hold()
     ensures recovers { (areas : Areas NodeState) → AreasHold t414 areas → (start : Network NodeState) (events : List (Event NodeState)) (first last : World NodeState)
         → BeginsFormatted t414 areas start first → Run t414 areas first events last
@@ -37,10 +36,9 @@ pub fn crashes_hold()
         → Step t414 areas last (Reopens bytes r.held r.now) (reopened last bytes r.held r.now) }
 {}
 
-/// The whole theorem. Neighbours that are independent may be swapped; each whole cut is the network after the entries in
-/// it, which may come first, also at each moment of a run with a flusher, a device, crashes and openings; after each run
-/// whatever a crash leaves is recovered; and it has the entries of each receipt that is acknowledged and all causes of
-/// each output byte that is shown.
+/// The whole theorem. Neighbours that are independent may be swapped. Each whole cut is the network after the entries in it, which may come
+/// first, also at each moment of a run with a flusher, a device, crashes and openings. After each run, whatever a crash leaves recovers. It
+/// has the entries of each acknowledged receipt, and all causes of each output byte that is shown.
 pub fn every_run_holds()
     ensures swaps { (s : Network NodeState) (e f : Entry) → (i : AreIndependent t414 s e f)
         → (next t414 s f ≡ Some i.other) × (next t414 i.other e ≡ Some i.last) }
@@ -64,8 +62,8 @@ pub fn every_run_holds()
         → (number < next_number r.held) × (take (number + 1) last.journal ≡ take (number + 1) s.reading.journal) }
 {}
 
-/// What the laws of runs ask of a format can be met: a small format meets it, each of its functions answers something, and
-/// on a device made with it a run stores an entry.
+/// A format can meet what the laws of runs ask of it: a small format does. Each of its functions answers something, and on a device made
+/// with it a run stores an entry.
 pub fn areas_can_hold()
     ensures hold { (image : ℕ → Network NodeState) → AreasHold t414 (small_areas t414 image) }
     ensures answers { (image : ℕ → Network NodeState) → EachAnswers t414 image }
@@ -73,9 +71,9 @@ pub fn areas_can_hold()
     ensures stores { (x : ℕ) → Stores t414 (λ code. one_port) x }
 {}
 
-/// Whatever a call of the store does to the device is a piece of a run without an opening: each moment of the device is that of
-/// a world on the way. Where all its device calls were done, it leads to the world in which its work is done; where one of
-/// them failed, or the run stopped in it, to one in which nothing has changed but the device and the flusher's position.
+/// Whatever a call of the store does to the device is a piece of a run without an opening. Each moment of the device is that of a world on
+/// the way. If all its device calls were done, it leads to the world in which its work is done. If one of them failed, or the run stopped
+/// in it, only the device and the flusher's position have changed.
 pub fn store_calls_walk()
     ensures group { (areas : Areas NodeState) (w : World NodeState) (old new : State) (es more : List Entry) (gate : ℕ) (body : List ℕ)
         → w.at ≡ Resting → w.disk ≡ old.now → w.backlog ≡ es ++ more → areas.group w.disk.bytes es ≡ Some (gate, body)
@@ -93,8 +91,8 @@ pub fn store_calls_walk()
         → AreWalked t414 areas (switch_calls gate) w (record w { at = Opened copy upto; stored = upto }) old new }
 {}
 
-/// Pieces of a run go one behind the other. In a run that began with a formatted device, a crash at any moment of such a piece
-/// leaves only what stands for the network after a prefix of the journal, which has each entry below the mark before it.
+/// Pieces of a run follow one another. In a run that began with a formatted device, let a crash come at any moment of such a piece. It
+/// leaves only what holds the network after a prefix of the journal, and that prefix has each entry below the mark before the piece.
 pub fn walks_recover()
     ensures joined { (areas : Areas NodeState) (w u v : World NodeState) (old mid new : State)
         → Walks t414 areas w u old mid → Walks t414 areas u v mid new → Walks t414 areas w v old new }

@@ -1,4 +1,4 @@
-//! Entries, replayed by pieces of a network: a piece is some of the processes, and the lines that these send, and goes through all
+//! Entries, replayed by pieces of a network. A piece is some of the processes, and the lines that these send, and it goes through all
 //! entries by itself. The functions do nothing; their contracts are the laws.
 
 ghost use Rattle.std.specs.Prelude.{◌≡◌, ◌⊎◌, ◌<◌, ◌≤◌, ◌+◌, ◌++◌, ℕ, List, [], ◌∷◌, Some, length};
@@ -26,18 +26,18 @@ ghost use Rattle.tp_law_network.specs.Arrivals.{came, named};
 ghost use Rattle.tp_law_network.specs.Becomes.{BecomesByItself};
 ghost use Rattle.tp_law_network.specs.CanFollow.{StopsAtFault};
 
-/// Pieces that together have all processes: the least place where one of them stops is where the entries stop in the whole
-/// network. A piece may stop before an entry that isn't possible in it, and before one that would leave more than two tokens on
-/// a line of its own; in a sound network without Markers none does.
+/// Pieces that together have all processes: the entries stop in the whole network at the least place where one of the pieces stops. A piece
+/// may stop before an entry that isn't possible in it, and before one that would leave more than two tokens on a line of its own. In a
+/// sound network without Markers the second never happens.
 pub fn pieces_stop_first()
     ensures { (s : Network NodeState) (es : List Entry) → Sound t414_ends s → ((line : ℕ) → markers (on_line s.lines line) ≡ 0)
         → (count : ℕ) (pieces : ℕ → Piece) (parts : ℕ → Network NodeState) → Covers count pieces → ((i : ℕ) → i < count → Agrees (pieces i) s (parts i))
         → (stops : ℕ → ℕ) → ((i : ℕ) → i < count → StopsAt t414 (pieces i) (parts i) es (stops i)) → IsLeastOf count stops (reach (next t414) s es) }
 {}
 
-/// Where the whole network goes through all entries, each piece that agrees with it goes through them too, and agrees with it at
-/// the end. What pieces hold that agree with a network and have all its processes, put together, is that network; so where each
-/// went through, it is the network after the entries.
+/// If the whole network goes through all entries, each piece that agrees with it goes through them, too, and agrees with it at the end.
+/// Pieces that agree with a network and have all its processes make that network when they are put together. So if each went through, they
+/// make the network after the entries.
 pub fn pieces_make_the_network()
     ensures each { (s t : Network NodeState) (es : List Entry) → after t414 s es ≡ Some t → (has : Piece) (part : Network NodeState) → Agrees has s part
         → (end : Network NodeState) × (after_by (next_in t414 has) part es ≡ Some end) × Agrees has t end }
@@ -48,18 +48,17 @@ pub fn pieces_make_the_network()
         → ((i : ℕ) → i < count → after_by (next_in t414 (pieces i)) (parts i) es ≡ Some (ends i)) → IsTogether count pieces ends w → w ≡ t }
 {}
 
-/// Replaying rows stops where the entries stop that are read of them, at the fault of that row's place; where they don't stop
-/// before the last row, all of them are replayed. Either no entry is read, or all are numbered below the limit, so they are fewer
-/// than that.
+/// Replaying rows stops where the entries that are read of them stop, with the fault of that row's place. If they don't stop before the
+/// last row, all of them are replayed. Either no entry is read, or all numbers are below the limit, so there are fewer entries than that.
 pub fn rows_stop_with_entries()
     ensures stop { (r : Replay NodeState) (rows : List (ℕ × List ℕ)) → RowsStop t414 r rows (readable r.form r.least r.next rows) (reach (next t414) r.now (bare (readable r.form r.least r.next rows))) }
     ensures few { (form : Form) (least next : ℕ) (rows : List (ℕ × List ℕ)) → (readable form least next rows ≡ []) ⊎ (next + length (readable form least next rows) < NUMBER_LIMIT) }
 {}
 
-/// In a sound network, entries stop at the first that its process can't do with its own entries and their tokens alone, or that names
-/// a token which isn't the next one on its line: one that the line had at first, or that an earlier entry of the line's sender sent.
-/// So they stop at the first Take of another token than its sender sent, or before it. Where they don't stop, each process by itself
-/// becomes what it is in the network, and what came on its lines is what entries took there and what is left.
+/// In a sound network, entries stop at the first of two kinds. One is an entry that its process can't do with its own entries and their
+/// tokens alone. The other names a token which isn't the next one on its line: one that the line had at first, or that an earlier entry of
+/// the line's sender sent. So entries stop at or before the first Take of another token than its sender sent. If they don't stop, each
+/// process by itself becomes what it is in the network, and what came on its lines is what entries took there and what is left.
 pub fn tokens_come_from_senders()
     ensures fault { (s : Network NodeState) → Sound t414_ends s → (es : List Entry) → StopsAtFault t414 s es (reach (next t414) s es) }
     ensures take { (s : Network NodeState) → Sound t414_ends s → (xs ys : List Entry) (line : ℕ) (token : Token)
@@ -67,8 +66,8 @@ pub fn tokens_come_from_senders()
     ensures becomes { (s t : Network NodeState) → Sound t414_ends s → (es : List Entry) → after t414 s es ≡ Some t → (process : ℕ) → process ≤ length s.nodes → BecomesByItself t414 s process es t }
 {}
 
-/// Replaying rows is refused where one of them spells a Take of a token that isn't what came on its line: at that row's place, or
-/// at that of a row before it.
+/// If a row spells a Take of a token other than the one that came on its line, replaying the rows fails: at that row's place, or at an
+/// earlier row's.
 pub fn another_token_is_refused()
     ensures { (r : Replay NodeState) (rows : List (ℕ × List ℕ)) → Sound t414_ends r.now → (xs ys : List Entry) (line : ℕ) (token : Token)
         → bare (readable r.form r.least r.next rows) ≡ xs ++ Take line token ∷ ys

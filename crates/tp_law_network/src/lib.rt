@@ -1,5 +1,5 @@
-//! The order of a network's entries: which may be swapped, and what a cut of them leads to. The functions do nothing;
-//! their contracts are laws of networks of this machine's nodes.
+//! The order of a network's entries: which may be swapped, and what a cut of them leads to. The functions do nothing; their contracts are
+//! laws of networks of this machine's nodes.
 #![tactic(auto)]
 
 mod all_runs;
@@ -33,7 +33,7 @@ pub use whole_cuts::{
     cuts_hold, halves_join, reserved_turns_stay, swaps_agree, turns_join, whole_cuts_stay,
 };
 
-/// Every entry keeps a sound network sound. In one, at most one Data and one Ack are on a line, beside its Markers.
+/// Every entry keeps a sound network sound. In a sound network, a line has at most one Data and one Ack besides its Markers.
 pub fn entries_keep_soundness()
     ensures kept { (s t : Network NodeState) (e : Entry) → Sound t414_ends s → next t414 s e ≡ Some t → Sound t414_ends t }
     ensures single { (s : Network NodeState) → Sound t414_ends s → (line : ℕ) → (datas (on_line s.lines line) ≤ 1) × (acks (on_line s.lines line) ≤ 1) }
@@ -45,16 +45,16 @@ pub fn runs_send_few()
     ensures { (count : ℕ) (node : NodeState) (last : NodeState × List (ℕ × Token)) → steps t414 count node ≡ Some last → length last.1 ≤ 8 }
 {}
 
-/// A port's accepted number is how many bytes the host handed to it, and what came out of it how many bytes it took: after any
-/// entries each has grown by the entries of its kind.
+/// A port's accepted number is how many bytes the host handed to it, and its output number how many bytes it took. After any entries each
+/// has grown by the entries of its kind.
 pub fn ports_count_entries()
     ensures { (s t : Network NodeState) (es : List Entry) → after t414 s es ≡ Some t → (p : ℕ) (port : Port) → slice_get s.ports p ≡ Some port
         → (later : Port) × (slice_get t.ports p ≡ Some later)
         × (accepted later ≡ accepted port + count_by (is_input p) es) × (came_out later ≡ came_out port + count_by (is_output s.wires p) es) }
 {}
 
-/// A turn as one entry is its takes, links in order, and then its run: it leads where they lead, and it is possible just where
-/// they are possible one after the other and its tokens are fronts of their lines already.
+/// A turn as one entry is its takes, links in order, and then its run. It leads where they lead. It is possible exactly if they are
+/// possible one after the other and its tokens are already at the fronts of their lines.
 pub fn turns_are_entries()
     ensures leads { (s t : Network NodeState) (i : ℕ) (takes : List Received) (count : ℕ) → next t414 s (Turn i takes count) ≡ Some t → after t414 s (entries_of_turn s i takes count) ≡ Some t }
     ensures possible { (s t : Network NodeState) (i : ℕ) (takes : List Received) (count : ℕ) → IsFront s i takes count → after t414 s (entries_of_turn s i takes count) ≡ Some t → next t414 s (Turn i takes count) ≡ Some t }

@@ -20,18 +20,16 @@ ghost use Rattle.tp_model.specs.Runs.{HasCut, is_trim};
 ghost use Rattle.tp_law_network.specs.Reserved.{MayBeMade, IsOfOthers, HasTurned, IsNotOf, IsReceived, turn_acts, with_turn};
 ghost use Rattle.tp_model.specs.declared.link.Received.{Received};
 
-/// Two neighbours that are independent may be swapped, and lead to the same network. So do all orders that come from
-/// one another by such swaps.
+/// Two neighbours that are independent may be swapped, and lead to one network. So do all orders that come from one another by such swaps.
 pub fn swaps_agree()
     ensures swap { (s : Network NodeState) (e f : Entry) → (i : AreIndependent t414 s e f)
         → (next t414 s f ≡ Some i.other) × (next t414 i.other e ≡ Some i.last) }
     ensures reorder { (s : Network NodeState) (es fs : List Entry) → Reorder t414 s es fs → after t414 s es ≡ after t414 s fs }
 {}
 
-/// Whatever a book, its nodes and their markers do from an opened book on, a whole cut is the network after the entries
-/// in it, and those may come first. There is one exactly where a snapshot runs, all have recorded, and the Marker of
-/// each line that has a wire was taken. The book's entries lead to the network as it is, its Markers left out, in their own
-/// order and in that of a whole cut.
+/// Whatever a book, its nodes and their markers do after it was opened, a whole cut is the network after the entries in it, and those may
+/// come first. There is a whole cut exactly if a snapshot runs, all have recorded, and the Marker of each line that has a wire was taken.
+/// The book's entries lead to the network as it is without its Markers, in their own order and in that of a whole cut.
 pub fn cuts_hold()
     ensures cut { (w v : MarkedNetwork NodeState) → IsOpened t414 w → (acts : List Act) → acted t414 w acts ≡ Some v
         → (cut : WholeCut) → whole v ≡ Some cut → CutHolds t414 v cut }
@@ -44,16 +42,16 @@ pub fn cuts_hold()
         → after t414 v.start (pre (process v.start.wires (length v.start.nodes)) (count_in cut) v.entries ++ post (process v.start.wires (length v.start.nodes)) (count_in cut) v.entries) ≡ Some (plain_network v.live) }
 {}
 
-/// A whole cut stays whole, and neither it nor its frozen nodes change, whatever acts follow, until the book is trimmed to it.
+/// A whole cut stays whole until the book is trimmed to it: whatever acts come before, neither the cut nor its frozen nodes change.
 pub fn whole_cuts_stay()
     ensures { (w v u : MarkedNetwork NodeState) → IsOpened t414 w → (acts : List Act) → acted t414 w acts ≡ Some v
         → (cut : WholeCut) (nodes : List NodeState) → HasCut v cut nodes
         → (more : List Act) → AllByRecursion (λ act. is_trim act ≡ false) more → acted t414 v more ≡ Some u → HasCut u cut nodes }
 {}
 
-/// What is done of an act under a node's lock and what is done under the book's lock are together the act: an entry of a node,
-/// an entry of the host, a beginning, a recording, a Marker taken from in front or from behind other tokens, a trim. The book
-/// alone finds the whole cut.
+/// What is done of an act under a node's lock and what is done under the book's lock are together the act. The acts are an entry of a node,
+/// an entry of the host, a beginning, a recording, a Marker taken from the front or from after other tokens, and a trim. The book alone
+/// finds the whole cut.
 pub fn halves_join()
     ensures node { (b : BookState NodeState) (nodes : List NodeState) (frozen : List (Option NodeState)) → length nodes ≡ length b.start.nodes
         → (e : Entry) (n changed : NodeState) (sends : List (ℕ × Token)) (out : List (List Token))
@@ -83,8 +81,8 @@ pub fn halves_join()
         → whole (marked b nodes frozen) ≡ whole_in b }
 {}
 
-/// What a process has done under its own lock can still be journalled, unchanged, whatever others have done to the book in
-/// between: no entry of theirs, no beginning, recording, closing or trim takes a token from in front of its lines.
+/// What a process has done under its own lock can still be journalled, unchanged, whatever others have done to the book in between. No
+/// entry of theirs, no beginning, recording, closing or trim takes a token from the front of its lines.
 pub fn reserved_turns_stay()
     ensures received { (w v : MarkedNetwork NodeState) (acts : List Act) → acted t414 w acts ≡ Some v
         → (node : ℕ) (takes : List Received) → AllByRecursion (IsNotOf w.live node) acts → IsReceived w.live node takes → IsReceived v.live node takes }
@@ -93,8 +91,8 @@ pub fn reserved_turns_stay()
         → MayBeMade t414 w.live e was now sends → MayBeMade t414 v.live e was now sends }
 {}
 
-/// What a node did in a turn under its lock, from the tokens that it took on, and what the book does at the commit are together the
-/// turn's act: one entry, or none.
+/// A turn's act is one entry, or none. It has two parts: what a node did in the turn under its lock, from the tokens that it took on, and
+/// what the book does at the commit.
 pub fn turns_join()
     ensures { (b : BookState NodeState) (nodes : List NodeState) (frozen : List (Option NodeState)) → length nodes ≡ length b.start.nodes
         → (node : ℕ) (takes : List Received) (count : ℕ) (before after : NodeState) (tokens : List (ℕ × Token)) → slice_get nodes node ≡ Some before

@@ -150,7 +150,7 @@ KeepsPages-copied memory to from count after =
     (λ some. KeepsPages-moved memory (offset to) (offset from) count (leb-true _ _ (rw some at both.0)) (leb-true _ _ (rw some at both.1)))))
     (λ _ is. absurd (cc))
 
--- words behind a first change
+-- words after a first change
 KeepsPages-words : (first : Option (List ℕ)) (ranges : List (ℕ × ℕ)) (memory : List ℕ) (writes : List (ℕ × ℕ)) (after : List ℕ) → length memory % 4 ≡ 0 → ((between : List ℕ) → first ≡ Some between → KeepsPages ranges memory between)
     → option_and_then (λ m. stored m writes) first ≡ Some after → KeepsPages (ranges ++ word_ranges writes) memory after
 KeepsPages-words None ranges memory writes after whole keeps is = absurd (cc)

@@ -56,7 +56,7 @@ AreCopies-elsewhere frames id entry (None ∷ copies) apart own = AreCopies-else
 AreCopies-elsewhere frames id entry (Some here ∷ copies) apart own =
     (owners-other frames id here entry apart.0 ∙ own.0, ap length (bytes-other frames id here entry apart.0) ∙ own.1, own.2, AreCopies-elsewhere frames id entry copies apart.1 own.3)
 
--- what is so of one of the copies
+-- what is true of one of the copies
 pub AreCopies-at : (frames : Frames) (copies : List (Option ℕ)) (i id : ℕ) → AreCopies frames copies → get_or copies i None ≡ Some id → (owners_of frames id ≡ 1) × (length (bytes_of frames id) ≡ PAGE_BYTES)
 AreCopies-at frames [] i id own at = absurd (cc)
 AreCopies-at frames (None ∷ copies) zero id own at = absurd (cc)
@@ -157,7 +157,7 @@ free_in-gone frames copies i (Some id) at own =
     let one = (AreCopies-at frames copies i id own at).0 in let some : 0 < owners_of frames id = omega arith in
     omega (arith, free_in-set frames id None (owned_within frames id some), owned_vacancy (frame frames id) some, copied_in-without copies i id at)
 
--- what is left to go behind a page
+-- what is left to go after a page
 pub copied_in-next : (copies : List (Option ℕ)) (i : ℕ) → i < length copies → copied_in copies ≡ copied_in (drop i copies) → copied_in (set copies i None) ≡ copied_in (drop (i + 1) (set copies i None))
 copied_in-next [] i within all = absurd (omega arith)
 copied_in-next (copy ∷ copies) zero within all = refl
@@ -242,7 +242,7 @@ length-frozen_from page live (copy ∷ copies) frames inside own =
       length-frozen_from (page + 1) live copies frames (omega arith) (AreCopies-rest frames copy copies own),
     )
 
--- where no page has a copy, they are the live bytes
+-- if no page has a copy, they are the live bytes
 pub frozen_from-none : (page : ℕ) (live : List ℕ) (copies : List (Option ℕ)) (frames : Frames) → PAGE_BYTES * page + PAGE_BYTES * length copies ≡ length live → copied_in copies ≡ 0 → frozen_from page live copies frames ≡ drop (PAGE_BYTES * page) live
 frozen_from-none page live [] frames all none = let past : length live ≤ PAGE_BYTES * page = omega arith in sym (drop_past (PAGE_BYTES * page) live past)
 frozen_from-none page live (None ∷ copies) frames all none =
@@ -298,7 +298,7 @@ take_past zero (byte ∷ bytes) past = absurd (omega arith)
 take_past (suc n) [] past = refl
 take_past (suc n) (byte ∷ bytes) past = ap (λ bs. byte ∷ bs) (take_past n bytes (omega arith))
 
--- where no page has a copy, any frames do
+-- if no page has a copy, any frames do
 pub AreCopies-none : (frames : Frames) (copies : List (Option ℕ)) → copied_in copies ≡ 0 → AreCopies frames copies
 AreCopies-none frames [] none = tt
 AreCopies-none frames (None ∷ copies) none = AreCopies-none frames copies none

@@ -14,7 +14,7 @@ use Rattle.tp_mem.specs.declared.fault.WriteFault.TheVariants.{Outside}
 use Rattle.tp_mem.proofs.Writes.{word_within, length-set_word, length-set_byte, length-stored, length-copied, changed_outside, is_inside-long}
 use Rattle.tp_mem.proofs.Written.{items_again, done}
 
--- writes that have no meaning leave memory as it was
+-- writes that aren't possible leave memory as it was
 pub IsStored-outside : (written : Option (List ℕ)) (before : List ℕ) → written ≡ None → IsStored written before (Err Outside) before
 IsStored-outside None before is = refl
 IsStored-outside (Some after) before is = absurd (cc)
@@ -36,7 +36,7 @@ changed-from_outside memory to from count writes out =
 pub byte_changed-past : (memory : List ℕ) (address byte : ℕ) (writes : List (ℕ × ℕ)) → length memory ≤ offset address → byte_changed memory address byte writes ≡ None
 byte_changed-past memory address byte writes past = rw (le-ltb (offset address) (length memory) past) refl
 
--- a first word outside memory, and what is outside behind one
+-- a first word outside memory, and what is outside after one
 pub changed_after-past : (memory : List ℕ) (first : ℕ × ℕ) (to from count : ℕ) (writes : List (ℕ × ℕ)) → length memory ≤ word_offset first.0 → changed_after memory first to from count writes ≡ None
 changed_after-past memory first to from count writes past = rw (le-ltb (word_offset first.0) (length memory) past) refl
 
@@ -67,7 +67,7 @@ pub length-written_back : (items new : List ℕ) (n : ℕ) → length items ≡ 
 length-written_back items new n size =
     omega (arith, length-take n (new ++ drop (length new) items), length-append new (drop (length new) items), length-drop (length new) items)
 
--- and what is so of its length stays so
+-- and what is true of its length stays true
 pub same_length : (copy live after : List ℕ) → length after ≡ length live → (length copy ≡ length live) × (length live ≤ 2 ^ 20) × (length live % PAGE_BYTES ≡ 0) → (length copy ≡ length after) × (length after ≤ 2 ^ 20) × (length after % PAGE_BYTES ≡ 0)
 same_length copy live after long is = rw long is
 

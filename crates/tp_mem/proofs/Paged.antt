@@ -1,4 +1,4 @@
--- What is so of every memory that copies pages before it writes stays so.
+-- What is true of every memory that copies pages before it writes stays true.
 use Rattle.std.proofs.Common.{◌≡◌, ℕ, zero, suc, ◌+◌, ◌*◌, ◌<◌, ◌≤◌, Bool, true, false, cond, List, [], ◌∷◌, length, Option, Some, None, get_or, set, replicate, refl, sym, ap, subst, ◌∙◌, arith, IsSome, IsNone}
 use Rattle.std.proofs.lemmas.List.{length-set, length-replicate}
 use Rattle.tp_model.specs.declared.limits.TheConstants.{MAX_PAGES, PAGE_BYTES}
@@ -49,7 +49,7 @@ module _ (live : List ℕ) (shared : List Bool) (copies : List (Option ℕ)) (fr
   pub private_is : is_frozen ≡ true → private_in shared ≡ copied_in copies
   private_is frozen = ap private_in (paged.flags ∙ ap (λ b. shared_of b copies) frozen) ∙ private_in-shared_of copies
 
-  -- a frame is free where the pages that aren't shared are fewer than the frames
+  -- a frame is free if the pages that aren't shared are fewer than the frames
   pub room_is : (page : ℕ) → get_or shared page false ≡ true → private_in shared < spare_in copies frames → 0 < free_in frames
   room_is page is_shared room = omega (arith, private_is (at_page page is_shared).0)
 

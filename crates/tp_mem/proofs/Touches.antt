@@ -1,4 +1,4 @@
--- Which pages stay shared behind writes.
+-- Which pages stay shared after writes.
 use Rattle.std.proofs.Common.{◌≡◌, ℕ, zero, suc, ◌+◌, ◌-◌, ◌*◌, ◌/◌, ◌<◌, ◌≤◌, Bool, true, false, not, ◌&&◌, ◌||◌, if◌then◌else◌, List, All, [], ◌∷◌, length, get_or, set, drop, refl, sym, ap, ◌∙◌, arith, ltb}
 use Rattle.std.proofs.lemmas.Bool.{ltb-true, and_parts, or_parts}
 use Rattle.std.proofs.Math.Seq.{drop-cons}
@@ -52,7 +52,7 @@ parted_to-next page (suc n) (is_shared ∷ pages) ranges =
     ∙ ap (λ ps. (is_shared && not (list_any (touches page) ranges)) ∷ ps) (parted_to-next (page + 1) n pages ranges)
     ∙ ap (λ k. parted_to page k (is_shared ∷ pages) ranges) (sym next)
 
--- one where a shared page is touched
+-- one if a shared page is touched
 abbrev pub want : Bool → Bool → ℕ
 want is_shared is_touched = if is_shared && is_touched then 1 else 0
 
@@ -61,7 +61,7 @@ private_want true true = refl
 private_want true false = refl
 private_want false is_touched = refl
 
--- the pages that aren't shared, and those that are wanted still, are as many all along
+-- the sum of the pages that aren't shared and of those that still need a frame stays
 pub private_in-parted_to : (page n : ℕ) (pages : List Bool) (ranges : List (ℕ × ℕ)) → private_in (parted_to page n pages ranges) + wanted_from (page + n) (drop n pages) ranges ≡ private_in pages + wanted_from page pages ranges
 private_in-parted_to page zero [] ranges = refl
 private_in-parted_to page (suc n) [] ranges = refl
@@ -79,7 +79,7 @@ wanted_from-next page n pages ranges within =
     ap (λ ps. wanted_from (page + n) ps ranges) (drop-cons pages n false within)
     ∙ ap (λ k. want (get_or pages n false) (list_any (touches (page + n)) ranges) + wanted_from (page + n + 1) (drop k pages) ranges) (sym next)
 
--- ranges that have bytes in the same pages
+-- ranges that have bytes in equal pages
 pub shared_from-same : (page : ℕ) (pages : List Bool) (ranges others : List (ℕ × ℕ)) → ((p : ℕ) → list_any (touches p) ranges ≡ list_any (touches p) others) → shared_from page pages ranges ≡ shared_from page pages others
 shared_from-same page [] ranges others same = refl
 shared_from-same page (is_shared ∷ pages) ranges others same =
@@ -94,7 +94,7 @@ and_not : (is_shared is_touched : Bool) → (is_shared ≡ true → is_touched �
 and_not false is_touched none = refl
 and_not true is_touched none = ap not (none refl)
 
--- where no shared page is touched, all stay as they are
+-- if no shared page is touched, all stay as they are
 pub shared_from-untouched : (page : ℕ) (pages : List Bool) (ranges : List (ℕ × ℕ)) → ((i : ℕ) → get_or pages i false ≡ true → list_any (touches (page + i)) ranges ≡ false) → shared_from page pages ranges ≡ pages
 shared_from-untouched page [] ranges none = refl
 shared_from-untouched page (is_shared ∷ pages) ranges none =
@@ -105,7 +105,7 @@ shared_from-untouched page (is_shared ∷ pages) ranges none =
 pub shared_from-nothing : (page : ℕ) (pages : List Bool) (ranges : List (ℕ × ℕ)) → ((p : ℕ) → list_any (touches p) ranges ≡ false) → shared_from page pages ranges ≡ pages
 shared_from-nothing page pages ranges none = shared_from-untouched page pages ranges (λ i shared. none (page + i))
 
--- what is kept behind other ranges that have bytes in the same pages
+-- what is kept after other ranges that have bytes in equal pages
 pub kept_behind-same : (kept : Kept) (ranges others : List (ℕ × ℕ)) → ((p : ℕ) → list_any (touches p) ranges ≡ list_any (touches p) others)
     → record kept { shared = shared_from 0 kept.shared ranges } ≡ kept_behind kept others
 kept_behind-same kept ranges [] same = ap (λ pages. record kept { shared = pages }) (shared_from-nothing 0 kept.shared ranges same)
@@ -119,7 +119,7 @@ pub not_true : (b : Bool) → ¬ (b ≡ true) → b ≡ false
 not_true true not_so = absurd (not_so refl)
 not_true false not_so = refl
 
--- where a range has bytes in a page
+-- a range has bytes in a page
 pub record Meets (page at len : ℕ) : Type 0 where
   pub some : 0 < len
   pub begins : at < PAGE_BYTES * page + PAGE_BYTES
@@ -209,7 +209,7 @@ words_alone (word ∷ words) page other all differs =
     let untouched = not_true (touches other (word_offset word.0, 4)) (λ touched. let meets = touches-meets other (word_offset word.0) 4 touched in differs (omega (arith, here, meets.begins, meets.ends))) in
     ap (λ b. b || list_any (touches other) (word_ranges words)) untouched ∙ words_alone words page other (λ k d within. all (suc k) d (omega (arith, within))) differs
 
--- ---- where one page alone is touched
+-- ---- if one page alone is touched
 and_touched : (is_shared is_touched : Bool) → is_touched ≡ true → (is_shared && not is_touched) ≡ false
 and_touched is_shared is_touched touched = ap (λ b. is_shared && not b) touched ∙ and_false is_shared
 
@@ -217,7 +217,7 @@ first_differs : (i : ℕ) → ¬ (0 ≡ suc i)
 first_differs i same = absurd (omega (arith, same))
 
 module _ (ranges : List (ℕ × ℕ)) where
-  -- among the pages from `page` on, at most the one `i` behind it has bytes of the ranges
+  -- among the pages from `page` on, at most the one `i` after it has bytes of the ranges
   abbrev pub Alone : ℕ → ℕ → Type 0
   Alone page i = (j : ℕ) → ¬ (j ≡ i) → list_any (touches (page + j)) ranges ≡ false
 
@@ -246,7 +246,7 @@ module _ (ranges : List (ℕ × ℕ)) where
       ap (λ b. b ∷ shared_from (page + 1) pages ranges) (and_not is_shared (list_any (touches page) ranges) (λ shared. at_first page ∙ alone 0 (first_differs i)))
       ∙ ap (λ ps. is_shared ∷ ps) (shared_from-one (page + 1) pages i (touched_next page i touched) (next_alone page i alone))
 
-  -- it wants a frame where it is shared
+  -- it needs a frame if it is shared
   wanted_from-one : (page : ℕ) (pages : List Bool) (i : ℕ) → list_any (touches (page + i)) ranges ≡ true → Alone page i → wanted_from page pages ranges ≡ (if get_or pages i false then 1 else 0)
   wanted_from-one page [] i touched alone = refl
   wanted_from-one page (true ∷ pages) zero touched alone =

@@ -1,5 +1,5 @@
--- Where a write to memory goes outside, it has no meaning; else it keeps the length. What holds of all memories stands in
--- `tp_law_machine`, and callers find it here too.
+-- A write outside memory isn't possible; any other keeps the length. What holds of all memories is in `tp_law_machine`, and callers find it
+-- here, too.
 use Rattle.std.proofs.Common.{Bool, ◌≡◌, ℕ, ◌+◌, ◌%◌, ◌<◌, ◌≤◌, true, false, ◌&&◌, cond, List, [], ◌∷◌, length, Option, Some, None, ◌||◌, ltb, leb, eqb, refl, ap, ◌∙◌, arith}
 use Rattle.std.specs.Prelude.{option_and_then, is_some}
 use Rattle.std.proofs.lemmas.Bool.{cond_both, ltb-true, lt-ltb}
@@ -9,7 +9,7 @@ use Rattle.tp_mem.specs.Bytes.{byte_changed}
 use Rattle.tp_mem.specs.Ranges.{are_inside}
 pub use Rattle.tp_law_machine.proofs.Writes.{word_within, length-set_word, length-set_byte, length-stored, length-byte_stored, length-copied, length-then, length-changed}
 
--- where a write goes outside memory of n bytes, the writes have no meaning
+-- if a write is outside memory of n bytes, the writes aren't possible
 pub stored_outside : (memory : List ℕ) (writes : List (ℕ × ℕ)) (n : ℕ) → length memory ≡ n → n % 4 ≡ 0 → are_inside n writes ≡ false → stored memory writes ≡ None
 stored_outside memory [] n same whole out = cc
 stored_outside memory (write ∷ writes) n same whole out =
@@ -21,7 +21,7 @@ stored_outside memory (write ∷ writes) n same whole out =
     stored_outside (set_word memory (word_offset write.0) write.1) writes n (length-set_word memory (word_offset write.0) write.1 fits ∙ same) whole (rw inside_n at out))
     (λ _. refl)
 
--- writes outside memory give none, also behind a first change that keeps its length
+-- writes outside memory give none, also after a first change that keeps its length
 pub then_outside : (first : Option (List ℕ)) (writes : List (ℕ × ℕ)) (n : ℕ) → ((memory : List ℕ) → first ≡ Some memory → length memory ≡ n) → n % 4 ≡ 0 → are_inside n writes ≡ false → option_and_then (λ memory. stored memory writes) first ≡ None
 then_outside None writes n keeps whole out = refl
 then_outside (Some memory) writes n keeps whole out = stored_outside memory writes n (keeps memory refl) whole out
@@ -36,7 +36,7 @@ is_some-cond : (b : Bool) (o : Option (List ℕ)) (rest : Bool) → (b ≡ true 
 is_some-cond true o rest same = same refl
 is_some-cond false o rest same = refl
 
--- writes have a meaning just where each goes to a word inside
+-- writes are possible exactly if each goes to a word inside
 pub is_some-stored : (memory : List ℕ) (writes : List (ℕ × ℕ)) → length memory % 4 ≡ 0 → is_some (stored memory writes) ≡ are_inside (length memory) writes
 is_some-stored memory [] whole = refl
 is_some-stored memory (write ∷ writes) whole =
@@ -48,7 +48,7 @@ is_some-stored memory (write ∷ writes) whole =
     let whole_after : length after % 4 ≡ 0 = rw same whole in
     is_some-stored after writes whole_after ∙ ap (λ n. are_inside n writes) same)
 
--- a block and words that lie inside can be written
+-- a block and words that are inside can be written
 pub is_some-changed : (memory : List ℕ) (to from count : ℕ) (writes : List (ℕ × ℕ)) → length memory % 4 ≡ 0 → is_inside memory to count ≡ true → is_inside memory from count ≡ true → are_inside (length memory) writes ≡ true
     → is_some (changed memory to from count writes) ≡ true
 is_some-changed memory to from count writes whole inside_to inside_from inside =

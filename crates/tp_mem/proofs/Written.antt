@@ -52,7 +52,7 @@ pub lacks : (old : Paged) (ranges others : List (ℕ × ℕ)) → IsSome old.fro
     → ((p : ℕ) → list_any (touches p) ranges ≡ list_any (touches p) others) → LacksFrames (kept_of old) others
 lacks old ranges others frozen few same = LacksFrames-same (kept_of old) ranges others same (record { frozen = frozen; outnumbered = few })
 
--- what a refused or a done write is
+-- what a write that failed, or was done, is
 pub refused : (written : Option (List ℕ)) (before now : List ℕ) → is_some written ≡ true → now ≡ before → IsStored written before (Err NoFrame) now
 refused None before now some same = absurd (cc)
 refused (Some after) before now some same = same

@@ -1,4 +1,4 @@
--- A block that is copied behind a first word.
+-- A block that is copied after a first word.
 use Rattle.std.specs.Prelude.{ℕ, List, [], ◌∷◌, Option, option_and_then}
 use Rattle.tp_model.specs.Memory.{stored, changed}
 

@@ -1,13 +1,16 @@
--- How a memory is made up that copies a page before the first write to it: each page of the frozen bytes is either the
--- live one, while it is shared, or a copy in a frame.
+-- The parts of a memory that copies a page before the first write to it. Each page of the frozen bytes is either the live one, while it is
+-- shared, or a copy in a frame.
 use Rattle.std.specs.Prelude.{◌≡◌, ℕ, ◌+◌, ◌*◌, ◌≤◌, Bool, false, not, ◌&&◌, List, [], ◌∷◌, ◌++◌, length, set, Option, Some, None, is_some, if◌then◌else◌}
 use Rattle.tp_model.specs.Frames.{Frames, owners_of, bytes_of, free_in}
 use Rattle.tp_model.specs.SharedPages.{Kept}
 use Rattle.tp_model.specs.declared.limits.TheConstants.{MAX_PAGES, PAGE_BYTES}
 use Rattle.tp_mem.specs.Contents.{page_of}
 
--- What contracts see: the live bytes; while memory is frozen, the bytes as they were at the freeze; of each page, whether
--- both share it; and how many frames there are for copies.
+-- What contracts see:
+-- - the live bytes;
+-- - while memory is frozen, the bytes as they were at the freeze;
+-- - of each page, whether both share it;
+-- - how many frames there are for copies.
 pub record Paged : Type 0 where
   pub live : List ℕ
   pub frozen : Option (List ℕ)
@@ -56,7 +59,7 @@ abbrev pub without_copy : Frames → Option ℕ → Frames
 without_copy frames None = frames
 without_copy frames (Some id) = set frames id None
 
--- what is so of every such memory
+-- what is true of every such memory
 pub record IsPaged (live : List ℕ) (shared : List Bool) (copies : List (Option ℕ)) (frames : Frames) (is_frozen : Bool) : Type 0 where
   pub whole : length live ≡ PAGE_BYTES * length copies
   pub few : length copies ≤ MAX_PAGES
@@ -64,7 +67,7 @@ pub record IsPaged (live : List ℕ) (shared : List Bool) (copies : List (Option
   pub own : AreCopies frames copies
   pub thawed : is_frozen ≡ false → copied_in copies ≡ 0
 
--- the frozen bytes, and all frames that are there for copies
+-- the frozen bytes, and all frames for copies
 abbrev pub frozen_of : Bool → List ℕ → List (Option ℕ) → Frames → Option (List ℕ)
 frozen_of is_frozen live copies frames = if is_frozen then Some (frozen_from 0 live copies frames) else None
 

@@ -3,6 +3,6 @@ use Rattle.std.specs.Prelude.{ℕ, Bool, List, nat_lt}
 use Rattle.std.specs.List.{list_all}
 use Rattle.tp_model.specs.Memory.{word_offset}
 
--- each word lies inside a memory of `len` bytes
+-- each word is inside a memory of `len` bytes
 abbrev pub are_inside : ℕ → List (ℕ × ℕ) → Bool
 are_inside len writes = list_all (λ write. nat_lt (word_offset write.0) len) writes

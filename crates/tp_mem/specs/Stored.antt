@@ -3,7 +3,7 @@ use Rattle.std.specs.Prelude.{◌≡◌, ℕ, List, Option, Some, None, Result, 
 use Rattle.tp_mem.specs.declared.fault.WriteFault.{WriteFault}
 use Rattle.tp_mem.specs.declared.fault.WriteFault.TheVariants.{Outside, NoFrame}
 
--- all is written, or nothing. The writes have no meaning where an address lies outside, and just then the call says so
+-- All is written, or nothing. The answer is `Outside` exactly if an address is outside memory.
 abbrev pub IsStored : Option (List ℕ) → List ℕ → Result (Unit {0}) WriteFault → List ℕ → Type 0
 IsStored (Some after) before (Ok u) new = new ≡ after
 IsStored (Some after) before (Err NoFrame) new = new ≡ before
@@ -12,7 +12,7 @@ IsStored None before (Ok u) new = ⊥
 IsStored None before (Err NoFrame) new = ⊥
 IsStored None before (Err Outside) new = new ≡ before
 
--- what is so wherever the answer is that a frame was wanted
+-- what is true if the answer is `NoFrame`
 abbrev pub OnNoFrame : Result (Unit {0}) WriteFault → Type 0 → Type 0
 OnNoFrame (Ok u) cause = Unit {0}
 OnNoFrame (Err NoFrame) cause = cause

@@ -7,7 +7,7 @@ ghost use Rattle.tp_mem.specs.Ranges.{are_inside};
 /// The first address of memory.
 pub const FIRST_ADDRESS: u32 = 0x8000_0000;
 
-/// How far `address` lies behind the first one.
+/// Tells how many bytes `address` is from the first one.
 #[inline(always)]
 pub(crate) fn offset(address: u32) -> usize
     ensures { result ≡ offset address }
@@ -15,7 +15,7 @@ pub(crate) fn offset(address: u32) -> usize
     address.wrapping_sub(FIRST_ADDRESS) as usize
 }
 
-/// Where the word of an address begins.
+/// Tells where the word of `address` begins, as an offset in bytes.
 #[inline(always)]
 pub(crate) fn word_offset(address: u32) -> usize
     ensures { result ≡ word_offset address }
@@ -23,7 +23,7 @@ pub(crate) fn word_offset(address: u32) -> usize
     offset(address / 4 * 4)
 }
 
-/// Whether `count` bytes from `address` on lie inside a memory of `len` bytes.
+/// Whether the `count` bytes from `address` on are inside a memory of `len` bytes.
 #[inline(always)]
 pub(crate) fn is_inside(len: usize, address: u32, count: u32) -> bool
     requires { len < 2 ^ 32 }

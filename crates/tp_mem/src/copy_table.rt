@@ -10,7 +10,7 @@ use std::alloc::{AllocError, Global};
 use tp_frames::{Frame, FrameId, FramePool};
 use tp_model::limits::PAGE_BYTES;
 
-/// The bytes of a page.
+/// Gives the bytes of a page.
 pub(crate) fn page_at(live: &[u8], page: usize) -> &Frame
     requires { PAGE_BYTES * page + PAGE_BYTES ≤ length live.now }
     ensures value { result.now ≡ page_of live.now page }
@@ -23,7 +23,7 @@ pub(crate) fn page_at(live: &[u8], page: usize) -> &Frame
     bytes
 }
 
-/// A table of no copies.
+/// Makes a table of no copies. `AllocError` if memory is out.
 pub(crate) fn no_copies(alloc: Global, pages: usize) -> Result<Vec<Option<FrameId>>, AllocError>
     ensures { IfOk result (λ v. v.items ≡ replicate pages None) }
 {

@@ -1,11 +1,11 @@
-//! Why a write was refused.
+//! Why a write wasn't made.
 
 use thiserror::Error;
 
 /// Nothing was written.
 #[derive(Clone, Copy, Debug, Error)]
 pub enum WriteFault {
-    /// An address lies outside memory. This is answered wherever it is so.
+    /// An address is outside memory. This fault comes before the other one.
     #[error("Outside")]
     Outside,
     /// Memory is frozen, and the shared pages that the call would write outnumber the free frames.
@@ -13,6 +13,6 @@ pub enum WriteFault {
     NoFrame,
 }
 
-/// The shared pages that were to be parted outnumber the free frames. Nothing has changed.
+/// The shared pages to part outnumber the free frames. Nothing has changed.
 #[derive(Clone, Copy)]
 pub struct NoFrame;

@@ -1,7 +1,7 @@
 //! A node's memory: live bytes, and the bytes as they were when it was last frozen.
 //!
-//! [`Mem`] is what the processor sees, [`Freeze`] what a snapshot sees beside it. [`CowMemory`] is both, and copies a page
-//! before the first write to it; [`FlatMemory`] is its slow twin, over two flat lists.
+//! [`Mem`] is what the processor sees; [`Freeze`] adds what a snapshot sees. [`CowMemory`] is both, and copies a page before the first
+//! write to it. [`FlatMemory`] is its slow twin, over two flat lists.
 #![tactic(auto)]
 
 mod access;

@@ -1,4 +1,4 @@
-//! Parting shared pages from their frozen copies, ahead of writes.
+//! Parting shared pages from their frozen copies, before they are written.
 
 ghost use Rattle.std.specs.Prelude.{◌≡◌, ◌+◌, ◌-◌, ◌*◌, ◌/◌, ◌<◌, ◌≤◌, ◌^◌, [], ◌∷◌, ◌&&◌, not, if◌then◌else◌, true, false, length, get_or, set, ◌↔◌, IfOk, OnOk, OnErr, IsOk, IsSome};
 ghost use Rattle.std.specs.List.{list_any};
@@ -25,7 +25,7 @@ impl CowMemory {
         self.shared[page] = false;
     }
 
-    /// Parts a page where it is shared and ranges have bytes in it.
+    /// Parts a page if it is shared and ranges have bytes in it.
     fn part_touched(&mut self, page: usize, first: Range, block: Range, words: &[(u32, u32)])
         requires page { page < length self.old.shared }
         requires first { first.0 + first.1 < 2 ^ 33 }
@@ -42,7 +42,7 @@ impl CowMemory {
         self.part(page);
     }
 
-    /// Parts the shared pages that ranges have bytes in, where the free frames suffice.
+    /// Parts the shared pages that ranges have bytes in. `NoFrame` if there are too few free frames.
     fn separate_pages(
         &mut self,
         first: Range,
@@ -66,7 +66,7 @@ impl CowMemory {
         Ok(())
     }
 
-    /// Parts a page where it is shared, if a frame is free.
+    /// Parts a page if it is shared. `NoFrame` if no frame is free.
     fn separate_page(&mut self, page: usize) -> Result<(), NoFrame>
         ensures ok { IfOk result (λ _. self.new ≡ record self.old { shared = set self.old.shared page false }) }
         ensures fits { OnOk result ((if get_or self.old.shared page false then 1 else 0) ≤ self.old.spare - private_in self.old.shared) }
@@ -82,8 +82,8 @@ impl CowMemory {
         Ok(())
     }
 
-    /// Parts the shared pages that the ranges have bytes in, with a look at one page alone where they have bytes in no other. It is
-    /// never inlined: few writes come here, and the loops of the others stay short.
+    /// Parts the shared pages that the ranges have bytes in. It tests one page alone if they have bytes in no other. It is never inlined:
+    /// few writes come here, and the loops of the others stay short.
     #[inline(never)]
     fn separate_shared(
         &mut self,
@@ -104,7 +104,7 @@ impl CowMemory {
         }
     }
 
-    /// Parts the shared pages that the ranges have bytes in. Where none of their pages is shared, it looks at no others.
+    /// Parts the shared pages that the ranges have bytes in. If none of their pages is shared, it tests no others.
     #[inline(always)]
     pub(crate) fn separate(
         &mut self,
@@ -127,8 +127,8 @@ impl CowMemory {
         self.separate_shared(first, block, words)
     }
 
-    /// Parts the shared pages that `words` have bytes in. It is called where memory is frozen alone, and never inlined, so that all who
-    /// write words stay short.
+    /// Parts the shared pages that `words` have bytes in. It is called only if memory is frozen, and never inlined, so that whatever writes
+    /// words stays short.
     #[inline(never)]
     fn separate_frozen_words(&mut self, words: &[(u32, u32)]) -> Result<(), NoFrame>
         ensures ok { IfOk result (λ _. self.new ≡ record self.old { shared = shared_from 0 self.old.shared ((0, 0) ∷ (0, 0) ∷ word_ranges words.now) }) }
@@ -137,7 +137,7 @@ impl CowMemory {
         self.separate(NOWHERE, NOWHERE, words)
     }
 
-    /// Parts the shared pages that `words` have bytes in. Where memory isn't frozen, it makes no call.
+    /// Parts the shared pages that `words` have bytes in. If memory isn't frozen, it makes no call.
     #[inline(always)]
     pub(crate) fn separate_words(&mut self, words: &[(u32, u32)]) -> Result<(), NoFrame>
         ensures ok { IfOk result (λ _. self.new ≡ record self.old { shared = shared_from 0 self.old.shared ((0, 0) ∷ (0, 0) ∷ word_ranges words.now) }) }
@@ -149,7 +149,7 @@ impl CowMemory {
         self.separate_frozen_words(words)
     }
 
-    /// Parts the page of the `count` bytes at `at`, which lie in one page, where it is shared: one flag is looked at.
+    /// Parts the page of the `count` bytes at `at`, which are in one page, if it is shared. It tests one flag.
     #[inline(always)]
     pub(crate) fn separate_at(&mut self, at: usize, count: usize) -> Result<(), NoFrame>
         requires small { at < 2 ^ 32 }
@@ -166,8 +166,8 @@ impl CowMemory {
         self.separate_shared((at, count), NOWHERE, &[])
     }
 
-    /// Makes the pages of a range private, so that the frozen bytes share none of them. This is done just where the shared
-    /// ones among them are no more than the free frames.
+    /// Makes the pages of a range private, so that the frozen bytes share none of them. `NoFrame`, and nothing changes, if the shared ones
+    /// among them outnumber the free frames.
     pub fn make_private(&mut self, address: u32, count: u32) -> Result<(), NoFrame>
         ensures ok { IfOk result (λ _. self.new ≡ record self.old { shared = shared_from 0 self.old.shared (block_ranges address count) }) }
         ensures err { OnErr result (self.new ≡ self.old) }

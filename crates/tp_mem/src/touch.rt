@@ -15,7 +15,7 @@ pub(crate) type Range = (usize, usize);
 /// The range of no bytes.
 pub(crate) const NOWHERE: Range = (0, 0);
 
-/// The range of a block that is written.
+/// Gives the range of a block that is written.
 pub(crate) fn block(to: u32, count: u32) -> Range
     ensures pages { (page : ℕ) → touches page result ≡ list_any (touches page) (block_ranges to count) }
     ensures small { result.0 + result.1 < 2 ^ 33 }
@@ -35,7 +35,7 @@ fn touches(page: usize, range: Range) -> bool
     range.1 > 0 && range.0 < PAGE_BYTES * page + PAGE_BYTES && PAGE_BYTES * page < range.0 + range.1
 }
 
-/// Whether a word that is written lies in a page.
+/// Whether a word that is written is in a page.
 fn has_word(page: usize, words: &[(u32, u32)]) -> bool
     requires page { page ≤ MAX_PAGES }
     ensures { result ≡ list_any (λ word. touches page (word_offset word.0, 4)) words.now }
@@ -78,7 +78,7 @@ fn shares_range(shared: &[bool], range: Range) -> bool
     false
 }
 
-/// Whether a word that is written lies in a shared page.
+/// Whether a word that is written is in a shared page.
 #[inline(always)]
 fn shares_word(shared: &[bool], words: &[(u32, u32)]) -> bool
     ensures { result ≡ list_any (λ word. get_or shared.now (word_offset word.0 / PAGE_BYTES) false) words.now }
@@ -114,7 +114,7 @@ fn keeps_to(page: usize, range: Range) -> bool
         || range.0 / PAGE_BYTES == page && range.0 + range.1 <= PAGE_BYTES * page + PAGE_BYTES
 }
 
-/// Whether the words that are written lie in one page.
+/// Whether all words that are written are in one page.
 fn have_page(page: usize, words: &[(u32, u32)]) -> bool
     ensures { result ≡ true → All (λ word. word_offset word.0 / PAGE_BYTES ≡ page) words.now }
 {
@@ -123,7 +123,7 @@ fn have_page(page: usize, words: &[(u32, u32)]) -> bool
         .all(|word| word_offset(word.0) / PAGE_BYTES == page)
 }
 
-/// Where the bytes of a range begin, and where it has none those of the first word.
+/// Tells where the bytes of a range begin, or those of the first word if the range has none; `None` without either.
 fn begin_of(range: Range, words: &[(u32, u32)]) -> Option<usize>
     requires small { range.0 + range.1 < 2 ^ 33 }
     ensures { IfSome result (λ at. (at < 2 ^ 33) × (list_any (touches (at / PAGE_BYTES)) (range ∷ word_ranges words.now) ≡ true)) }
@@ -135,8 +135,7 @@ fn begin_of(range: Range, words: &[(u32, u32)]) -> Option<usize>
     Some(word_offset(*address))
 }
 
-/// The page that two ranges and words that are written have bytes in, where they have them in no other. None also where only `block`
-/// has bytes.
+/// Gives the only page that two ranges and words have bytes in. `None` if there are more, and also if only `block` has bytes.
 pub(crate) fn one_page(first: Range, block: Range, words: &[(u32, u32)]) -> Option<usize>
     requires first { first.0 + first.1 < 2 ^ 33 }
     requires block { block.0 + block.1 < 2 ^ 33 }
@@ -151,7 +150,7 @@ pub(crate) fn one_page(first: Range, block: Range, words: &[(u32, u32)]) -> Opti
     }
 }
 
-/// Counts a page: 1 where it is shared and has such bytes, else 0.
+/// Counts a page: 1 if it is shared and has such bytes, else 0.
 fn wants(is_shared: bool, page: usize, first: Range, block: Range, words: &[(u32, u32)]) -> usize
     requires page { page ≤ MAX_PAGES }
     requires first { first.0 + first.1 < 2 ^ 33 }
@@ -165,7 +164,7 @@ fn wants(is_shared: bool, page: usize, first: Range, block: Range, words: &[(u32
     }
 }
 
-/// How many of the shared pages have such bytes.
+/// Counts the shared pages that have such bytes.
 pub(crate) fn wanted(shared: &[bool], first: Range, block: Range, words: &[(u32, u32)]) -> usize
     requires few { length shared.now ≤ MAX_PAGES }
     requires first { first.0 + first.1 < 2 ^ 33 }

@@ -18,7 +18,7 @@ pub(crate) fn read_word(live: &[u8], at: usize) -> u32
     u32::from_le_bytes([live[at], live[at + 1], live[at + 2], live[at + 3]])
 }
 
-/// Reads eight bytes at a place, of which the first is the lowest.
+/// Reads eight bytes at a place, the lowest first.
 #[inline(always)]
 pub(crate) fn read_eight(live: &[u8], at: usize) -> u64
     requires { at + 8 ≤ length live.now }
@@ -55,7 +55,7 @@ pub(crate) fn put_word(live: &mut [u8], at: usize, word: u32)
     live[at..at + 4].copy_from_slice(&word.to_le_bytes());
 }
 
-/// Writes words that all go inside.
+/// Writes words that are all inside.
 #[inline(always)]
 pub(crate) fn put_words(live: &mut [u8], writes: &[(u32, u32)])
     requires aligned { length live.old % 4 ≡ 0 }
@@ -67,7 +67,7 @@ pub(crate) fn put_words(live: &mut [u8], writes: &[(u32, u32)])
     }
 }
 
-/// Copies a block between ranges that lie inside.
+/// Copies a block between ranges that are inside.
 pub(crate) fn move_block(live: &mut [u8], to: u32, from: u32, count: u32)
     requires to { IsTrue (is_inside live.old to count) }
     requires from { IsTrue (is_inside live.old from count) }
@@ -79,7 +79,7 @@ pub(crate) fn move_block(live: &mut [u8], to: u32, from: u32, count: u32)
     }
 }
 
-/// Puts a byte at an address, and then writes words, where all goes inside.
+/// Puts a byte at an address, and then writes words, all of them inside.
 pub(crate) fn put_byte_and_words(live: &mut [u8], address: u32, byte: u8, writes: &[(u32, u32)])
     requires aligned { length live.old % 4 ≡ 0 }
     requires byte { offset address < length live.old }
@@ -90,7 +90,7 @@ pub(crate) fn put_byte_and_words(live: &mut [u8], address: u32, byte: u8, writes
     put_words(live, writes);
 }
 
-/// Copies a block, and then writes words, where all goes inside.
+/// Copies a block, and then writes words, all of them inside.
 #[tactic(auto, using(crate::proofs::Writes::behind_a_word))]
 #[inline(always)]
 pub(crate) fn move_and_put_words(
@@ -110,7 +110,7 @@ pub(crate) fn move_and_put_words(
     put_words(live, writes);
 }
 
-/// Writes a word, then copies a block, and then writes words, where all goes inside.
+/// Writes a word, then copies a block, and then writes words, all of them inside.
 #[tactic(auto, using(crate::proofs::Writes::behind_a_word))]
 pub(crate) fn put_and_move(
     live: &mut [u8],

@@ -3,7 +3,7 @@
 ghost use Rattle.std.specs.Prelude.{◌≡◌, ◌+◌, ◌≤◌, length};
 ghost use Rattle.tp_model.specs.Bytes.{u16_at, u32_at, u64_at};
 
-/// The number in two bytes from a place on.
+/// Reads the number in the two bytes from `at` on.
 #[inline(always)]
 pub fn u16_at(bytes: &[u8], at: usize) -> u16
     requires { at + 2 ≤ length bytes.now }
@@ -12,7 +12,7 @@ pub fn u16_at(bytes: &[u8], at: usize) -> u16
     u16::from_le_bytes([bytes[at], bytes[at + 1]])
 }
 
-/// The number in four bytes from a place on.
+/// Reads the number in the four bytes from `at` on.
 #[inline(always)]
 pub fn u32_at(bytes: &[u8], at: usize) -> u32
     requires { at + 4 ≤ length bytes.now }
@@ -21,7 +21,7 @@ pub fn u32_at(bytes: &[u8], at: usize) -> u32
     u32::from_le_bytes([bytes[at], bytes[at + 1], bytes[at + 2], bytes[at + 3]])
 }
 
-/// The number in eight bytes from a place on.
+/// Reads the number in the eight bytes from `at` on.
 #[inline(always)]
 pub fn u64_at(bytes: &[u8], at: usize) -> u64
     requires { at + 8 ≤ length bytes.now }

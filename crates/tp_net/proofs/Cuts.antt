@@ -88,7 +88,7 @@ both f true true x = refl
 both f true false x = refl
 both f false b x = refl
 
--- one byte behind the dot, which may be a dot
+-- one byte after the dot, which may be a dot
 one_byte : (name : List ℕ) (digit : ℕ) (dot : Bool) → (dot ≡ true → is_link_digit digit ≡ false)
     → named_parts (name ∷ cond dot ([] ∷ [] ∷ []) ((digit ∷ []) ∷ [])) ≡ end_of_parts name (Some (digit ∷ []))
 one_byte name digit true h =
@@ -96,7 +96,7 @@ one_byte name digit true h =
     sym (ap (λ b. cond (is_name name) (option_map f (cond b (Some (digit - 48)) None)) None) (h refl) ∙ cond_same (is_name name) None)
 one_byte name digit false h = both (λ k. (name, Some k)) (is_name name) (is_link_digit digit) (digit - 48)
 
--- more bytes behind the dot, where the first two may be dots
+-- more bytes after the dot; the first two may be dots
 more_bytes : (name : List ℕ) (d e : ℕ) (a b : Bool) (parts : List (List ℕ)) → ([] ≡ parts → ⊥)
     → named_parts (name ∷ cond a ([] ∷ cond b ([] ∷ parts) (onto_first e parts)) (onto_first d (cond b ([] ∷ parts) (onto_first e parts)))) ≡ None
 more_bytes name d e a b [] h = absurd (h refl)
@@ -105,7 +105,7 @@ more_bytes name d e true false (part ∷ parts) h = refl
 more_bytes name d e false true (part ∷ parts) h = refl
 more_bytes name d e false false (part ∷ parts) h = refl
 
--- what stands behind the first dot
+-- what follows the first dot
 behind_dot : (name rest : List ℕ) → named_parts (name ∷ slice_split (λ byte. byte == 46) rest) ≡ end_of_parts name (Some rest)
 behind_dot name [] = sym (cond_same (is_name name) None)
 behind_dot name (digit ∷ []) = one_byte name digit (digit == 46) (λ dot. ap is_link_digit (eqb-true digit 46 dot))

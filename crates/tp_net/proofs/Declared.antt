@@ -102,7 +102,7 @@ module _ (said : Said) (number : ℕ) (name : List ℕ) where
           unfolding with_node
           node_said few = both ∙ ap (λ known. with_node true true known (nat_le MAX_NODES (length said.nodes))) new ∙ ap (with_node true true false) (lt-leb MAX_NODES (length said.nodes) few)
 
--- what was kept is said, unless memory was refused
+-- what was kept is declared, unless memory is out
 pub kept_step : (want : Result Said NetFault) (after new : Said) (r : Result (Unit {0}) NetFault) → want ≡ Ok after → OnOk r (new ≡ after) → IfErr r (λ fault. fault ≡ Memory) → IsStep want new r
 kept_step want after new (Ok done) is ok err = is ∙ ap (λ said. Ok said) (sym ok)
 kept_step want after new (Err fault) is ok err = inl err

@@ -55,7 +55,7 @@ list_any-none : {X : Type 0} (p : X → Bool) (xs : List X) → length xs ≤ po
 list_any-none p [] le = refl
 list_any-none p (x ∷ xs) le = none_from p x xs (p x) le (list_any-none p xs)
 
--- keys that are texts are equal where their bytes are
+-- keys that are texts are equal if their bytes are
 abbrev same_text : Bor (List ℕ) → Bor (List ℕ) → Bool
 same_text first second = bytes_eq first.now second.now
 

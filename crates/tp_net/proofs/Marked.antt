@@ -1,4 +1,4 @@
--- Markers on lines: tokens that go round without them, and looking for one.
+-- Markers on lines: tokens that go round without them, and searching for one.
 use Rattle.std.proofs.Common.{◌≡◌, ℕ, ◌+◌, ◌<◌, ◌≤◌, Bool, true, false, cond, inl, inr, List, [], ◌∷◌, ◌++◌, length, take, drop, refl, sym, ap, ◌∙◌, arith, append-nil, append_assoc, length-append, length-take, length-drop, get_or, Some, slice_get}
 use Rattle.std.proofs.lemmas.Bool.{cases_Bool}
 use Rattle.std.proofs.lemmas.List.{drop_more, take_more}
@@ -55,7 +55,7 @@ module _ (us : List Token) (i : ℕ) (t : Token) (below : i < length us) where
         let few = plain_few (take i us) in
         omega (arith, below, few, ap length off, length-append (drop (i + 1) us) (plain (take i us)), length-drop (i + 1) us, length-take i us)
 
--- ## Looking for one
+-- ## Searching for one
 
 -- a Marker at a place that was reached without one
 pub marker_here : (us : List Token) (i : ℕ) (t : Token) → slice_get us i ≡ Some t → has_marker us ≡ has_marker (drop i us) → is_marker t ≡ true → has_marker us ≡ true

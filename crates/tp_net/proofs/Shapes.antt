@@ -1,4 +1,4 @@
--- What the lines of a text say is a topology, as far as it goes.
+-- What the lines of a text declare is a topology, as far as it goes.
 use Rattle.std.proofs.Common.{◌≡◌, ℕ, zero, suc, ◌+◌, ◌-◌, ◌*◌, ◌/◌, ◌%◌, ◌<◌, ◌≤◌, Bool, true, false, cond, List, [], ◌∷◌, ◌++◌, length, get_or, map, refl, sym, ap, subst, ◌∙◌, arith, Option, Some, None, Result, Ok, Err}
 use Rattle.std.specs.Prelude.{◌&&◌, ◌||◌, ◌==◌, not, nat_lt, nat_le, bytes_eq, codes, IfOk}
 use Rattle.std.specs.List.{list_all, slice_split, range_with_len}
@@ -20,7 +20,7 @@ use Rattle.tp_model.specs.TopologyWords.{words, has_space_around, is_skipped, is
 use Rattle.tp_model.specs.TopologyText.{Said, node_named, port_named, is_known, end_named, same_end, are_ports, end_has_wire, after_node, after_port, wire_joined, after_ends, after_wire, after_words, after_line, read_lines, other_end, topology_of, finished, nothing_said}
 use Rattle.tp_net.proofs.Wired.{Apart, Joined, apart_push, joined_more, joined_push, other_end-back, other_end-there}
 
--- the numbers are within their limits, and the wires lead from ends that are there to others, none of them twice
+-- the numbers are within their limits, and the wires lead from ends that exist to others, none of them twice
 pub record Good (said : Said) : Type 0 where
   pub nodes : length said.nodes ≤ MAX_NODES
   pub ports : length said.ports ≤ MAX_PORTS
@@ -96,7 +96,7 @@ abbrev IsThere : Said → Option WireEnd → Type 0
 IsThere said None = Unit {0}
 IsThere said (Some end) = is_end (length said.nodes) (length said.ports) end ≡ true
 
--- the number of a link, where one is named
+-- the number of a link, if one is named
 abbrev HasLink : Option (List ℕ × Option ℕ) → Type 0
 HasLink None = Unit {0}
 HasLink (Some (name, None)) = Unit {0}
@@ -211,7 +211,7 @@ lines_good said number (line ∷ rest) end h good =
     let step = lines_from number rest (after_line said number line) end h in
     lines_good step.0 (number + 1) rest end step.2 (line_good said number line step.0 step.1 good)
 
--- ## The topology of what was said
+-- ## The topology of what was declared
 
 line_from_end : (N line : ℕ) (b : Bool) → nat_lt line (4 * N) ≡ b → line_of N (cond b (Link (line / 4) (line % 4)) (AtPort (line - 4 * N))) ≡ line
 line_from_end N line true h = omega arith
@@ -305,7 +305,7 @@ finish_from said false h good =
     let parts = or_parts (length said.nodes == 0) (length said.ports == 0) h in
     shape_said said good (none_below (length said.nodes) parts.0) (none_below (length said.ports) parts.1)
 
--- what lines say is a topology, where it has a node and a port
+-- what lines declare is a topology, if it has a node and a port
 pub shape_of_lines : (ls : List (List ℕ)) (said : Said) → read_lines nothing_said 1 ls ≡ Ok said → IfOk (finished said) (λ t. is_topology t ≡ true)
 shape_of_lines ls said h =
     finish_from said (length said.nodes == 0 || length said.ports == 0) refl (lines_good nothing_said 1 ls said h Good-nothing)

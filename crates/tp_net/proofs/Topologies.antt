@@ -61,7 +61,7 @@ pub wire_leads_back : (t : Topology) (i : ℕ) → HasShape t → i < length t.w
 wire_leads_back t i shape lt =
     subst (λ n. leads_back (node_count t) t.ports t.wires n (get_or t.wires i None) ≡ true) (omega arith) (leads_back_at (node_count t) t.ports 0 i t.wires t.wires shape.wires lt)
 
--- a link that a wire leads to is there, and so is a port
+-- a link that a wire leads to exists, and so does a port
 link_there : (N H line : ℕ) (wires : List (Option WireEnd)) (j k : ℕ) → leads_back N H wires line (Some (Link j k)) ≡ true → (j < N) × (k < 4)
 link_there N H line wires j k h =
     let parts = and_parts (is_end N H (Link j k) && joins_link N line (Link j k)) _ h in
@@ -75,7 +75,7 @@ port_there N H line wires p h =
     let both = and_parts (is_end N H (AtPort p)) (joins_link N line (AtPort p)) parts.0 in
     ltb-true p H both.0
 
--- the number of an end that is there, in a head that has fields for all nodes: so a narrow one says it in a byte, and a wide one in two
+-- The number of an end that exists, in a head that has fields for all nodes. So a narrow head says it in a byte, and a wide one in two.
 end_number-there : (version : HeadVersion) (N H line : ℕ) (wires : List (Option WireEnd)) (end : Option WireEnd) → N ≤ head_nodes version → H ≤ MAX_PORTS
     → leads_back N H wires line end ≡ true → end_number version end < first_port version + MAX_PORTS
 end_number-there Narrow N H line wires None few few_ports h = omega arith

@@ -117,7 +117,7 @@ is_end_more N H M G (Link i k) nodes ports h =
     let below = ltb-true i N parts.0 in and_from (nat_lt i M) (nat_lt k 4) (lt-ltb i M (omega arith)) parts.1
 is_end_more N H M G (AtPort p) nodes ports h = let below = ltb-true p H h in lt-ltb p G (omega arith)
 
--- so they are where there are more nodes and ports
+-- with more nodes and ports they still are
 pub joined_more : (N H M G : ℕ) (ws : List (WireEnd × WireEnd)) → N ≤ M → H ≤ G → Joined N H ws → Joined M G ws
 joined_more N H M G [] nodes ports h = tt
 joined_more N H M G (w ∷ ws) nodes ports h =
@@ -149,7 +149,7 @@ there_from N H a b w ws joined false true first second h more =
     )
 there_from N H a b w ws joined false false first second h more = more h
 
--- what is found at an end is there, and isn't a port where the end is one
+-- what is found at an end exists, and isn't a port if the end is one
 pub other_end-there : (N H : ℕ) (a b : WireEnd) (ws : List (WireEnd × WireEnd)) → Joined N H ws → other_end a ws ≡ Some b
     → (is_end N H b ≡ true) × (are_ports a b ≡ false)
 other_end-there N H a b [] joined h = absurd (none-some b h)

@@ -10,14 +10,14 @@ all_lead_back-cons : (N H line : ℕ) (wires ends : List (Option WireEnd)) (end 
 unfolding all_lead_back
 all_lead_back-cons N H line wires ends end = refl
 
--- the wires from one on, by that one and those behind it
+-- the wires from one on, by that one and those after it
 pub all_lead_back_more : (N H line : ℕ) (wires : List (Option WireEnd)) (end : Option WireEnd) → line < length wires
     → all_lead_back N H wires line (drop line wires) ≡ (leads_back N H wires line (get_or wires line end) && all_lead_back N H wires (line + 1) (drop (line + 1) wires))
 all_lead_back_more N H line wires end lt =
     at_drop_more (all_lead_back N H wires line) wires line end lt
     ∙ all_lead_back-cons N H line wires (drop (line + 1) wires) (get_or wires line end)
 
--- one that doesn't lead back decides, and one that does leaves it to those behind it
+-- one that doesn't lead back decides, and one that does leaves it to those after it
 pub all_lead_back-fails : (N H line : ℕ) (wires : List (Option WireEnd)) (result : Bool) → line < length wires
     → result ≡ leads_back N H wires line (get_or wires line None) → result ≡ false → all_lead_back N H wires line (drop line wires) ≡ false
 all_lead_back-fails N H line wires result lt is fails =

@@ -8,7 +8,7 @@ abbrev pub link_in : List ℕ → Option ℕ
 link_in (digit ∷ []) = if is_link_digit digit then Some (digit - 48) else None
 link_in digits = None
 
--- the end with this name, and with this number behind a dot or without one
+-- the end with this name, and with this number after a dot or without one
 abbrev pub end_of_parts : List ℕ → Option (List ℕ) → Option (List ℕ × Option ℕ)
 end_of_parts name None = if is_name name then Some (name, None) else None
 end_of_parts name (Some digits) = if is_name name then option_map (λ k. (name, Some k)) (link_in digits) else None

@@ -9,6 +9,6 @@ abbrev pub names_said : Result Said NetFault → List (List ℕ)
 names_said (Ok said) = map (λ node. node.0) said.nodes
 names_said (Err fault) = []
 
--- The names of the nodes that a text declares, in the order of their numbers; none where a line has a fault.
+-- The names of the nodes that a text declares, in the order of their numbers; none if a line has a fault.
 unfoldable pub node_names : List ℕ → List (List ℕ)
 node_names text = names_said (read_lines nothing_said 1 (lines text))

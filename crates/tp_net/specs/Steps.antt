@@ -15,12 +15,12 @@ pages_by_name nodes = map (λ node. (node.0.now, node.1)) nodes.entries
 abbrev pub names_in : {S : Type 0} → IndexSet (Bor (List ℕ)) S → List (List ℕ)
 names_in names = map (λ name. name.now) names.keys
 
--- A step has left what it should have led to. Or it has a fault: the one that it should have led to, or memory was refused.
+-- A step has left what it should have led to. Or it has a fault: the one that it should have led to, or memory is out.
 abbrev pub IsStep : Result Said NetFault → Said → Result (Unit {0}) NetFault → Type 0
 IsStep want new (Ok done) = want ≡ Ok new
 IsStep want new (Err fault) = (fault ≡ Memory) ⊎ (want ≡ Err fault)
 
--- the fault of what was to be read, or memory was refused
+-- the fault of what was to be read, or memory is out
 abbrev pub IsFaultOf : {T : Type 0} → Result T NetFault → NetFault → Type 0
 IsFaultOf want fault = (fault ≡ Memory) ⊎ (want ≡ Err fault)
 

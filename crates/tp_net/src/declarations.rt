@@ -49,7 +49,7 @@ impl<'a> Declarations<'a> {
         }
     }
 
-    /// The number of the node with this name.
+    /// Gives the number of the node with this name; `None` if there is none.
     fn node_named(&self, name: &str) -> Option<usize>
         ensures value { result ≡ node_named self.now name.now }
         ensures bound { IfSome result (λ i. i < MAX_NODES) }
@@ -57,7 +57,7 @@ impl<'a> Declarations<'a> {
         self.nodes.get_index_of(name)
     }
 
-    /// The number of the port with this name.
+    /// Gives the number of the port with this name; `None` if there is none.
     fn port_named(&self, name: &str) -> Option<usize>
         ensures value { result ≡ port_named self.now name.now }
         ensures bound { IfSome result (λ p. p < MAX_PORTS) }
@@ -65,14 +65,14 @@ impl<'a> Declarations<'a> {
         self.ports.get_index_of(name)
     }
 
-    /// A node or a port has this name.
+    /// Whether a node or a port has this name.
     fn is_known(&self, name: &str) -> bool
         ensures { result ≡ is_known self.now name.now }
     {
         self.node_named(name).is_some() || self.port_named(name).is_some()
     }
 
-    /// The end with this name; none where a port has the number of a link with it, or a node has none.
+    /// Gives the end with this name; `None` for a port with the number of a link, for a node without one, and for an unknown name.
     fn end_named(&self, end: EndName<'_>) -> Option<WireEnd>
         ensures { result ≡ end_named self.now (end.entry.name.now, end.entry.link) }
     {
@@ -88,7 +88,7 @@ impl<'a> Declarations<'a> {
         }
     }
 
-    /// The end has a wire.
+    /// Whether the end has a wire.
     fn has_wire(&self, end: WireEnd) -> bool
         ensures { result ≡ end_has_wire self.now end }
     {
@@ -97,7 +97,7 @@ impl<'a> Declarations<'a> {
             .any(|wire| same_end(end, wire.0) || same_end(end, wire.1))
     }
 
-    /// One more line, whose number is counted from 1.
+    /// Reads one more line, whose number counts from 1.
     pub(crate) fn add_line(
         &mut self,
         alloc: Global,
@@ -118,7 +118,7 @@ impl<'a> Declarations<'a> {
         self.add_words(number, words.as_slice())
     }
 
-    /// A line declares what its words say.
+    /// Declares what a line's words say.
     fn add_words(&mut self, number: u64, words: &[&'a [u8]]) -> Result<(), NetFault>
         ensures { IsStep (after_words self.old number (map (λ word. word.now) words.now)) self.new result }
     {
@@ -129,7 +129,7 @@ impl<'a> Declarations<'a> {
         }
     }
 
-    /// A line of two words declares a port.
+    /// Declares a port by a line of two words.
     fn add_pair(&mut self, number: u64, kind: &[u8], name: &'a [u8]) -> Result<(), NetFault>
         ensures { IsStep (after_words self.old number (kind.now ∷ name.now ∷ [])) self.new result }
     {
@@ -140,7 +140,7 @@ impl<'a> Declarations<'a> {
         }
     }
 
-    /// A line of three words declares a node or a wire.
+    /// Declares a node or a wire by a line of three words.
     fn add_triple(
         &mut self,
         number: u64,
@@ -159,7 +159,7 @@ impl<'a> Declarations<'a> {
         }
     }
 
-    /// A line declares a node. A 65th is TooMany.
+    /// Declares a node. A 65th is `TooMany`.
     fn add_node(&mut self, number: u64, name: &'a [u8], pages: &[u8]) -> Result<(), NetFault>
         ensures { IsStep (after_node self.old number name.now pages.now) self.new result }
     {
@@ -187,7 +187,7 @@ impl<'a> Declarations<'a> {
         Ok(())
     }
 
-    /// A line declares a port. A 9th is TooMany.
+    /// Declares a port. A 9th is `TooMany`.
     fn add_port(&mut self, number: u64, name: &'a [u8]) -> Result<(), NetFault>
         ensures { IsStep (after_port self.old number name.now) self.new result }
     {
@@ -215,7 +215,7 @@ impl<'a> Declarations<'a> {
         Ok(())
     }
 
-    /// A line declares a wire between two ends.
+    /// Declares a wire between two ends.
     fn add_wire(&mut self, number: u64, first: &[u8], second: &[u8]) -> Result<(), NetFault>
         ensures { IsStep (after_wire self.old number first.now second.now) self.new result }
     {
@@ -231,7 +231,7 @@ impl<'a> Declarations<'a> {
         self.join(number, first, second)
     }
 
-    /// Joins two ends by a wire. An end that has one, or one end twice, is TwoWires.
+    /// Joins two ends by a wire. `TwoWires` if an end already has one, or both ends are one.
     fn join(&mut self, number: u64, first: WireEnd, second: WireEnd) -> Result<(), NetFault>
         ensures { IsStep (wire_joined self.old number (Some first) (Some second)) self.new result }
     {
@@ -247,7 +247,7 @@ impl<'a> Declarations<'a> {
         Ok(())
     }
 
-    /// The pages of each node.
+    /// Gives the pages of each node.
     fn pages(&self) -> ArrayVec<u16, MAX_NODES>
         ensures { result.items ≡ map (λ node. node.1) self.now.nodes }
     {
@@ -258,14 +258,14 @@ impl<'a> Declarations<'a> {
         pages
     }
 
-    /// The name of each node.
+    /// Gives the name of each node.
     pub(crate) fn names(&self, alloc: Global) -> Result<Vec<&'a str>, AllocError>
         ensures { IfOk result (λ names. map (λ name. name.now) names.items ≡ map (λ node. node.0) self.now.nodes) }
     {
         self.nodes.keys().copied().collect(alloc)
     }
 
-    /// The end that receives each line.
+    /// Gives the end that receives each line.
     fn receivers(&self) -> ArrayVec<Option<WireEnd>, MAX_LINES>
         ensures { result.items ≡ (topology_of self.now).wires }
     {
@@ -278,7 +278,7 @@ impl<'a> Declarations<'a> {
         ends
     }
 
-    /// The topology that was declared.
+    /// Gives the topology that was declared.
     pub(crate) fn finish(&self) -> Result<Topology, NetFault>
         requires { IfOk (finished self.now) (λ t. is_topology t ≡ true) }
         ensures { IsRead (finished self.now) result }
@@ -291,7 +291,7 @@ impl<'a> Declarations<'a> {
     }
 }
 
-/// The other end of the wire at an end.
+/// Gives the other end of the wire at an end; `None` if there is no wire.
 fn other_end(end: WireEnd, wires: &[(WireEnd, WireEnd)]) -> Option<WireEnd>
     ensures { result ≡ other_end end wires.now }
 {
@@ -313,7 +313,7 @@ fn same_end(first: WireEnd, second: WireEnd) -> bool
     first == second
 }
 
-/// Both ends are ports.
+/// Whether both ends are ports.
 fn are_ports(first: WireEnd, second: WireEnd) -> bool
     ensures { result ≡ are_ports first second }
 {

@@ -12,7 +12,7 @@ use tp_model::limits::{MAX_NODES, MAX_PORTS};
 /// The most lines of a network.
 pub const MAX_LINES: usize = 4 * MAX_NODES + MAX_PORTS;
 
-/// The line that link `link` of node `node` sends.
+/// Gives the line that link `link` of node `node` sends.
 pub fn link_line(node: usize, link: usize) -> usize
     requires node { node < 2 ^ 32 }
     requires link { link < 2 ^ 32 }
@@ -21,7 +21,7 @@ pub fn link_line(node: usize, link: usize) -> usize
     4 * node + link
 }
 
-/// The line that port `port` sends, with `nodes` nodes.
+/// Gives the line that port `port` sends, with `nodes` nodes.
 pub fn port_line(nodes: usize, port: usize) -> usize
     requires nodes { nodes ≤ 2 ^ 32 }
     requires port { port < 2 ^ 32 }
@@ -30,7 +30,7 @@ pub fn port_line(nodes: usize, port: usize) -> usize
     4 * nodes + port
 }
 
-/// The line that `end` sends, with `nodes` nodes.
+/// Gives the line that `end` sends, with `nodes` nodes.
 pub fn line_of(nodes: usize, end: WireEnd) -> usize
     requires { nodes ≤ 2 ^ 32 }
     ensures value { result ≡ line_of nodes end }
@@ -42,7 +42,7 @@ pub fn line_of(nodes: usize, end: WireEnd) -> usize
     }
 }
 
-/// The end that sends line `line`, with `nodes` nodes.
+/// Gives the end that sends line `line`, with `nodes` nodes.
 pub fn end_of(nodes: usize, line: usize) -> WireEnd
     requires few { nodes ≤ MAX_NODES }
     requires there { line < 4 * nodes + MAX_PORTS }
@@ -55,7 +55,7 @@ pub fn end_of(nodes: usize, line: usize) -> WireEnd
     }
 }
 
-/// The end that receives line `line`, by the receivers of all lines; `None` where it has no wire or isn't there.
+/// Gives the end that receives line `line`, by the receivers of all lines; `None` if the line has no wire or doesn't exist.
 pub fn receiver(wires: &[Option<WireEnd>], line: usize) -> Option<WireEnd>
     ensures { result ≡ receiver wires.now line }
 {
@@ -65,7 +65,7 @@ pub fn receiver(wires: &[Option<WireEnd>], line: usize) -> Option<WireEnd>
     }
 }
 
-/// The line that comes back on the wire of line `line`, with `nodes` nodes; `None` where that has no wire.
+/// Gives the line that comes back on the wire of line `line`, with `nodes` nodes; `None` if that line has no wire.
 pub fn back(wires: &[Option<WireEnd>], nodes: usize, line: usize) -> Option<usize>
     requires { nodes < 2 ^ 32 }
     ensures value { result ≡ option_map (line_of nodes) (receiver wires.now line) }

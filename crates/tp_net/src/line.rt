@@ -9,7 +9,7 @@ use std::alloc::{AllocError, Global};
 use std::marker::Model;
 use tp_model::Token;
 
-/// Tokens that a line has room for: a byte, an acknowledge and a marker are all that is ever under way on one.
+/// Tokens that a line has room for: at most a byte, an acknowledge and a Marker are under way on one.
 pub const LINE_TOKENS: usize = 3;
 
 /// Whether a token is a Marker.
@@ -122,7 +122,7 @@ impl Model for Lines {
 }
 
 impl Lines {
-    /// Makes `count` lines, all empty.
+    /// Makes `count` lines, all empty. `AllocError` if memory is out.
     pub fn new(alloc: Global, count: usize) -> Result<Lines, AllocError>
         ensures { IfOk result (λ lines. lines ≡ replicate count []) }
     {
@@ -133,7 +133,7 @@ impl Lines {
         Ok(Lines { lines })
     }
 
-    /// How many lines there are.
+    /// Counts the lines.
     pub fn count(&self) -> usize
         ensures { result ≡ length self.now }
     {
@@ -149,7 +149,7 @@ impl Lines {
         self.lines[line].push(token);
     }
 
-    /// Takes the token off that comes next on a line.
+    /// Takes off the token that comes next on a line; `None` if the line is empty.
     pub fn pop(&mut self, line: usize) -> Option<Token>
         requires { line < length self.old }
         ensures value { result ≡ slice_get (on_line self.old line) 0 }
@@ -158,7 +158,7 @@ impl Lines {
         self.lines[line].pop()
     }
 
-    /// Takes all Markers off a line, also from behind other tokens, which stay in their order.
+    /// Takes all Markers off a line, also from after other tokens, which stay in their order.
     pub fn unmark(&mut self, line: usize)
         requires { line < length self.old }
         ensures { self.new ≡ set self.old line (plain (on_line self.old line)) }
@@ -174,7 +174,7 @@ impl Lines {
         self.lines[line].has_marker()
     }
 
-    /// The token that comes next on a line.
+    /// Gives the token that comes next on a line; `None` if the line is empty.
     pub fn front(&self, line: usize) -> Option<Token>
         requires { line < length self.now }
         ensures { result ≡ slice_get (on_line self.now line) 0 }
@@ -182,7 +182,7 @@ impl Lines {
         self.get(line, 0)
     }
 
-    /// The token at a place of a line, the one that comes next being at 0.
+    /// Gives the token at place `at` of a line, with the one that comes next at 0; `None` after the last one.
     pub fn get(&self, line: usize, at: usize) -> Option<Token>
         requires { line < length self.now }
         ensures { result ≡ slice_get (on_line self.now line) at }
@@ -190,7 +190,7 @@ impl Lines {
         self.lines[line].get(at)
     }
 
-    /// How many tokens there are on a line.
+    /// Counts the tokens on a line.
     pub fn len(&self, line: usize) -> usize
         requires { line < length self.now }
         ensures value { result ≡ length (on_line self.now line) }

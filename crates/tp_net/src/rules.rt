@@ -10,7 +10,7 @@ use crate::ends::{back, line_of, port_line};
 use tp_model::WireEnd;
 use tp_model::limits::{MAX_NODES, MAX_PAGES, MAX_PORTS, MIN_PAGES};
 
-/// Whether `number` lies between `least` and `most`.
+/// Whether `number` is between `least` and `most`.
 fn is_within(number: usize, least: usize, most: usize) -> bool
     ensures { result ≡ (nat_le least number && nat_le number most) }
 {
@@ -31,7 +31,7 @@ fn are_page_counts(pages: &[u16]) -> bool
     pages.iter().all(|count| is_page_count(*count))
 }
 
-/// Whether `end` is there, with `nodes` nodes and `ports` ports.
+/// Whether `end` exists, with `nodes` nodes and `ports` ports.
 fn is_end(nodes: usize, ports: u8, end: WireEnd) -> bool
     ensures { result ≡ is_end nodes ports end }
 {
@@ -63,7 +63,7 @@ fn comes_back(nodes: usize, wires: &[Option<WireEnd>], line: usize, end: WireEnd
     }
 }
 
-/// Whether the wire of line `line` leads to an end that is there, not from a port to a port, and from there it leads back.
+/// Whether the wire of line `line` leads to an end that exists, not from a port to a port, and leads back from there.
 fn leads_back(
     nodes: usize,
     ports: u8,
@@ -84,7 +84,7 @@ fn leads_back(
     }
 }
 
-/// Whether the wire of each line leads back so.
+/// Whether the wire of each line leads back like this.
 fn all_lead_back(nodes: usize, ports: u8, wires: &[Option<WireEnd>]) -> bool
     requires { nodes < 2 ^ 32 }
     ensures { result ≡ all_lead_back nodes ports wires.now 0 wires.now }
@@ -97,8 +97,8 @@ fn all_lead_back(nodes: usize, ports: u8, wires: &[Option<WireEnd>]) -> bool
     true
 }
 
-/// Whether `pages` of each node, `ports` ports and `wires`, the receiver of each line, are a topology: the numbers are within
-/// their limits, and the wires agree both ways.
+/// Whether `pages` of each node, `ports` ports and `wires`, the receiver of each line, are a topology: the numbers are within their limits,
+/// and the wires agree both ways.
 #[tactic(auto, unfolding(tp_model::specs::Topology::is_topology))]
 pub(crate) fn is_topology(pages: &[u16], ports: u8, wires: &[Option<WireEnd>]) -> bool
     ensures { result ≡ is_topology (record { pages = pages.now; ports = ports; wires = wires.now }) }

@@ -53,8 +53,8 @@ impl Topology {
         }
     }
 
-    /// The topology of `pages` of each node, `ports` ports, and `wires`, the end that receives each line; `None` where they
-    /// break a rule.
+    /// Makes the topology of `pages` of each node, `ports` ports, and `wires`, the end that receives each line; `None` if they break a
+    /// rule.
     pub fn of_parts(
         pages: ArrayVec<u16, MAX_NODES>,
         ports: u8,
@@ -69,8 +69,8 @@ impl Topology {
         }
     }
 
-    /// Reads a text that has a line for each node, each port and each wire. A text that isn't one has its first fault in
-    /// the order of its lines.
+    /// Reads a text that has a line for each node, each port and each wire. The answer is else its first fault in the order of its lines,
+    /// or `Memory` if memory is out.
     pub fn read(alloc: Global, text: &[u8]) -> Result<Topology, NetFault>
         ensures { IsRead (read_text text.now) result }
     {
@@ -87,7 +87,7 @@ impl Topology {
         named_in(&mut declared, alloc, text)
     }
 
-    /// The pages of each node.
+    /// Gives the pages of each node.
     pub fn pages(&self) -> &[u16]
         ensures value { result.now ≡ self.now.pages }
         ensures rules { is_topology self.now ≡ true }
@@ -96,7 +96,7 @@ impl Topology {
         self.pages.as_slice()
     }
 
-    /// How many host ports there are.
+    /// Counts the host ports.
     pub fn port_count(&self) -> usize
         ensures value { result ≡ self.now.ports }
         ensures rules { is_topology self.now ≡ true }
@@ -105,7 +105,7 @@ impl Topology {
         usize::from(self.ports)
     }
 
-    /// The end that receives each line, those of the links before those of the ports.
+    /// Gives the end that receives each line, with the lines of the links before those of the ports.
     pub fn wires(&self) -> &[Option<WireEnd>]
         ensures value { result.now ≡ self.now.wires }
         ensures rules { is_topology self.now ≡ true }
@@ -114,7 +114,7 @@ impl Topology {
         self.wires.as_slice()
     }
 
-    /// How many lines there are.
+    /// Counts the lines.
     pub fn line_count(&self) -> usize
         ensures value { result ≡ line_count self.now }
         ensures bound { result ≤ MAX_LINES }
@@ -130,7 +130,7 @@ pub struct Named<'a> {
     pub names: Vec<&'a str>,
 }
 
-/// Reads what all lines of a text declare, behind what was declared before.
+/// Reads what all lines of a text declare, after what was declared before.
 fn declare<'a>(
     declared: &mut Declarations<'a>,
     alloc: Global,
@@ -148,7 +148,7 @@ fn declare<'a>(
     Ok(())
 }
 
-/// The topology that a text declares, where nothing was declared before.
+/// Gives the topology that a text declares, if nothing was declared before.
 fn topology_in<'a>(
     declared: &mut Declarations<'a>,
     alloc: Global,
@@ -162,7 +162,7 @@ fn topology_in<'a>(
     declared.finish()
 }
 
-/// That topology, and its nodes' names.
+/// Gives that topology, and its nodes' names.
 fn named_in<'a>(
     declared: &mut Declarations<'a>,
     alloc: Global,

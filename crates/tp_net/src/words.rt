@@ -11,7 +11,7 @@ ghost use Rattle.tp_net.specs.Ends.{end_of_parts, link_in};
 use std::alloc::{AllocError, Global};
 use tp_model::limits::{MAX_NAME, MAX_PAGES, MIN_PAGES};
 
-/// The words of a line, which one or more spaces part.
+/// Gives the words of a line, which one or more spaces part.
 pub(crate) fn words(alloc: Global, line: &[u8]) -> Result<Vec<&[u8]>, AllocError>
     ensures { IfOk result (λ found. map (λ word. word.now) found.items ≡ words line.now) }
 {
@@ -20,14 +20,14 @@ pub(crate) fn words(alloc: Global, line: &[u8]) -> Result<Vec<&[u8]>, AllocError
         .collect(alloc)
 }
 
-/// A line begins or ends with a space.
+/// Whether a line begins or ends with a space.
 pub(crate) fn has_space_around(line: &[u8]) -> bool
     ensures { result ≡ has_space_around line.now }
 {
     line.first() == Some(&b' ') || line.last() == Some(&b' ')
 }
 
-/// A line is empty or a comment.
+/// Whether a line is empty or a comment.
 pub(crate) fn is_skipped(line: &[u8]) -> bool
     ensures { result ≡ is_skipped line.now }
 {
@@ -64,7 +64,7 @@ fn has_name_bytes(word: &[u8]) -> bool
     word.iter().all(|byte| is_name_byte(*byte))
 }
 
-/// A word is a name.
+/// Whether a word is a name.
 fn is_name(word: &[u8]) -> bool
     ensures { result ≡ is_name word.now }
 {
@@ -77,7 +77,7 @@ fn has_digits(word: &[u8]) -> bool
     word.iter().all(|byte| is_digit(*byte))
 }
 
-/// The number of pages that a word says, if it says one that a node may have.
+/// Gives the number of pages that a word says; `None` if it says none that a node may have.
 pub(crate) fn pages_in(word: &[u8]) -> Option<u16>
     ensures { result ≡ (if is_pages word.now then Some (digits_value 10 word.now) else None) }
 {
@@ -104,7 +104,7 @@ fn begins_with_zero(word: &[u8]) -> bool
     word.first() == Some(&b'0')
 }
 
-/// A word as text, if it is a name.
+/// Gives a word as text; `None` if it is no name.
 pub(crate) fn name_in(word: &[u8]) -> Option<&str>
     ensures { option_copied result ≡ (if is_name word.now then Some word.now else None) }
 {
@@ -124,7 +124,7 @@ pub(crate) struct EndName<'a> {
     pub(crate) link: Option<u8>,
 }
 
-/// The end that a word names, if it names one.
+/// Gives the end that a word names; `None` if it names none.
 pub(crate) fn end_in(word: &[u8]) -> Option<EndName<'_>>
     ensures { option_map (λ end. (end.name.now, end.link)) result ≡ named_end word.now }
 {
@@ -140,7 +140,7 @@ pub(crate) fn end_in(word: &[u8]) -> Option<EndName<'_>>
     })
 }
 
-/// What stands in front of a word's first dot, and behind it if there is one.
+/// Gives what is before a word's first dot, and what is after it, if there is one.
 fn cut_at_dot(word: &[u8]) -> (&[u8], Option<&[u8]>)
     ensures { named_end word.now ≡ end_of_parts result.0.now (option_copied result.1) }
 {
@@ -150,7 +150,7 @@ fn cut_at_dot(word: &[u8]) -> (&[u8], Option<&[u8]>)
     }
 }
 
-/// The number of a link.
+/// Gives the number of a link; `None` if the word is none.
 fn link_in(digits: &[u8]) -> Option<u8>
     ensures { result ≡ link_in digits.now }
 {
@@ -167,7 +167,7 @@ fn place_of(byte: u8, bytes: &[u8]) -> Option<usize>
     bytes.iter().position(|other| *other == byte)
 }
 
-/// The first line of a text, and what stands behind it. Lines end in LF; a CR before it is dropped.
+/// Gives the first line of a text, and what follows it; `None` if the text is empty. Lines end in LF, and a CR before it is dropped.
 pub(crate) fn next_line(text: &[u8]) -> Option<(&[u8], &[u8])>
     ensures { MatchOption result (lines text.now ≡ []) (λ parts. (lines text.now ≡ parts.0.now ∷ lines parts.1.now) × (length parts.1.now < length text.now)) }
 {

@@ -37,14 +37,14 @@ pub halted_rests : (node : NodeState) → IsSome node.cpu.halt → node_step nod
 unfolding node_step step_of
 halted_rests node halted = rw halted refl
 
--- a run makes no more steps than were asked for
+-- a run makes at most as many steps as it may
 pub why_most : (why : Why) (max count : ℕ) (cause : Type 0) (now : NodeState) → IsWhy why max count cause now → count ≤ max
 why_most Full max count cause now is = omega arith
 why_most Idle max count cause now is = omega (arith, is.0)
 why_most NoFrame max count cause now is = omega (arith, is.0)
 why_most Halted max count cause now is = omega (arith, is.0)
 
--- where it made fewer, there is no step more
+-- if it made fewer, there is no further step
 pub why_fewer : (why : Why) (max count : ℕ) (cause : Type 0) (now : NodeState) → IsWhy why max count cause now → (cause → ⊥) → count < max → node_step now ≡ None
 why_fewer Full max count cause now is never fewer = absurd (omega arith)
 why_fewer Idle max count cause now is never fewer = is.1

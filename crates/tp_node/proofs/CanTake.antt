@@ -48,7 +48,7 @@ pub takes_at_links : (node : NodeState) (link : ℕ) (token : Token) → 4 ≤ l
 unfolding took
 takes_at_links node link token past = rw (le-ltb link 4 past) refl
 
--- a byte is taken just where none is held
+-- a byte is taken exactly if none is held
 pub takes_byte : (node : NodeState) (link byte : ℕ) → IsNode node → link < 4 → not (holds node link) ≡ is_some (took node link (Data byte))
 takes_byte node link byte N below = go (holds node link) refl
   where
@@ -56,7 +56,7 @@ takes_byte node link byte N below = go (holds node link) refl
     go false free = ap not free ∙ sym (there_is (took node link (Data byte)) (takes_data node link byte N below free))
     go true held = ap not held ∙ sym (ap is_some (data_refused node link byte below held))
 
--- an acknowledge is taken just where one is waited for
+-- an acknowledge is taken exactly if the end waits for one
 pub takes_acknowledge : (node : NodeState) (link : ℕ) → IsNode node → link < 4 → waits node link ≡ is_some (took node link Ack)
 takes_acknowledge node link N below = go (waits node link) refl
   where

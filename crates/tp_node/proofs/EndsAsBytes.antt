@@ -3,7 +3,7 @@ use Rattle.std.proofs.Common.{◌≡◌, ℕ, ◌+◌, List, [], ◌∷◌, drop
 use Rattle.std.proofs.lemmas.List.{drop-drop}
 use Rattle.tp_model.specs.EndBytes.{ends_at}
 
--- four ends stand 16 bytes apart
+-- four ends are 16 bytes apart
 pub four_ends_apart : {End : Type 0} (end_at : List ℕ → End) (at : ℕ) (bytes : List ℕ)
     → ends_at end_at 4 (drop at bytes) ≡ end_at (drop at bytes) ∷ end_at (drop (at + 16) bytes) ∷ end_at (drop (at + 32) bytes) ∷ end_at (drop (at + 48) bytes) ∷ []
 unfolding ends_at

@@ -1,4 +1,4 @@
--- Words that are written behind what a token puts into memory.
+-- Words that are written after what a token puts into memory.
 use Rattle.std.proofs.Common.{◌≡◌, ℕ, ◌%◌, Bool, true, false, cond, ltb, List, [], ◌∷◌, length, Some, None, is_some, refl, sym, ap, ◌∙◌}
 use Rattle.tp_model.specs.Memory.{word_offset, word_at, set_word, stored}
 use Rattle.tp_mem.proofs.Writes.{length-stored, length-byte_stored}
@@ -16,7 +16,7 @@ is_some-cond : {A : Type 0} (b : Bool) (x : A) → is_some (cond b (Some x) None
 is_some-cond true x = refl
 is_some-cond false x = refl
 
--- so a word behind it has its place just where one is there before it
+-- so a word after it has its place exactly if it has one before it
 pub word_behind : (first : First) (memory m : List ℕ) (address word : ℕ) → length memory % 4 ≡ 0 → first_stored first memory ≡ Some m
     → is_some (stored m ((address, word) ∷ [])) ≡ is_some (word_at memory address)
 word_behind first memory m address word whole is =

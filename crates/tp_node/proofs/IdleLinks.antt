@@ -1,11 +1,11 @@
--- Ends that stand one behind the other in an image.
+-- Ends that are one after the other in an image.
 use Rattle.std.proofs.Common.{◌≡◌, ℕ, suc, ◌+◌, ◌-◌, ◌*◌, ◌<◌, Bool, true, List, drop, ap, ◌∙◌, arith}
 use Rattle.std.specs.Prelude.{◌&&◌}
 use Rattle.std.specs.List.{list_all}
 use Rattle.std.proofs.lemmas.List.{drop-drop}
 use Rattle.tp_model.specs.EndBytes.{ends_at}
 
--- all are, where the first one is and those behind it are
+-- all are, if the first one is and those after it are
 pub ends_step : {End : Type 0} (p : End → Bool) (read : List ℕ → End) (n place : ℕ) (bytes : List ℕ)
     → list_all p (ends_at read (suc n) (drop place bytes)) ≡ (p (read (drop place bytes)) && list_all p (ends_at read n (drop (place + 16) bytes)))
 unfolding ends_at
@@ -21,7 +21,7 @@ link_step p read first link bytes h =
     ∙ ends_step p read (4 - (link + 1)) (first + 16 * link) bytes
     ∙ ap (λ n. p (read (drop (first + 16 * link) bytes)) && list_all p (ends_at read (4 - (link + 1)) (drop n bytes))) place
 
--- behind the last one
+-- after the last one
 pub links_done : {End : Type 0} (p : End → Bool) (read : List ℕ → End) (n place : ℕ) (bytes : List ℕ) → n ≡ 0 → list_all p (ends_at read n (drop place bytes)) ≡ true
 unfolding ends_at
 links_done p read n place bytes e = ap (λ m. list_all p (ends_at read m (drop place bytes))) e

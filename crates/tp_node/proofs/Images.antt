@@ -54,7 +54,7 @@ has_pages n ruly =
     let bounds = and_parts _ _ parts.1 in
     record { whole = eqb-true _ _ parts.0; some = leb-true _ _ bounds.0; few = leb-true _ _ bounds.1 }
 
--- so is the memory of an image
+-- this is true of the memory of an image
 pub image_pages : (bytes : List ℕ) (n : NodeState) → node_of bytes ≡ Some n → HasPages n.memory
 unfolding node_of
 image_pages bytes n =
@@ -64,9 +64,9 @@ image_pages bytes n =
     has_pages n (ap is_node (sym same) ∙ (and_parts _ _ both).0))
     (λ _ is. absurd (cc))
 
--- ## A head with memory behind it
+-- ## A head with memory after it
 
--- what stands in the front
+-- what is in the front
 u8_front : (front rest : List ℕ) (at : ℕ) → at < length front → u8_at (front ++ rest) at ≡ u8_at front at
 u8_front front rest at lt = get_or_append_left front rest 0 at lt
 
@@ -126,7 +126,7 @@ cpu_front front rest le =
       u8_front front rest 1 (omega arith),
     ) refl
 
--- the node that a head spells with memory behind it, by its parts
+-- the node that a head spells with memory after it, by its parts
 pub node_at-front : (front memory : List ℕ) (head : Head) → length front ≡ IMAGE_HEAD_BYTES → head.cpu ≡ cpu_at front → head.outputs ≡ ends_at out_end_at 4 (drop 44 front) → head.inputs ≡ ends_at in_end_at 4 (drop 108 front)
     → node_at (front ++ memory) ≡ state_with head memory
 node_at-front front memory head size cpu outputs inputs =

@@ -1,4 +1,4 @@
--- One step more behind others.
+-- One step more after others.
 use Rattle.std.proofs.Common.{◌≡◌, ℕ, zero, suc, ◌+◌, List, [], ◌++◌, Some, refl, sym, ap, ◌∙◌, arith}
 use Rattle.std.proofs.lemmas.List.{append-nil, append_assoc}
 use Rattle.tp_model.specs.declared.link.Token.{Token}
@@ -30,7 +30,7 @@ one_more {Node} M (suc count) n m sent after are next =
     let together : first.1 ++ (rest.1 ++ after.1) ≡ sent ++ after.1 = sym (append_assoc first.1 rest.1 after.1) ∙ ap (λ xs. xs ++ after.1) whole in
     rw (number, one.1, more) (ap (λ xs. Some (after.0, xs)) together)
 
--- what is kept behind one step more
+-- what is kept after one step more
 pub kept_one_more : (count : ℕ) (n m : NodeState) (sent : List (ℕ × Token)) (after : NodeState × List (ℕ × Token)) (kept : Kept)
     → steps t414 count n ≡ Some (m, sent) → node_step m ≡ Some after → kept_behind_steps (count + 1) n kept ≡ kept_behind (kept_behind_steps count n kept) (node_ranges m)
 unfolding steps

@@ -1,4 +1,4 @@
--- Pieces of one length, written one behind the other into a list.
+-- Pieces of one length, written one after the other into a list.
 use Rattle.std.proofs.Common.{◌≡◌, ℕ, ◌+◌, ◌*◌, ◌-◌, ◌<◌, List, [], ◌∷◌, ◌++◌, length, take, drop, get_or, ap, ◌∙◌, arith}
 use Rattle.std.specs.List.{flat_map}
 use Rattle.std.proofs.lemmas.List.{append-nil, append_assoc, length-append, length-drop, take_at, drop_at, drop-drop, drop_all, take_more, take_all, length-take-le}
@@ -13,7 +13,7 @@ length-pieces f n each (x ∷ xs) =
     let here = each x in
     omega (arith, length-append (f x) (flat_map f xs))
 
--- a piece of m bytes, written behind n bytes that stand in front of what was there
+-- a piece of m bytes, written after n bytes that are before what was there
 pub piece_behind : (n m k : ℕ) (front piece old now part : List ℕ)
     → length front ≡ n → k ≡ length now - n
     → now ≡ front ++ drop n old

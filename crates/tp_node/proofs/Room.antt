@@ -1,5 +1,5 @@
--- How many tokens a node can send: one for each output end that waits for no acknowledge, and one for each input end that
--- holds a byte. A step that sends takes one such end away, and none brings one.
+-- How many tokens a node can send: one for each output end that waits for no acknowledge, and one for each input end that holds a byte. A
+-- step that sends takes one such end away, and no step adds one.
 use Rattle.std.proofs.Common.{◌≡◌, ℕ, ◌+◌, ◌≤◌, Bool, true, false, not, cond, List, [], ◌∷◌, length, set, get_or, Option, Some, None, is_some, refl, subst, arith, rules}
 use Rattle.std.specs.List.{slice_get, sum_by}
 use Rattle.std.proofs.lemmas.List.Sums.{sum_by-set, sum_by-cons}
@@ -35,7 +35,7 @@ can_acknowledge end = bit (is_holding end)
 abbrev pub room : NodeState → ℕ
 room n = sum_by can_send n.outputs + sum_by can_acknowledge n.inputs
 
--- what leaves, and what may leave after it, is no more than before
+-- what leaves, and what may leave after it, is at most what it was before
 abbrev pub Within : {End : Type 0} → (End → ℕ) → ℕ → LinkOutcome End → Type 0
 Within f most (Did cpu memory end token) = bit (is_some token) + f end ≤ most
 Within f most (Fails fault) = Unit {0}

@@ -17,7 +17,7 @@ use Rattle.tp_mem.proofs.Kept.{frozen-kept_behind}
 use Rattle.tp_node.proofs.OneMore.{one_more, kept_one_more}
 use Rattle.tp_node.proofs.Room.{room, room_step}
 
--- the steps that were made lead here, what they sent is in order, what may still leave has its place, and what is kept is as they leave it
+-- The steps that were made lead here, what they sent is in order, and what may still leave has its place. What is kept is as they leave it.
 pub record Runs (count : ℕ) (before now : NodeState) (sent : List (ℕ × Token)) (was now_kept : Kept) : Type 0 where
   pub steps : steps t414 count before ≡ Some (now, sent)
   pub places : length sent + room now ≤ 8

@@ -1,4 +1,4 @@
--- The process of a descriptor is queued, behind what a token puts into memory.
+-- The process of a descriptor is queued, after what a token puts into memory.
 use Rattle.std.proofs.Common.{◌≡◌, ℕ, ◌%◌, true, false, List, [], ◌∷◌, ◌++◌, length, Option, Some, None, is_some, refl, sym, ap, ◌∙◌, true≢false}
 use Rattle.std.specs.Prelude.{option_and_then, if◌then◌else◌}
 use Rattle.tp_model.specs.Memory.{word_at, stored}
@@ -18,7 +18,7 @@ none_of : (o : Option (List ℕ)) → is_some o ≡ false → o ≡ None
 none_of None is = refl
 none_of (Some m) is = absurd (true≢false is)
 
--- what has its place behind what the token puts
+-- what has its place after what the token puts
 some_alone : (o : Option (List ℕ)) → is_some o ≡ true → is_some (option_and_then (λ m. stored m []) o) ≡ true
 some_alone None is = absurd (true≢false (sym is))
 some_alone (Some m) is = refl

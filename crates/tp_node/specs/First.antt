@@ -1,4 +1,4 @@
--- What a token puts into memory, before the process that hears of it is queued.
+-- What a token puts into memory, before the process is queued that it concerns.
 use Rattle.std.specs.Prelude.{◌≡◌, ℕ, List, [], ◌∷◌, ◌++◌, Option, Some, option_and_then}
 use Rattle.tp_model.specs.Memory.{byte_stored, stored}
 use Rattle.tp_model.specs.SharedPages.{byte_ranges}
@@ -14,11 +14,11 @@ first_stored Nothing memory = Some memory
 first_stored (Byte address byte) memory = byte_stored memory address byte
 first_stored (Word address word) memory = stored memory ((address, word) ∷ [])
 
--- and after words behind it
+-- and after words written next
 abbrev pub stored_behind : First → List (ℕ × ℕ) → List ℕ → Option (List ℕ)
 stored_behind first writes memory = option_and_then (λ m. stored m writes) (first_stored first memory)
 
--- the ranges that it writes, and those of what goes on behind it
+-- the ranges that it writes, and those of what follows it
 abbrev pub put_ranges : First → List (ℕ × ℕ)
 put_ranges Nothing = []
 put_ranges (Byte address byte) = byte_ranges address

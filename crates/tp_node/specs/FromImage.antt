@@ -6,8 +6,8 @@ use Rattle.tp_node.specs.declared.fault.ImageFault.{ImageFault}
 use Rattle.tp_node.specs.declared.fault.ImageFault.TheVariants.{BadImage, Memory}
 use Rattle.tp_node.specs.NodeContents.{NodeContents}
 
--- The node whose image the bytes are, not frozen. They are refused just where they are no image, and memory is wanting
--- only where they are one.
+-- The node whose image the bytes are, not frozen. The answer is `BadImage` exactly if they are no image, and `Memory` is only answered if
+-- they are one.
 abbrev pub ReadsImage : Option NodeState → Result NodeContents ImageFault → Type 0
 ReadsImage (Some state) (Ok node) = (node.live ≡ state) × (node.frozen ≡ None)
 ReadsImage (Some state) (Err Memory) = Unit {0}

@@ -1,4 +1,4 @@
--- What a call answers and leaves that tells a process of a token.
+-- What a call that tells a process of a token answers and leaves.
 use Rattle.std.specs.Prelude.{◌≡◌, ℕ, List, Option, Some, Result, Ok, Err}
 use Rattle.tp_model.specs.NodeState.{NodeState}
 use Rattle.tp_model.specs.declared.processor.Cpu.{Cpu}
@@ -8,8 +8,7 @@ use Rattle.tp_node.specs.declared.fault.NoFrame.{NoFrame}
 abbrev pub with_both : Cpu → List ℕ → NodeState → NodeState
 with_both cpu memory node = record node { cpu = cpu; memory = memory }
 
--- The change is that of the definition, from the memory that the token's own write leaves; or nothing has changed, and
--- `cause` is so.
+-- The change is that of the definition, from the memory that the token's own write leaves; or nothing has changed, and `cause` is true.
 abbrev pub Hears : (NodeState → NodeState) → Option (List ℕ) → Type 0 → Cpu → List ℕ → Result (Unit {0}) NoFrame → Cpu → List ℕ → Type 0
 Hears told written cause cpu was (Ok u) after now =
     (node : NodeState) (memory : List ℕ) → written ≡ Some memory → told (with_both cpu memory node) ≡ with_both after now node

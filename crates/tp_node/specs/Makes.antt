@@ -1,4 +1,4 @@
--- What a call answers and leaves that makes a step of a node.
+-- What a call that makes a step of a node answers and leaves.
 use Rattle.std.specs.Prelude.{◌≡◌, ℕ, List, Option, Some, None, option_to_list}
 use Rattle.tp_model.specs.NodeState.{NodeState}
 use Rattle.tp_model.specs.SharedPages.{Kept, kept_behind}
@@ -6,8 +6,8 @@ use Rattle.tp_model.specs.declared.link.Token.{Token}
 use Rattle.tp_node.specs.declared.step.StepOutcome.{StepOutcome}
 use Rattle.tp_node.specs.declared.step.StepOutcome.TheVariants.{Step, Idle, NoFrame}
 
--- The node is the one after the step, and what leaves is answered, with its link. Where there is no step, or memory has
--- no frame, nothing has changed; the latter has a cause.
+-- The node is the one after the step, and the answer is what leaves, with its link. If there is no step, or memory has no frame, nothing
+-- has changed; the latter has a cause.
 abbrev pub Makes : Option (NodeState × List (ℕ × Token)) → Type 0 → NodeState → StepOutcome → NodeState → Type 0
 Makes (Some after) cause before (Step token) now = (now ≡ after.0) × (option_to_list token ≡ after.1)
 Makes (Some after) cause before NoFrame now = cause × (now ≡ before)

@@ -6,8 +6,11 @@ use Rattle.tp_model.specs.NodeState.{NodeState}
 use Rattle.tp_node.specs.declared.head.Head.{Head}
 use Rattle.tp_node.specs.StateWith.{state_with}
 
--- the node; while it is frozen, the node as it was at the freeze; of each page of its memory, whether both share it; and
--- how many frames there are for the pages that they don't share
+-- what contracts see of a node:
+-- - the node as it is;
+-- - while it is frozen, the node as it was at the freeze;
+-- - of each page of its memory, whether both share it;
+-- - how many frames there are for the pages that they don't share
 pub record NodeContents : Type 0 where
   pub live : NodeState
   pub frozen : Option NodeState

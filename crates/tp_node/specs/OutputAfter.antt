@@ -1,4 +1,4 @@
--- An output behind a word that is stored first.
+-- An output after a word that is stored first.
 use Rattle.std.specs.Prelude.{ℕ, ◌==◌, if◌then◌else◌, List, [], ◌++◌, Option, None}
 use Rattle.tp_model.specs.SharedPages.{word_ranges}
 use Rattle.tp_model.specs.Processor.{save_writes}

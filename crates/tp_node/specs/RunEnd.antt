@@ -5,14 +5,13 @@ use Rattle.tp_model.specs.Node.{node_step}
 use Rattle.tp_node.specs.declared.run.Why.{Why}
 use Rattle.tp_node.specs.declared.run.Why.TheVariants.{Full, Idle, NoFrame, Halted}
 
--- how many steps were asked for and how many were made; and why no more
+-- how many steps were allowed and how many were made; and why no more
 pub record RunEnd : Type 0 where
   pub max : ℕ
   pub count : ℕ
   pub why : Why
 
--- All steps were made, or: there is no step; memory has no frame for the next one, which has a cause; the node has
--- halted.
+-- All steps were made; or there is no step; or memory has no frame for the next one, which has a cause; or the node has halted.
 abbrev pub IsWhy : Why → ℕ → ℕ → Type 0 → NodeState → Type 0
 IsWhy Full max count cause now = count ≡ max
 IsWhy Idle max count cause now = (count < max) × (node_step now ≡ None) × (now.cpu.halt ≡ None)

@@ -1,4 +1,4 @@
--- Where a node stands between its turns.
+-- The state of a node between its turns.
 use Rattle.std.specs.Prelude.{ℕ, Bool, true, false, ◌||◌, Option, Some, None, if◌then◌else◌, slice_get}
 use Rattle.tp_model.specs.NodeState.{NodeState}
 use Rattle.tp_model.specs.Node.{waits}
@@ -19,7 +19,7 @@ is_listening (Some (Enabled process)) = true
 abbrev pub waits_at_end : NodeState → ℕ → Bool
 waits_at_end node k = waits node k || is_listening (slice_get node.inputs k)
 
--- A node that has halted stands at the instruction at which it did; else a process waits at one of its links, or none does.
+-- A node that has halted is at the instruction at which it did; else a process waits at one of its links, or none does.
 abbrev pub standing_with : Option Fault → NodeState → Standing
 standing_with (Some fault) node = Halted fault node.cpu.iptr
 standing_with None node =

@@ -22,8 +22,8 @@ abbrev pub is_word : Option ℕ → ℕ → Bool
 is_word None word = false
 is_word (Some found) word = found == word
 
--- The process of an alternative that enabled an end. It waits once it has made `altwt` and no partner has come: that is what its
--- workspace says, and whom a byte at that end wakes (`signal_state` of `Node`).
+-- The process of an alternative that enabled an end. It waits once it has made `altwt` and no partner has come. Its workspace says this,
+-- and a byte at that end wakes it (`signal_state` of `Node`).
 abbrev pub chooser : List ℕ → ℕ → Option Waiter
 chooser memory process =
     if is_word (word_at memory (state_at (workspace process))) waiting

@@ -15,7 +15,7 @@ use tp_cpu::{ENABLING, READY, WAITING, queue, queue_write, state_at, workspace};
 use tp_mem::Mem;
 use tp_model::{Cpu, Fault, News};
 
-/// A node that runs halts, since a process lies outside memory.
+/// Halts a node that runs, since a process is outside memory.
 fn halt_outside(cpu: &mut Cpu)
     ensures { (node : NodeState) (memory : List ℕ) → bad_address (with_both cpu.old memory node) ≡ with_both cpu.new memory node }
 {
@@ -24,7 +24,7 @@ fn halt_outside(cpu: &mut Cpu)
     }
 }
 
-/// Queues the process of a descriptor, behind what the token puts into memory.
+/// Queues the process of a descriptor, after what the token puts into memory.
 #[inline(always)]
 #[tactic(auto, using(crate::proofs::FirstStored::word_behind))]
 fn wake<M: Mem>(cpu: &mut Cpu, mem: &mut M, first: First, descriptor: u32) -> Result<(), NoFrame>
@@ -53,7 +53,7 @@ fn wake<M: Mem>(cpu: &mut Cpu, mem: &mut M, first: First, descriptor: u32) -> Re
     }
 }
 
-/// A partner has come for the alternative of a descriptor.
+/// Tells the alternative of a descriptor that a partner has come.
 #[tactic(auto, using(crate::proofs::FirstStored::word_behind))]
 fn signal<M: Mem>(cpu: &mut Cpu, mem: &mut M, descriptor: u32) -> Result<(), NoFrame>
     ensures hears { Hears (tell (News.Alternative descriptor)) (Some (M.bytes mem.old)) (LacksFrames (M.kept mem.old) (tell_ranges (News.Alternative descriptor) cpu.old (M.bytes mem.old))) cpu.old (M.bytes mem.old) result cpu.new (M.bytes mem.new) }

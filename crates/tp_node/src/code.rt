@@ -5,7 +5,7 @@ ghost use Rattle.tp_model.specs.Image.{halt_byte, halt_of, state_byte, state_of}
 
 use tp_model::{Fault, State};
 
-/// The byte that says in an image why a node halted: 0 where it runs.
+/// Gives the byte that says in an image why a node halted: 0 if it runs.
 pub fn halt_byte(halt: Option<Fault>) -> u8
     ensures { result ≡ halt_byte halt }
 {

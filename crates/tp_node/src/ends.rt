@@ -59,7 +59,7 @@ fn put_in_end(out: &mut [u8], end: InEnd)
     }
 }
 
-/// Writes output ends, one behind the other.
+/// Writes output ends, one after the other.
 pub(crate) fn put_outputs(out: &mut [u8], ends: &[OutEngine])
     requires { 16 * length ends.now ≤ length out.old }
     ensures { out.new ≡ flat_map out_end_bytes ends.now ++ drop (16 * length ends.now) out.old }
@@ -69,7 +69,7 @@ pub(crate) fn put_outputs(out: &mut [u8], ends: &[OutEngine])
     }
 }
 
-/// Writes input ends, one behind the other.
+/// Writes input ends, one after the other.
 pub(crate) fn put_inputs(out: &mut [u8], ends: &[InEngine])
     requires { 16 * length ends.now ≤ length out.old }
     ensures { out.new ≡ flat_map in_end_bytes ends.now ++ drop (16 * length ends.now) out.old }
@@ -101,7 +101,7 @@ fn out_end_at(bytes: &[u8], at: usize) -> OutEngine
     }
 }
 
-/// The byte that an input end holds, if it holds one.
+/// Reads the byte that an input end holds; `None` if it holds none.
 fn held_at(bytes: &[u8], at: usize) -> Option<u8>
     requires { at + 16 ≤ length bytes.now }
     ensures { result ≡ (if u8_at (drop at bytes.now) 1 == 0 then None else Some (u8_at (drop at bytes.now) 2)) }
@@ -126,7 +126,7 @@ fn in_end_at(bytes: &[u8], at: usize) -> InEngine
     }
 }
 
-/// The output ends of links 0 to 3 from a place on.
+/// Reads the output ends of links 0 to 3 from a place on.
 #[tactic(auto, using(crate::proofs::EndsAsBytes::four_ends_apart))]
 pub(crate) fn outputs_at(bytes: &[u8], at: usize) -> [OutEngine; 4]
     requires { at + 64 ≤ length bytes.now }
@@ -140,7 +140,7 @@ pub(crate) fn outputs_at(bytes: &[u8], at: usize) -> [OutEngine; 4]
     ]
 }
 
-/// The input ends of links 0 to 3 from a place on.
+/// Reads the input ends of links 0 to 3 from a place on.
 #[tactic(auto, using(crate::proofs::EndsAsBytes::four_ends_apart))]
 pub(crate) fn inputs_at(bytes: &[u8], at: usize) -> [InEngine; 4]
     requires { at + 64 ≤ length bytes.now }

@@ -1,4 +1,4 @@
-//! Why a call is refused.
+//! Why a call fails.
 
 use thiserror::Error;
 
@@ -8,7 +8,7 @@ pub enum ImageFault {
     /// The bytes are no node's image.
     #[error("BadImage")]
     BadImage,
-    /// Memory was refused. No bytes cause it.
+    /// Out of memory. No bytes cause it.
     #[error("Memory")]
     Memory,
 }

@@ -8,7 +8,7 @@ ghost use Rattle.tp_node.specs.LinkEnds.{kept_done};
 use crate::fault::NoFrame;
 use tp_mem::{Mem, WriteFault};
 
-/// What a token puts into memory, before the process that hears of it is queued.
+/// What a token puts into memory, before the process is queued that it concerns.
 #[derive(Clone, Copy)]
 pub(crate) enum First {
     Nothing,
@@ -17,7 +17,7 @@ pub(crate) enum First {
 }
 
 impl First {
-    /// Puts it into memory, and then writes a word, if there is one.
+    /// Puts it into memory, and then writes a word, if there is one. `NoFrame`, and nothing changes, if a frame is missing.
     pub(crate) fn store<M: Mem>(self, mem: &mut M, behind: &[(u32, u32)]) -> Result<(), NoFrame>
         requires { IsSome (stored_behind self behind.now (M.bytes mem.old)) }
         ensures ok { OnOk result (stored_behind self behind.now (M.bytes mem.old) ≡ Some (M.bytes mem.new)) }

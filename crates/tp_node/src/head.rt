@@ -1,4 +1,4 @@
-//! A node apart from its memory, and the bytes in front of the memory in its image.
+//! A node apart from its memory, and the bytes before the memory in its image.
 
 ghost use Rattle.std.specs.Prelude.{◌≡◌, ◌≤◌, ◌+◌, ◌*◌, ◌∷◌, ◌++◌, ℕ, List, length, drop};
 ghost use Rattle.std.specs.List.{flat_map};
@@ -58,7 +58,7 @@ fn cpu_at(bytes: &[u8]) -> Cpu
     }
 }
 
-/// The words from Iptr to the queues.
+/// Gives the words from Iptr to the queues.
 fn words_of(cpu: &Cpu) -> [u32; 9]
     ensures { result ≡ words_of cpu.now }
 {
@@ -75,7 +75,7 @@ fn words_of(cpu: &Cpu) -> [u32; 9]
     ]
 }
 
-/// Writes words, one behind the other.
+/// Writes words, one after the other.
 fn put_words(out: &mut [u8], words: &[u32])
     requires { 4 * length words.now ≤ length out.old }
     ensures { out.new ≡ flat_map u32_bytes words.now ++ drop (4 * length words.now) out.old }
@@ -85,7 +85,7 @@ fn put_words(out: &mut [u8], words: &[u32])
     }
 }
 
-/// Writes two bytes and a number behind them.
+/// Writes two bytes and then a number.
 fn put_four(out: &mut [u8], first: u8, second: u8, number: u16)
     requires { 4 ≤ length out.old }
     ensures { out.new ≡ (first ∷ second ∷ u16_bytes number) ++ drop 4 out.old }
@@ -96,7 +96,7 @@ fn put_four(out: &mut [u8], first: u8, second: u8, number: u16)
 }
 
 impl Head {
-    /// The head that the bytes spell, if they spell one.
+    /// Reads the head that the bytes spell, if they spell one.
     pub(crate) fn read(bytes: &[u8]) -> Head
         requires { IMAGE_HEAD_BYTES ≤ length bytes.now }
         ensures cpu { result.cpu ≡ cpu_at bytes.now }
@@ -110,7 +110,7 @@ impl Head {
         }
     }
 
-    /// Writes the bytes in front of a memory of `pages` pages.
+    /// Writes the bytes before a memory of `pages` pages.
     pub(crate) fn write(&self, pages: u16, out: &mut [u8])
         requires { IMAGE_HEAD_BYTES ≤ length out.old }
         ensures { (memory : List ℕ) → page_count memory ≡ pages → out.new ≡ image_head (state_with self.now memory) ++ drop IMAGE_HEAD_BYTES out.old }

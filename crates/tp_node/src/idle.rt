@@ -8,21 +8,21 @@ ghost use Rattle.tp_model.specs.Image.{node_at, has_idle_links};
 
 use crate::image_places::{END_BYTES, INPUTS_PLACE, LINKS, OUTPUTS_PLACE};
 
-/// The byte of `image` at `at`; 0 behind its end.
+/// Gives the byte of `image` at `at`; 0 after its end.
 fn byte_at(image: &[u8], at: usize) -> u8
     ensures { result ≡ u8_at image.now at }
 {
     image.get(at).copied().unwrap_or(0)
 }
 
-/// Whether the output end that stands here is idle.
+/// Whether the output end at this place is idle.
 fn is_idle_out(image: &[u8], at: usize) -> bool
     ensures { result ≡ is_idle_out (out_end_at (drop at image.now)) }
 {
     byte_at(image, at) == 0
 }
 
-/// Whether the input end that stands here is idle and holds no byte.
+/// Whether the input end at this place is idle and holds no byte.
 fn is_idle_in(image: &[u8], at: usize) -> bool
     requires { at < 2 ^ 32 }
     ensures { result ≡ is_idle_in (in_end_at (drop at image.now)) }
@@ -54,7 +54,7 @@ fn are_idle_ins(image: &[u8]) -> bool
     true
 }
 
-/// Whether no link of `image` has a message under way, holds a byte, or waits for one.
+/// Whether all links of `image` are idle: without a message under way, a byte that is held, or a wait for one.
 #[tactic(auto, unfolding(tp_model::specs::Image::node_at))]
 pub fn has_idle_links(image: &[u8]) -> bool
     ensures { result ≡ has_idle_links (node_at image.now) }

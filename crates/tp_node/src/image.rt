@@ -21,7 +21,7 @@ fn keeps_rules(head: &Head, len: usize) -> bool
         && are_inputs(len, &head.inputs)
 }
 
-/// The head that `front` spells, if that and `len` bytes of memory behind it may be an image.
+/// Reads the head that `front` spells; `None` if `front` and `len` bytes of memory after it can't be an image.
 pub(crate) fn read_head(front: &[u8], len: usize) -> Option<Head>
     requires { length front.now ≡ IMAGE_HEAD_BYTES }
     ensures { (memory : List ℕ) → length memory ≡ len → node_of (front.now ++ memory) ≡ option_map (λ head. state_with head memory) result }
@@ -39,7 +39,7 @@ pub(crate) fn read_head(front: &[u8], len: usize) -> Option<Head>
     }
 }
 
-/// The head and the memory of the node whose image the bytes are, if they are one.
+/// Reads the head and the memory of the node whose image the bytes are; `None` if they are no image.
 pub(crate) fn read_image(bytes: &[u8]) -> Option<(Head, &[u8])>
     ensures { node_of bytes.now ≡ option_map (λ parts. state_with parts.0 parts.1.now) result }
 {

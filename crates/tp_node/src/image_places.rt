@@ -1,4 +1,4 @@
-//! Where the fields of a node's image stand.
+//! Where the fields of a node's image are.
 
 /// The version, the halt code and the number of pages.
 pub const VERSION_PLACE: usize = 0;
@@ -18,7 +18,7 @@ pub const B_PLACE: usize = 16;
 
 pub const C_PLACE: usize = 20;
 
-/// The front of each queue, with the back in the word behind it.
+/// The front of each queue, with the back in the next word.
 pub const HIGH_PLACE: usize = 24;
 
 pub const LOW_PLACE: usize = 32;
@@ -40,7 +40,7 @@ pub const OUTPUTS_PLACE: usize = 44;
 
 pub const INPUTS_PLACE: usize = OUTPUTS_PLACE + END_BYTES * LINKS;
 
-/// Where an end's process, pointer and count stand behind its first byte.
+/// Where an end's process, pointer and count are, counted from its first byte.
 pub const PROCESS_PLACE: usize = 4;
 
 pub const POINTER_PLACE: usize = 8;

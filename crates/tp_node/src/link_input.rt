@@ -9,7 +9,7 @@ use crate::transfer::{advanced, has_more};
 use std::marker::Model;
 use tp_model::{Arrival, InEnd, News, Started, Token, Transfer};
 
-/// Takes the bytes that come. A byte for which nobody waits is held, without an acknowledge.
+/// Takes the bytes that come. If nobody waits for a byte, it holds it, without an acknowledge.
 #[derive(Clone, Copy)]
 pub struct InEngine {
     end: InEnd,
@@ -49,7 +49,7 @@ impl InEngine {
         }
     }
 
-    /// Begins the message `transfer`. A held byte is its first one, and is acknowledged.
+    /// Begins the message `transfer`. A held byte is its first one, and is acknowledged. `LinkBusy` if the end inputs or is enabled.
     pub fn start(&mut self, transfer: Transfer) -> Result<Started, LinkBusy>
         ensures { Answers (in_started transfer self.old) self.old result self.new }
     {
@@ -99,7 +99,8 @@ impl InEngine {
         }
     }
 
-    /// Enables the end for the alternative of `process`. Answers whether a byte is held already.
+    /// Enables the end for the alternative of `process`. Answers whether it already holds a byte. `LinkBusy` if it inputs, or another
+    /// process enabled it.
     pub fn enable(&mut self, process: u32) -> Result<bool, LinkBusy>
         ensures { Answers (in_enabled process self.old) self.old result self.new }
     {
@@ -114,7 +115,8 @@ impl InEngine {
         }
     }
 
-    /// Disables the end for the alternative of `process`. Answers whether a byte is held.
+    /// Disables the end for the alternative of `process`. Answers whether it holds a byte. `LinkBusy` if it inputs, or another process
+    /// enabled it.
     pub fn disable(&mut self, process: u32) -> Result<bool, LinkBusy>
         ensures { Answers (in_disabled process self.old) self.old result self.new }
     {
@@ -129,7 +131,7 @@ impl InEngine {
     }
 }
 
-/// Gives the end behind a byte of a message that went to memory.
+/// Gives the end after a byte of a message that went to memory.
 fn filled(transfer: Transfer) -> InEnd
     ensures { result ≡ filled transfer }
 {
@@ -140,7 +142,7 @@ fn filled(transfer: Transfer) -> InEnd
     }
 }
 
-/// Says for whom a byte of a message is news: for its process, where the byte is the last one.
+/// Says for whom a byte of a message is news: for its process, if the byte is the last one.
 fn news_of(transfer: Transfer) -> News
     ensures { result ≡ (if has_more transfer then News.Nobody else News.Process transfer.process) }
 {

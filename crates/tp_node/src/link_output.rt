@@ -49,7 +49,7 @@ impl OutEngine {
         }
     }
 
-    /// Gives the address of the byte that leaves at the next acknowledge, if one is left.
+    /// Gives the address of the byte that leaves at the next acknowledge; `None` if none is left.
     pub fn next_pointer(self) -> Option<u32>
         ensures { result ≡ next_pointer self }
     {
@@ -60,7 +60,7 @@ impl OutEngine {
         }
     }
 
-    /// Begins the message `transfer`, whose first byte leaves.
+    /// Begins the message `transfer`, whose first byte leaves. `LinkBusy` if the end already waits.
     pub fn start(&mut self, transfer: Transfer, byte: u8) -> Result<Token, LinkBusy>
         ensures { Answers (out_started transfer byte self.old) self.old result self.new }
     {

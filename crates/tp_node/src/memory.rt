@@ -9,7 +9,8 @@ use tp_model::limits::PAGE_BYTES;
 /// The kind of memory.
 pub(crate) type Memory = CowMemory;
 
-/// Makes a memory of `pages` pages that holds `bytes`, with `spare` frames for copies, but no more than it has pages.
+/// Makes a memory of `pages` pages that holds `bytes`, with `spare` frames for copies, but no more than it has pages. `AllocError` if
+/// memory is out.
 pub(crate) fn reserve(
     alloc: Global,
     pages: usize,
@@ -23,8 +24,8 @@ pub(crate) fn reserve(
     Memory::new(alloc, pages, spare.min(pages), bytes)
 }
 
-/// Makes a memory of `pages` pages of their bytes `live`, which aren't copied, with `spare` frames for copies, but no more than it has
-/// pages.
+/// Makes a memory of `pages` pages from their bytes `live`, which aren't copied, with `spare` frames for copies, but no more than it has
+/// pages. `AllocError` if memory is out.
 pub(crate) fn take_over(
     alloc: Global,
     pages: usize,

@@ -33,7 +33,7 @@ use tp_mem::Freeze;
 use tp_model::limits::{IMAGE_HEAD_BYTES, PAGE_BYTES};
 use tp_model::{Fault, InEnd, Token};
 
-/// A node. While it is frozen, it is kept as it was then, beside what it is now.
+/// A node. While it is frozen, it also holds what it was then.
 #[derive(Drop)]
 pub struct Node {
     head: Head,
@@ -54,7 +54,8 @@ impl Model for Node {
 }
 
 impl Node {
-    /// The node of an image. No more spare frames are reserved than the node has pages.
+    /// Makes the node of an image. It reserves `spare` frames, but no more than the node has pages. `BadImage` if the bytes are no image,
+    /// and `Memory` if memory is out.
     pub fn from_image(alloc: Global, bytes: &[u8], spare: usize) -> Result<Node, ImageFault>
         ensures reads { ReadsImage (node_of bytes.now) result }
         ensures frames { IfOk result (λ node. HasFrames spare node) }
@@ -72,8 +73,8 @@ impl Node {
         }
     }
 
-    /// The node whose image is `head` and the bytes of `memory` behind it, which aren't copied. No more spare frames are reserved than
-    /// the node has pages.
+    /// Makes the node whose image is `head` and then the bytes of `memory`, which aren't copied. It reserves `spare` frames, but no more
+    /// than the node has pages. `BadImage` if they are no image, and `Memory` if memory is out.
     pub fn from_parts(
         alloc: Global,
         head: &[u8; IMAGE_HEAD_BYTES],
@@ -97,7 +98,7 @@ impl Node {
         }
     }
 
-    /// Why the node has halted, if it has.
+    /// Tells why the node has halted; `None` if it runs.
     pub fn halt(&self) -> Option<Fault>
         ensures { result ≡ self.now.live.cpu.halt }
     {
@@ -120,8 +121,8 @@ impl Node {
         self.head.inputs[link as usize].is_holding()
     }
 
-    /// Whether a link of a node that has an image can take `token` now: a byte where none is held, an acknowledge where one is
-    /// waited for, a marker nowhere. There is no fifth link.
+    /// Whether a link of a node that has an image can take `token` now: a byte if it holds none, an acknowledge if it waits for one, a
+    /// Marker never. There is no fifth link.
     #[tactic(auto, using(crate::proofs::CanTake::takes_at_links, crate::proofs::CanTake::takes_byte, crate::proofs::CanTake::takes_acknowledge, crate::proofs::CanTake::takes_no_marker))]
     pub fn can_take(&self, link: u8, token: &Token) -> bool
         ensures { IsNode self.now.live → result ≡ is_some (took self.now.live link token.now) }
@@ -148,7 +149,7 @@ impl Node {
         self.waits(link) || listens
     }
 
-    /// Where it stands between its turns.
+    /// Tells its state between its turns.
     pub fn standing(&self) -> Standing
         ensures { result ≡ standing self.now.live }
     {
@@ -165,7 +166,7 @@ impl Node {
         }
     }
 
-    /// What is left to do for it by itself. Tokens that may be under way to it don't count.
+    /// Tells what is left to do for it by itself. Tokens that may be under way to it don't count.
     pub fn rest(&self) -> Rest
         ensures value { result ≡ rest_of self.now.live }
         ensures steps { LeavesNoStep result self.now.live }
@@ -173,14 +174,14 @@ impl Node {
         rest_of(&self.head, &self.memory)
     }
 
-    /// Where its next instruction is.
+    /// Gives the address of its next instruction.
     pub fn iptr(&self) -> u32
         ensures { result ≡ self.now.live.cpu.iptr }
     {
         self.head.cpu.iptr
     }
 
-    /// The process that waits at the output end of a link, if one does.
+    /// Gives the process that waits at the output end of a link; `None` if none does.
     pub fn sender(&self, link: u8) -> Option<Waiter>
         requires { link < 4 }
         ensures { result ≡ sender self.now.live link }
@@ -188,7 +189,7 @@ impl Node {
         sender_at(&self.memory, self.head.outputs[link as usize].end())
     }
 
-    /// The process that waits at the input end of a link, if one does.
+    /// Gives the process that waits at the input end of a link; `None` if none does.
     pub fn listener(&self, link: u8) -> Option<Waiter>
         requires { link < 4 }
         ensures { result ≡ listener self.now.live link }
@@ -203,7 +204,7 @@ impl Node {
         has_nobody(&self.head, &self.memory)
     }
 
-    /// How many pages its memory has.
+    /// Counts the pages of its memory.
     pub fn pages(&self) -> usize
         ensures live { length self.now.live.memory ≡ PAGE_BYTES * result }
         ensures frozen { IfSome self.now.frozen (λ node. length node.memory ≡ PAGE_BYTES * result) }
@@ -228,7 +229,7 @@ impl Node {
         self.frozen = Some(self.head);
     }
 
-    /// Writes the bytes in front of the memory in the frozen node's image.
+    /// Writes the bytes before the memory in the frozen node's image.
     pub fn frozen_head(&self, out: &mut [u8; IMAGE_HEAD_BYTES])
         requires { IsSome self.now.frozen }
         ensures { IfSome self.now.frozen (λ node. out.new ≡ image_head node) }
@@ -255,8 +256,8 @@ impl Node {
         self.frozen = None;
     }
 
-    /// Takes a token that comes in on a link, also where the node has halted. Answers what leaves on that link. It is
-    /// refused only where the shared pages that the token would write outnumber the free frames.
+    /// Takes a token that comes in on a link, also after the node has halted. Answers what leaves on that link. `NoFrame`, and nothing
+    /// changes, if the shared pages that the token would write outnumber the free frames.
     #[tactic(auto, using(crate::proofs::Keeps::kept_same), unfolding(tp_model::specs::Node::took))]
     pub fn take(&mut self, link: u8, token: Token) -> Result<Option<Token>, NoFrame>
         requires { IsSome (took self.old.live link token) }
@@ -271,9 +272,9 @@ impl Node {
         }
     }
 
-    /// Makes at most `max` steps. What leaves goes into `out`, each token with its link. It ends for want of a frame only
-    /// before a step that would write shared pages which outnumber the free frames; that step isn't counted. `runs` is what the
-    /// thread keeps of instructions, whichever node's they were.
+    /// Makes at most `max` steps. What leaves goes into `out`, each token with its link. It ends for lack of a frame only before a step
+    /// that would write more shared pages than there are free frames, and doesn't count that step. `runs` is what the thread keeps of
+    /// instructions, of whichever node.
     #[inline(always)]
     #[tactic(auto, using(crate::proofs::Keeps::kept_same))]
     pub fn run(&mut self, runs: &mut Runs, max: u16, out: &mut ArrayVec<(u8, Token), 8>) -> Ran

@@ -16,7 +16,7 @@ use tp_cpu::{BAD_ADDRESS, Undone, descriptor_of, end, saved_at, store, store_all
 use tp_mem::Mem;
 use tp_model::{Cpu, Fault, OutRequest, Token, Transfer};
 
-/// The byte of an address, as it is behind a first word that is to be stored.
+/// Reads the byte of an address as it is after a first word that is to be stored; `None` outside memory.
 fn byte_after<M: Mem>(mem: &M, first: Option<(u32, u32)>, address: u32) -> Option<u8>
     ensures { (m : List ℕ) → held first (M.bytes mem.now) ≡ Some m → result ≡ byte_at m address }
 {
@@ -41,7 +41,7 @@ fn hold<M: Mem>(mem: &mut M, first: Option<(u32, u32)>) -> Result<(), Undone>
     }
 }
 
-/// Writes a word behind a first one.
+/// Writes a word after a first one.
 #[inline(always)]
 fn store_behind<M: Mem>(
     mem: &mut M,
@@ -68,7 +68,7 @@ fn is_held<M: Mem>(mem: &M, first: Option<(u32, u32)>) -> bool
     }
 }
 
-/// Begins an output behind a first word that is to be stored.
+/// Begins an output after a first word that is to be stored.
 #[inline(always)]
 #[tactic(auto, using(tp_cpu::proofs::Behind::behind))]
 fn output_after<M: Mem>(

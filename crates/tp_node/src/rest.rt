@@ -14,7 +14,7 @@ use tp_model::State;
 pub enum Rest {
     /// The node has halted, or each node of the network has.
     Halted,
-    /// Nothing is left to do, and not each node has halted.
+    /// Nothing is left to do, and some node hasn't halted.
     Quiet,
     /// Something is left to do.
     Busy,
@@ -35,7 +35,7 @@ pub(crate) fn has_nobody<M: Mem>(head: &Head, mem: &M) -> bool
     is_idle && head.cpu.high.front == NOT_PROCESS && head.cpu.low.front == NOT_PROCESS && is_nobody
 }
 
-/// What is left to do for the node of a head and a memory. It has no step where nothing is.
+/// Tells what is left to do for the node of a head and a memory. If nothing is, it has no step.
 #[tactic(auto, using(crate::proofs::Answered::halted_rests, crate::proofs::Resting::nobody_rests))]
 pub(crate) fn rest_of<M: Mem>(head: &Head, mem: &M) -> Rest
     ensures value { result ≡ rest_of (state_with head.now (M.bytes mem.now)) }

@@ -18,7 +18,7 @@ pub(crate) fn is_memory(len: usize) -> bool
     len % PAGE_BYTES == 0 && MIN_PAGES <= pages && pages <= MAX_PAGES
 }
 
-/// Whether a message under way has a byte left, and all that is left lies inside `len` bytes of memory.
+/// Whether a message under way has a byte left, and all that is left is inside `len` bytes of memory.
 fn is_under_way(len: usize, transfer: Transfer) -> bool
     ensures { (memory : List ℕ) → length memory ≡ len → result ≡ is_under_way memory transfer }
 {
@@ -44,7 +44,7 @@ fn is_in_end(len: usize, end: InEnd) -> bool
     }
 }
 
-/// Whether each output end keeps its rule beside `len` bytes of memory.
+/// Whether each output end keeps its rule with `len` bytes of memory.
 pub(crate) fn are_outputs(len: usize, ends: &[OutEngine]) -> bool
     ensures { (memory : List ℕ) → length memory ≡ len → result ≡ list_all (is_out_end memory) ends.now }
 {
@@ -56,7 +56,7 @@ pub(crate) fn are_outputs(len: usize, ends: &[OutEngine]) -> bool
     true
 }
 
-/// Whether each input end keeps its rule beside `len` bytes of memory.
+/// Whether each input end keeps its rule with `len` bytes of memory.
 pub(crate) fn are_inputs(len: usize, ends: &[InEngine]) -> bool
     ensures { (memory : List ℕ) → length memory ≡ len → result ≡ list_all (is_in_end memory) ends.now }
 {

@@ -46,14 +46,14 @@ impl Model for Ran {
 }
 
 impl Ran {
-    /// How many steps were asked for.
+    /// Tells how many steps the call allowed.
     pub fn max(&self) -> u16
         ensures { result ≡ self.now.max }
     {
         self.max
     }
 
-    /// How many were made.
+    /// Tells how many steps were made.
     pub fn count(&self) -> u16
         ensures { result ≡ self.now.count }
     {
@@ -67,7 +67,7 @@ impl Ran {
     }
 }
 
-/// What leaves goes behind what left before.
+/// Appends what leaves to what left before.
 fn push(sent: &mut ArrayVec<(u8, Token), 8>, token: Option<(u8, Token)>)
     requires { length sent.old.items + length (option_to_list token) ≤ 8 }
     ensures { sent.new.items ≡ sent.old.items ++ option_to_list token }
@@ -77,7 +77,7 @@ fn push(sent: &mut ArrayVec<(u8, Token), 8>, token: Option<(u8, Token)>)
     }
 }
 
-/// Why a node has no step.
+/// Tells why a node has no step.
 fn why_none(halt: Option<Fault>) -> Why
     ensures { result ≡ (if is_some halt then Why.Halted else Why.Idle) }
 {
@@ -87,8 +87,8 @@ fn why_none(halt: Option<Fault>) -> Why
     }
 }
 
-/// Makes at most `max` steps. `advance` makes all that it can; the one before which it stops is left to `make_step`. `runs` is what the
-/// thread keeps of instructions.
+/// Makes at most `max` steps. `advance` makes all that it can; `make_step` makes the one before which it stops. `runs` is what the thread
+/// keeps of instructions.
 #[inline(always)]
 pub(crate) fn run<M: Mem>(
     head: &mut Head,

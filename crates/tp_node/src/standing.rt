@@ -1,8 +1,8 @@
-//! Where a node stands between its turns.
+//! The state of a node between its turns.
 
 use tp_model::Fault;
 
-/// Whether a node has halted, and where, and whether one of its processes waits at a link.
+/// Whether a node has halted, and at which address, and whether one of its processes waits at a link.
 #[derive(Clone, Copy, PartialEq, Eq)]
 pub enum Standing {
     /// It halted at the instruction at this address.

@@ -17,7 +17,7 @@ use crate::head::Head;
 use tp_mem::Mem;
 use tp_model::Token;
 
-/// What a byte puts into memory, by its place.
+/// Tells what a byte puts into memory, by its place.
 fn placed(place: Option<u32>, byte: u8) -> First
     ensures value { (memory : List ℕ) → first_stored result memory ≡ placed place byte memory }
     ensures nowhere { place ≡ None → result ≡ First.Nothing }
@@ -29,7 +29,7 @@ fn placed(place: Option<u32>, byte: u8) -> First
     }
 }
 
-/// The byte that leaves at the next acknowledge, if any is left.
+/// Gives the byte that leaves at the next acknowledge; `None` if none is left.
 fn next_byte<M: Mem>(engine: OutEngine, mem: &M) -> Option<u8>
     ensures { result ≡ next_byte engine (M.bytes mem.now) }
 {

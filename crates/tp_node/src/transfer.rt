@@ -5,7 +5,7 @@ ghost use Rattle.tp_model.specs.LinkEnd.{advanced, has_more};
 
 use tp_model::Transfer;
 
-/// Moves past one byte, behind which more are left.
+/// Moves past one byte, after which more are left.
 pub(crate) fn advanced(transfer: Transfer) -> Transfer
     ensures { result ≡ advanced transfer }
 {
@@ -16,7 +16,7 @@ pub(crate) fn advanced(transfer: Transfer) -> Transfer
     }
 }
 
-/// Whether bytes are left behind the next one.
+/// Whether bytes are left after the next one.
 pub(crate) fn has_more(transfer: Transfer) -> bool
     ensures { result ≡ has_more transfer }
 {

@@ -11,7 +11,7 @@ use tp_model::{InEnd, OutEnd, Transfer};
 /// What a process does at a link at which it waits.
 #[derive(Clone, Copy, PartialEq, Eq)]
 pub enum Deed {
-    /// It sends: a byte of its isn't acknowledged.
+    /// It sends: one of its bytes isn't acknowledged yet.
     Sends,
     /// It inputs: a byte is still to come.
     Inputs,
@@ -25,9 +25,9 @@ pub struct Waiter {
     pub deed: Deed,
     /// Its descriptor.
     pub process: u32,
-    /// The instruction at which it goes on; `None`: the word that has it is outside memory.
+    /// The address of the instruction at which it goes on; `None` if the word that has it is outside memory.
     pub resumes: Option<u32>,
-    /// How many bytes of its message are left; of an alternative 0.
+    /// How many bytes of its message are left; 0 for an alternative.
     pub left: u32,
 }
 
@@ -60,7 +60,7 @@ fn with_message(memory: &Memory, deed: Deed, transfer: Transfer) -> Waiter
     }
 }
 
-/// The process whose alternative enabled an end, where it waits in it.
+/// Gives the process whose alternative enabled an end; `None` if it doesn't wait in it.
 fn chooser(memory: &Memory, process: u32) -> Option<Waiter>
     ensures { result ≡ chooser memory.now.live process }
 {
@@ -77,7 +77,7 @@ fn chooser(memory: &Memory, process: u32) -> Option<Waiter>
     }
 }
 
-/// The process that waits at an output end, if one does.
+/// Gives the process that waits at an output end; `None` if none does.
 pub(crate) fn sender_at(memory: &Memory, end: OutEnd) -> Option<Waiter>
     ensures { result ≡ sender_at memory.now.live end }
 {
@@ -87,7 +87,7 @@ pub(crate) fn sender_at(memory: &Memory, end: OutEnd) -> Option<Waiter>
     }
 }
 
-/// The process that waits at an input end, if one does.
+/// Gives the process that waits at an input end; `None` if none does.
 pub(crate) fn listener_at(memory: &Memory, end: InEnd) -> Option<Waiter>
     ensures { result ≡ listener_at memory.now.live end }
 {

@@ -41,7 +41,7 @@ other_rests was e other = record {
   goes = ap (λ b. cond b (acts t414 was.network was.network.lines e) (Some was.network)) other;
 }
 
--- the process that isn't there, or can't do it
+-- the process that doesn't exist, or can't do it
 pub nobody : (was now : HeldPart) (e : Entry) → SameProcesses was now → has was (process was.network.wires (length was.network.nodes) e) ≡ true → own was.network (process was.network.wires (length was.network.nodes) e) ≡ None → DoesRest was e false now
 unfolding acts
 nobody was now e same mine none = record { same = same; goes = inl (behind-own (has was) was.network e mine ∙ rw none) }
@@ -158,7 +158,7 @@ end_of_host N (Some (Link i k)) h = absurd (h i k refl)
 
 -- ## Options
 
--- what isn't there
+-- what doesn't exist
 pub none_is : {A : Type 0} (o : Option A) → is_some o ≡ false → o ≡ None
 none_is None h = refl
 none_is (Some x) h = absurd (true≢false h)
@@ -169,7 +169,7 @@ same_item xs i x y first second = cc
 
 -- ## The host
 
--- a process behind the nodes is the host, or isn't there
+-- a process after the nodes is the host, or doesn't exist
 pub host_cannot : (was now : HeldPart) (e : Entry) → SameProcesses was now → length was.network.nodes ≤ process was.network.wires (length was.network.nodes) e → has was (process was.network.wires (length was.network.nodes) e) ≡ true
     → does t414 was.network.wires (length was.network.nodes) e (OfHost was.network.ports) ≡ None → DoesRest was e false now
 host_cannot was now e same past mine none = elim (cases_eq (process was.network.wires (length was.network.nodes) e) (length was.network.nodes)) [
@@ -232,7 +232,7 @@ pub port_confirms : (wires : List (Option WireEnd)) (N p upto : ℕ) (ports : Li
 unfolding does
 port_confirms wires N p upto ports = refl
 
--- a port that isn't there changes in no way, nor does one that can't
+-- a port that doesn't exist changes in no way, nor does one that can't
 pub of_port-nowhere : (N p : ℕ) (ports : List Port) (change : Port → Option (Port × List Token)) → length ports ≤ p → ◌≡◌ {A = Option (Own NodeState × List (ℕ × Token))} (of_port N p ports change) None
 unfolding of_port
 of_port-nowhere N p ports change past = rw (slice_get_past ports p past)

@@ -1,4 +1,4 @@
--- Nodes with others before them and behind them.
+-- Nodes with others before them and after them.
 use Rattle.std.proofs.Common.{◌≡◌, ℕ, zero, suc, ◌+◌, ◌-◌, ◌<◌, List, [], ◌∷◌, ◌++◌, length, set, replicate, refl, ap, ◌∙◌, arith, length-append, slice_get, false, nat_le}
 use Rattle.std.proofs.lemmas.Bool.{lt-leb}
 use Rattle.std.proofs.lemmas.List.{length-replicate, set-append_left, set-append_right}
@@ -32,6 +32,6 @@ among_set before nodes behind i node below =
     ∙ ap (λ k. replicate before blank_node ++ set (nodes ++ replicate behind blank_node) k node) e
     ∙ ap (λ ns. replicate before blank_node ++ ns) (set-append_left nodes (replicate behind blank_node) i node below)
 
--- Whoever has all that is no node's has none of the nodes.
+-- The process with all that is no node's has none of the nodes.
 pub no_node : (nodes n : ℕ) → n < length (replicate nodes blank_node) → nat_le nodes n ≡ false
 no_node nodes n below = let many = length-replicate nodes blank_node in lt-leb nodes n (omega (arith, below, many))

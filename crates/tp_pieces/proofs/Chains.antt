@@ -1,4 +1,4 @@
--- Runs of nodes, each of which begins where the one before it ends.
+-- Runs of nodes. Each begins where the one before it ends.
 use Rattle.std.proofs.Common.{◌≡◌, ℕ, zero, suc, ◌+◌, ◌-◌, ◌*◌, ◌/◌, ◌<◌, ◌≤◌, Bool, true, false, cond, inl, inr, List, [], ◌∷◌, ◌++◌, length, refl, sym, ap, subst, ◌∙◌, arith, Some, None, nat_lt, nat_le, add-one}
 use Rattle.std.proofs.lemmas.Bool.{and_from, and_parts, cases_lt, le-leb, le-ltb, leb-true, lt-ltb, ltb-true}
 use Rattle.std.proofs.lemmas.Nat.{le-div}
@@ -15,7 +15,7 @@ pub chain_up : (first past : ℕ) (rs : List NodeRun) → AreNeighbours first pa
 chain_up first past [] C = omega (arith, C)
 chain_up first past (r ∷ rs) C = let rest = chain_up r.1 past rs C.2 in let low = C.0 in let some = C.1 in omega (arith, rest, low, some)
 
--- each run has a node, and lies within
+-- each run has a node, and is within
 pub chain_within : (first past : ℕ) (rs : List NodeRun) (i : ℕ) → AreNeighbours first past rs → i < length rs → (first ≤ (run_at rs i).0) × ((run_at rs i).0 < (run_at rs i).1) × ((run_at rs i).1 ≤ past)
 chain_within first past [] i C below = absurd (omega (arith, below))
 chain_within first past (r ∷ rs) zero C below = (let low = C.0 in omega (arith, low), C.1, chain_up r.1 past rs C.2)
@@ -82,7 +82,7 @@ dealt_cover nodes rs count pieces D p = elim (cases_lt p nodes) [
   | inr past ↦ (let many = D.many in (length rs, omega (arith, many), ap (λ has. has p) D.host ∙ le-leb nodes p past))
 ]
 
--- so are pieces that are equal
+-- pieces that are equal have them, too
 pub dealt_same : (nodes : ℕ) (rs : List NodeRun) (count : ℕ) (pieces others : ℕ → Piece) → AreDealt nodes rs count pieces → ((i : ℕ) → i < count → others i ≡ pieces i) → AreDealt nodes rs count others
 dealt_same nodes rs count pieces others D same = record {
   chain = D.chain;

@@ -1,4 +1,4 @@
--- The fields of a run of nodes, behind an entry.
+-- The fields of a run of nodes, after an entry.
 use Rattle.std.proofs.Common.{◌≡◌, ℕ, ◌+◌, ◌*◌, ◌<◌, Bool, true, false, inl, inr, List, length, map, set, refl, sym, ap, subst, ◌∙◌, arith, Some, None, slice_get, length-set}
 use Rattle.std.specs.Prelude.{MatchBool, nat_le, ◌&&◌}
 use Rattle.std.specs.Option.{option_map}

@@ -7,7 +7,7 @@ use Rattle.tp_model.specs.Network.{on_line}
 use Rattle.tp_law_network.proofs.Lines.{on_set_same, same_lines}
 use Rattle.tp_pieces.specs.Copies.{Copies}
 
--- where all are copied, they are the lines
+-- if all are copied, they are the lines
 pub all_copied : (from was now : List (List Token)) → length was ≡ length from → Copies 0 (length from) from was now → now ≡ from
 all_copied from was now long C =
     same_lines now from (C.count ∙ long) (λ line below. C.within line (omega arith) (let many = C.count in omega (arith, below, many, long)))

@@ -53,7 +53,7 @@ room_most (x ∷ ports) = let rest = room_most ports in omega (arith, rest)
 pub counts_more : (ports : List Port) (n : ℕ) → suc n ≤ room_of ports → CanCountMore (suc n) ports
 counts_more ports n some p port at = let least = room_each ports p port at in omega (arith, least, some)
 
--- where there is room, each port can count one more
+-- if there is room, each port can count one more
 pub can_count : (s : Network NodeState) → 0 < room_of s.ports → PortsCanCount s
 can_count s some p port at = let least = room_each s.ports p port at in omega (arith, least, some)
 
@@ -96,7 +96,7 @@ confirmed_one upto port after e =
 
 -- ## One entry
 
--- a process's ports, where it is the host
+-- a process's ports, if it is the host
 abbrev InHost : ℕ → Own NodeState → Type 0
 InHost n (OfNode node) = Unit {0}
 InHost n (OfHost ports) = CanCountMore n ports
@@ -187,7 +187,7 @@ room_kept has s e t h = go (room_of s.ports) (room_most s.ports) (counts_more s.
     go zero small more = omega arith
     go (suc n) small more = let left = room_from n t.ports (omega (arith, small)) (next_in_counts n has s e t (more n (omega arith)) h) in omega (arith, left)
 
--- so of an entry that was done
+-- the same of an entry that was done
 pub room_true : (has : Piece) (s : Network NodeState) (e : Entry) (t : Network NodeState) (could : Bool) → MatchBool could (next_in t414 has s e ≡ Some t) (IsBlocked has s e) → IsTrue could → room_of s.ports ≤ room_of t.ports + 1
 room_true has s e t true goes h = room_kept has s e t goes
 room_true has s e t false goes h = absurd (false≢true h)

@@ -133,7 +133,7 @@ module _ (s u : Network NodeState) (nodes : List NodeContents) (r : NodeRun) (wi
       subst (λ piece. Agrees piece s net) (sym (run_has u nodes r up most))
       (record { wires = wires; nodes = long; ports = length-replicate (length u.ports) blank_port ∙ ports; count = ap length lines; own = owns; lines = λ l _. ap (λ ls. on_line ls l) lines })
 
--- The host has its ports, and whoever isn't there.
+-- The host has its ports, and every process that doesn't exist.
 pub host_agrees : (s u : Network NodeState) → u.wires ≡ s.wires → u.lines ≡ s.lines → length u.nodes ≡ length s.nodes → u.ports ≡ s.ports → Agrees (whose (length s.nodes) None) s u
 host_agrees s u wires lines many ports = record { wires = wires; nodes = many; ports = ap length ports; count = ap length lines; own = owns; lines = λ l _. ap (λ ls. on_line ls l) lines }
   where

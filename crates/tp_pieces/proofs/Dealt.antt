@@ -27,7 +27,7 @@ in_run nodes workers p (suc k) h = elim (cases_lt p (first_of nodes workers k)) 
   | inr past ↦ (let next : suc k ≡ k + 1 = omega arith in (k, omega arith, past, subst (λ n. p < first_of nodes workers n) next h))
 ]
 
--- what stands at a worker's place, and at the host's
+-- what is at a worker's place, and at the host's
 dealt-worker : (nodes workers i p : ℕ) → i < workers → dealt nodes workers i p ≡ nodes_of nodes workers i p
 dealt-worker nodes workers i p h = ap (λ b. cond b (nodes_of nodes workers i) (λ q. nat_le nodes q) p) (lt-ltb i workers h)
 

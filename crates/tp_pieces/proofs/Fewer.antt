@@ -4,11 +4,11 @@ use Rattle.tp_model.specs.declared.link.Token.{Token}
 use Rattle.tp_model.specs.Network.{◌>>=◌, Machine, steps}
 use Rattle.tp_law_network.proofs.Partial.{bind_some}
 
--- the steps behind the first one
+-- the steps after the first one
 abbrev goes_on : {Node : Type 0} → Machine Node → ℕ → Node × List (ℕ × Token) → Option (Node × List (ℕ × Token))
 goes_on M count first = steps M count first.0 >>= λ rest. Some (rest.0, first.1 ++ rest.1)
 
--- where a run ends there are no more steps
+-- if a run ends there are no more steps
 pub steps_fewer : {Node : Type 0} (M : Machine Node) (made count : ℕ) (n : Node) (now : Node × List (ℕ × Token)) → steps M made n ≡ Some now → M.step now.0 ≡ None → made < count → steps M count n ≡ None
 unfolding steps
 steps_fewer M zero zero n now ran none fewer = absurd (omega arith)

@@ -14,7 +14,7 @@ abbrev pub IsFirst : List ℕ → ℕ → ℕ → Option ℕ → Type 0
 IsFirst stops a end found =
     MatchOption found ((x : ℕ) → a ≤ x → x < end → Contains stops x → ⊥) (λ k. (a ≤ k) × (k < end) × Contains stops k × ((x : ℕ) → a ≤ x → x < k → Contains stops x → ⊥))
 
--- one more number in front, which isn't one of them
+-- one more number before, which isn't one of them
 further : (stops : List ℕ) (a end : ℕ) → (Contains stops a → ⊥) → (found : Option ℕ) → IsFirst stops (a + 1) end found → IsFirst stops a end found
 further stops a end away None h = λ x low below is. elim (cases_eq x a) [
   | inl same ↦ away (subst (Contains stops) same is)
@@ -42,7 +42,7 @@ first_is stops a (suc n) (false ∷ bs) h =
     further stops a (a + suc n) (λ is. false≢true (h.0.2.1 (subst (Contains stops) (sym h.0.1) is))) (slice_get (filter_by_mask (range_with_len (a + 1) n) bs) 0)
     (subst (λ e. IsFirst stops (a + 1) e (slice_get (filter_by_mask (range_with_len (a + 1) n) bs) 0)) end (first_is stops (a + 1) n bs h.1))
 
--- what is read at a place that is there doesn't rest on what is read past the end
+-- what is read at an existing place doesn't depend on what is read past the end
 pub same_read : (xs : List ℕ) (i a b : ℕ) → i < length xs → slice_index_or xs i a ≡ slice_index_or xs i b
 same_read [] i a b below = absurd (omega (arith, below))
 same_read (x ∷ xs) zero a b below = refl

@@ -1,4 +1,4 @@
--- Tokens of a turn, taken off a part's lines one behind the other.
+-- Tokens of a turn, taken off a part's lines one after the other.
 use Rattle.std.proofs.Common.{◌≡◌, ℕ, ◌+◌, ◌<◌, Bool, true, false, cond, inl, inr, List, [], ◌∷◌, ◌++◌, length, map, set, take, drop, get_or, refl, sym, ap, subst, ◌∙◌, Option, Some, None}
 use Rattle.std.specs.Prelude.{MatchBool}
 use Rattle.std.proofs.lemmas.Bool.{cases_Bool}
@@ -26,7 +26,7 @@ from_both piece N (x ∷ xs) ys = go (sends piece N x.0) (from_both piece N xs y
     go true h = ap (λ zs. x ∷ zs) h
     go false h = h
 
--- the lines without the front that a token stands at
+-- the lines without the front that a token is at
 abbrev popped : List (List Token) → ℕ × Token → List (List Token)
 popped lines x = set lines x.0 (drop 1 (on_line lines x.0))
 
@@ -63,7 +63,7 @@ tokens_then was mid now xs ys could A B = record { same = same_all was mid now A
     go true h = its ∙ h
     go false h = its ∙ h
 
--- where the first ones aren't in front, nothing is taken
+-- if the first ones aren't at the front, nothing is taken
 pub tokens_stop : (was now : HeldPart) (xs ys : List (ℕ × Token)) → TakesTokens was xs false now → TakesTokens was (xs ++ ys) false now
 tokens_stop was now xs ys A = record { same = A.same; goes = without_both (has was) was.network xs ys ∙ ap (λ o. o >>= λ u. without (has was) u ys) A.goes }
 
@@ -105,7 +105,7 @@ module _ (was now : HeldPart) (node : ℕ) (tokens : List (ℕ × Token)) (i : �
     fronts_more = subst (λ ms. TakesTokens was ms could now) (sym more)
         (tokens_then was mid now (so_far (take i tokens)) ((its_line was, it.1) ∷ []) could before (subst (λ l. TakesTokens mid ((l, it.1) ∷ []) could now) same_line one))
 
--- one that isn't in front
+-- one that isn't at the front
 pub fronts_stop : (was now : HeldPart) (node : ℕ) (tokens : List (ℕ × Token)) (i : ℕ) → TakesTokens was (by_line was.network.wires (length was.network.nodes) node (take i tokens)) false now
     → TakesTokens was (by_line was.network.wires (length was.network.nodes) node tokens) false now
 fronts_stop was now node tokens i A =

@@ -56,7 +56,7 @@ both_halves was mid now e could T D = go could D.goes
     go true goes = whole ∙ goes
     go false stuck = subst (λ o. IsStuck (has was) o) (sym whole) (subst (λ piece. IsStuck piece (behind_tokens (has mid) mid.network e)) same stuck)
 
--- where the tokens can't be taken off, nothing is possible
+-- if the tokens can't be taken off, nothing is possible
 pub first_half : (was mid : HeldPart) (e : Entry) → TakesOff was e false mid → IsBlocked (has was) was.network e
 first_half was mid e T = inl (in_two (has was) was.network e ∙ ap (λ o. o >>= λ u. behind_tokens (has was) u e) T.goes)
 

@@ -61,7 +61,7 @@ same_node (Some x) (Some y) e = let same : x ≡ y = cc in ap Some same
 
 -- ## The host
 
--- What the host has is what the network has behind its last node.
+-- What the host has is what the network has after its last node.
 pub host_holds : (t : Network NodeState) (h : HostInside) (a : Apart) (was : List (List Token)) → a.wires.items ≡ h.lanes.wires → a.nodes.items ≡ [] → a.ports.items ≡ h.ports.items
     → was ≡ replicate (length h.lanes.lines) [] → Copies (4 * h.nodes) (length h.lanes.lines) h.lanes.lines was a.lines → Agrees (has (host_held h)) t (host_held h).network → HoldsFrom t (length t.nodes) a
 host_holds t h a was wires none ports empty C A = record {
@@ -199,7 +199,7 @@ module _ (t : Network NodeState) (items : List NetPart) (a : Apart) (B : AreBefo
     which : (held.first ≡ (run_at B.rs i).0) × (past ≡ (run_at B.rs i).1)
     which = same_run held.first past (run_at B.rs i).0 (run_at B.rs i).1 (chain_within 0 (length t.nodes) B.rs i B.chain inside).1 (ap (whose held.first) (sym ends) ∙ piece_at i (Nodes held) below at)
 
-    -- the run goes before those behind it
+    -- the run goes before those after it
     pub goes_before : (now : Apart) → HoldsFrom t (start_at (length t.nodes) B.rs (i + 1)) now → Precedes t held now
     goes_before now H = record {
       past = past;

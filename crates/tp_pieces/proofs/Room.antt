@@ -63,7 +63,7 @@ overfilled on lines line t wired there short full =
     let long = ap length is ∙ length-append (on_line lines line) (t ∷ []) in
     record { line = line; short = short line; long = omega (arith, long, full) }
 
--- a line that is overfull on the way is so in the end
+-- a line that is overfull on the way is overfull in the end
 pub overfilled_among : (on : ℕ → Bool) (lines : List (List Token)) (before : List (ℕ × Token)) (m : ℕ × Token) (after ms : List (ℕ × Token)) → ms ≡ before ++ m ∷ after
     → Overfills on (sent on lines before) (m ∷ []) → Overfills on lines ms
 unfolding sent
@@ -75,7 +75,7 @@ overfilled_among on lines before m after ms are O =
     let last = ap (λ ls. length (on_line ls O.line)) all ∙ ap length rest.1 ∙ length-append (on_line (pushed on (sent on lines before) m.0 m.1) O.line) rest.0 in
     record { line = O.line; short = omega (arith, O.short, grown); long = omega (arith, O.long, last) }
 
--- so is one that is overfull once the first of two lists is sent, or both are
+-- a line is overfull in the end, if it is once the first of two lists is sent, or both are
 pub overfilled_first : (on : ℕ → Bool) (lines : List (List Token)) (xs ys : List (ℕ × Token)) → Overfills on lines xs → Overfills on lines (xs ++ ys)
 overfilled_first on lines xs ys O =
     let rest = sent_behind on (sent on lines xs) ys O.line in

@@ -11,7 +11,7 @@ get_take (suc count) [] i below = refl
 get_take (suc count) (x ∷ xs) zero below = refl
 get_take (suc count) (x ∷ xs) (suc i) below = get_take count xs i (omega (arith, below))
 
--- at a place behind the first ones
+-- at a place after the first ones
 pub get_drop : {A : Type 0} (first : ℕ) (xs : List A) (i : ℕ) → slice_get (drop first xs) i ≡ slice_get xs (first + i)
 get_drop zero xs i = ap (slice_get xs) (let e : i ≡ 0 + i = omega arith in e)
 get_drop (suc first) [] i = refl
@@ -19,7 +19,7 @@ get_drop (suc first) (x ∷ xs) i =
     let e : suc (first + i) ≡ suc first + i = omega arith in
     get_drop first xs i ∙ ap (slice_get (x ∷ xs)) e
 
--- what is among the first ones, or behind them, is there
+-- what is among the first ones, or after them, is there
 pub taken_there : {A : Type 0} (count : ℕ) (xs : List A) (i : ℕ) (x : A) → slice_get (take count xs) i ≡ Some x → slice_get xs i ≡ Some x
 taken_there count xs i x at = elim (cases_lt i count) [
   | inl below ↦ sym (get_take count xs i below) ∙ at

@@ -12,7 +12,7 @@ use Rattle.tp_law_network.proofs.Partial.{bind_some}
 abbrev After : Type 0
 After = NodeState × List (ℕ × Token)
 
--- what is sent behind other tokens
+-- what is sent after other tokens
 abbrev behind : List (ℕ × Token) → After → Option After
 behind sent rest = Some (rest.0, sent ++ rest.1)
 
@@ -65,7 +65,7 @@ took_stops tokens i d below n mid before so_far none =
     ap (λ ms. took_all t414 ms n) (sym (take-append-drop i tokens) ∙ ap (λ ms. take i tokens ++ ms) (drop_more tokens i d below)) ∙ took_both (take i tokens) (it ∷ rest) n (mid, before) so_far
     ∙ ap (λ (o : Option After). (o >>= λ first. took_all t414 rest first.0 >>= behind first.1) >>= behind before) none
 
--- ## Steps behind them
+-- ## Steps after them
 
 pub turned_all : (tokens : List (ℕ × Token)) (count : ℕ) (n mid after : NodeState) (xs ys : List (ℕ × Token)) → took_all t414 tokens n ≡ Some (mid, xs) → steps t414 count mid ≡ Some (after, ys)
     → turned t414 tokens count n ≡ Some (after, xs ++ ys)

@@ -18,8 +18,8 @@ network_apart a = record {
   lines = a.lines;
 }
 
--- It can be split: it is sound and has no Markers; there is a line for each link and each port, and no more nodes and ports than a
--- network may have; each node has an image and is not frozen.
+-- It can be split: it is sound and has no Markers. There is a line for each link and each port, and at most as many nodes and ports as a
+-- network may have. Each node has an image and is not frozen.
 pub record CanSplit (a : Apart) : Type 0 where
   pub sound : Sound t414_ends (network_apart a)
   pub unmarked : (line : ℕ) → markers (on_line a.lines line) ≡ 0

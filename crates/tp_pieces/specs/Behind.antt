@@ -1,4 +1,4 @@
--- What a call leaves that does an entry, or a half of one.
+-- What a call that does an entry, or half of one, leaves.
 use Rattle.std.specs.Prelude.{◌≡◌, ◌⊎◌, ℕ, Bool, if◌then◌else◌, List, MatchBool, length, Option, Some, None}
 use Rattle.tp_model.specs.declared.link.Token.{Token}
 use Rattle.tp_model.specs.declared.entry.Entry.{Entry}
@@ -15,7 +15,7 @@ use Rattle.tp_pieces.specs.Held.{HeldPart, has}
 abbrev pub behind_tokens : Piece → Network NodeState → Entry → Option (Network NodeState)
 behind_tokens piece s e = if piece (process s.wires (length s.nodes) e) then acts t414 s s.lines e else Some s
 
--- the network with the lines that are left where tokens, of those that the piece sends, are taken off
+-- the network with the lines that are left once tokens, of those that the piece sends, are taken off
 abbrev pub without : Piece → Network NodeState → List (ℕ × Token) → Option (Network NodeState)
 without piece s ms = taken s.lines (from_piece piece (length s.nodes) ms) >>= λ lines. Some (record s { lines = lines })
 
@@ -33,14 +33,14 @@ pub record WentOrStuck (was : HeldPart) (wanted : Option (Network NodeState)) (c
   pub same : SameProcesses was now
   pub goes : MatchBool could (wanted ≡ Some now.network) (IsStuck (has was) wanted)
 
--- It does an entry; and what is left of one behind its tokens.
+-- It does an entry; and what is left of one after its tokens.
 abbrev pub Applies : HeldPart → Entry → Bool → HeldPart → Type 0
 Applies was e could now = WentOrStuck was (next_in t414 (has was) was.network e) could now
 
 abbrev pub DoesRest : HeldPart → Entry → Bool → HeldPart → Type 0
 DoesRest was e could now = WentOrStuck was (behind_tokens (has was) was.network e) could now
 
--- It took tokens off its lines, where they were in front one behind the other; and those that an entry takes.
+-- It took tokens off its lines, if they were at the front one after the other; and those that an entry takes.
 pub record TakesTokens (was : HeldPart) (ms : List (ℕ × Token)) (could : Bool) (now : HeldPart) : Type 0 where
   pub same : SameProcesses was now
   pub goes : MatchBool could (without (has was) was.network ms ≡ Some now.network) (without (has was) was.network ms ≡ None)

@@ -1,4 +1,4 @@
--- What stands in a part for nodes and ports that it hasn't: nothing is ever asked of them.
+-- What a part has in place of nodes and ports that aren't its own, which it never reads.
 use Rattle.std.specs.Prelude.{ℕ, List, [], ◌++◌, replicate, false, None}
 use Rattle.tp_model.specs.declared.processor.State.TheVariants.{Idle}
 use Rattle.tp_model.specs.NodeState.{NodeState}
@@ -26,6 +26,6 @@ blank_node = record {
 abbrev pub blank_port : Port
 blank_port = record { pending = []; in_base = 0; outputs = []; out_base = 0 }
 
--- nodes with `before` blank ones in front of them, and `behind` blank ones behind them
+-- nodes with `before` blank ones before them, and `behind` blank ones after them
 abbrev pub among : ℕ → List NodeState → ℕ → List NodeState
 among before nodes behind = replicate before blank_node ++ (nodes ++ replicate behind blank_node)

@@ -32,7 +32,7 @@ run_part s nodes run = Nodes (run_held s run.0 (take (run.1 - run.0) (drop run.0
 abbrev pub new_part : Network NodeState → ℕ → ℕ → List NodeContents → List NetPart
 new_part s first count rest = if nat_lt 0 count then Nodes (run_held s first (take count rest)) ∷ [] else []
 
--- what stands where there is no part
+-- what comes in place of a part that doesn't exist
 abbrev pub no_part : NetPart
 no_part = Host (record { first = 0; past = None; network = record { wires = []; nodes = []; ports = []; lines = [] } })
 

@@ -10,6 +10,6 @@ first_of nodes workers w = w * nodes / workers
 abbrev pub nodes_of : ℕ → ℕ → ℕ → Piece
 nodes_of nodes workers w = λ p. nat_le (first_of nodes workers w) p && nat_lt p (first_of nodes workers (w + 1))
 
--- The pieces of all workers, and behind them the host's, which has every number that is no node's.
+-- The pieces of all workers, and after them the host's, which has every number that is no node's.
 abbrev pub dealt : ℕ → ℕ → ℕ → Piece
 dealt nodes workers i = if nat_lt i workers then nodes_of nodes workers i else (λ p. nat_le nodes p)

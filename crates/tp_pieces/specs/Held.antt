@@ -5,8 +5,8 @@ use Rattle.tp_model.specs.Network.{Network}
 use Rattle.tp_law_network.specs.Piece.{Piece}
 use Rattle.tp_pieces.specs.Whose.{whose}
 
--- The first process that it has, and the first behind it that it hasn't, if there is one; and a network with its processes and
--- the lines as the part has them. Other nodes and ports are blank there.
+-- The first process that it has, and the first after it that it hasn't, if there is one; and a network with its processes and the lines as
+-- the part has them. Other nodes and ports are blank there.
 pub record HeldPart : Type 0 where
   pub first : ℕ
   pub past : Option ℕ

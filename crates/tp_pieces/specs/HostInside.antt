@@ -1,4 +1,4 @@
--- The fields of the host's part: what they stand for, and what they keep.
+-- The fields of the host's part: what they mean, and what they keep.
 use Rattle.std.specs.Prelude.{◌≡◌, ◌≤◌, ◌+◌, ◌*◌, length, map, replicate, None}
 use Rattle.tp_model.specs.declared.limits.TheConstants.{MAX_NODES, MAX_PORTS}
 use Rattle.tp_pieces.specs.Blank.{blank_node}
@@ -17,7 +17,7 @@ host_held h = record {
   };
 }
 
--- A line for each link and each port, and no more nodes and ports than a network may have.
+-- A line for each link and each port, and at most as many nodes and ports as a network may have.
 pub record IsHostInside (h : Inside) : Type 0 where
   pub few : h.nodes ≤ MAX_NODES
   pub few_ports : length h.ports.items ≤ MAX_PORTS

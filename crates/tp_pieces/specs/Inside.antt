@@ -1,4 +1,4 @@
--- The fields of parts: what they stand for, and what they keep.
+-- The fields of parts: what they mean, and what they keep.
 use Rattle.std.specs.Prelude.{◌≡◌, ◌≤◌, ℕ, ◌+◌, ◌*◌, List, length, map, replicate, None, Some, slice_get}
 use Rattle.tp_model.specs.declared.limits.TheConstants.{MAX_NODES, MAX_PORTS}
 use Rattle.tp_model.specs.NodeState.{NodeState}
@@ -10,7 +10,7 @@ use Rattle.tp_pieces.specs.Held.{HeldPart}
 use Rattle.tp_pieces.specs.Lanes.{LanesValue}
 use Rattle.tp_pieces.specs.declared.nodes.NodesPart.TheInside.{Inside as NodesInside}
 
--- a run of nodes, with the numbers of nodes in front of it and behind it
+-- a run of nodes, with the numbers of nodes before it and after it
 abbrev pub network_around : ℕ → List NodeContents → ℕ → ℕ → LanesValue → Network NodeState
 network_around before nodes behind ports lanes = record {
   wires = lanes.wires;
@@ -35,7 +35,7 @@ pub record IsLive (node : NodeContents) : Type 0 where
 abbrev pub AreLive : List NodeContents → Type 0
 AreLive nodes = (i : ℕ) (node : NodeContents) → slice_get nodes i ≡ Some node → IsLive node
 
--- A line for each link and each port, no more nodes and ports than a network may have, and each of its own has an image.
+-- A line for each link and each port, at most as many nodes and ports as a network may have, and each of its own has an image.
 pub record IsNodesInside (n : NodesInside) : Type 0 where
   pub few : n.before + length n.nodes.items + n.behind ≤ MAX_NODES
   pub few_ports : n.ports ≤ MAX_PORTS

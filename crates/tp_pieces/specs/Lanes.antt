@@ -18,7 +18,7 @@ pub record SameLanes (was now : LanesValue) : Type 0 where
 abbrev pub AreShort : List (List Token) → Type 0
 AreShort lines = (line : ℕ) → length (on_line lines line) ≤ 2
 
--- Once the tokens were sent, a line would have more than two that has no more now.
+-- Once the tokens were sent, a line would have more than two tokens that has at most two now.
 pub record Overfills (on : ℕ → Bool) (lines : List (List Token)) (ms : List (ℕ × Token)) : Type 0 where
   pub line : ℕ
   pub short : length (on_line lines line) ≤ 2

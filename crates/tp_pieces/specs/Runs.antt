@@ -4,7 +4,7 @@ use Rattle.tp_law_network.specs.Piece.{Piece}
 use Rattle.tp_pieces.specs.Dealt.{first_of}
 use Rattle.tp_pieces.specs.Whose.{whose}
 
--- a run: its first node, and the first one behind it
+-- a run: its first node, and the first one after it
 abbrev pub NodeRun : Type 0
 NodeRun = ℕ × ℕ
 

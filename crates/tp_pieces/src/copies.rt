@@ -22,7 +22,7 @@ fn copy_line(from: &Lines, to: &mut Lines, line: usize)
     }
 }
 
-/// Puts the tokens of the lines from `first` on that are before `past` on empty lines of their numbers.
+/// Puts the tokens of each line from `first` on and before `past` on the empty line of its number.
 pub(crate) fn copy_lines(from: &Lines, to: &mut Lines, first: usize, past: usize)
     requires order { first ≤ past }
     requires there { past ≤ length from.now }
@@ -35,7 +35,7 @@ pub(crate) fn copy_lines(from: &Lines, to: &mut Lines, first: usize, past: usize
     }
 }
 
-/// The lines once more.
+/// Copies the lines. `AllocError` if memory is out.
 pub(crate) fn copy_of(alloc: Global, lines: &Lines) -> Result<Lines, AllocError>
     ensures { IfOk result (λ copy. copy ≡ lines.now) }
 {

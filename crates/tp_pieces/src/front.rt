@@ -1,4 +1,4 @@
-//! What is asked before an entry is done.
+//! What is tested before an entry is done.
 
 ghost use Rattle.std.specs.Prelude.{◌≡◌, ◌<◌, ◌≤◌, ◌+◌, ◌&&◌, IsTrue, ℕ, List, MatchBool, MatchOption, Some, false, nat_lt, nat_le, slice_get};
 ghost use Rattle.tp_model.specs.declared.link.Token.{Token};
@@ -10,7 +10,7 @@ ghost use Rattle.tp_pieces.specs.Whose.{whose};
 use tp_model::limits::MAX_STEPS;
 use tp_model::{Token, WireEnd};
 
-/// Whether a token stands in front of a line, whose front this is.
+/// Whether a token is at the front of a line, given that front.
 pub(crate) fn is_front(front: Option<Token>, token: Token) -> bool
     ensures { (line : List Token) → slice_get line 0 ≡ front → result ≡ is_first line token }
 {
@@ -31,7 +31,7 @@ pub(crate) fn is_count(count: u16) -> bool
     0 < count && count as usize <= MAX_STEPS
 }
 
-/// The place of node `number` among `len` neighbours that begin with node `first`; `None` where it is none of them.
+/// Gives the place of node `number` among `len` neighbours that begin with node `first`; `None` if it is none of them.
 pub(crate) fn place(first: usize, len: usize, number: u8) -> Option<usize>
     requires { first + len ≤ 1024 }
     ensures { MatchOption result (whose first (Some (first + len)) number ≡ false) (λ i. (number ≡ first + i) × (i < len)) }
@@ -43,7 +43,7 @@ pub(crate) fn place(first: usize, len: usize, number: u8) -> Option<usize>
     Some(number - first)
 }
 
-/// The node and the link at an end of a wire, if a node has it.
+/// Gives the node and the link at an end of a wire; `None` if no node has it.
 pub(crate) fn link_at(end: Option<WireEnd>) -> Option<(u8, u8)>
     ensures { MatchOption result ((node link : ℕ) → end ≡ Some (Link node link) → ⊥) (λ at. end ≡ Some (Link at.0 at.1)) }
 {

@@ -18,7 +18,7 @@ use crate::nodes::NodesPart;
 use std::alloc::{AllocError, Global};
 use tp_net::Lines;
 
-/// The host's ports, lines and wires, without a node; other lines are empty.
+/// Gives the host's ports, lines and wires, without a node. Other lines are empty.
 fn host_apart(alloc: Global, host: HostPart) -> Result<Apart, AllocError>
     ensures { IfOk result (λ apart. (t : Network NodeState) → Agrees (has host) t host.network → HoldsFrom t (length t.nodes) apart) }
 {
@@ -38,7 +38,7 @@ fn host_apart(alloc: Global, host: HostPart) -> Result<Apart, AllocError>
     })
 }
 
-/// The network with a run of nodes in front of those that are there.
+/// Puts a run of nodes before those that are there.
 fn with_run(apart: Apart, run: NodesPart) -> Result<Apart, AllocError>
     requires { (t : Network NodeState) × Precedes t run apart }
     ensures { IfOk result (λ now. (t : Network NodeState) → Precedes t run apart → HoldsFrom t run.first now) }
@@ -70,7 +70,7 @@ fn with_run(apart: Apart, run: NodesPart) -> Result<Apart, AllocError>
     })
 }
 
-/// The network with its runs of nodes, where the host's ports and lines are there.
+/// Puts the network's runs of nodes together, if the host's ports and lines are there.
 fn with_runs(apart: Apart, runs: Vec<NetPart>) -> Result<Apart, AllocError>
     requires { (t : Network NodeState) × AreBefore t runs.items apart }
     ensures { IfOk result (λ now. (t : Network NodeState) → AreBefore t runs.items apart → HoldsFrom t 0 now) }
@@ -92,7 +92,7 @@ fn with_runs(apart: Apart, runs: Vec<NetPart>) -> Result<Apart, AllocError>
     Ok(apart)
 }
 
-/// Joins parts that each have their own as one network has it: that network. Memory is refused only where there is none.
+/// Joins parts that each have their own as one network has it, to that network. `AllocError` if memory is out.
 pub fn joined(alloc: Global, parts: Vec<NetPart>) -> Result<Apart, AllocError>
     requires { CanJoin parts.items }
     ensures is { IfOk result (λ apart. (t : Network NodeState) → AgreeAll parts.items t → network_apart apart ≡ t) }

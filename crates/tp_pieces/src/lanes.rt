@@ -13,7 +13,7 @@ use std::marker::Model;
 use tp_model::{Token, WireEnd};
 use tp_net::Lines;
 
-/// Tokens that a line may have in a part. In a network no line has more, but for Markers.
+/// Tokens that a line may have in a part. In a network no line has more, except for Markers.
 const MOST: usize = 2;
 
 /// The wires of a network, and all its lines as one part has them. None of them has more than two tokens.
@@ -34,7 +34,7 @@ impl Model for Lanes {
 }
 
 impl Lanes {
-    /// The wires and lines once more.
+    /// Copies the wires and lines. `AllocError` if memory is out.
     pub(crate) fn copy(&self, alloc: Global) -> Result<Lanes, AllocError>
         ensures { IfOk result (λ copy. copy ≡ self.now) }
     {
@@ -44,7 +44,7 @@ impl Lanes {
         })
     }
 
-    /// The end that receives a line.
+    /// Gives the end that receives a line; `None` if it has no wire.
     pub(crate) fn receiver(&self, line: usize) -> Option<WireEnd>
         ensures { result ≡ receiver self.now.wires line }
     {
@@ -55,7 +55,7 @@ impl Lanes {
         }
     }
 
-    /// Takes a token off a line where it stands in front there. Answers whether it does.
+    /// Takes a token off a line if it is at the front there. Answers whether it is.
     pub(crate) fn take_off(&mut self, line: usize, token: Token) -> bool
         ensures same { SameLanes self.old self.new }
         ensures takes { MatchBool result (taken self.old.lines ((line, token) ∷ []) ≡ Some self.new.lines) (taken self.old.lines ((line, token) ∷ []) ≡ None) }

@@ -1,5 +1,5 @@
-//! The parts of a network, each replayed by a thread of its own: runs of neighbouring nodes, and the host with its ports, each with the
-//! lines as it has them.
+//! The parts of a network, each replayed by a thread of its own. They are runs of neighbouring nodes, and the host with its ports, each
+//! with the lines as it has them.
 #![tactic(auto)]
 
 mod apart;

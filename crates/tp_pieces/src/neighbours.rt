@@ -4,14 +4,14 @@ ghost use Rattle.std.specs.Prelude.{◌≡◌, ◌+◌, ◌<◌, ◌≤◌, ℕ}
 ghost use Rattle.tp_law_network.specs.Piece.{Covers};
 ghost use Rattle.tp_pieces.specs.Dealt.{dealt, first_of};
 
-/// A run of neighbours among the nodes: the first one, and how many they are.
+/// A run of neighbours among the nodes: the first one, and how many there are.
 #[derive(Clone, Copy)]
 pub struct Neighbours {
     pub first: u8,
     pub count: u8,
 }
 
-/// The node at which a worker's run begins; for the number of workers, where the last run ends.
+/// Gives the node at which a worker's run begins. For the number of workers that is where the last run ends.
 #[tactic(auto, using(crate::proofs::Dealt::first_most))]
 fn first_of(nodes: u8, workers: u8, worker: u8) -> u8
     requires { (worker ≤ workers) × (0 < workers) }
@@ -20,7 +20,7 @@ fn first_of(nodes: u8, workers: u8, worker: u8) -> u8
     (u16::from(worker) * u16::from(nodes) / u16::from(workers)) as u8
 }
 
-/// The nodes that a worker gets. They may be none, where there are fewer nodes than workers.
+/// Gives the nodes of a worker. With fewer nodes than workers there may be none.
 #[tactic(auto, using(crate::proofs::Dealt::first_up))]
 pub fn neighbours_of(nodes: u8, workers: u8, worker: u8) -> Neighbours
     requires { worker < workers }
@@ -35,7 +35,7 @@ pub fn neighbours_of(nodes: u8, workers: u8, worker: u8) -> Neighbours
     }
 }
 
-/// The pieces of all workers and the host's, which is the last, have every number among them.
+/// Each number is in the piece of some worker or in the host's, which is the last.
 pub fn dealt_pieces_cover()
     ensures { (nodes workers : ℕ) → 0 < workers → Covers (workers + 1) (dealt nodes workers) }
 {}

@@ -16,17 +16,17 @@ pub trait Part {
     /// Which processes it has.
     ghost has: { Self → Piece };
 
-    /// The network with the part's processes and lines as they are now. What else stands there is never looked at.
+    /// The network with the part's processes and lines as they are now. Nothing else of it is ever read.
     ghost network: { Self → Network NodeState };
 
-    /// With how many entries it can go on yet, for its counters.
+    /// With how many more entries it can go on, for its counters.
     ghost room: { Self → ℕ };
 
-    /// Its first node; none where it has no node.
+    /// Gives its first node; `None` if it has no node.
     fn first_node(&self) -> Option<u8>
         ensures { MatchOption result (HasNoNode (has self.now) (length (network self.now).nodes)) (λ node. IsFirstNode (has self.now) (length (network self.now).nodes) node) };
 
-    /// Goes on with an entry, whichever process's it is; answers whether it could. After a false answer nothing is known of it.
+    /// Goes on with an entry of any process, and answers whether it could. After `false` nothing is known of the part.
     fn apply(&mut self, entry: &Entry) -> bool
         requires { 0 < room self.old }
         ensures has { has self.new ≡ has self.old }

@@ -18,7 +18,7 @@ pub(crate) fn can_take(port: &HostPort, token: Token) -> bool
     }
 }
 
-/// Whether a port can let its outputs go up to a position: it is past what was confirmed, and not past what there is.
+/// Whether a port can drop its outputs up to a position, which is above what was confirmed and at most what there is.
 pub(crate) fn can_confirm(port: &HostPort, upto: u64) -> bool
     ensures { result ≡ is_some (confirmed upto port.now.port) }
 {

@@ -19,7 +19,7 @@ use std::alloc::{AllocError, Global};
 use std::mem;
 use tp_node::{Node, Runs};
 
-/// The part of nodes from `first` on. Its wires and lines are copies of the host's.
+/// Makes the part of nodes from `first` on. Its wires and lines are copies of the host's.
 fn part_beside(
     alloc: Global,
     host: &HostPart,
@@ -40,8 +40,7 @@ fn part_beside(
     })
 }
 
-/// Makes a part of a run, whose nodes are the first ones of the rest, and puts it behind the other parts. A run without nodes makes
-/// none.
+/// Makes a part of a run, whose nodes are the first ones of the rest, and puts it after the other parts. A run without nodes makes none.
 fn deal(
     alloc: Global,
     host: &HostPart,
@@ -87,8 +86,8 @@ fn deal_all(
     Ok(parts)
 }
 
-/// Splits a network into parts: one for each of several workers that gets a node, in the order of their nodes, and last the host with
-/// its ports. Memory is refused only where there is none.
+/// Splits a network into parts: one for each worker that gets a node, in the order of their nodes, and last the host with its ports.
+/// `AllocError` if memory is out.
 pub fn split(alloc: Global, network: Apart, workers: u8) -> Result<Vec<NetPart>, AllocError>
     requires some { 0 < workers }
     requires can { CanSplit network }

@@ -5,8 +5,8 @@ ghost use Rattle.std.specs.Prelude.{◌≡◌, ◌≤◌, ◌<◌, IsTrue, ◌�
 use rayon::prelude::*;
 use std::thread::Threads;
 
-/// The least of the stops, where one is below `count`. It is looked for among the numbers below `count`, in their order; where no
-/// stop is, nothing is looked for.
+/// Gives the least of the stops that is below `count`; `None` if none is. It searches the numbers below `count` in order, and none at all
+/// without such a stop.
 pub fn first_stop(rt: &(impl Threads + Sync), stops: &[usize], count: usize) -> Option<usize>
     ensures { MatchOption result (All (λ at. count ≤ at) stops.now)
         (λ k. (k < count) × Contains stops.now k × All (λ at. k ≤ at) stops.now) }

@@ -42,7 +42,7 @@ fn is_link(node: u8, link: u8, end: Option<WireEnd>) -> bool
     }
 }
 
-/// Has a node take a token, if it can; what it answers goes behind `out`. Answers whether it could.
+/// Has a node take a token, if it can, and appends its answer to `out`. Answers whether it could.
 fn take_one(node: &mut Node, link: u8, token: Token, out: &mut ArrayVec<(u8, Token), 8>) -> bool
     requires live { IsLive node.old }
     requires room { length out.old.items < 8 }
@@ -62,7 +62,7 @@ fn take_one(node: &mut Node, link: u8, token: Token, out: &mut ArrayVec<(u8, Tok
     true
 }
 
-/// Has a node take tokens in order, each with its link, if it can; `out` gets what it answers. Answers whether it could take all.
+/// Has a node take tokens in order, each with its link, if it can, and puts its answers into `out`. Answers whether it could take all.
 fn take_all(node: &mut Node, tokens: &[(u8, Token)], out: &mut ArrayVec<(u8, Token), 8>) -> bool
     requires live { IsLive node.old }
     requires few { length tokens.now ≤ 8 }
@@ -78,7 +78,7 @@ fn take_all(node: &mut Node, tokens: &[(u8, Token)], out: &mut ArrayVec<(u8, Tok
     true
 }
 
-/// Has a node take tokens and then make `count` steps; `None` where it can't do all of that.
+/// Has a node take tokens and then make `count` steps; `None` if it can't do all of that.
 fn make_turn(node: &mut Node, runs: &mut Runs, tokens: &[(u8, Token)], count: u16) -> Option<Sent>
     requires live { IsLive node.old }
     requires few { length tokens.now ≤ 8 }
@@ -102,7 +102,7 @@ fn make_turn(node: &mut Node, runs: &mut Runs, tokens: &[(u8, Token)], count: u1
 }
 
 impl Lanes {
-    /// The line that comes in on a link of a node; line 0 where the link has no wire.
+    /// Gives the line that comes in on a link of a node; line 0 if the link has no wire.
     pub(crate) fn incoming(&self, nodes: usize, node: u8, link: u8) -> usize
         requires { nodes ≤ 2 ^ 32 }
         ensures { result ≡ incoming self.now.wires nodes node link }
@@ -127,7 +127,7 @@ impl Lanes {
         true
     }
 
-    /// Whether a turn of a node may take these tokens and have `count` steps: it takes one at least, and all of them come in to it.
+    /// Whether a turn of a node may take these tokens and have `count` steps: it takes at least one, and all of them come in to the node.
     fn is_turn(&self, nodes: usize, node: u8, tokens: &[(u8, Token)], count: u16) -> bool
         requires { nodes ≤ 2 ^ 32 }
         ensures { result ≡ (comes_in self.now.wires nodes node tokens.now && (nat_lt 0 (length tokens.now) && nat_le count MAX_STEPS)) }
@@ -156,14 +156,14 @@ impl Lanes {
 }
 
 impl NodesPart {
-    /// The line that comes in on a link of a node of the network.
+    /// Gives the line that comes in on a link of a node of the network.
     fn incoming(&self, node: u8, link: u8) -> usize
         ensures { result ≡ incoming self.now.network.wires (length self.now.network.nodes) node link }
     {
         self.lanes.incoming(self.count(), node, link)
     }
 
-    /// Takes tokens off that come in on links of a node, each if one of these nodes sent it: all of them, before any is taken.
+    /// Takes off tokens that come in on links of a node, each if one of these nodes sent it, before the node takes any.
     pub(crate) fn take_fronts(&mut self, node: u8, tokens: &[(u8, Token)]) -> bool
         ensures { TakesTokens self.old (by_line self.old.network.wires (length self.old.network.nodes) node tokens.now) result self.new }
     {
@@ -196,14 +196,14 @@ impl NodesPart {
 }
 
 impl HostPart {
-    /// The line that comes in on a link of a node of the network.
+    /// Gives the line that comes in on a link of a node of the network.
     fn incoming(&self, node: u8, link: u8) -> usize
         ensures { result ≡ incoming self.now.network.wires (length self.now.network.nodes) node link }
     {
         self.lanes.incoming(self.nodes, node, link)
     }
 
-    /// Takes tokens off that come in on links of a node, each if a port sent it.
+    /// Takes off tokens that come in on links of a node, each if a port sent it.
     pub(crate) fn take_fronts(&mut self, node: u8, tokens: &[(u8, Token)]) -> bool
         ensures takes { TakesTokens self.old (by_line self.old.network.wires (length self.old.network.nodes) node tokens.now) result self.new }
         ensures ports { self.new.network.ports ≡ self.old.network.ports }

@@ -54,7 +54,7 @@ claims_one v claim one =
     let f = λ (other : Claim). one_at claim.who other.who in
     omega (arith, ap (sum_by f) one, sum_by-cons f claim [], one_at-same claim.who)
 
--- a hand that one pass is no other pass is
+-- a hand that belongs to one pass belongs to no other
 claims_apart : (hands : ℕ) (views : List View) (pass j : ℕ) (v u : View) (claim : Claim) → Shares hands views → get_elem? views pass ≡ some v → v.claims ≡ claim ∷ [] → j ≢ pass
     → get_elem? views j ≡ some u → claimed (one_at claim.who) u ≡ 0
 claims_apart hands views pass j v u claim shares at one other there =
@@ -80,7 +80,7 @@ pub saw_append : (log : List Call) (views : List View) (w : View) → ((j : ℕ)
     → HasSeenCalls log u
 saw_append log views w all new j u e = ⊎_elim (λ (t : get_elem? views j ≡ some u). all j u t) (λ (t : w ≡ u). subst (λ (y : View). HasSeenCalls log y) t new) (at_snoc views w u j e)
 
--- a hand makes one more, beside passes that make no numbers or hands
+-- a hand makes one more, while other passes make no numbers or hands
 pub logged_call : (count hands : ℕ) (items : List ℕ) (views : List View) (pass : ℕ) (v w : View) (claim : Claim) (step : Step) (logged : Logged count hands items views) → Shares hands views
     → get_elem? views pass ≡ some v → v.claims ≡ claim ∷ [] → IsDue step items → w.claims ≡ record { who = claim.who; calls = called claim.who step ∷ claim.calls } ∷ []
     → w.seen ≡ called claim.who step ∷ logged.log → w.makes ≡ false → ((j : ℕ) (u : View) → j ≢ pass → get_elem? views j ≡ some u → u.makes ≡ false)
@@ -118,7 +118,7 @@ logged_call count hands items views pass v w claim step logged shares at one due
 
 -- ## Passes that part and meet
 
--- what two passes are that one was
+-- two passes have the hands that one had
 pub logged_fork : (count hands : ℕ) (items : List ℕ) (views : List View) (pass : ℕ) (v l r : View) (logged : Logged count hands items views) → get_elem? views pass ≡ some v → l.seen ≡ v.seen
     → r.seen ≡ v.seen → (AreMine logged.log v.claims → AreMine logged.log l.claims × AreMine logged.log r.claims) → l.makes ≡ false → r.makes ≡ false
     → Logged count hands items (set views pass l ++ r ∷ [])
@@ -137,11 +137,11 @@ logged_fork count hands items views pass v l r logged at same same' parts l_make
       known = logged.known;
     }
 
--- nobody has seen whatever there is
+-- the view of nobody, whatever the calls are
 pub nobody_saw : (log : List Call) → HasSeenCalls log nobody
 nobody_saw log = record { newer = log; seen = sym (append-nil log); mine = tt; makes = λ made. absurd (true≢false (sym made)) }
 
--- one pass is what two were
+-- one pass has the hands that two had
 pub logged_merge : (count hands : ℕ) (items : List ℕ) (views : List View) (pass : ℕ) (v both : View) (other : ℕ) (w : View) (logged : Logged count hands items views) → get_elem? views pass ≡ some v
     → get_elem? views other ≡ some w → both.seen ≡ v.seen → both.claims ≡ v.claims ++ w.claims → both.makes ≡ false → Logged count hands items (set (set views pass both) other nobody)
 logged_merge count hands items views pass v both other w logged at was same is makes =
@@ -164,7 +164,7 @@ logged_merge count hands items views pass v both other w logged at was same is m
 
 -- ## While numbers and hands are made
 
--- another view of a pass that makes them, where nothing was called
+-- another view of a pass that makes them, if nothing was called
 pub logged_making : (count count' hands hands' : ℕ) (items items' : List ℕ) (views : List View) (pass : ℕ) (v w : View) (logged : Logged count hands items views) → get_elem? views pass ≡ some v
     → v.makes ≡ true → waiting_numbers count' [] ≡ items' → AreMine [] w.claims → w.seen ≡ [] → Logged count' hands' items' (set views pass w)
 logged_making count count' hands hands' items items' views pass v w logged at makes waits mine seen =

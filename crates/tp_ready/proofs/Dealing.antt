@@ -31,7 +31,7 @@ AllFit-set count hands views pass w mine others j u e =
 AllFit-append : (count hands : ℕ) (views : List View) (w : View) → AllFit count hands views → HoldsAtMost count hands w → AllFit count hands (views ++ w ∷ [])
 AllFit-append count hands views w all new j u e = ⊎_elim (λ (t : get_elem? views j ≡ some u). all j u t) (λ (t : w ≡ u). subst (λ (y : View). HoldsAtMost count hands y) t new) (at_snoc views w u j e)
 
--- who makes numbers or hands is alone
+-- a pass that makes numbers or hands is alone
 abbrev Makers : List View → Type 0
 Makers views = (pass : ℕ) (v : View) → get_elem? views pass ≡ some v → v.makes ≡ true → AloneKnows views pass
 
@@ -46,7 +46,7 @@ is_false : (b : Bool) → (b ≡ true → ⊥) → b ≡ false
 is_false true never = absurd (never refl)
 is_false false never = refl
 
--- beside a pass that knows the counts no other makes any
+-- if a pass knows the counts, no other makes any
 others_make_none : (items : List ℕ) (views : List View) (pass : ℕ) (v : View) → Dealt items views → get_elem? views pass ≡ some v → v.knows ≡ true → (j : ℕ) (u : View) → j ≢ pass
     → get_elem? views j ≡ some u → u.makes ≡ false
 others_make_none items views pass v dealt at knows j u other e =
@@ -59,7 +59,7 @@ NoMaker-set views pass w mine others j u e =
 NoMaker-append : (views : List View) (w : View) → NoMaker views → w.makes ≡ false → NoMaker (views ++ w ∷ [])
 NoMaker-append views w all new j u e = ⊎_elim (λ (t : get_elem? views j ≡ some u). all j u t) (λ (t : w ≡ u). subst (λ (y : View). y.makes ≡ false) t new) (at_snoc views w u j e)
 
--- a holder fits, where it holds no more than it is hands
+-- a holder fits, if it holds at most as many numbers as it is hands
 holder_fits : (count hands : ℕ) (claims : List Claim) (held : List ℕ) (seen : List Call) (known counted : ℕ) → known ≡ count → counted ≡ hands → length held ≤ length claims
     → HoldsAtMost count hands (holder known counted claims held seen)
 holder_fits count hands claims held seen known counted is are few = ((λ _. (is, are)), few)
@@ -119,7 +119,7 @@ with_nobody : (count hands : ℕ) (items : List ℕ) (views : List View) → Log
 with_nobody count hands items views logged =
     record { log = logged.log; waits = logged.waits; legal = logged.legal; saw = saw_append logged.log views nobody logged.saw (nobody_saw logged.log); known = logged.known }
 
--- the rule after the view of a pass that knows the counts has changed, where what it gains the queue loses
+-- the rule after the view of a pass that knows the counts has changed, if the queue loses what it gains
 changed : (items items' : List ℕ) (views : List View) (pass : ℕ) (v w : View) (dealt : Dealt items views) → get_elem? views pass ≡ some v → v.knows ≡ true
     → ((h : ℕ → ℕ) → sum_by h items' + weight h w ≡ sum_by h items + weight h v) → ((h : ℕ → ℕ) → claimed h w ≡ claimed h v) → w.makes ≡ false → HoldsAtMost dealt.0 dealt.1 w
     → Logged dealt.0 dealt.1 items' (set views pass w) → Dealt items' (set views pass w)
@@ -184,7 +184,7 @@ puts_back n pass v x knows held one items views room dealt at =
       (refl, refl, did dealt.0 dealt.1 items views pass v w mine.0 (Put x) dealt.6 dealt.3 at is mine.1 tt refl refl),
     )
 
--- a view that makes no more than numbers or hands, and is known to nobody else
+-- a view that makes no more numbers or hands, and is known to nobody else
 alone_set : (items : List ℕ) (views : List View) (pass : ℕ) (v w : View) → Dealt items views → get_elem? views pass ≡ some v → v.knows ≡ true → v.makes ≡ true → Makers (set views pass w)
 alone_set items views pass v w dealt at knows makes j u e makes_u k y ek other =
     let alone = dealt.5 pass v at makes in
@@ -243,7 +243,7 @@ grows pass count hands items views dealt at =
       with_nobody dealt.0 (suc dealt.1) items (set views pass l) made,
     )
 
--- the hands of two passes, where those of one were parted
+-- the hands of two passes, if those of one were parted
 abbrev IsParted : List Claim → List Claim → List Claim → Type 0
 IsParted whole some_claims others = ((h : Claim → ℕ) → sum_by h some_claims + sum_by h others ≡ sum_by h whole) × ((log : List Call) → AreMine log whole → AreMine log some_claims × AreMine log others)
 
@@ -284,14 +284,14 @@ rest_of [] others one = absurd (omega (arith, one))
 rest_of (claim ∷ []) others one = refl
 rest_of (claim ∷ next ∷ claims) others one = absurd (omega (arith, one))
 
--- the hands that are left, where one more is given out
+-- the hands that are left, if one more is given out
 pub one_less : (hands given : ℕ) → given < hands → drop 1 (first_claims (hands - given)) ≡ first_claims (hands - (given + 1))
 one_less hands given more = let e : hands - given ≡ suc (hands - (given + 1)) = omega (arith, more) in ap (λ n. drop 1 (first_claims n)) e
 
 pub one_given : (hands given : ℕ) → given < hands → take 1 (first_claims (hands - given)) ≡ record { who = hands - (given + 1); calls = [] } ∷ []
 one_given hands given more = let e : hands - given ≡ suc (hands - (given + 1)) = omega (arith, more) in ap (λ n. take 1 (first_claims n)) e
 
--- a pass that makes no more numbers hands some of those that it holds to a new one, and some of the hands that it is
+-- a pass that makes no more numbers gives a new one some of those that it holds, and some of its hands
 pub forks : (pass : ℕ) (v : View) (claims claims' : List Claim) (mine theirs : List ℕ) → v.knows ≡ true → ((h : ℕ → ℕ) → sum_by h mine + sum_by h theirs ≡ weight h v) → IsParted v.claims claims claims'
     → length mine ≤ length claims → length theirs ≤ length claims' → Forks Dealt pass v (holder v.count v.hands claims mine v.seen) (holder v.count v.hands claims' theirs v.seen)
 forks pass v claims claims' mine theirs knows same both few few' items views dealt at =

@@ -14,7 +14,7 @@ numbers_held p = record { queue = p.table_id; count = (view p).count; hands = (v
 abbrev pub past_at : Pass ℕ View → Past
 past_at p = past_of (view p)
 
--- and of none, where there is no pass
+-- and of `None`, without a pass
 abbrev pub past_in : Option (Pass ℕ View) → Past
 past_in (Some p) = past_at p
 past_in None = nothing

@@ -6,7 +6,7 @@ use Rattle.tp_ready.specs.Seen.{RisesOn, number_of, unrisen}
 use Rattle.tp_ready.specs.declared.mark_view.Rise.{Rise}
 use Rattle.tp_ready.specs.declared.mark_view.View.{View}
 
--- The first seat, as the mark begins with this number.
+-- The first seat, when the mark begins with this number.
 abbrev pub raiser : ℕ → View
 raiser first = record { raises = true; at = first; least = 0; rises = unrisen first; told = [] }
 
@@ -18,7 +18,7 @@ reader at rises = record { raises = false; at = at; least = 0; rises = rises; to
 abbrev pub informed : View → ℕ → List Rise → View
 informed v n rises = record { raises = v.raises; at = v.at; least = max v.least n; rises = v.rises; told = rises }
 
--- What a seat saw and was told, the word has reached. Only the first seat raises, and what it saw is the word.
+-- The word has reached what a seat saw and was told. Only the first seat raises, and what it saw is the word.
 abbrev pub ReachedBy : ℕ → ℕ → View → Type 0
 ReachedBy word seat v = (v.at ≤ word) × (v.least ≤ word) × (v.raises ≡ true → (seat ≡ 0) × (v.at ≡ word))
 
@@ -33,7 +33,8 @@ SeatFits all seat v = ReachedBy (number_of all) seat v × RisesBy all v
 abbrev pub Marks : List ℕ → List View → Type 0
 Marks words views = (all : List Rise) × (words ≡ number_of all ∷ []) × ((seat : ℕ) (v : View) → get_elem? views seat ≡ some v → SeatFits all seat v)
 
--- What was found is at least what was seen and told before, and is what is seen afterwards: the last of the rises, which go on from those that were seen.
+-- What was found is at least what was seen and told before, and is what is seen afterwards. It is the last of the rises, which go on from
+-- those that were seen.
 abbrev pub Loaded : View → ℕ → View → Type 0
 Loaded v found w =
     (v.at ≤ found) × (v.least ≤ found) × RisesOn v.rises w.rises × (found ≡ number_of w.rises)

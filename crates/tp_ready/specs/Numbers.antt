@@ -9,7 +9,7 @@ pub record Numbers : Type 0 where
   pub count : ℕ
   pub hands : ℕ
 
--- A hand: its queue, or none while it has a number, and what it has seen and called.
+-- A hand: its queue, or `None` while it has a number, and what it has seen and called.
 pub record HandValue : Type 0 where
   pub of : Option Numbers
   pub past : Past

@@ -20,7 +20,7 @@ abbrev pub after_step : Step → List ℕ → List ℕ
 after_step (Took number) items = but_first items
 after_step (Put number) items = items ++ number ∷ []
 
--- what waits after these calls, where the numbers below the count waited first, in order
+-- what waits after these calls, if the numbers below the count waited first, in order
 abbrev pub waiting_numbers : ℕ → List Call → List ℕ
 waiting_numbers count [] = first_numbers count
 waiting_numbers count (call ∷ older) = after_step call.step (waiting_numbers count older)
@@ -36,7 +36,7 @@ abbrev pub IsLegal : ℕ → List Call → Type 0
 IsLegal count [] = Unit {0}
 IsLegal count (call ∷ older) = IsDue call.step (waiting_numbers count older) × IsLegal count older
 
--- with one more, where it is wanted
+-- with one more, if it is wanted
 abbrev pub add_if : Bool → Call → List Call → List Call
 add_if true call calls = call ∷ calls
 add_if false call calls = calls
@@ -66,8 +66,8 @@ pub record IsNew (past : Past) : Type 0 where
   pub claims : past.claims ≡ record { who = who; calls = [] } ∷ []
   pub seen : past.seen ≡ []
 
--- A hand made one more call: this step, behind all that was called before, by whomever. Among that are all calls of its own and what it had
--- seen; the queue's hands alone made them, and each number that one of them took waited longest then.
+-- A hand made one more call: this step, after all that any hand called before. That includes all calls of its own and what it had seen.
+-- Only the queue's hands made the calls, and each number that one of them took waited longest then.
 pub record HasCalled (count hands : ℕ) (step : Step) (old new : Past) : Type 0 where
   pub who : ℕ
   pub calls : List Call

@@ -7,7 +7,7 @@ use Rattle.tp_ready.specs.declared.mark_view.Rise.{Rise}
 abbrev pub MarkName : Type 0
 MarkName = TableId
 
--- the number to which the last of the rises raised the mark, and this one where there is none
+-- the number to which the last of the rises raised the mark, and this one if there is none
 abbrev pub number_from : ℕ → List Rise → ℕ
 number_from n [] = n
 number_from n (rise ∷ rises) = number_from rise.to rises
@@ -23,15 +23,15 @@ unrisen first = record { to = first; moment = 0 } ∷ []
 abbrev pub RisesOn : List Rise → List Rise → Type 0
 RisesOn seen rises = (more : List Rise) × (rises ≡ seen ++ more)
 
--- A pass: its mark, the number that it saw last, the least number that its next load shows, and what the mark was raised to until
--- it saw that number, that which it began with first.
+-- A pass: its mark, the number that it saw last, and the least number that its next load shows. Then what the mark was raised to until it
+-- saw that number, with the number that the mark began with first.
 pub record PassValue : Type 0 where
   pub mark : TableId
   pub at : ℕ
   pub least : ℕ
   pub rises : List Rise
 
--- The raiser: its mark, the number that the mark has, and all that it was raised to, the number that it began with first.
+-- The raiser: its mark, the number that the mark has, and all that it was raised to, with the number that it began with first.
 pub record RaiserValue : Type 0 where
   pub mark : TableId
   pub at : ℕ

@@ -31,7 +31,7 @@ sum_below h (suc n) = sum_below h n + h n
 abbrev pub claimed : (ℕ → ℕ) → View → ℕ
 claimed h v = sum_by (λ (claim : Claim). h claim.who) v.claims
 
--- A pass that knows the counts has them, and it holds no more numbers than it is hands.
+-- A pass that knows the counts has them right, and it holds at most as many numbers as it is hands.
 abbrev pub HoldsAtMost : ℕ → ℕ → View → Type 0
 HoldsAtMost count hands v = (v.knows ≡ true → (v.count ≡ count) × (v.hands ≡ hands)) × (length v.held ≤ length v.claims)
 
@@ -51,7 +51,7 @@ pub record HasSeenCalls (log : List Call) (v : View) : Type 0 where
   pub mine : AreMine log v.claims
   pub makes : v.makes ≡ true → log ≡ []
 
--- All calls have one order. What is in the queue is what waits after them, each number that was taken waited longest then, and hands alone
+-- All calls have one order. What is in the queue is what waits after them, each number that was taken waited longest then, and only hands
 -- made them.
 pub record Logged (count hands : ℕ) (items : List ℕ) (views : List View) : Type 0 where
   pub log : List Call
@@ -60,9 +60,8 @@ pub record Logged (count hands : ℕ) (items : List ℕ) (views : List View) : T
   pub saw : (pass : ℕ) (v : View) → get_elem? views pass ≡ some v → HasSeenCalls log v
   pub known : (by : ℕ) → hands ≤ by → calls_by by log ≡ []
 
--- What is in the queue and what is held are together the numbers below the count, each once, however they are weighed. All passes together
--- are the hands, each once. While one makes numbers or hands no other knows how many there are. And all calls account for what is in the
--- queue.
+-- What is in the queue and what is held are together the numbers below the count, each once, whatever their weights. All passes together
+-- are the hands, each once. While one makes numbers or hands no other knows how many there are. All calls account for what is in the queue.
 abbrev pub Dealt : List ℕ → List View → Type 0
 Dealt items views =
     (count : ℕ)
@@ -73,7 +72,7 @@ Dealt items views =
     × ((pass : ℕ) (v : View) → get_elem? views pass ≡ some v → v.makes ≡ true → AloneKnows views pass)
     × Logged count hands items views
 
--- how a number weighs that counts x alone
+-- the weight of a number that counts only x
 abbrev pub one_at : ℕ → ℕ → ℕ
 one_at x y = if y == x then 1 else 0
 
@@ -81,6 +80,6 @@ one_at x y = if y == x then 1 else 0
 abbrev pub AreDistinct : List ℕ → Type 0
 AreDistinct xs = (x : ℕ) → sum_by (one_at x) xs ≤ 1
 
--- With what the pass holds, the items are no more than there are numbers; and what is neither there nor with the pass, other hands have.
+-- With what the pass holds, there are at most as many items as numbers. Other hands have what is neither there nor with the pass.
 abbrev pub AreFew : View → List ℕ → Type 0
 AreFew v items = (length items + length v.held ≤ v.count) × (v.count + length v.claims ≤ length items + length v.held + v.hands)

@@ -8,13 +8,13 @@ use std::collections::LinkedList;
 use std::marker::Model;
 use tp_token::{Seal, pair};
 
-/// What a queue answered: the number that it handed out, or none where none was there. No value of it is made.
+/// What a queue answered: the number that it handed out, or `None` if it was empty. No value of it is made.
 pub struct Answer {
     pub queue: ReadyQueue,
     pub number: Option<u8>,
 }
 
-/// All that queues answered to whoever has this, in order. It has no bytes, nobody can copy it, and only `take` adds to it.
+/// All that queues answered to the holder of this, in order. It has no bytes, nobody can copy it, and only `take` adds to it.
 #[derive(Drop)]
 pub struct Answers {
     all: Seal<LinkedList<Answer>>,
@@ -29,7 +29,7 @@ impl Model for Answers {
     ghost view = { λ a. a.all.value };
 }
 
-// Gives a seal that shows the ghost value `answers`, which a contract says by what is lent.
+// Gives a seal that shows the ghost value `answers`, which a contract names by what is lent.
 fn shown(_old: &Answers, _queue: &ReadyQueue, _number: Option<u8>) -> Seal<LinkedList<Answer>>
     ghost answers: { List Answer }
     ensures { result.value ≡ answers }
@@ -39,7 +39,7 @@ fn shown(_old: &Answers, _queue: &ReadyQueue, _number: Option<u8>) -> Seal<Linke
 }
 
 impl Answers {
-    /// No queue was asked.
+    /// Makes the list of no answers.
     pub fn new() -> Answers
         ensures { result ≡ [] }
     {

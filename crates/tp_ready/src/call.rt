@@ -1,7 +1,7 @@
 //! What was done with the queue.
 use std::collections::LinkedList;
 
-/// A number left the queue at its front, or joined it behind all others.
+/// A number left the queue at its front, or joined it after all others.
 pub enum Step {
     Took(u8),
     Put(u8),

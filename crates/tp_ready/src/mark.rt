@@ -12,8 +12,7 @@ use std::alloc::{AllocError, Global};
 use std::marker::{Brand, Model};
 use tp_disk::Disk;
 
-/// How many entries are known to be on the device. Only its raiser raises it, and nobody lowers it. Contracts see it as its
-/// name.
+/// How many entries are known to be on the device. Only its raiser raises it, and nobody lowers it. Contracts see it as its name.
 #[derive(Drop)]
 pub struct Mark {
     word: Word,
@@ -31,7 +30,7 @@ impl Model for Mark {
 }
 
 impl Mark {
-    /// A mark that has the number `first`, its raiser, and as many passes as `passes` says.
+    /// Makes a mark that has the number `first`, its raiser, and `passes` passes. `AllocError` if memory is out.
     pub fn start(
         alloc: Global,
         first: u64,
@@ -54,7 +53,7 @@ impl Mark {
         Ok((mark, raiser, all))
     }
 
-    /// One more pass, which has seen the mark's number.
+    /// Makes one more pass, which has seen the mark's number.
     #[tactic(auto, using(crate::proofs::Steps::twins))]
     pub fn pass(&self, raiser: &mut Raiser) -> Pass
         requires { raiser.old.mark ≡ self.now }
@@ -68,9 +67,9 @@ impl Mark {
         }
     }
 
-    /// Loads the mark, in one step and without a lock. Other threads may raise it meanwhile, so a clause says only that what
-    /// is shown is at least what `pass` saw before, and at least what it was told of: the number to which the mark was raised last, by
-    /// rises that go on from those that `pass` saw before.
+    /// Loads the mark, in one step and without a lock. Other threads may raise it meanwhile, so its clauses say two things. What it shows
+    /// is at least what `pass` saw before, and at least what it was told. It is the number to which the mark was raised last, by rises that
+    /// go on from those that `pass` saw before.
     pub fn load(&self, pass: &mut Pass) -> u64
         requires { pass.old.mark ≡ self.now }
         ensures pass { pass.new ≡ record pass.old { at = result; rises = pass.new.rises } }
@@ -83,8 +82,8 @@ impl Mark {
         pass.seen
     }
 
-    /// Raises the mark to `to`, in one step. Where it is there already, it stays. The rise is dated by `disk`, as it is now: passes that
-    /// load it see at which moment of the device the mark was raised.
+    /// Raises the mark to `to`, in one step. If it is already there, it stays. The rise is dated by `disk`, as it is now: passes that load
+    /// it see at which moment of the device the mark was raised.
     pub fn raise<D: Disk>(&self, raiser: &mut Raiser, to: u64, disk: &D)
         requires { raiser.old.mark ≡ self.now }
         ensures { raiser.new ≡ risen raiser.old to (moment (D.state disk.now)) }
@@ -92,7 +91,7 @@ impl Mark {
         self.raise_at::<Brand, D>(raiser, to, disk);
     }
 
-    // Raises the mark, at the moment that is picked, which a contract says by what is lent as `_disk`.
+    // Raises the mark, at the moment that is picked, which a contract names by what is lent as `_disk`.
     fn raise_at<A: Dated, D>(&self, raiser: &mut Raiser, to: u64, _disk: &D)
         requires { raiser.old.mark ≡ self.now }
         ensures { raiser.new ≡ risen raiser.old to A.moment }
@@ -104,7 +103,7 @@ impl Mark {
         raiser.raised = found.max(to);
     }
 
-    /// Tells `pass` of the mark's number: from now on its loads show no less.
+    /// Tells `pass` of the mark's number: from now on its loads show at least that.
     pub fn inform(&self, raiser: &mut Raiser, pass: &mut Pass)
         requires marks { (raiser.old.mark ≡ self.now) × (pass.old.mark ≡ self.now) }
         ensures pass { pass.new ≡ record pass.old { least = max pass.old.least raiser.old.at } }
@@ -113,8 +112,8 @@ impl Mark {
         self.tell(&mut pass.place, &mut raiser.place);
     }
 
-    /// Changes nothing, and tells that what `pass` saw is at most what the mark was raised to: it is the last of the rises that `pass` saw,
-    /// from which all of them go on.
+    /// Proves that what `pass` saw is at most what the mark was raised to. It is the last of the rises that `pass` saw, from which all of
+    /// them go on. It changes nothing.
     pub fn settle(&self, raiser: &mut Raiser, pass: &mut Pass)
         requires marks { (raiser.old.mark ≡ self.now) × (pass.old.mark ≡ self.now) }
         ensures same { (raiser.new ≡ raiser.old) × (pass.new ≡ pass.old) }
@@ -125,7 +124,7 @@ impl Mark {
         self.word.shared.load::<Audits>(&mut raiser.place, 0);
     }
 
-    // What the seat `of` saw, the seat `to` is told.
+    // Tells the seat `to` what the seat `of` saw.
     #[tactic(auto, using(crate::proofs::Steps::twins, crate::proofs::Steps::tells))]
     fn tell(&self, to: &mut Place, of: &mut Place)
         requires marks { (to.old.table_id ≡ self.now) × (of.old.table_id ≡ self.now) }

@@ -7,9 +7,8 @@ pub struct Rise {
     pub moment: u64,
 }
 
-/// Whether the seat raises the word, the number that it saw last, a number that the word has reached as it was told, and what the
-/// mark was raised to so far, the number that it began with first: as the seat saw it, and as it was told of it last. No value of it
-/// is made.
+/// Whether the seat raises the word, the number that it saw last, and a number that the word has reached as it was told. Then what the mark
+/// was raised to so far, the number that it began with first: as the seat saw it, and as it was told of it last. No value of it is made.
 pub struct View {
     pub raises: bool,
     pub at: u64,

@@ -24,7 +24,8 @@ impl Model for Pass {
 }
 
 impl Pass {
-    /// The number that its last load showed, or what the mark had when the pass was made: the last to which the mark was raised by then.
+    /// Gives the number that its last load showed, or what the mark had when the pass was made: the last to which the mark was raised by
+    /// then.
     pub fn seen(&self) -> u64
         ensures is { result ≡ self.now.at }
         ensures risen { result ≡ number_of self.now.rises }

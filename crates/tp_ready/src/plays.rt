@@ -1,4 +1,4 @@
-//! The rule of the word, and what each step on it tells. Its types are for the proofs alone.
+//! The rule of the word, and what each step on it tells. Its types are only for the proofs.
 ghost use Rattle.std.specs.Prelude.{◌≡◌, ℕ, []};
 ghost use Rattle.tp_ready.specs.MarkView.{raiser, reader, Marks, Loaded, Audited, Raised, informed};
 

@@ -34,7 +34,7 @@ impl Model for ReadyQueue {
 }
 
 impl ReadyQueue {
-    /// A queue of the numbers 0 to `last`, in order, and as many hands as `hands` says.
+    /// Makes a queue of the numbers 0 to `last`, in order, and `hands` hands. `AllocError` if memory is out.
     pub fn start<R: Wait>(
         rt: &R,
         alloc: Global,
@@ -57,9 +57,9 @@ impl ReadyQueue {
         Ok((ReadyQueue { line, hands }, all))
     }
 
-    /// Takes the number that waits longest: after all calls of all hands in front of this one it stands first. `None` comes only where the
-    /// queue was empty at some moment of the call, so that there are more hands than numbers, and then `hand` is free as before, and called
-    /// nothing. The answer is added to `answers`.
+    /// Takes the number that waits longest: after all calls of all hands before this one it is first. `None` comes only if the queue was
+    /// empty at some moment of the call, so that there are more hands than numbers. Then `hand` is free as before, and has called nothing.
+    /// The answer is added to `answers`.
     #[inline(always)]
     pub fn take<R: Wait>(&self, rt: &R, hand: &mut Hand, answers: &mut Answers) -> Option<Turn>
         requires { hand.old.of ≡ Some self.now }
@@ -85,7 +85,7 @@ impl ReadyQueue {
         }
     }
 
-    /// Puts the number of `turn` behind all that wait, and frees `hand`.
+    /// Puts the number of `turn` after all that wait, and frees `hand`.
     #[inline(always)]
     pub fn put_back<R: Wait>(&self, rt: &R, hand: &mut Hand, turn: Turn)
         requires hand { hand.old.of ≡ None }
@@ -101,7 +101,7 @@ impl ReadyQueue {
         hand.port = Some(port);
     }
 
-    /// Changes nothing, and tells that two turns have different numbers.
+    /// Proves that two turns have different numbers. It changes nothing.
     pub fn apart(&self, one: &mut Turn, two: &mut Turn)
         requires turns { (one.old.of ≡ self.now) × (two.old.of ≡ self.now) }
         ensures same { (one.new ≡ one.old) × (two.new ≡ two.old) }

@@ -23,7 +23,7 @@ impl Model for Raiser {
 }
 
 impl Raiser {
-    /// The mark's number.
+    /// Gives the mark's number.
     pub fn raised(&self) -> u64
         ensures { result ≡ self.now.at }
     {

@@ -1,4 +1,4 @@
-//! The rule of the queue, and what each step tells. Its types are for the proofs alone.
+//! The rule of the queue, and what each step tells. Its types are only for the proofs.
 ghost use Rattle.std.specs.Prelude.{◌≡◌, ◌<◌, ◌+◌, [], ◌++◌, ◌∷◌, length, take, drop};
 ghost use Rattle.tp_ready.specs.Past.{HasCalled};
 ghost use Rattle.tp_ready.specs.View.{maker, holder, nobody, past_of, Dealt, AreDistinct, AreFew};
@@ -54,7 +54,7 @@ impl Lesson<u8, View> for PutsBack {
     ghost fact = { AreFew };
 }
 
-/// A hand is made. The new pass is nobody's.
+/// A hand is made. The new pass belongs to nobody.
 pub struct Grows;
 
 impl Split<View> for Grows {

@@ -2,9 +2,9 @@
 use crate::call::{Call, Claim};
 use std::collections::LinkedList;
 
-/// `knows`: the pass knows `count`, how many numbers there are, and `hands`, how many hands; `makes`: it is still making them.
-/// `claims` are the hands of this pass, each with one number at most, `held` the numbers that it holds, `seen` all calls that it has
-/// seen, the newest first. No value of it is made.
+/// `knows`: the pass knows `count`, how many numbers there are, and `hands`, how many hands. `makes`: it is still making them. `claims` are
+/// the hands of this pass, each with at most one number. `held` are the numbers that it holds, and `seen` all calls that it has seen, the
+/// newest first. No value of it is made.
 pub struct View {
     pub knows: bool,
     pub makes: bool,

@@ -1,4 +1,4 @@
--- What is read in front of a cut has a generation.
+-- What is read before a cut has a generation.
 use Rattle.std.proofs.Common.{◌≡◌, ℕ, ◌<◌, List, subst}
 use Rattle.std.specs.Prelude.{nat_lt, ◌==◌, Ok}
 use Rattle.std.proofs.lemmas.Bool.{and_parts, ltb-true}

@@ -32,7 +32,7 @@ unfolding chosen_area
 chosen_area-fronts areas bytes first second le is then_is =
     rw (is, then_is, generation_of-content areas false bytes le, generation_of-content areas true bytes le)
 
--- the choice by what was read of both areas, one behind the other
+-- the choice by what was read of both areas, one after the other
 pub chosen_area-read : (areas : TwoAreas) (here start : ℕ) (old new : Moment) (first second : AreaFront) → 9 ≤ areas.length
     → here ≡ area_start areas false → found (area_front here old.bytes) ≡ Ok first → new ≡ old
     → start ≡ area_start areas true → found (area_front start new.bytes) ≡ Ok second
@@ -42,12 +42,12 @@ chosen_area-read areas here start old new first second le before is kept at then
     let other : second ≡ area_front (area_start areas true) old.bytes = cc in
     chosen_area-fronts areas old.bytes first second le one other ∙ ap (λ s. choice s first.is_open second.is_open first.generation second.generation) (sym at)
 
--- ## The fields in front of the images
+-- ## The fields before the images
 
 front_given-take : (t : Topology) (at m : ℕ) (xs : List ℕ) → 20 ≤ m → front_given t at (take m xs) ≡ front_given t at xs
 front_given-take t at m xs le = rw (u64_at-take m 0 xs (omega arith), u32_at-take m 8 xs (omega arith), u64_at-take m 12 xs (omega arith)) refl
 
--- the fields in front, by what was read of a content
+-- the fields at the front, by what was read of a content
 pub front_given-read : (t : Topology) (at : ℕ) (areas : TwoAreas) (second : Bool) (start : ℕ) (xs bytes : List ℕ) → 21 ≤ areas.length
     → start ≡ area_start areas second → bytes ≡ take 20 (drop (start + 1) xs) → front_given t at (content_of areas second xs) ≡ front_given t at bytes
 front_given-read t at areas second start xs bytes le here read =

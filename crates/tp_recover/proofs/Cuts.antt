@@ -73,7 +73,7 @@ ports_in-take base at (suc count) m bytes le =
     ∙ ap (λ ys. or_damaged at (port_with base bytes) >>= (λ port. with_first port (ports_in base (at + PORT_BYTES) count ys))) rest
     ∙ ap (λ given. or_damaged at (port_with base bytes) >>= (λ port. with_first port given)) (ports_in-take base (at + PORT_BYTES) count (m - PORT_BYTES) (drop PORT_BYTES bytes) (omega arith))
 
--- what stands behind a place of a content
+-- what comes after a place of a content
 behind_place : (k m start there : ℕ) (xs : List ℕ) → k ≤ m → there ≡ start + k → drop k (take m (drop start xs)) ≡ take (m - k) (drop there xs)
 behind_place k m start there xs le is =
     let whole : m ≡ k + (m - k) = omega arith in

@@ -1,4 +1,4 @@
--- What each change of a port keeps is kept by every entry; so a port never holds more than it has room for.
+-- What each change of a port keeps, every entry keeps; so a port never holds more than it has room for.
 use Rattle.std.proofs.Common.{◌≡◌, ℕ, ◌+◌, ◌-◌, ◌≤◌, inl, inr, List, [], ◌∷◌, ◌++◌, length, set, drop, sym, ap, subst, ◌∙◌, arith, Option, Some, None, slice_get, length-append, length-drop}
 use Rattle.std.specs.Prelude.{nat_lt, nat_le, ◌&&◌, length}
 use Rattle.std.specs.Option.{option_map}
@@ -19,7 +19,7 @@ use Rattle.tp_law_network.proofs.Partial.{map_some, cond_some, slice_get-set_sam
 
 -- ## Of any property
 
--- it is so of each port
+-- it is true of each port
 abbrev pub EachPort : (Port → Type 0) → List Port → Type 0
 EachPort P ports = (p : ℕ) (port : Port) → slice_get ports p ≡ Some port → P port
 
@@ -29,7 +29,7 @@ pub record PortsKeep (P : Port → Type 0) : Type 0 where
   pub handed : (byte : ℕ) (port : Port) (after : Port × List Token) → P port → handed_in byte port ≡ Some after → P after.0
   pub confirms : (upto : ℕ) (port : Port) (after : Port × List Token) → P port → confirmed upto port ≡ Some after → P after.0
 
--- of a process's ports, where it is the host
+-- of a process's ports, if it is the host
 abbrev EachOf : (Port → Type 0) → Own NodeState → Type 0
 EachOf P (OfNode node) = Unit {0}
 EachOf P (OfHost ports) = EachPort P ports

@@ -1,4 +1,4 @@
--- What a crash may leave since a reading began: nothing that one before it couldn't.
+-- What a crash may leave since a reading began: only what one before it could.
 use Rattle.std.proofs.Common.{◌≡◌, Result, OnOk, OnErr, inr}
 use Rattle.tp_model.specs.Disk.{MayBe, Read, Sync, done}
 use Rattle.tp_model.specs.DiskHistory.{State, MomentPassed, Fails}

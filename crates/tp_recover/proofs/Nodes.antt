@@ -1,4 +1,4 @@
--- Images that are read one behind the other.
+-- Images that are read one after the other.
 use Rattle.std.proofs.Common.{◌≡◌, ℕ, ◌+◌, ◌*◌, ◌<◌, ◌≤◌, List, [], ◌∷◌, ◌++◌, length, take, drop, get_or, refl, sym, ap, ◌∙◌, arith, append-nil, Bool, true, false, cond, subst}
 use Rattle.std.specs.Prelude.{nat_eq, Some, None, Result, Ok, Err, sum_by}
 use Rattle.std.proofs.lemmas.Bool.{eq-eqb}
@@ -41,7 +41,7 @@ node_with-take pages bytes =
 pub node_read : (at pages : ℕ) (xs bytes : List ℕ) → bytes ≡ take (image_length pages) (drop at xs) → or_damaged at (node_with pages (drop at xs)) ≡ or_damaged at (node_with pages bytes)
 node_read at pages xs bytes front = ap (or_damaged at) (sym (node_with-take pages (drop at xs)) ∙ ap (node_with pages) (sym front))
 
--- a head and the memory behind it, read one after the other
+-- a head and the memory after it, read one after the other
 take_both : (n m : ℕ) (xs : List ℕ) → take (n + m) xs ≡ take n xs ++ take m (drop n xs)
 take_both n m xs = sym (take-append-drop n (take (n + m) xs)) ∙ ap (λ ys. ys ++ drop n (take (n + m) xs)) (take-take n (n + m) xs (omega arith)) ∙ ap (λ ys. take n xs ++ ys) (drop-take n m xs)
 
@@ -55,7 +55,7 @@ image_apart at place pages old now head memory there kept front rest =
     ∙ ap (take (PAGE_BYTES * pages)) (sym (drop-drop IMAGE_HEAD_BYTES at old.bytes)))
     ∙ sym (take_both IMAGE_HEAD_BYTES (PAGE_BYTES * pages) (drop at old.bytes))
 
--- ## One behind the other
+-- ## One after the other
 
 nodes_in-cons : (at pages : ℕ) (more : List ℕ) (bytes : List ℕ)
     → nodes_in at (pages ∷ more) bytes ≡ (or_damaged at (node_with pages bytes) >>= (λ node. with_first node (nodes_in (at + image_length pages) more (drop (image_length pages) bytes))))
@@ -101,7 +101,7 @@ pub nodes_in-end : (at place i : ℕ) (pages xs : List ℕ) (items : List NodeSt
 nodes_in-end at place i pages xs items le so_far =
     so_far ∙ ap (behind items) (nodes_in-none place (drop i pages) (drop place xs) (drop_all i pages le)) ∙ ap Ok (append-nil items)
 
--- the place behind a number of images, and the room for one more
+-- the place after a number of images, and the room for one more
 pub place_more : (at place i : ℕ) (pages : List ℕ) → i < length pages → place ≡ at + sum_by image_length (take i pages)
     → place + image_length (get_or pages i 0) ≡ at + sum_by image_length (take (i + 1) pages)
 place_more at place i pages lt is = omega (arith, sum_by_more image_length pages i 0 lt)

@@ -20,7 +20,7 @@ use Rattle.tp_recover.specs.Reading.{ReadAnswer, found}
 use Rattle.tp_recover.specs.Starts.{Read, read_as, read_of, read_in, IsStart, groups_of, opened_with, opened_after}
 use Rattle.tp_recover.proofs.Passing.{passed}
 
--- ## In front of the groups
+-- ## Before the groups
 
 -- ## An area
 
@@ -31,7 +31,7 @@ rows_then head second read end (Ok last) (Ok shut) = refl
 rows_then head second read end (Ok last) (Err fault) = refl
 rows_then head second read end (Err fault) closed = refl
 
--- an area is what stands in front of its groups, and then its groups
+-- an area is what comes before its groups, and then its groups
 pub area_in-read : (head : Head) (second : Bool) (content : List ℕ) → area_in t414 t414_ends head second content ≡ (read_in head second content >>= opened_after head second content)
 unfolding area_in
 area_in-read head second content = go (front_in head.topology (area_start head.areas second) content) (cut_in t414_ends head.topology (area_start head.areas second + 1) content)

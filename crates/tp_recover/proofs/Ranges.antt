@@ -1,4 +1,4 @@
--- Ranges that are copied one behind the other are copied as one.
+-- Ranges that are copied one after the other are copied as one.
 use Rattle.std.proofs.Common.{◌≡◌, ℕ, ◌+◌, ◌≤◌, List, ◌++◌, length, take, drop, sym, ap, ◌∙◌, arith, length-drop}
 use Rattle.std.proofs.Math.Seq.{take-add}
 use Rattle.std.proofs.lemmas.List.{drop-drop, length-take-le}
@@ -20,7 +20,7 @@ more_copied at done n source old inside room =
     ∙ written_twice old at first second room
     ∙ ap (λ xs. written old at xs) whole
 
--- a range grows by a piece, where the devices have these bytes
+-- a range grows by a piece, if the devices have these bytes
 pub piece_copied : (at done n count : ℕ) (source then_source old mid new : List ℕ) → n ≡ count → then_source ≡ source → mid ≡ with_range at done source old
     → new ≡ with_range (at + done) n then_source mid → at + (done + count) ≤ length source → at ≤ length old
     → new ≡ with_range at (done + count) source old

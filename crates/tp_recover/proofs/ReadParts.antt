@@ -31,7 +31,7 @@ all_pushed P (y ∷ ys) x all here = (all.0, all_pushed P ys x all.1 here)
 
 -- ## Nodes
 
--- A node that was read has an image, and the pages that were asked for.
+-- A node that was read has an image, and the number of pages that it should have.
 pub node_imaged : (pages : ℕ) (bytes : List ℕ) (node : NodeState) → AreBytes bytes → node_with pages bytes ≡ Some node → HasImage pages node
 node_imaged pages bytes node are is =
     let part = take (image_length pages) bytes in

@@ -1,4 +1,4 @@
--- Records that are read one behind the other.
+-- Records that are read one after the other.
 use Rattle.std.proofs.Common.{◌≡◌, ℕ, ◌+◌, ◌*◌, ◌<◌, ◌≤◌, List, [], ◌∷◌, ◌++◌, length, take, drop, get_or, map, refl, sym, ap, ◌∙◌, arith, append_assoc, append-nil, subst}
 use Rattle.std.specs.Prelude.{Option, Some, None, Result, Ok, Err}
 use Rattle.std.specs.Option.{option_map}
@@ -18,7 +18,7 @@ use Rattle.tp_recover.specs.Reading.{ReadAnswer}
 use Rattle.tp_recover.proofs.Passing.{passed}
 use Rattle.tp_model.specs.CutImage.{line_with, lines_in, or_damaged}
 
--- what was read, in front of what is left
+-- what was read, before what is left
 abbrev pub behind : {A : Type 0} → List A → Result (List A) OpenFault → Result (List A) OpenFault
 behind xs given = given >>= (λ more. Ok (xs ++ more))
 
@@ -63,7 +63,7 @@ pub lines_in-more : (at i : ℕ) (wires : List (Option WireEnd)) (bytes : List �
     → lines_in at (drop i wires) bytes ≡ (or_damaged at (line_with (get_or wires i None) bytes) >>= (λ line. with_first line (lines_in (at + LINE_BYTES) (drop (i + 1) wires) (drop LINE_BYTES bytes))))
 lines_in-more at i wires bytes lt = ap (λ ws. lines_in at ws bytes) (drop_more wires i None lt) ∙ lines_in-cons at (get_or wires i None) (drop (i + 1) wires) bytes
 
--- a piece stands in its bytes
+-- a piece is in its bytes
 pub line_with-take : (wire : Option WireEnd) (bytes : List ℕ) → line_with wire (take LINE_BYTES bytes) ≡ line_with wire bytes
 line_with-take wire bytes = sym (line_same wire bytes (take 4 bytes) (whole_front 4 bytes))
 

@@ -1,4 +1,4 @@
--- What is replayed behind a cut can be opened as a book.
+-- What is replayed after a cut can be opened as a book.
 use Rattle.std.proofs.Common.{◌≡◌, ℕ, ◌-◌, ◌<◌, true, List, [], ◌∷◌, length, map, get_or, sym, ap, subst, ◌∙◌, arith, Some}
 use Rattle.std.specs.Prelude.{◌&&◌, nat_le, nat_lt, Ok}
 use Rattle.std.specs.List.{AllByRecursion}

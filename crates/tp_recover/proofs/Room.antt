@@ -4,6 +4,6 @@ use Rattle.std.proofs.lemmas.Bool.{leb-true}
 use Rattle.tp_model.specs.Journal.{cut_length, is_roomy, reserve, entry_room, room}
 use Rattle.tp_model.specs.Topology.{Topology, line_count}
 
--- its gate, the fields in front of its cut image, that image, and the gate behind it
+-- its gate, the fields before its cut image, that image, and the gate after it
 pub area_room : (t : Topology) (area : ℕ) → is_roomy t area ≡ true → cut_length t + 46 ≤ area
 area_room t area h = omega (arith, leb-true (reserve (line_count t) + entry_room) (room t area) h)

@@ -94,7 +94,7 @@ given_base t at content front is =
     let same : cut_front content found.0 ≡ front = let last = found.2 in cc in
     ap (λ (f : CutFront). f.base) (sym same)
 
--- Why a cut isn't read, behind fields that are, is why nothing is.
+-- Why a cut isn't read, after fields that are, is why nothing is.
 pub cut_unread : (head : Head) (second : Bool) (now old : Moment) (front : CutFront) (error : Unopened) (answer : Result Start Unopened) → now ≡ old
     → front_given head.topology (area_start head.areas second) (content_of head.areas second old.bytes) ≡ Ok front
     → (front.base ≡ base_of (content_of head.areas second now.bytes)

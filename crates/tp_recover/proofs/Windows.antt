@@ -11,7 +11,7 @@ part_of_first from n count bytes within =
     ∙ ap (take n) (drop-take from left bytes)
     ∙ take-take n left (drop from bytes) (omega arith)
 
--- what stands in a window from a place on stands there on the device
+-- what is in a window from a place on is there on the device
 pub part_of_window : (from at n count : ℕ) (own bytes : List ℕ) → take count own ≡ take count (drop from bytes) → from ≤ at → at + n ≤ from + count
     → take n (drop (at - from) own) ≡ take n (drop at bytes)
 part_of_window from at n count own bytes is behind within =

@@ -26,8 +26,8 @@ kept_start kept = area_start kept.areas kept.second
 abbrev pub other_kept_start : Kept → ℕ
 other_kept_start kept = area_start kept.areas (not kept.second)
 
--- Bytes of a copy before its area's gate is opened, made over others: both areas' gates are closed, the open area stands there from behind
--- its gate on up to the closed gate behind its groups, and so does the head.
+-- Bytes of a copy before its area's gate is opened, made over others. Both areas' gates are closed. The copy has the head, and of the open
+-- area what is between its gate and the closed gate after its groups, and that gate.
 abbrev pub closed_copy : Kept → List ℕ → List ℕ → List ℕ
 closed_copy kept source old =
     with_range 0 kept.areas.first source
@@ -40,18 +40,18 @@ closed_copy kept source old =
 abbrev pub kept_copy : Kept → List ℕ → List ℕ → List ℕ
 kept_copy kept source old = with_gate (kept_start kept) GATE_OPEN (closed_copy kept source old)
 
--- The bytes open to what is copied so.
+-- The bytes open to what is copied.
 pub record OpensAsKept (bytes : List ℕ) (kept : Kept) : Type 0 where
   pub opened : Opened
   pub is : verdict bytes ≡ Ok opened
   pub same : kept ≡ area_kept opened
 
--- A moment's bytes open as `kept`, and behind it all of them are synced.
+-- A moment's bytes open as `kept`, and after it all of them are synced.
 pub record OpensAs (kept : Kept) (old new : Moment) : Type 0 where
   pub opens : OpensAsKept old.bytes kept
   pub synced : new ≡ done Sync old
 
--- The area's gate was opened, and what the copy then has opens so, and is synced.
+-- The area's gate was opened, and what the copy then has opens as `kept`, and is synced.
 pub record IsFinished (kept : Kept) (old new : Moment) : Type 0 where
   pub bytes : new.bytes ≡ with_gate (kept_start kept) GATE_OPEN old.bytes
   pub synced : new.unsynced ≡ []
@@ -61,8 +61,11 @@ pub record IsFinished (kept : Kept) (old new : Moment) : Type 0 where
 abbrev pub HasStayed : Kept → List ℕ → Type 0
 HasStayed kept source = area_front (kept_start kept) source ≡ record { is_open = true; generation = kept.generation }
 
--- A copy: the area that was copied stayed as it was opened, the copy has the device's bytes where they count, opens to what the device
--- opened to, and all of it is synced.
+-- A copy:
+-- - the area that was copied stayed as it was opened;
+-- - the copy has the device's bytes that count;
+-- - it opens to what the device opened to;
+-- - all of it is synced.
 pub record IsCopy (kept : Kept) (source old : List ℕ) (new : Moment) (next : ℕ) : Type 0 where
   pub number : next ≡ kept.next
   pub stays : HasStayed kept source
@@ -70,7 +73,7 @@ pub record IsCopy (kept : Kept) (source old : List ℕ) (new : Moment) (next : �
   pub opens : OpensAsKept new.bytes kept
   pub synced : new.unsynced ≡ []
 
--- The answer: a copy, or that the area was written anew. Then the gates of what was to be the copy are closed.
+-- The answer: a copy, or that the area was written again. Then the gates of what was to be the copy are closed.
 abbrev pub CopyAnswer : Kept → List ℕ → Moment → Moment → Option ℕ → Type 0
 CopyAnswer kept source old new (Some next) = IsCopy kept source old.bytes new next
 CopyAnswer kept source old new None = (HasStayed kept source → ⊥) × (new.bytes ≡ closed_copy kept source old.bytes)

@@ -24,7 +24,7 @@ network_of_cut wires cut = wired wires (map live_node cut.nodes.items) (map (λ 
 abbrev pub three : {A B C D : Type 0} → Result A OpenFault → Result B OpenFault → Result C OpenFault → (A → B → C → D) → Result D OpenFault
 three first second third f = first >>= (λ x. second >>= (λ y. third >>= (λ z. Ok (f x y z))))
 
--- what stands at `places` of a device: nodes with `pages` pages each, lines with `wires`, and `ports` ports
+-- what is at `places` of a device: nodes with `pages` pages each, lines with `wires`, and `ports` ports
 abbrev pub records_at : List ℕ → List (Option WireEnd) → ℕ → ℕ → Places → List ℕ → Result (Network NodeState) OpenFault
 records_at pages wires ports base places bytes =
     three (nodes_in places.nodes pages (drop places.nodes bytes)) (lines_in places.lines wires (drop places.lines bytes))

@@ -1,4 +1,4 @@
--- What an opened device's fields stand for, and what they keep.
+-- What an opened device's fields mean, and what they keep.
 use Rattle.std.specs.Prelude.{◌+◌, ◌<◌, ◌≤◌}
 use Rattle.std.specs.List.{AllByRecursion}
 use Rattle.tp_model.specs.declared.limits.TheConstants.{AREA_HEAD_BYTES, NUMBER_LIMIT}
@@ -24,9 +24,9 @@ opened_of o = record {
   end = o.end;
 }
 
--- What is true of whatever was opened, also on a device that doesn't keep the model: the cut is one of the head's topology,
--- its nodes were read of bytes, its generation is one, entries lead from it to what was replayed, and the closed gate behind them
--- stands within the open area, behind its head.
+-- What is true of whatever was opened, even on a device that doesn't keep the model. The cut is one of the head's topology, its nodes were
+-- read from bytes, and its generation is one. Entries lead from it to what was replayed. The closed gate after them is inside the open
+-- area, after its head.
 pub record IsWellOpened (o : Inside) : Type 0 where
   pub cut : IsCut t414_ends o.head.topology o.base o.cut.network
   pub nodes : AllByRecursion IsNodeOfBytes o.cut.network.nodes

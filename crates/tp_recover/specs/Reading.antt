@@ -11,7 +11,7 @@ abbrev pub has_read : {A : Type 0} → Result A Unopened → Bool
 has_read (Err ReadFailed) = false
 has_read _ = true
 
--- where no call failed, what a read gives and what is unsynced are as before
+-- if no call failed, what a read gives and what is unsynced are as before
 abbrev pub LeavesAlone : {A : Type 0} → Result A Unopened → Moment → Moment → Type 0
 LeavesAlone (Err ReadFailed) old new = Unit {0}
 LeavesAlone _ old new = new ≡ old
@@ -20,18 +20,18 @@ LeavesAlone _ old new = new ≡ old
 abbrev pub LeavesNothingNew : State → State → Type 0
 LeavesNothingNew old new = LeavesOnly old new (MayBe old.now)
 
--- The answer is what the definition gives: its value, seen so, or its fault. Else the device failed or memory was wanting.
+-- The answer is what the definition gives: its value, as `view` sees it, or its fault. Else the device failed or memory is out.
 abbrev pub ReadAnswer : {A B : Type 0} → (A → B) → Result B OpenFault → Result A Unopened → Type 0
 ReadAnswer view given (Ok x) = given ≡ Ok (view x)
 ReadAnswer view given (Err (Fault fault)) = given ≡ Err fault
 ReadAnswer view given (Err ReadFailed) = Unit {0}
 ReadAnswer view given (Err Memory) = Unit {0}
 
--- a value that stands there whatever the bytes are
+-- a value that is there whatever the bytes are
 abbrev pub found : {A : Type 0} → A → Result A OpenFault
 found x = Ok x
 
--- memory was not wanting, since none is taken
+-- memory can't be out, since none is taken
 abbrev pub TakesNone : {A : Type 0} → Result A Unopened → Type 0
 TakesNone (Ok x) = Unit {0}
 TakesNone (Err (Fault fault)) = Unit {0}

@@ -18,7 +18,7 @@ use Rattle.tp_recover.specs.declared.start.Start.{Start}
 use Rattle.tp_recover.specs.AfterGroups.{after_groups}
 use Rattle.tp_area.specs.Fronts.{front_given}
 
--- the fields in front of a cut, and the cut
+-- the fields before a cut, and the cut
 pub record Read : Type 0 where
   pub front : CutFront
   pub cut : Network NodeState
@@ -29,14 +29,14 @@ read_as front cut = record { front = front; cut = cut }
 abbrev pub read_of : Start → Read
 read_of start = read_as start.front start.cut.network
 
--- what stands in front of an area's groups
+-- what comes before an area's groups
 abbrev pub read_in : Head → Bool → List ℕ → Result Read OpenFault
 read_in head second content = do
   front ← front_given head.topology (area_start head.areas second) content
   cut ← cut_in t414_ends head.topology (area_start head.areas second + 1) content
   Ok (read_as front cut)
 
--- Nothing is replayed so far, the cut is one of that head's topology, whose nodes were read of bytes, and the generation is one.
+-- Nothing is replayed so far, the cut is one of that head's topology, whose nodes were read from bytes, and the generation is one.
 pub record IsStart (head : Head) (start : Start) : Type 0 where
   pub replay : start.replay ≡ replay_from start.front.form start.cut.network start.front.base
   pub cut : IsCut t414_ends head.topology start.front.base start.cut.network
@@ -48,7 +48,7 @@ abbrev pub groups_of : Head → Bool → List ℕ → Listing
 groups_of head second content =
     listing 0 (area_start head.areas second + 1 + groups_place head.topology) (drop (groups_place head.topology) content)
 
--- what is opened, by what was read and what was replayed, up to a closed gate that stands here
+-- what is opened, by what was read and what was replayed, up to a closed gate at this place
 abbrev pub opened_with : Head → Bool → Read → Replay NodeState × ℕ → Opened
 opened_with head second read found = record {
   head = head;

@@ -1,4 +1,4 @@
-//! Which area is taken.
+//! Which area opening chooses.
 
 ghost use Rattle.std.specs.Prelude.{◌≡◌, ◌+◌, ◌*◌, ◌^◌, ◌<◌, ◌≤◌, length};
 ghost use Rattle.tp_model.specs.DiskHistory.{Counts};
@@ -26,7 +26,7 @@ fn read_area_front<D: Disk>(disk: &mut D, start: u64) -> Result<AreaFront, Unope
     Ok(area_front(&bytes))
 }
 
-/// Chooses an area by the fronts of both: whether the second one is taken, which begins at `at`.
+/// Chooses an area by the fronts of both. Answers whether it is the second one, which begins at `at`.
 fn choose(at: u64, first: AreaFront, second: AreaFront) -> Result<bool, OpenFault>
     ensures { result ≡ choice at first.is_open second.is_open first.generation second.generation }
 {
@@ -40,7 +40,7 @@ fn choose(at: u64, first: AreaFront, second: AreaFront) -> Result<bool, OpenFaul
     }
 }
 
-/// Reads which area of a device is taken: whether it is the second one. Its areas are `areas`.
+/// Reads which area of a device to open, and answers whether it is the second one. Its areas are `areas`.
 pub fn read_choice<D: Disk>(disk: &mut D, areas: TwoAreas) -> Result<bool, Unopened>
     requires some { 9 ≤ areas.length }
     requires inside { areas_end areas ≤ D.size_of disk.old }

@@ -1,19 +1,20 @@
 //! Copying a device that was opened, and that another process may be running.
 //!
-//! Such a process writes only the area that doesn't count, and groups behind the last one of the area that does (`docs/DISK.md` says in
-//! which order). Opening has said which area counts, its generation, and where the closed gate behind its groups stands. What lies between
-//! the two gates stays as it is until a checkpoint writes into this area, which closes its gate first, and opens it with a generation that
-//! is higher by 2. **It is copied, and then the area's gate and generation are read once more**: where they are what opening found, nothing
-//! was written there meanwhile, and the bytes are those of the moment at which the device was opened. Else there is no copy.
+//! Such a process writes only the area that doesn't count, and groups after the last one of the area that does (`docs/DISK.md` says in
+//! which order). Opening has told which area counts, its generation, and where the closed gate after its groups is. What is between the two
+//! gates stays as it is until a checkpoint writes into this area. A checkpoint first closes the area's gate, and opens it with a generation
+//! that is higher by 2. **So once the bytes are copied, the area's gate and generation are read again.** If they are what opening found,
+//! nothing was written there meanwhile, and the bytes are those of the moment at which the device was opened. Else there is no copy.
 //!
-//! **Of the copy the area's gate is opened last**, behind the head and a closed gate behind the groups; the other area's gate is closed.
-//! Then the copy is opened, and has to say what opening the device said.
+//! **The gate of the copy's area is opened last**, after the head is written and the closed gate after the groups. The other area's gate is
+//! closed. Then the copy is opened, and has to say what opening the device said.
 //!
-//! **Nothing is missing that was durable before the device was opened.** Let X be the area that counted then; all durable entries are in
-//! it. Opening reads the gates and generations of both areas after that, and takes the higher one that is open. If it took X, X's groups
-//! were read later, with all that they had. If it took the other one with a higher generation than X had, that one was opened since, with
-//! all of X's entries. It can't have taken the other one with a lower generation: then X's gate was found closed, so a checkpoint was
-//! written into the other one since, whose gate and generation aren't found in the end as opening read them.
+//! **The copy has everything that was durable before the device was opened.** Let X be the area that counted then, which has all durable
+//! entries. Opening reads the gates and generations of both areas after that, and chooses the open one of higher generation. If it chose X,
+//! it read X's groups later, with all that they had. If it chose the other one with a higher generation than X had, that one was opened
+//! since, with all of X's entries. It can't have chosen the other one with a lower generation. For that it must have found X's gate closed,
+//! so a checkpoint was written into the other one since. Then the gate and generation of the other one aren't found in the end as opening
+//! read them.
 
 ghost use Rattle.std.specs.Prelude.{◌≡◌, ◌+◌, ◌^◌, ◌≤◌, ◌<◌, ◌↔◌, IfOk, IsTrue, OnOk};
 ghost use Rattle.tp_recover.specs.Copies.{CopyAnswer, HasStayed, IsFinished, OpensAs, closed_copy, area_kept};
@@ -32,7 +33,7 @@ use tp_area::{AREA_FRONT_BYTES, AreaFront, area_front, area_start};
 use tp_disk::Disk;
 use tp_model::limits::{GATE_CLOSED, GATE_OPEN};
 
-/// Writes all of a copy but its area's open gate.
+/// Writes all of a copy except its area's open gate.
 fn make_closed<D: Disk, K: Disk>(source: &mut D, copy: &mut K, kept: Kept) -> Result<(), CopyFault>
     requires from { areas_end kept.areas ≤ D.size_of source.old }
     requires into { areas_end kept.areas ≤ K.size_of copy.old }
@@ -68,7 +69,7 @@ fn read_front<D: Disk>(source: &mut D, start: u64) -> Result<AreaFront, CopyFaul
     }
 }
 
-/// Whether the area that is copied has its gate open and its generation still.
+/// Whether the area that is copied still has its gate open and its generation.
 fn has_stayed<D: Disk>(source: &mut D, kept: Kept) -> Result<bool, CopyFault>
     requires from { areas_end kept.areas ≤ D.size_of source.old }
     requires counted { D.size_of source.old < 2 ^ 64 }
@@ -132,11 +133,14 @@ fn copy_kept<D: Disk, K: Disk>(
     Ok(Some(kept.next))
 }
 
-/// Copies a device that was `opened`, and that another process may be running, over what is in `copy`, which has to be no smaller. Answers
-/// the number of the next entry: all of the copy is synced then, and it opens to the area, the generation, the form, the end of the groups
-/// and the number to which the device was opened. Answers none where the area that is copied has another gate or generation behind the
-/// copying: then the copy's gates are closed, and it has to be made anew, of the device as it then opens. Nothing is written to the device,
-/// and a crash finds nothing there that the call made.
+/// Copies a device that was `opened`, and that another process may be running, over what is in `copy`, which has to be at least as large.
+/// Writes nothing to the device, and a crash finds nothing there that the call made.
+///
+/// Answers the number of the next entry. All of the copy is then synced. It opens to the area, the generation, the form, the end of the
+/// groups and the number to which the device was opened. Answers `None` if the area that is copied has another gate or generation after the
+/// copying. Then the copy's gates are closed, and it has to be made again, of the device as it then opens.
+///
+/// Fails with `ReadFailed` if the device does, with `DeviceFailed` if the copy does, or with `Memory`.
 pub fn copy_opened<D: Disk, K: Disk>(
     alloc: Global,
     source: &mut D,

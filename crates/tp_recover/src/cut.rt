@@ -42,7 +42,7 @@ pub struct Cut {
     pub ports: Vec<PortParts>,
 }
 
-/// The tokens on a line as a list.
+/// Gives the tokens on a line as a list.
 fn token_list(alloc: Global, line: LineTokens) -> Result<Vec<Token>, AllocError>
     ensures { IfOk result (λ tokens. tokens.items ≡ tokens_on line) }
 {
@@ -55,7 +55,7 @@ fn token_list(alloc: Global, line: LineTokens) -> Result<Vec<Token>, AllocError>
     }
 }
 
-/// The tokens on each line as lists.
+/// Gives the tokens on each line as lists.
 fn token_lists(alloc: Global, lines: &[LineTokens]) -> Result<Vec<Vec<Token>>, AllocError>
     ensures { IfOk result (λ lists. map (λ list. list.items) lists.items ≡ map tokens_on lines.now) }
 {
@@ -107,7 +107,8 @@ fn read_records<D: Disk>(
     }
 }
 
-/// The first line on which the byte under way isn't in one place is damaged; the record of line 0 stands at this place.
+/// Tests that on each line the byte under way is in one place. The first line that fails the test is damaged; the record of line 0 is at
+/// `at`.
 fn check_flights(wires: &[Option<WireEnd>], cut: &Cut, at: u64) -> Result<(), OpenFault>
     requires few { length cut.now.nodes.items ≤ MAX_NODES }
     requires few_ports { length cut.now.ports.items ≤ MAX_PORTS }
@@ -126,7 +127,7 @@ fn check_flights(wires: &[Option<WireEnd>], cut: &Cut, at: u64) -> Result<(), Op
 
 /// Reads the cut of an area, which has `base` entries.
 ///
-/// What is read was tested, so it is sound and thawed also where the device doesn't keep the model.
+/// What is read was tested, so it is sound and thawed even if the device doesn't keep the model.
 pub fn read_cut<D: Disk>(
     alloc: Global,
     disk: &mut D,

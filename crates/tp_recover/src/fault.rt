@@ -11,7 +11,7 @@ pub enum CopyFault {
     /// The copy failed in a call, has no room, or doesn't open to what the device opened to.
     #[error("DeviceFailed")]
     DeviceFailed,
-    /// Memory was refused.
+    /// Out of memory.
     #[error("Memory")]
     Memory,
 }

@@ -26,7 +26,7 @@ fn read_front<D: Disk>(
     disk.read(at, &mut bytes[..count])
 }
 
-/// Reads the first `count` of `bytes`, for which memory was asked, from a place on.
+/// Reads the first `count` of `bytes`, for which there is memory, from a place on.
 fn read_into<D: Disk>(
     disk: &mut D,
     at: u64,
@@ -45,7 +45,7 @@ fn read_into<D: Disk>(
 }
 
 impl Window {
-    /// Nothing was read. It fails where memory is refused.
+    /// Makes an empty window. `AllocError` if memory is out.
     pub(crate) fn new(alloc: Global) -> Result<Window, AllocError>
         ensures fits { IfOk result (λ window. window.count ≤ WINDOW_BYTES) }
         ensures is { (bytes : List ℕ) → IfOk result (λ window. IsOf window bytes) }
@@ -96,7 +96,7 @@ impl Window {
         read_into(disk, at, &mut self.bytes, wanted)
     }
 
-    /// `count` bytes from a place on.
+    /// Gives `count` bytes from a place on.
     pub(crate) fn bytes_at(&self, at: u64, count: usize) -> &[u8]
         requires fits { self.now.count ≤ WINDOW_BYTES }
         requires has { HasBytes self.now at count }

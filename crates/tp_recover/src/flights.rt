@@ -13,7 +13,7 @@ use tp_model::{OpenFault, Token, WireEnd};
 use tp_net::port_line;
 use tp_node::Node;
 
-/// How many of the tokens are Data.
+/// Counts the tokens that are Data.
 fn datas(tokens: &[Token]) -> usize
     ensures { result ≡ datas tokens.now }
 {
@@ -26,7 +26,7 @@ fn datas(tokens: &[Token]) -> usize
     count
 }
 
-/// How many of the tokens are acknowledges.
+/// Counts the tokens that are acknowledges.
 fn acks(tokens: &[Token]) -> usize
     ensures { result ≡ acks tokens.now }
 {
@@ -75,7 +75,7 @@ fn end_holds(parts: CutParts<'_>, line: usize) -> bool
     }
 }
 
-/// The tokens on a line.
+/// Gives the tokens on a line.
 fn on_line<'a>(parts: CutParts<'a>, line: usize) -> &'a [Token]
     ensures { result.now ≡ on_line (network_of_parts parts.entry).lines line }
 {
@@ -85,7 +85,7 @@ fn on_line<'a>(parts: CutParts<'a>, line: usize) -> &'a [Token]
     }
 }
 
-/// The line that comes back on the wire of line `line`.
+/// Gives the line that comes back on the wire of line `line`; `None` without a wire.
 fn back(parts: CutParts<'_>, line: usize) -> Option<usize>
     requires { length parts.nodes.now ≤ MAX_NODES }
     ensures { result ≡ back (network_of_parts parts.entry) line }
@@ -109,7 +109,8 @@ fn is_in_one_place(parts: CutParts<'_>, line: usize) -> bool
     waits == sent + acks(on_line(parts, other)) as u128 + held
 }
 
-/// The first line on which the byte under way isn't in one place is damaged; the record of line 0 stands at this place.
+/// Tests that on each line the byte under way is in one place. The first line that fails the test is damaged; the record of line 0 is at
+/// `at`.
 pub(crate) fn flights(parts: CutParts<'_>, at: u64) -> Result<(), OpenFault>
     requires few { length parts.nodes.now ≤ MAX_NODES }
     requires few_ports { length parts.ports.now ≤ MAX_PORTS }

@@ -1,4 +1,4 @@
-//! The fields in front of an area's node images.
+//! The fields before an area's node images.
 
 ghost use Rattle.std.specs.Prelude.{◌≡◌, ◌+◌, ◌*◌, ◌≤◌, ◌<◌, length, IfOk};
 ghost use Rattle.tp_model.specs.Device.{area_start, areas_end, content_of};
@@ -12,7 +12,7 @@ use tp_area::{CutFront, FIELDS_BYTES, Head, area_start, cut_front, cut_length};
 use tp_disk::Disk;
 use tp_model::limits::NUMBER_LIMIT;
 
-/// Reads the fields in front of an area's node images.
+/// Reads the fields before an area's node images.
 pub fn read_front<D: Disk>(disk: &mut D, head: &Head, second: bool) -> Result<CutFront, Unopened>
     requires { areas_end head.now.areas ≤ D.size_of disk.old }
     ensures takes_none { TakesNone result }

@@ -47,7 +47,7 @@ fn read_wide<D: Disk>(disk: &mut D, len: u64) -> Result<Head, Unopened>
     decoded(HeadVersion::Wide, &bytes, len)
 }
 
-/// Reads the head of a device: the bytes of a narrow one, and where these say that it is a wide one, all bytes of that.
+/// Reads the head of a device: the bytes of a narrow one, and if these say that it is a wide one, all bytes of that.
 #[inline(never)]
 pub fn read_head<D: Disk>(disk: &mut D) -> Result<Head, Unopened>
     ensures takes_none { TakesNone result }

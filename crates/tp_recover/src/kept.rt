@@ -8,8 +8,11 @@ ghost use Rattle.tp_model.specs.declared.limits.TheConstants.{AREA_HEAD_BYTES};
 use crate::Opened;
 use tp_model::{Form, TwoAreas};
 
-/// What of an opened device is copied: where the areas are, whether the second one is open, its generation and its form, where the closed
-/// gate behind its groups stands, and the number of the next entry.
+/// What of an opened device is copied:
+/// - where the areas are, and whether the second one is open;
+/// - its generation and its form;
+/// - where the closed gate after its groups is;
+/// - the number of the next entry.
 #[derive(Clone, Copy)]
 pub(crate) struct Kept {
     pub(crate) areas: TwoAreas,
@@ -42,7 +45,7 @@ pub(crate) fn is_kept(one: Kept, other: Kept) -> bool
         && one.next == other.next
 }
 
-/// What of an opened device is copied.
+/// Gives what of an opened device is copied.
 pub(crate) fn kept_of(opened: &Opened) -> Kept
     ensures value { result ≡ area_kept opened.now }
     ensures behind { area_start result.areas result.second + AREA_HEAD_BYTES ≤ result.end }
@@ -58,7 +61,7 @@ pub(crate) fn kept_of(opened: &Opened) -> Kept
     }
 }
 
-/// Whether both areas lie in a device of `size` bytes.
+/// Whether both areas are inside a device of `size` bytes.
 pub(crate) fn lie_in(areas: TwoAreas, size: u64) -> bool
     ensures { IsTrue result ↔ areas_end areas ≤ size }
 {

@@ -1,4 +1,4 @@
-//! Opening a device: its head, the choice of an area, the cut, and the groups behind it. And a copy of one that was opened.
+//! Opening a device: its head, the choice of an area, the cut, and the groups after it. And a copy of a device that was opened.
 #![tactic(auto)]
 
 mod ahead;

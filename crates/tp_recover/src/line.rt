@@ -18,7 +18,7 @@ use tp_model::limits::LINE_BYTES;
 use tp_model::{OpenFault, WireEnd};
 use tp_net::MAX_LINES;
 
-/// Decodes the tokens of the lines with `wires` from their records, one behind the other. The first stands at `at`.
+/// Decodes the tokens of the lines with `wires` from their records, one after the other. The first record is at `at`.
 pub(crate) fn lines_in(
     alloc: Global,
     at: u64,
@@ -46,7 +46,7 @@ pub(crate) fn lines_in(
     Ok(lines)
 }
 
-/// The line of this number is damaged, where the first record stands here.
+/// Makes the fault that the line of this number is damaged, if the first record is at `at`.
 fn damaged(at: u64, line: usize) -> Unopened
     requires { at + LINE_BYTES * line < 2 ^ 64 }
     ensures { result ≡ Unopened.Fault (OpenFault.Damaged (at + LINE_BYTES * line)) }
@@ -54,7 +54,7 @@ fn damaged(at: u64, line: usize) -> Unopened
     Unopened::Fault(OpenFault::Damaged(at + (LINE_BYTES * line) as u64))
 }
 
-/// Reads the tokens of the lines with `wires`. Their records stand from `at` on, one behind the other.
+/// Reads the tokens of the lines with `wires`. Their records begin at `at`, one after the other.
 pub(crate) fn read_lines<D: Disk>(
     alloc: Global,
     disk: &mut D,

@@ -16,8 +16,8 @@ use tp_model::OpenFault;
 use tp_model::limits::{IMAGE_HEAD_BYTES, PAGE_BYTES};
 use tp_node::{ImageFault, Node};
 
-/// Decodes the node of `pages` pages from its image, `head` and `memory` behind it, which stands at `at`. It has no spare frame, since
-/// nothing is replayed while it is frozen.
+/// Decodes the node of `pages` pages from its image at `at`, which is `head` and then `memory`. It has no spare frame, since nothing is
+/// replayed while it is frozen.
 fn node_in(
     alloc: Global,
     at: u64,
@@ -39,7 +39,7 @@ fn node_in(
     }
 }
 
-/// Reads the node of `pages` pages whose image stands at `at`: its head, and then its memory, straight into the bytes that the node keeps.
+/// Reads the node of `pages` pages whose image is at `at`: its head, and then its memory, straight into the bytes that the node keeps.
 fn read_node<D: Disk>(alloc: Global, disk: &mut D, at: u64, pages: u16) -> Result<Node, Unopened>
     requires inside { at + image_length pages ≤ D.size_of disk.old }
     requires counted { at + image_length pages < 2 ^ 64 }
@@ -56,7 +56,7 @@ fn read_node<D: Disk>(alloc: Global, disk: &mut D, at: u64, pages: u16) -> Resul
     node_in(alloc, at, pages, &head, memory)
 }
 
-/// Reads the nodes with `pages` pages each. Their images stand from `at` on, one behind the other.
+/// Reads the nodes with `pages` pages each. Their images begin at `at`, one after the other.
 pub(crate) fn read_nodes<D: Disk>(
     alloc: Global,
     disk: &mut D,

@@ -19,8 +19,7 @@ use tp_area::Head;
 use tp_disk::Disk;
 use tp_gate::Gate;
 
-/// Opens the device with `head`, as `open_area` does, by the pieces of its network. Its second area is taken where `second` holds,
-/// else its first.
+/// Opens the device with `head`, as `open_area` does, by the pieces of its network: its second area if `second` is true, else its first.
 fn open_apart<D: Disk, R: Threads + Sync, G: Gate + Sync>(
     alloc: Global,
     disk: &mut D,
@@ -54,13 +53,12 @@ fn open_apart<D: Disk, R: Threads + Sync, G: Gate + Sync>(
     })
 }
 
-/// Opens a device, as `open` does, each node by itself: its entries are replayed by pieces of its network, one for each worker that
-/// gets a node, and one for the host. Each piece is the job of a thread of its own. As one begins that has nodes, the gate is called at
-/// point 7 (`tp_gate::PIECE_BEGUN`) with the first of them.
+/// Opens a device, as `open` does, each node by itself. Its entries are replayed by pieces of its network, one for each worker that gets a
+/// node, and one for the host. Each piece is the job of a thread of its own. When one begins that has nodes, it calls the gate at point 7
+/// (`tp_gate::PIECE_BEGUN`) with the first of them.
 ///
-/// The answer is what `open` answers, word for word, however many the workers are. All rows are read before the first entry is
-/// replayed: so where the device fails, or memory is refused, while later rows are read, that is the answer even if an earlier entry
-/// is damaged.
+/// The answer is what `open` answers, word for word, for any number of workers. All rows are read before the first entry is replayed. So if
+/// the device fails, or memory is out, while later rows are read, that is the answer even if an earlier entry is damaged.
 pub fn open_parallel<D: Disk, R: Threads + Sync, G: Gate + Sync>(
     alloc: Global,
     disk: &mut D,

@@ -12,7 +12,7 @@ use tp_model::limits::PAGE_BYTES;
 /// How many bytes are copied at once.
 const PIECE_BYTES: usize = 4 * PAGE_BYTES;
 
-/// Writes over what stands in a copy.
+/// Writes over the bytes of a copy.
 pub(crate) fn put_bytes<K: Disk>(copy: &mut K, at: u64, bytes: &[u8]) -> Result<(), CopyFault>
     requires { at + length bytes.now ≤ K.size_of copy.old }
     ensures size { K.size_of copy.new ≡ K.size_of copy.old }

@@ -1,4 +1,4 @@
-//! Where the records of an area stand on its device.
+//! Where the records of an area are on its device.
 
 ghost use Rattle.std.specs.Prelude.{◌≡◌, ◌+◌, ◌^◌, ◌<◌, true};
 ghost use Rattle.tp_model.specs.Device.{area_start};
@@ -7,7 +7,7 @@ ghost use Rattle.tp_model.specs.Opening.{groups_place, lines_place, nodes_place,
 
 use tp_area::{Head, Places, area_start};
 
-/// Where the records of an area stand, and its first group: within the area.
+/// Tells where the records of an area are, and its first group: inside the area.
 #[tactic(auto, using(crate::proofs::Room::area_room))]
 pub(crate) fn places_in(head: &Head, second: bool) -> Places
     ensures nodes { result.nodes ≡ area_start head.now.areas second + 1 + nodes_place }

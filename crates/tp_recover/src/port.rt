@@ -17,7 +17,7 @@ use tp_disk::Disk;
 use tp_model::OpenFault;
 use tp_model::limits::PORT_BYTES;
 
-/// A copy of bytes.
+/// Copies bytes.
 fn copied(alloc: Global, bytes: &[u8]) -> Result<Vec<u8>, AllocError>
     ensures { IfOk result (λ copy. copy.items ≡ bytes.now) }
 {
@@ -26,7 +26,7 @@ fn copied(alloc: Global, bytes: &[u8]) -> Result<Vec<u8>, AllocError>
     Ok(copy)
 }
 
-/// The parts of the port that a record says.
+/// Gives the parts of the port that a record says.
 fn parts_of(alloc: Global, port: PortRecord<'_>) -> Result<PortParts, AllocError>
     ensures { IfOk result (λ parts. port_made parts ≡ record_of port.entry) }
 {
@@ -38,7 +38,7 @@ fn parts_of(alloc: Global, port: PortRecord<'_>) -> Result<PortParts, AllocError
     })
 }
 
-/// Reads the port of a cut of `base` entries, whose record stands at `at`.
+/// Reads the port of a cut of `base` entries, whose record is at `at`.
 fn read_port<D: Disk>(
     alloc: Global,
     disk: &mut D,
@@ -62,7 +62,7 @@ fn read_port<D: Disk>(
     }
 }
 
-/// Reads `count` ports of a cut of `base` entries, whose records stand at `at`, one behind the other.
+/// Reads `count` ports of a cut of `base` entries. Their records begin at `at`, one after the other.
 pub(crate) fn read_ports<D: Disk>(
     alloc: Global,
     disk: &mut D,

@@ -12,9 +12,9 @@ ghost use Rattle.tp_area.specs.Appended.{append_refusal};
 ghost use Rattle.tp_area.specs.Places.{place_at};
 ghost use Rattle.tp_area.specs.Tails.{tail_refusal};
 
-/// What a book gives finds room in the store over its device, where the book is bound to the device's room
-/// (`Opened::journal_room`): the store refuses neither a group of the next entries, behind those that the device holds, nor the
-/// tail of a whole cut as too long. The function does nothing; its contract is the law.
+/// What a book gives finds room in the store over its device, if the book is bound to the device's room (`Opened::journal_room`). Neither a
+/// group of the next entries, after those that the device holds, nor the tail of a whole cut is too long for the store. The function does
+/// nothing; its contract is the law.
 pub fn books_find_room()
     ensures appended { (bytes : List ℕ) (o : Opened) (floor entries count : ℕ) → AllByRecursion (λ byte. byte < 256) bytes → verdict bytes ≡ Ok o
         → FitsRoom (Some (room o.head.topology o.head.areas.length)) floor entries → floor ≤ length o.kept → 1 ≤ count → length o.kept + count ≤ entries

@@ -1,4 +1,4 @@
-//! The network of a cut, before the entries behind it are replayed.
+//! The network of a cut, before the entries after it are replayed.
 
 ghost use Rattle.std.specs.Prelude.{◌≡◌, ◌+◌, ◌*◌, ◌≤◌, All, IfOk, vec_len};
 ghost use Rattle.tp_book.specs.PortParts.{port_made};
@@ -22,7 +22,7 @@ use tp_disk::Disk;
 use tp_model::WireEnd;
 use tp_replay::{FlatNetwork, Replay};
 
-/// An area before its groups are replayed: the fields in front of its cut, the cut as contracts see it, and the network.
+/// An area before its groups are replayed: the fields before its cut, the cut as contracts see it, and the network.
 #[derive(Drop)]
 pub(crate) struct Start {
     pub(crate) front: CutFront,
@@ -49,14 +49,14 @@ fn flat_network(
     Ok(FlatNetwork::new(wires, cut.nodes, lines, ports))
 }
 
-/// The network as contracts see it. It does nothing.
+/// Gives the network as contracts see it. It does nothing.
 fn cut_of(network: &FlatNetwork) -> CutNetwork
     ensures { result.network ≡ network.now }
 {
     CutNetwork::of(network)
 }
 
-/// Reads what stands in front of an area's groups, and makes its network ready.
+/// Reads what comes before an area's groups, and makes its network ready.
 pub(crate) fn read_start<D: Disk>(
     alloc: Global,
     disk: &mut D,

@@ -11,17 +11,17 @@ use tp_area::journal_room;
 use tp_book::NetState;
 
 impl Opened {
-    /// The bytes that groups may fill in an area, to which a book's journal is bound.
+    /// Counts the bytes that groups may fill in an area, to which a book's journal is bound.
     pub fn journal_room(&self) -> u64
         ensures { result ≡ room self.now.head.topology self.now.head.areas.length }
     {
         journal_room(self.head.topology(), self.head.areas().length)
     }
 
-    /// The state that a book is opened from: the network's parts are made anew, each node's image
-    /// as the node goes, and the entries are moved.
+    /// Makes the state that a book is opened from. The network becomes parts, with each node's image made as the node goes, and the entries
+    /// are moved. `AllocError` if memory is out.
     ///
-    /// It can be opened whatever the device was, also where it doesn't keep the model.
+    /// A book can be opened from it whatever the device was, even if it doesn't keep the model.
     #[inline(never)]
     pub fn into_state(self, alloc: Global) -> Result<NetState, AllocError>
         ensures opened { IfOk result (λ state. IsWellOpen state) }

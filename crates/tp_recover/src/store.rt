@@ -17,7 +17,7 @@ use tp_area::{Place, Store, open_devices_say_their_place};
 use tp_disk::Disk;
 
 impl Opened {
-    /// Where the next group goes: within the open area, behind its head.
+    /// Tells where the next group goes: inside the open area, after its head.
     pub fn place(&self) -> Place
         ensures value { result ≡ place_at self.now }
         ensures behind { area_start result.areas result.second + AREA_HEAD_BYTES ≤ result.end }
@@ -33,7 +33,7 @@ impl Opened {
         }
     }
 
-    /// The store over the device that this was read of.
+    /// Makes the store over the device from which this was read.
     pub fn store<D: Disk>(&self, disk: D) -> Store<D>
         requires whole { areas_end self.now.head.areas ≤ D.size_of disk }
         requires counted { D.size_of disk < 2 ^ 64 }
@@ -47,10 +47,10 @@ impl Opened {
     }
 }
 
-/// Opens a device, as `open` does, and gives the store over it.
+/// Opens a device, as `open` does, and gives the store over it. Fails as `open` does.
 ///
-/// Where it isn't opened, the device is given up: of it is said only that a call of it failed where that is the answer. Who
-/// wants it back lends it, since `&mut disk` is a device too, or calls `open` and then `Opened::store`.
+/// If it fails, the device is gone, and the contract says only that a call of it failed if that is the answer. To get it back, lend it,
+/// since `&mut disk` is a device, too, or call `open` and then `Opened::store`.
 pub fn open_store<D: Disk + Drop>(
     alloc: Global,
     mut disk: D,

@@ -15,8 +15,8 @@ use tp_area::Head;
 use tp_disk::Disk;
 use tp_model::OpenFault;
 
-/// An area before its entries are replayed: what stands in front of its groups, the entries that are readable, and the place of the
-/// closed gate behind them all, or the first fault.
+/// An area before its entries are replayed: what comes before its groups and the entries that are readable. Then the place of the closed
+/// gate after them all, or the first fault.
 #[derive(Drop)]
 pub(crate) struct Taken {
     pub(crate) start: Start,

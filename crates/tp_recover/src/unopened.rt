@@ -12,7 +12,7 @@ pub enum Unopened {
     /// The device failed in the call.
     #[error("ReadFailed")]
     ReadFailed,
-    /// Memory was refused. No device causes it.
+    /// Out of memory. No device causes it.
     #[error("Memory")]
     Memory,
 }

@@ -1,4 +1,4 @@
--- The fields of a flat network behind an entry.
+-- The fields of a flat network after an entry.
 use Rattle.std.proofs.Common.{◌≡◌, ℕ, ◌+◌, ◌*◌, ◌<◌, ◌≤◌, true, false, inl, inr, List, length, set, get_or, refl, sym, ap, subst, ◌∙◌, arith, Option, Some, None, slice_get}
 use Rattle.std.specs.Prelude.{is_some, Ok, Err}
 use Rattle.std.specs.Option.{option_map}
@@ -36,7 +36,7 @@ pub applied : (o : Option (Network NodeState)) (now : Network NodeState) → o �
 applied None now is = cc
 applied (Some t) now is = let same : t ≡ now = cc in sym same
 
--- a port that isn't there changes in no way, nor does one that can't
+-- a port that doesn't exist changes in no way, nor does one that can't
 pub nowhere : (ports : List Port) (p : ℕ) (change : Port → Option (Port × List Token)) → length ports ≤ p → slice_get ports p >>= change ≡ None
 nowhere ports p change past = rw (slice_get_past ports p past) refl
 
@@ -85,7 +85,7 @@ module _ (n : Inside) (I : IsInside n) where
   pub room : (e : Entry) (out : List (List Token)) (sends : List (ℕ × Token)) (t : Network NodeState) → Made (replay_state n) e out sends t → HasRoom (has_wire n.wires.items) out sends
   room e out sends t M = rw (← M.is_out, ← M.is_sends) (room_step (replay_state n) I.flat e t M.step)
 
-  -- behind a port's change
+  -- after a port's change
   module _ (e : Entry) (out : List (List Token)) (p : ℕ) (port : PortValue) (tokens : List Token) (M : Made (replay_state n) e out (on_port (4 * length (replay_state n).nodes + p) tokens) (port_after (replay_state n) out p port.port tokens))
       (lines : List (List Token)) (on : lines ≡ sent (has_wire n.wires.items) out (on_port (4 * length (replay_state n).nodes + p) tokens)) where
     pub port_state : replay_state (record n { ports = with_item n.ports p port; lines = lines }) ≡ port_after (replay_state n) out p port.port tokens
@@ -108,7 +108,7 @@ module _ (n : Inside) (I : IsInside n) where
     | inr other ↦ I.thawed j c (sym (slice_get-set_other n.nodes.items i j node other) ∙ at)
   ]
 
-  -- behind a node's
+  -- after a node's
   module _ (e : Entry) (out : List (List Token)) (i : ℕ) (old node : NodeContents) (there : slice_get n.nodes.items i ≡ Some old) (thawed : node.frozen ≡ old.frozen) (tokens : List (ℕ × Token))
       (M : Made (replay_state n) e out (on_lines i tokens) (node_after (replay_state n) out i node.live tokens))
       (lines : List (List Token)) (on : lines ≡ sent (has_wire n.wires.items) out (on_lines i tokens)) where

@@ -1,4 +1,4 @@
--- What stands in front of a line that goes to a node, the node can take: in a sound network the end waits for it.
+-- A node can take the token at the front of a line that goes to it: in a sound network the end waits for it.
 use Rattle.std.proofs.Common.{◌≡◌, ℕ, ◌+◌, ◌*◌, ◌%◌, ◌<◌, ◌≤◌, true, false, length, drop, refl, sym, ap, ◌∙◌, arith, Some, IsSome, slice_get}
 use Rattle.tp_model.specs.declared.link.Token.{Token}
 use Rattle.tp_model.specs.declared.link.Token.TheVariants.{Data, Ack, Marker}

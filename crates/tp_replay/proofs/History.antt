@@ -37,12 +37,12 @@ numbered_last least most (x ∷ ns) n all low high = (all.0, all.1, numbered_las
 
 -- ## One entry more
 
--- where all rows are replayed, the first one is
+-- if all rows are replayed, the first one is
 replayed_first : {A B : Type 0} (place : ℕ) (o : Option A) (rest : A → Result B OpenFault) (last : B) → (or_damaged place o >>= rest) ≡ Ok last → (x : A) × (o ≡ Some x) × (rest x ≡ Ok last)
 replayed_first place None rest last e = cc
 replayed_first place (Some x) rest last e = (x, refl, e)
 
--- what is read of a row is such as the area's form holds
+-- the area's form may hold what is read of a row
 row_of : (form : Form) (row : List ℕ) (entry : Entry × ℕ) → row_entry form row ≡ Some entry → is_of form entry.0 ≡ true
 row_of form row entry e = go (entry_at row) e
   where

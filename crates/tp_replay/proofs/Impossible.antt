@@ -1,4 +1,4 @@
--- Each kind of entry, where it isn't possible.
+-- Each kind of entry, if it isn't possible.
 use Rattle.std.proofs.Common.{◌≡◌, ℕ, zero, suc, ◌<◌, true, false, List, [], ◌++◌, length, refl, sym, ap, ◌∙◌, arith, Option, Some, None, slice_get}
 use Rattle.std.specs.Prelude.{nat_lt, nat_le, ◌&&◌, is_some}
 use Rattle.std.specs.Option.{option_map}
@@ -61,11 +61,11 @@ run_short s i k n there none =
     let ran : steps t414 k n ≡ Some R.after = rw same at R.ran in
     cc (ran, none))
 
--- the steps behind the first one
+-- the steps after the first one
 abbrev goes_on : {Node : Type 0} → Machine Node → ℕ → Node × List (ℕ × Token) → Option (Node × List (ℕ × Token))
 goes_on M count first = steps M count first.0 >>= λ rest. Some (rest.0, first.1 ++ rest.1)
 
--- where a run ends there are no more steps
+-- if a run ends there are no more steps
 pub steps_fewer : {Node : Type 0} (M : Machine Node) (made count : ℕ) (n : Node) (now : Node × List (ℕ × Token)) → steps M made n ≡ Some now → M.step now.0 ≡ None → made < count → steps M count n ≡ None
 unfolding steps
 steps_fewer M zero zero n now ran none fewer = absurd (omega arith)
@@ -158,7 +158,7 @@ confirm_apart s p upto t h = let S = step_of t414 s (Confirm p upto) t h in go S
     go (OfNode n) o r e = cc
     go (OfHost ports) o r e = port_change s p (confirmed upto) ports r (own_host s (length s.nodes) ports o).1 e
 
--- where there is no such port, or it can't do it
+-- if there is no such port, or it can't do it
 unchanged : (s : Network NodeState) (p : ℕ) (change : Port → Option (Port × List Token)) → slice_get s.ports p >>= change ≡ None → PortChange s p change → ⊥
 unchanged s p change none P = let both : slice_get s.ports p >>= change ≡ Some P.after = rw P.there P.is in cc (none, both)
 
@@ -198,7 +198,7 @@ turn_uncounted s i links k none =
     let is = and_from (nat_lt 0 (length (by_link 0 links))) (nat_le k MAX_STEPS) F.some F.few in
     true≢false (sym is ∙ none))
 
--- where a token didn't come in on its link, or isn't among the first of its line
+-- if a token didn't come in on its link, or isn't among the first of its line
 pub turn_behind : (s : Network NodeState) (i : ℕ) (links : List Received) (k : ℕ)
     → (comes_in s.wires (length s.nodes) i (by_link 0 links) && is_some (taken s.lines (by_line s.wires (length s.nodes) i (by_link 0 links)))) ≡ false → next t414 s (Turn i links k) ≡ None
 unfolding takes
@@ -208,7 +208,7 @@ turn_behind s i links k none =
     let is = and_from (comes_in s.wires (length s.nodes) i (by_link 0 links)) (is_some (taken s.lines (by_line s.wires (length s.nodes) i (by_link 0 links)))) F.into (ap is_some F.front) in
     true≢false (sym is ∙ none))
 
--- where the node can't make the steps
+-- if the node can't make the steps
 pub turn_short : (s : Network NodeState) (i : ℕ) (links : List Received) (k : ℕ) (n : NodeState) (mid : NodeState × List (ℕ × Token)) → slice_get s.nodes i ≡ Some n
     → took_all t414 (by_link 0 links) n ≡ Some mid → steps t414 k mid.0 ≡ None → next t414 s (Turn i links k) ≡ None
 turn_short s i links k n mid there took none =

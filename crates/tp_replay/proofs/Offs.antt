@@ -10,7 +10,7 @@ use Rattle.tp_law_network.proofs.Lines.{line_there, taken_cons}
 use Rattle.tp_replay.proofs.Applied.{there_is}
 use Rattle.tp_replay.proofs.Steps.{without_front}
 
--- The tokens from a place on: the one there stands in front of its line, and the others can be taken behind it.
+-- The tokens from a place on: the one there is at the front of its line, and the others can be taken after it.
 pub record NextOff (wires : List (Option WireEnd)) (N i : ℕ) (lines : List (List Token)) (m : ℕ × Token) (ms rest : List (ℕ × Token)) : Type 0 where
   pub there : incoming wires N i m.0 < length lines
   pub some : IsSome (taken (without_front lines (incoming wires N i m.0)) (by_line wires N i rest))

@@ -28,7 +28,7 @@ use Rattle.tp_replay.proofs.Applied.{room, node_inside, node_next, still_thawed}
 use Rattle.tp_replay.proofs.Impossible.{steps_fewer, run_short}
 use Rattle.tp_replay.proofs.Steps.{Made, node_after, run_step}
 
--- ## The fields behind it
+-- ## The fields after it
 
 module _ (n : Inside) (I : IsInside n) (i : ℕ) (node new : NodeContents) (there : slice_get n.nodes.items i ≡ Some node) (kept : new.frozen ≡ node.frozen)
     (count : ℕ) (tokens : List (ℕ × Token)) (ran : steps t414 count node.live ≡ Some (new.live, tokens)) (few : count ≤ MAX_STEPS) where
@@ -59,7 +59,7 @@ module _ (n : Inside) (I : IsInside n) (i : ℕ) (node new : NodeContents) (ther
       go (suc k) some = room n I (Run i count) n.lines (on_lines i tokens) (node_after (replay_state n) n.lines i new.live tokens) (step (omega arith))
 
   module _ (lines : List (List Token)) (on : lines ≡ sent (has_wire n.wires.items) n.lines (on_lines i tokens)) where
-    -- behind no step the network is as it was
+    -- without a step the network is as it was
     pub ran_none : count ≡ 0 → replay_state (record n { nodes = with_item n.nodes i new; lines = lines }) ≡ replay_state n
     unfolding sent
     ran_none none =
@@ -97,11 +97,11 @@ module _ (n : Inside) (I : IsInside n) (i : ℕ) (node new : NodeContents) (ther
 -- ## What it is as an entry
 
 module _ (s : Network NodeState) (i most count : ℕ) (now : Network NodeState) (R : RanUpTo s i most count now) where
-  -- Where all steps were made, it is the entry.
+  -- If all steps were made, it is the entry.
   pub ran_all : count ≡ most → 0 < most → next t414 s (Run i most) ≡ Some now
   ran_all all some = subst (λ k. next t414 s (Run i k) ≡ Some now) all (R.some (omega (arith, all, some)))
 
-  -- Where fewer were made, the entry isn't possible.
+  -- If fewer were made, the entry isn't possible.
   pub ran_not : count < most → next t414 s (Run i most) ≡ None
   ran_not fewer = run_short s i most R.before R.there (steps_fewer t414 count most R.before (R.behind, R.tokens) R.made (R.all fewer) fewer)
 

@@ -1,4 +1,4 @@
--- What a turn takes stands in front of its lines just where it does link by link: links have lines of their own.
+-- What a turn takes is at the front of its lines exactly if it is link by link: links have lines of their own.
 use Rattle.std.proofs.Common.{◌≡◌, ◌≢◌, ℕ, ◌+◌, ◌*◌, ◌<◌, ◌≤◌, Bool, true, inl, inr, List, [], ◌∷◌, ◌++◌, length, map, drop, get_or, refl, sym, ap, subst, ◌∙◌, arith, add-one, drop-cons, append_assoc, Option, Some, None}
 use Rattle.std.specs.Prelude.{◌&&◌, is_some}
 use Rattle.std.specs.Cmp.{both_ways}
@@ -83,11 +83,11 @@ module _ (wires : List (Option WireEnd)) (N i : ℕ) where
   into_behind k (t ∷ ts) ms into = into_behind k ts ms (and_parts (is_link i k (receiver wires (incoming wires N i k))) (comes_in wires N i (map (λ u. (k, u)) ts ++ ms)) into).1
 
   module _ (lines : List (List Token)) where
-    -- the tokens of each line are the first that stand there
+    -- the tokens of each line are its first ones
     abbrev HasFronts : List (ℕ × Token) → Type 0
     HasFronts ms = (l : ℕ) → (rest : List Token) × (on_line lines l ≡ for_line l (by_line wires N i ms) ++ rest)
 
-    -- what came in on link k and behind it stands in front, where it does for link k and for those behind
+    -- what came in on link k and later ones is at the front, if it is for link k and for the later ones
     fronts_with : (k : ℕ) (ts : List Token) (ms : List (ℕ × Token)) → comes_in wires N i ms ≡ true → AllByRecursion (λ (m : ℕ × Token). m.0 ≢ k) ms → link_stands wires N lines i k ts ≡ true → HasFronts ms
         → HasFronts (map (λ t. (k, t)) ts ++ ms)
     fronts_with k [] ms into other stands behind l = behind l

@@ -1,4 +1,4 @@
--- Each kind of entry, where it is possible: a step of the network.
+-- Each kind of entry, if it is possible: a step of the network.
 use Rattle.std.proofs.Common.{◌≡◌, ℕ, ◌+◌, ◌*◌, ◌<◌, ◌≤◌, true, cond, List, [], ◌∷◌, ◌++◌, length, map, set, drop, refl, ap, ◌∙◌, Some, None, slice_get}
 use Rattle.std.specs.Prelude.{nat_lt, nat_le, ◌&&◌}
 use Rattle.std.specs.Option.{option_map}
@@ -29,7 +29,7 @@ without_front lines line = set lines line (drop 1 (on_line lines line))
 abbrev pub on_port : ℕ → List Token → List (ℕ × Token)
 on_port line tokens = map (λ token. (line, token)) tokens
 
--- the network behind what a node, or a port, did, with the tokens that it sent
+-- the network after what a node, or a port, did, with the tokens that it sent
 abbrev pub node_after : Network NodeState → List (List Token) → ℕ → NodeState → List (ℕ × Token) → Network NodeState
 node_after s lines i node tokens = record s { nodes = set s.nodes i node; lines = sent (has_wire s.wires) lines (on_lines i tokens) }
 

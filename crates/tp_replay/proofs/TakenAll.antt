@@ -1,4 +1,4 @@
--- A node takes the tokens of a turn, one after the other: in a flat network it can, where they stand in front of their lines.
+-- A node takes the tokens of a turn, one after the other. In a flat network it can, if they are at the front of their lines.
 use Rattle.std.proofs.Common.{◌≡◌, ℕ, ◌+◌, ◌<◌, ◌≤◌, true, List, [], ◌∷◌, ◌++◌, length, drop, get_or, refl, sym, ap, subst, ◌∙◌, arith, add-one, drop-cons, append_assoc, append-nil, length-set, Option, Some, None, IsSome, slice_get}
 use Rattle.std.specs.Prelude.{is_some}
 use Rattle.std.specs.Option.{option_map}
@@ -89,7 +89,7 @@ next_taken tokens i n d below some =
       is = all.1 ∙ sym (ap (option_map (with_answers F.0.1)) R.1 ∙ R.2);
     }
 
--- where it is known what the node does at the one there
+-- if it is known what the node does at the one there
 pub record Behind (tokens : List (ℕ × Token)) (i : ℕ) (n : NodeState) (x : NodeState × List (ℕ × Token)) : Type 0 where
   pub rest : IsSome (took_all t414 (drop (i + 1) tokens) x.0)
   pub is : took_all t414 (drop i tokens) n ≡ option_map (with_answers x.1) (took_all t414 (drop (i + 1) tokens) x.0)

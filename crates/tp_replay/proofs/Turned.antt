@@ -48,7 +48,7 @@ found [] i below = absurd (omega (arith, below))
 found (x ∷ xs) zero below = (x, refl)
 found (x ∷ xs) (suc i) below = found xs i (omega (arith, below))
 
--- its tokens came in on its links, and stand in front of their lines
+-- its tokens came in on its links, and are at the front of their lines
 pub front_there : (s : Network NodeState) (i : ℕ) (links : List Received) (count : ℕ) → i < length s.nodes → (nat_lt 0 (length (by_link 0 links)) && nat_le count MAX_STEPS) ≡ true
     → (comes_in s.wires (length s.nodes) i (by_link 0 links) && is_some (taken s.lines (by_line s.wires (length s.nodes) i (by_link 0 links)))) ≡ true → IsFront s i links count
 unfolding takes
@@ -59,7 +59,7 @@ front_there s i links count below turn stands =
     let node = found s.nodes i below in
     record { node = node.0; there = node.1; into = parts.0; some = counts.0; few = counts.1; out = out.0; front = out.1 }
 
--- ## The fields behind it
+-- ## The fields after it
 
 module _ (n : Inside) (I : IsInside n) (i : ℕ) (links : List Received) (most : ℕ) (F : IsFront (replay_state n) i links most) where
   pub node_there : i < length n.nodes.items

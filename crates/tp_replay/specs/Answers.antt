@@ -1,4 +1,4 @@
--- What a call answers and leaves that applies an entry.
+-- What a call that applies an entry answers and leaves.
 use Rattle.std.specs.Prelude.{◌≡◌, ◌⊎◌, ◌<◌, ◌≤◌, ℕ, List, Option, Some, None, Result, Ok, Err, slice_get}
 use Rattle.tp_model.specs.declared.entry.Entry.{Entry}
 use Rattle.tp_model.specs.declared.entry.Entry.TheVariants.{Run, Take, HostIn, Confirm, Turn}
@@ -10,7 +10,7 @@ use Rattle.tp_model.specs.Network.{Network, steps}
 use Rattle.tp_model.specs.Entries.{next}
 use Rattle.tp_replay.specs.declared.fault.NotPossible.{NotPossible}
 
--- The network after it, exactly where it is possible.
+-- The network after it, exactly if it is possible.
 abbrev pub AppliesEntry : Option (Network NodeState) → Result (Unit {0}) NotPossible → Network NodeState → Type 0
 AppliesEntry (Some after) (Ok done) now = now ≡ after
 AppliesEntry (Some after) (Err fault) now = ⊥
@@ -29,7 +29,7 @@ pub record TurnCutShort (s : Network NodeState) (node : ℕ) (takes : List Recei
   pub fewer : made < count
   pub is : next t414 s (Turn node takes made) ≡ Some now
 
--- What an entry leaves that isn't possible: the network as it was, or a run or the steps of a turn are cut short.
+-- What an entry that isn't possible leaves: the network as it was, or a run or the steps of a turn are cut short.
 abbrev pub LeavesShort : Network NodeState → Entry → Network NodeState → Type 0
 LeavesShort s (Run node count) now = (now ≡ s) ⊎ RanShort s node count now
 LeavesShort s (Take line token) now = now ≡ s
@@ -37,8 +37,8 @@ LeavesShort s (HostIn port byte) now = now ≡ s
 LeavesShort s (Confirm port upto) now = now ≡ s
 LeavesShort s (Turn node takes count) now = (now ≡ s) ⊎ TurnCutShort s node takes count now
 
--- A node ran for at most `most` steps: `count` were made, fewer than that only where the node has no step then. Without a step
--- the network is as it was.
+-- A node ran for at most `most` steps: `count` were made, and fewer than `most` only if the node has no step then. Without a step the
+-- network is as it was.
 pub record RanUpTo (s : Network NodeState) (node most count : ℕ) (now : Network NodeState) : Type 0 where
   pub few : count ≤ most
   pub before : NodeState
@@ -51,7 +51,7 @@ pub record RanUpTo (s : Network NodeState) (node most count : ℕ) (now : Networ
   pub some : 0 < count → next t414 s (Run node count) ≡ Some now
   pub all : count < most → node_step behind ≡ None
 
--- A node took what a turn takes, and then ran for at most `most` steps: `count` were made, fewer only where no more are possible.
+-- A node took what a turn takes, and then ran for at most `most` steps: `count` were made, and fewer only if no more are possible.
 pub record TurnedUpTo (s : Network NodeState) (node : ℕ) (takes : List Received) (most count : ℕ) (now : Network NodeState) : Type 0 where
   pub few : count ≤ most
   pub is : next t414 s (Turn node takes count) ≡ Some now

@@ -15,7 +15,7 @@ use Rattle.tp_law_machine.specs.NodeOfBytes.{CarriesByte, CarryBytes, IsNodeOfBy
 use Rattle.tp_node.specs.NodeContents.{NodeContents}
 use Rattle.tp_book.specs.Ports.{PortValue}
 
--- A line for each link and each port, and no more nodes and ports than a network may have.
+-- A line for each link and each port, and at most as many nodes and ports as a network may have.
 pub record HasFlatShape (s : Network NodeState) : Type 0 where
   pub wires : length s.wires ≡ 4 * length s.nodes + length s.ports
   pub lines : length s.lines ≡ 4 * length s.nodes + length s.ports
@@ -29,7 +29,7 @@ pub record IsFlat (s : Network NodeState) : Type 0 where
   pub marked : (line : ℕ) → markers (on_line s.lines line) ≤ 1
   pub nodes : (i : ℕ) (node : NodeState) → slice_get s.nodes i ≡ Some node → IsNodeOfBytes node
 
--- what an entry takes carries a byte
+-- the data byte that an entry takes is below 256
 abbrev pub EntryTakesByte : Entry → Type 0
 EntryTakesByte (Run node count) = Unit {0}
 EntryTakesByte (Take line token) = CarriesByte token

@@ -1,4 +1,4 @@
--- What is replayed behind a cut.
+-- What is replayed after a cut.
 use Rattle.std.specs.Prelude.{◌≡◌, ℕ, ◌+◌, length, map, Some}
 use Rattle.tp_model.specs.declared.form.Form.{Form}
 use Rattle.tp_model.specs.EntryBytes.{AreOf}
@@ -7,8 +7,8 @@ use Rattle.tp_model.specs.Order.{after}
 use Rattle.tp_model.specs.Numbers.{AreNumbered}
 use Rattle.tp_model.specs.Replay.{Replay}
 
--- The kept entries lead from the cut's network to the one that is there; their numbers rise, and none is above its number in
--- the journal; the next entry's number in the journal counts them all; and each is one that an area of this form holds.
+-- The kept entries lead from the cut's network to the one that is there. Their numbers rise, and none is above its number in the journal.
+-- The next entry's number in the journal counts them all. An area of this form may hold each.
 pub record IsHistory {Node : Type 0} (M : Machine Node) (form : Form) (start : Network Node) (base : ℕ) (r : Replay Node) : Type 0 where
   pub leads : after M start (map (λ e. e.0) r.kept) ≡ Some r.now
   pub numbered : AreNumbered 0 base (map (λ e. e.1) r.kept)

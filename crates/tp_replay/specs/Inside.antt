@@ -1,4 +1,4 @@
--- A flat network's fields: what they stand for, and what they keep.
+-- A flat network's fields: what they mean, and what they keep.
 use Rattle.tp_model.specs.NodeState.{NodeState}
 use Rattle.tp_model.specs.Network.{Network}
 use Rattle.tp_replay.specs.declared.network.FlatNetwork.TheInside.{Inside}

@@ -2,7 +2,7 @@
 
 use thiserror::Error;
 
-/// The entry isn't possible where the network stands.
+/// The entry isn't possible in the network as it is.
 #[derive(Clone, Copy, Debug, PartialEq, Eq, Error)]
 #[error("NotPossible")]
 pub struct NotPossible;
@@ -13,7 +13,7 @@ pub enum RowFault {
     /// It is no entry, its number is out of place, or the entry isn't possible.
     #[error("Damaged")]
     Damaged,
-    /// Memory was refused.
+    /// Out of memory.
     #[error("Memory")]
     Memory,
 }
@@ -24,7 +24,7 @@ pub enum ReplayFault {
     /// The row at this place is damaged.
     #[error("Damaged {0}")]
     Damaged(u64),
-    /// Memory was refused.
+    /// Out of memory.
     #[error("Memory")]
     Memory,
 }

@@ -10,7 +10,7 @@ use tp_book::HostPort;
 use tp_model::Token;
 use tp_model::limits::MAX_HELD;
 
-/// Whether a token stands in front of a line and is no Marker.
+/// Whether a token is at the front of a line and is no Marker.
 pub(crate) fn stands_in_front(front: Option<Token>, token: Token) -> bool
     ensures { (line : List Token) → slice_get line 0 ≡ front → result ≡ (is_first line token && not (is_marker token)) }
 {
@@ -32,7 +32,7 @@ pub(crate) fn can_take(port: &HostPort, token: Token) -> bool
     }
 }
 
-/// Whether a port can let its outputs go up to a position: it is past what was confirmed, and not past what there is.
+/// Whether a port can drop its outputs up to a position, which is above what was confirmed and at most what there is.
 pub(crate) fn can_confirm(port: &HostPort, upto: u64) -> bool
     ensures { result ≡ is_some (confirmed upto port.now.port) }
 {

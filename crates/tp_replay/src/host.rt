@@ -12,7 +12,7 @@ use crate::network::FlatNetwork;
 use tp_book::send_some;
 
 impl FlatNetwork {
-    /// The host hands a byte to a port.
+    /// Hands a byte from the host to a port. `NotPossible` if the port doesn't exist or has no room.
     #[inline(never)]
     pub(crate) fn hand_in(&mut self, port: u8, byte: u8) -> Result<(), NotPossible>
         ensures applies { AppliesEntry (next t414 self.old (HostIn port byte)) result self.new }
@@ -31,7 +31,7 @@ impl FlatNetwork {
         Ok(())
     }
 
-    /// The host confirms a port's output up to a position.
+    /// Confirms a port's output up to a position. `NotPossible` if the port doesn't exist or has no such outputs.
     #[inline(never)]
     pub(crate) fn confirm(&mut self, port: u8, upto: u64) -> Result<(), NotPossible>
         ensures applies { AppliesEntry (next t414 self.old (Confirm port upto)) result self.new }

@@ -27,7 +27,7 @@ fn put_frozen(node: &Node, bytes: &mut Vec<u8>) -> Result<(), AllocError>
     Ok(())
 }
 
-/// The image of a node, which is frozen while it is read. It spells the node again.
+/// Makes the image of a node, which it freezes while it reads it. The image spells the node again. `AllocError` if memory is out.
 pub(crate) fn image_of(alloc: Global, node: &mut Node) -> Result<Vec<u8>, AllocError>
     requires { node.old.frozen ≡ None }
     ensures image { IfOk result (λ bytes. bytes.items ≡ image node.old.live) }
@@ -43,7 +43,8 @@ pub(crate) fn image_of(alloc: Global, node: &mut Node) -> Result<Vec<u8>, AllocE
     }
 }
 
-/// The image of each node, and each node goes as soon as its image is made: so the memory holds few pages twice.
+/// Makes the image of each node, and drops each node as soon as its image is made, so that memory holds few pages twice. `AllocError` if
+/// memory is out.
 pub(crate) fn images_taken(alloc: Global, nodes: Vec<Node>) -> Result<Vec<Vec<u8>>, AllocError>
     requires { AreThawed nodes.items }
     ensures { IfOk result (λ images. map (λ bytes. bytes.items) images.items ≡ map (λ node. image node.live) nodes.items) }
@@ -56,7 +57,7 @@ pub(crate) fn images_taken(alloc: Global, nodes: Vec<Node>) -> Result<Vec<Vec<u8
     Ok(images)
 }
 
-/// The image of each node.
+/// Makes the image of each node. `AllocError` if memory is out.
 pub(crate) fn images_of(alloc: Global, nodes: &mut Vec<Node>) -> Result<Vec<Vec<u8>>, AllocError>
     requires { AreThawed nodes.old.items }
     ensures images { IfOk result (λ images. map (λ bytes. bytes.items) images.items ≡ map (λ node. image node.live) nodes.old.items) }

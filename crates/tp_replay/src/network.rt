@@ -33,7 +33,7 @@ impl Model for FlatNetwork {
 }
 
 impl FlatNetwork {
-    /// The network of its parts, which has to be sound and shaped.
+    /// Makes the network of its parts, which has to be sound and shaped.
     pub fn new(
         wires: Vec<Option<WireEnd>>,
         nodes: Vec<Node>,
@@ -52,7 +52,7 @@ impl FlatNetwork {
         }
     }
 
-    /// The wires, the nodes, the lines and the ports.
+    /// Gives the wires, the nodes, the lines and the ports.
     pub fn into_fields(self) -> (Vec<Option<WireEnd>>, Vec<Node>, Lines, Vec<HostPort>)
         ensures is { network_flat result.0.items result.1.items result.2 result.3.items ≡ self }
         ensures flat { IsFlat self }
@@ -68,21 +68,21 @@ impl FlatNetwork {
         let _lines = &self.lines;
     }
 
-    /// The nodes. None is frozen.
+    /// Gives the nodes. None is frozen.
     pub fn nodes(&self) -> &[Node]
         ensures { map (λ node. node.live) result.now ≡ self.now.nodes }
     {
         self.nodes.as_slice()
     }
 
-    /// The lines.
+    /// Gives the lines.
     pub fn lines(&self) -> &Lines
         ensures { result.now ≡ self.now.lines }
     {
         &self.lines
     }
 
-    /// The token that comes next on a line.
+    /// Gives the token that comes next on a line; `None` if it is empty.
     pub fn front(&self, line: u16) -> Option<Token>
         requires { line < length self.now.lines }
         ensures { result ≡ slice_get (on_line self.now.lines line) 0 }
@@ -90,14 +90,14 @@ impl FlatNetwork {
         self.lines.front(line as usize)
     }
 
-    /// The ports.
+    /// Gives the ports.
     pub fn ports(&self) -> &[HostPort]
         ensures { map (λ port. port.port) result.now ≡ self.now.ports }
     {
         self.ports.as_slice()
     }
 
-    /// The line that a port sends.
+    /// Gives the line that a port sends.
     pub(crate) fn port_line(&self, port: usize) -> usize
         requires { port ≤ 1024 }
         ensures { result ≡ 4 * length self.now.nodes + port }

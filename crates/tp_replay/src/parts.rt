@@ -14,7 +14,7 @@ use tp_book::{NetParts, all_parts};
 use tp_model::Token;
 use tp_net::Lines;
 
-/// The tokens on a line.
+/// Copies the tokens on a line.
 fn tokens_on(alloc: Global, lines: &Lines, line: usize) -> Result<Vec<Token>, AllocError>
     requires { line < length lines.now }
     ensures { IfOk result (λ tokens. tokens.items ≡ on_line lines.now line) }
@@ -28,7 +28,7 @@ fn tokens_on(alloc: Global, lines: &Lines, line: usize) -> Result<Vec<Token>, Al
     Ok(tokens)
 }
 
-/// The tokens on each line.
+/// Copies the tokens on each line.
 fn all_tokens(alloc: Global, lines: &Lines) -> Result<Vec<Vec<Token>>, AllocError>
     ensures { IfOk result (λ tokens. map (λ line. line.items) tokens.items ≡ lines.now) }
 {
@@ -40,8 +40,8 @@ fn all_tokens(alloc: Global, lines: &Lines) -> Result<Vec<Vec<Token>>, AllocErro
 }
 
 impl FlatNetwork {
-    /// The network as its parts, with each node as its image, which spells it: they are that network again. Each node goes as soon as its
-    /// image is made, so the memory is hardly more than that of the nodes at any time.
+    /// Turns the network into its parts, with each node as its image, which spells it: they are that network again. Each node goes as soon
+    /// as its image is made, so it takes hardly more memory than the nodes at any time. `AllocError` if memory is out.
     pub fn into_net(self, alloc: Global) -> Result<NetParts, AllocError>
         ensures parts { IfOk result (λ parts. ArePartsOf parts self) }
         ensures spelt { IfOk result (λ parts. map (λ image. node_of image.items) parts.images.items ≡ map Some self.nodes) }
@@ -56,7 +56,8 @@ impl FlatNetwork {
         })
     }
 
-    /// The image of a node, which spells it, where it is there. The network stays as it is.
+    /// Makes the image of a node, which spells it; `None` if the node doesn't exist. The network stays as it is. `AllocError` if memory is
+    /// out.
     pub fn image(&mut self, alloc: Global, node: usize) -> Result<Option<Vec<u8>>, AllocError>
         ensures image { IfOk result (λ shown. option_map (λ bytes. bytes.items) shown ≡ option_map image (slice_get self.old.nodes node)) }
         ensures again { IfOk result (λ shown. option_map (λ bytes. node_at bytes.items) shown ≡ slice_get self.old.nodes node) }
@@ -68,7 +69,8 @@ impl FlatNetwork {
         Ok(Some(image_of(alloc, &mut self.nodes[node])?))
     }
 
-    /// The network as its parts, with each node as its image, which spells it: they are that network again. It stays as it is.
+    /// Copies the network as its parts, with each node as its image, which spells it: they are that network again. The network stays as it
+    /// is. `AllocError` if memory is out.
     pub fn parts(&mut self, alloc: Global) -> Result<NetParts, AllocError>
         ensures parts { IfOk result (λ parts. ArePartsOf parts self.old) }
         ensures spelt { IfOk result (λ parts. map (λ image. node_of image.items) parts.images.items ≡ map Some self.old.nodes) }

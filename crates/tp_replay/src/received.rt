@@ -56,7 +56,7 @@ fn starts_with(lines: &Lines, line: usize, one: Received) -> bool
     }
 }
 
-/// Whether what was received on a link stands in front of the line that comes in on it.
+/// Whether what was received on a link is at the front of the line that comes in on it.
 fn stands(
     wires: &[Option<WireEnd>],
     nodes: usize,
@@ -81,7 +81,7 @@ fn stands(
     starts_with(lines, line, one)
 }
 
-/// Whether what a turn of `node` takes came in on its links, and all of it stands in front of its lines.
+/// Whether what a turn of `node` takes came in on its links, and all of it is at the front of its lines.
 pub(crate) fn are_there(
     wires: &[Option<WireEnd>],
     nodes: usize,
@@ -120,7 +120,7 @@ pub(crate) fn take_off(
     }
 }
 
-/// Appends the token that a node answers on `link`, where it answers.
+/// Appends the token that a node answers on `link`, if it answers.
 fn add_answer(answers: &mut ArrayVec<(u8, Token), 8>, link: u8, answer: Option<Token>)
     requires { length answers.old.items < 8 }
     ensures { answers.new.items ≡ answers.old.items ++ on_link link answer }
@@ -130,7 +130,7 @@ fn add_answer(answers: &mut ArrayVec<(u8, Token), 8>, link: u8, answer: Option<T
     }
 }
 
-/// Has a node take tokens, one after the other. What it answers goes into `answers`.
+/// Has a node take tokens, one after the other. Its answers go into `answers`.
 pub(crate) fn take_all(
     node: &mut Node,
     tokens: &[(u8, Token)],

@@ -16,8 +16,8 @@ use tp_net::link_line;
 use tp_node::Runs;
 
 impl FlatNetwork {
-    /// Runs a node for at most `most` steps; for fewer only where it has no step then. Answers how many it made. `runs` is what the thread
-    /// keeps of instructions.
+    /// Runs a node for `most` steps, or until it has no further step. Answers how many it made. `runs` is what the thread keeps of
+    /// instructions.
     #[inline(always)]
     pub fn run_upto(&mut self, runs: &mut Runs, node: u8, most: u16) -> u16
         requires there { node < length self.old.nodes }
@@ -31,7 +31,7 @@ impl FlatNetwork {
         ran.count()
     }
 
-    /// Has `node` make `count` steps. Where it can't make all of them, it has made those that it can.
+    /// Has `node` make `count` steps. `NotPossible` if it can't make all of them; it has then made those that it can.
     #[inline(always)]
     pub(crate) fn run(&mut self, runs: &mut Runs, node: u8, count: u16) -> Result<(), NotPossible>
         ensures applies { AppliesEntry (next t414 self.old (Run node count)) result self.new }

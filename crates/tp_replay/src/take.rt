@@ -21,7 +21,7 @@ use tp_net::link_line;
 use tp_node::NoFrame;
 
 impl FlatNetwork {
-    /// The receiver of a line takes the token in front.
+    /// Lets the receiver of a line take the token at the front. `NotPossible` if it can't.
     #[inline(never)]
     pub(crate) fn take(&mut self, line: u16, token: Token) -> Result<(), NotPossible>
         requires counted { CanCount self.old }
@@ -46,7 +46,7 @@ impl FlatNetwork {
         }
     }
 
-    /// The node that the line goes to takes the token in front, and answers on the line of that link.
+    /// Lets the node that the line goes to take the token at the front, and answer on the line of that link.
     fn take_at_node(&mut self, line: usize, token: Token, node: u8, link: u8)
         requires goes { receiver self.old.wires line ≡ Some (Link node link) }
         requires front { is_first (on_line self.old.lines line) token ≡ true }
@@ -64,7 +64,7 @@ impl FlatNetwork {
         send_some(&self.wires, &mut self.lines, reply, answer);
     }
 
-    /// The port that the line goes to takes the token in front where it can, and answers on its own line.
+    /// Lets the port that the line goes to take the token at the front, and answer on its own line. `NotPossible` if it can't.
     fn take_at_port(&mut self, line: usize, token: Token, port: u8) -> Result<(), NotPossible>
         requires counted { CanCount self.old }
         requires goes { receiver self.old.wires line ≡ Some (Port port) }

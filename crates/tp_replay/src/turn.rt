@@ -20,8 +20,8 @@ use tp_net::link_line;
 use tp_node::Runs;
 
 impl FlatNetwork {
-    /// Has `node` take what came in on its links, and then make `count` steps. Where it can't make them, it has taken the tokens and
-    /// made the steps that it can.
+    /// Has `node` take what came in on its links, and then make `count` steps. `NotPossible` if it can't; it may then have taken the tokens
+    /// and made the steps that it can.
     #[inline(never)]
     pub(crate) fn turn(
         &mut self,
@@ -50,8 +50,8 @@ impl FlatNetwork {
         }
     }
 
-    /// Has `node` take what came in on its links, and then make at most `most` steps; fewer only where it has no step then. All tokens
-    /// are off their lines before the node takes the first one, and nothing is sent before its last step. Answers how many steps it made.
+    /// Has `node` take what came in on its links, and then make `most` steps, or as many as it can. All tokens are off their lines before
+    /// the node takes the first one, and it sends nothing before its last step. Answers how many steps it made.
     fn turn_upto(&mut self, runs: &mut Runs, node: u8, takes: &[Received; 4], most: u16) -> u16
         requires { IsFront self.old node takes.now most }
         ensures { TurnedUpTo self.old node takes.now most result self.new }

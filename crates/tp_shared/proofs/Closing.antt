@@ -1,4 +1,4 @@
--- Lines that are closed from behind other tokens, under the book's lock.
+-- Lines that are closed, also behind other tokens, under the book's lock.
 use Rattle.std.proofs.Common.{◌≡◌, ℕ, Bool, true, false, cond, zero, suc, List, [], ◌∷◌, ◌++◌, length, refl, sym, ap, subst, ◌∙◌, Some, slice_get}
 use Rattle.std.specs.List.{AllByRecursion}
 use Rattle.tp_model.specs.declared.entry.Entry.{Entry}

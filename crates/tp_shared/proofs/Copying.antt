@@ -14,7 +14,7 @@ use Rattle.tp_shared.specs.declared.told.Told.{Told}
 pub take_some : {A : Type 0} (xs : List A) (i : ℕ) (x : A) → slice_get xs i ≡ Some x → take (i + 1) xs ≡ take i xs ++ x ∷ []
 take_some xs i x e = take_more xs i x (slice_get_within xs i x e) ∙ ap (λ y. take i xs ++ y ∷ []) (get_or_from_slice_get xs i x x e)
 
--- what holds where two facts do
+-- what is true if two facts are
 pub if_both : {A E : Type 0} (P Q R : A → Type 0) (r : Result A E) → ((x : A) → P x → Q x → R x) → IfOk r P → IfOk r Q → IfOk r R
 if_both P Q R (Ok x) both p q = both x p q
 if_both P Q R (Err e) both p q = tt
@@ -34,7 +34,7 @@ pub thawed_all : (seals : List NodeSeal) → list_all (λ s. not s.frozen) seals
 thawed_all [] e = tt
 thawed_all (s ∷ ss) e = let P = and_parts (not s.frozen) (list_all (λ s. not s.frozen) ss) e in (unset s.frozen P.0, thawed_all ss P.1)
 
--- so it is of what is told then
+-- this is true of what is told then
 pub since_with : (old new : Told) (flag : Bool) → ToldSince old new → ToldSince old (record new { thawed = flag })
 since_with old new flag S = record { acts = S.acts; none = S.none; net = S.net; base = S.base; journal = S.journal; numbered = S.numbered; form = S.form; broken = S.broken; gone = S.gone }
 

@@ -73,14 +73,14 @@ sealed_more ss t b S T i s e = elim (cases_eq i (length ss)) [
 
 -- ## Cells
 
--- the places of a cell, and behind them one more where it belongs there
+-- the places of a cell, with one more at the end if it belongs there
 abbrev cell_with : ℕ → ℕ → Place → List Place → List Place
 cell_with cell index place places = cond (eqb (index % CELLS) cell) (places ++ place ∷ []) places
 
 celled_none : (cell : ℕ) (names : ℕ → ℕ) → AreOfCell cell names 0 []
 celled_none cell names = record { each = λ k p e. cc; all = λ k h. absurd (omega (arith, h)) }
 
--- a place of one network is one of a larger one
+-- a place of a network is a place of a larger one
 more_in : (name other i count more : ℕ) (p : Place) → name ≡ other → count ≤ more → IsPlaceOf name i count p → IsPlaceOf other i more p
 more_in name other i count more p same few I = record { there = (let t = I.there in omega (arith, t, few)); named = I.named ∙ same; shows = I.shows }
 
@@ -97,7 +97,7 @@ module _ (cell : ℕ) (ss : List NodeSeal) (t : NodeSeal) (places : List Place) 
   here : length ss % CELLS ≡ cell → AreOfCell cell (name_of (ss ++ t ∷ [])) (suc (length ss)) (places ++ p ∷ [])
   here same = record { each = each; all = all }
     where
-      -- the places are as many as nodes of the cell
+      -- there are as many places as nodes of the cell
       places_few : length places ≤ length ss / CELLS
       places_few = elim (cases_eq (length places) 0) [
         | inl none ↦ omega (arith, none)

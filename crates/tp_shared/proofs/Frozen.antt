@@ -65,7 +65,7 @@ pub pages_none : (o : Option NodeState) (first : ℕ) (out : List (List ℕ)) �
 pages_none None first out = tt
 pages_none (Some node) first out = λ k low. absurd (omega (arith, low))
 
--- one more, behind those that were copied
+-- one more, after those that were copied
 pub pages_more : (o : Option NodeState) (first k pages : ℕ) (out : List (List ℕ)) (page : List ℕ) → k < length out → first + k < pages → IfSome o (λ node. length node.memory ≡ PAGE_BYTES * pages)
     → IfSome o (λ node. ArePagesOf node.memory first k out) → IfSome o (λ node. page ≡ slice_range node.memory (PAGE_BYTES * (first + k)) (PAGE_BYTES * (first + k) + PAGE_BYTES))
     → IfSome o (λ node. ArePagesOf node.memory first (k + 1) (set out k page))
@@ -81,7 +81,7 @@ pages_more (Some node) first k pages out page there low long are is = λ j last.
       })
 ]
 
--- they are those of the node as it is frozen
+-- they are the pages of the node as it is frozen
 pub pages_frozen : (o : Option NodeState) (net : MarkedNetwork NodeState) (i first count : ℕ) (out : List (List ℕ)) → is_some o ≡ true → IfSome o (λ node. ArePagesOf node.memory first count out)
     → ((node : NodeState) → o ≡ Some node → IsFrozenAs net i node) → AreFrozenPages net i first count out
 pages_frozen None net i first count out some are frozen = cc

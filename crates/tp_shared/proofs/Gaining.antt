@@ -14,7 +14,7 @@ use Rattle.tp_shared.specs.Gains.{Gained}
 use Rattle.tp_shared.specs.NodeTurned.{NodeTurned}
 use Rattle.tp_shared.specs.declared.node_turn.NodeTurn.{NodeTurn}
 
--- what is gained behind nothing
+-- what is gained after nothing was gained
 gained_behind : (Are : List Entry → Type 0) (old between new : List (ℕ × Entry)) → Gained (λ entries. entries ≡ []) old between → Gained Are between new → Gained Are old new
 gained_behind Are old between new none gained =
     let same : between ≡ old = none.seat ∙ ap (λ es. old ++ enumerate_from none.next es) none.are ∙ append-nil old in

@@ -1,4 +1,4 @@
--- Of which nodes pages are kept, as seals change.
+-- The nodes with kept pages, as seals change.
 use Rattle.std.proofs.Common.{◌≡◌, ℕ, zero, suc, Bool, true, false, not, inl, inr, List, [], ◌∷◌, set, refl, sym, ap, subst, ◌∙◌, Some, slice_get, get_or-set_other}
 use Rattle.std.specs.Prelude.{◌&&◌}
 use Rattle.std.specs.List.{AllByRecursion, list_all}
@@ -31,7 +31,7 @@ frozen_set [] i s = refl
 frozen_set (x ∷ seals) zero s = refl
 frozen_set (x ∷ seals) (suc i) s = ap (λ (fs : List Bool). x.frozen ∷ fs) (frozen_set seals i s)
 
--- one beside which stands what stood there
+-- one with the flag that was there
 pub frozen_again : (seals : List NodeSeal) (i : ℕ) (was now : NodeSeal) → slice_get seals i ≡ Some was → now.frozen ≡ was.frozen → frozen_in (set seals i now) ≡ frozen_in seals
 frozen_again [] i was now at same = refl
 frozen_again (x ∷ seals) zero was now at same = ap (λ (f : Bool). f ∷ frozen_in seals) (same ∙ ap (λ (y : NodeSeal). y.frozen) (sym (some_seal x was at)))
@@ -42,7 +42,7 @@ gone_here [] i = refl
 gone_here (f ∷ fs) zero = refl
 gone_here (f ∷ fs) (suc i) = gone_here fs i
 
--- one beside which stands that no pages are kept, where none were
+-- one with the flag that no pages are kept, if none were
 pub gone_set : (net : MarkedNetwork NodeState) (seals : List NodeSeal) (i : ℕ) (was now : NodeSeal) → slice_get seals i ≡ Some was
     → ((node : NodeState) → IsFrozenAs net i node → was.frozen ≡ false → now.frozen ≡ false) → StayGone net (frozen_in seals) (frozen_in (set seals i now))
 gone_set net seals i was now at goes j node F gone = elim (cases_eq j i) [
@@ -63,7 +63,7 @@ kept_none [] all i = refl
 kept_none (s ∷ seals) all zero = all.0
 kept_none (s ∷ seals) all (suc i) = kept_none seals all.1 i
 
--- of which node pages are kept beside whose seal it stands
+-- the node with kept pages by its seal's flag
 pub kept_there : (seals : List NodeSeal) (i : ℕ) → keeps_pages (frozen_in seals) i ≡ true → (s : NodeSeal) × (slice_get seals i ≡ Some s) × (s.frozen ≡ true)
 kept_there [] i e = absurd (let bad : false ≡ true = e in cc)
 kept_there (s ∷ seals) zero e = (s, refl, e)

@@ -42,12 +42,12 @@ takes_like s t number (HostIn p x ∷ es) w n all = (all.0, takes_like s t numbe
 takes_like s t number (Confirm p upto ∷ es) w n all = (all.0, takes_like s t number es w n all.1)
 takes_like s t number (Turn i links k ∷ es) w n all = (all.0, takes_like s t number es w n all.1)
 
--- Takes are those of another network with these wires and as many nodes.
+-- Takes are those of another network, if its wires and its number of nodes are equal.
 pub takes_of_like : (s t : Network NodeState) (number : ℕ) (r : Result ℕ Refusal) (es : List Entry) → t.wires ≡ s.wires → length t.nodes ≡ length s.nodes → TakesOf t number r es → TakesOf s number r es
 takes_of_like s t number (Ok count) es w n takes = (takes.0, takes_like s t number es w n takes.1)
 takes_of_like s t number (Err e) es w n takes = takes_like s t number es w n takes
 
--- so are the entries of an opening
+-- this is true of the entries of an opening
 pub opened_like : (s t : Network NodeState) (number : ℕ) (r : Result Opened Refusal) (es : List Entry) → t.wires ≡ s.wires → length t.nodes ≡ length s.nodes → OpenedEntries t number r es → OpenedEntries s number r es
 opened_like s t number (Ok (Apart taken)) es w n are = (are.0, takes_like s t number es w n are.1)
 opened_like s t number (Ok (Whole taken)) es w n are = are
@@ -191,12 +191,12 @@ acted_opens Turns number (Err e) s t free O I =
     acted_free (OpenedEntries s.book.state.start number r) number O.acts s.book t.book t.node.live O.added (breaks_whole_untrimmed number e s t O.acts O.did) (inr (record { takes = listed.0; are = listed.1 }))
     (answered_with t.book number t.node r) (made_node (agreed t.book.state) (agreed s.book.state) number t.node.live t.node.live t.node.live O.added.nodes I.there) free refl
 
--- what was received for a turn that is one entry was received in a book that holds such
+-- what was received for a turn that is one entry was received in a book that has such entries
 pub answered_form : (form : Form) (number : ℕ) (r : Result Opened Refusal) (s t : TurnMoment) → OpensIn form number r s t → (takes : List Received) → takes_opened r ≡ Some takes → form ≡ Turns
 answered_form form number (Ok opened) s t O takes given = opens_form form number opened s t O takes given
 answered_form form number (Err e) s t O takes given = cc
 
--- ## Why it is refused
+-- ## Why it fails
 
 stop_refused : (line : ℕ) (e : Refusal) (b : BookValue) → EndsTurn line e b → IsTurnRefusal e
 stop_refused line JournalFull b h = tt

@@ -182,7 +182,7 @@ host_refused (Err e) b new D = refused_by e b new D.acts D.did
 
 -- ## A snapshot begins
 
--- a snapshot can begin where none runs
+-- a snapshot can begin if none runs
 pub idle_begun : (b : BookValue) → IsAnswer {A = Unit {0}} (begin_refusal b) (Ok tt) → b.state.snapshot ≡ None
 idle_begun b h = go b.state.snapshot b.broken (is_full_for_snapshot b.generation) h
   where

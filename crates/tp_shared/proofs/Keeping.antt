@@ -1,4 +1,4 @@
--- What lies under the book's lock stays together.
+-- What is under the book's lock stays together.
 use Rattle.std.proofs.Common.{◌≡◌, ℕ, ◌+◌, ◌<◌, ◌≤◌, Bool, true, List, [], ◌∷◌, ◌++◌, length, map, drop, refl, sym, ap, subst, ◌∙◌, arith, Option, Some, get_or, slice_get}
 use Rattle.std.proofs.lemmas.Option.{slice_get_read}
 use Rattle.tp_token.specs.declared.roll.Roll.{Roll}
@@ -27,7 +27,7 @@ use Rattle.tp_shared.proofs.Writing.{as_many, paired}
 
 module _ {roll_name first : ℕ} {start : Network NodeState} {node : ℕ → ℕ} {flusher : ℕ} {room : Option ℕ} {before : World NodeState} {b : BookValue} {seals : List NodeSeal} {roll : Roll Entry} {told : Seal Told} {sights : List BookValue}
     (T : AreTogether roll_name first start node flusher room before b seals roll told sights) where
-  -- the seal that stands at a node's number
+  -- the seal at a node's number
   pub seal_at : (i : ℕ) (s : NodeSeal) → i < length start.nodes → s ≡ get_or seals i s → slice_get seals i ≡ Some s
   seal_at i s there is = slice_get_read seals (length seals) i s refl (let count = T.seal_count in omega (arith, count, there)) is
 
@@ -54,7 +54,7 @@ module _ {roll_name first : ℕ} {start : Network NodeState} {node : ℕ → ℕ
     seen = T.seen;
   }
 
-  -- the flusher is told nothing else
+  -- the flusher is told nothing new
   pub told_still : {now : Seal Told} → now.name ≡ told.name → now.value ≡ told.value → AreTogether roll_name first start node flusher room before b seals roll now sights
   told_still name is =
       told_so name (subst (λ (t : Told). ToldSince t (told_of before first (record { book = b; all = roll.items; numbered_from = t.numbered_from; frozen = frozen_in seals }))) (sym is) T.since) (subst (λ t. ThawedAsTold t seals) (sym is) T.thawed)

@@ -10,7 +10,7 @@ use Rattle.tp_shared.specs.declared.cells.TheConstants.{CELLS}
 some_same : (x y : Place) → Some x ≡ Some y → x ≡ y
 some_same x y e = cc
 
--- another place where one was
+-- another place for one that was there
 pub celled_after : (first : ℕ) (names : ℕ → ℕ) (count : ℕ) (places : List Place) (k : ℕ) (was p : Place) → AreOfCell first names count places → slice_get places k ≡ Some was → IsPlaceOf (names (CELLS * k + first)) (CELLS * k + first) count p → AreOfCell first names count (set places k p)
 celled_after first names count places k was p C there I = record {
   each = λ j q e. elim (cases_eq j k) [

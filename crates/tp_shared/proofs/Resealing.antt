@@ -1,4 +1,4 @@
--- One seal beside an unchanged book is another.
+-- One seal beside an unchanged book changes.
 use Rattle.std.proofs.Common.{◌≡◌, ℕ, Bool, true, false, inl, inr, List, set, refl, sym, ap, subst, ◌∙◌, Some, None, slice_get}
 use Rattle.std.proofs.lemmas.Bool.{cases_eq}
 use Rattle.tp_law_machine.proofs.Partial.{slice_get-set_same, slice_get-set_other}

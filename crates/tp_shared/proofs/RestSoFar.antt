@@ -1,4 +1,4 @@
--- What is left to do for the nodes that were looked at so far.
+-- What is left to do for the nodes that were read so far.
 use Rattle.std.proofs.Common.{◌≡◌, ℕ, ◌+◌, ◌<◌, ◌≤◌, Bool, true, false, cond, List, [], ◌∷◌, length, map, drop, refl, sym, ap, ◌∙◌, arith, Some, slice_get}
 use Rattle.std.specs.Prelude.{◌&&◌}
 use Rattle.std.specs.List.{list_all}
@@ -44,7 +44,7 @@ all_halted nodes = list_all (λ node. is_halted (rest_of node)) nodes
 abbrev pub all_done : List NodeState → Bool
 all_done nodes = list_all (λ node. leaves_nothing (rest_of node)) nodes
 
--- Of the nodes in front of a place it was seen whether all have halted, and something is left to do for none of them.
+-- Of the nodes before a number it is known whether all have halted, and that nothing is left to do for any of them.
 pub record HaveRested (nodes : List NodeState) (number : ℕ) (have_halted : Bool) : Type 0 where
   pub halted : all_halted nodes ≡ (have_halted && all_halted (drop number nodes))
   pub done : all_done nodes ≡ all_done (drop number nodes)
@@ -76,7 +76,7 @@ module _ (b : BookValue) (number : ℕ) (have_halted : Bool) (H : HaveRested (wo
       let d : all_done (world_of b).live.nodes ≡ false = done_here ∙ ap (λ r. leaves_nothing r && all_done (drop (number + 1) (world_of b).live.nodes)) is in
       rw (h, d) refl
 
--- all were looked at
+-- all were read
 pub all_rested : (b : BookValue) (number : ℕ) (have_halted : Bool) → HaveRested (world_of b).live.nodes number have_halted → length (world_of b).live.nodes ≤ number
     → cond have_halted Halted (cond (list_all is_clear b.state.lines) Quiet Busy) ≡ rest_in (plain_network (world_of b).live)
 all_rested b number have_halted H all =

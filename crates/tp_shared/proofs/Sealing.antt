@@ -40,7 +40,7 @@ get_within [] i h = absurd (omega (arith, h))
 get_within (x ∷ xs) zero h = (x, refl)
 get_within (x ∷ xs) (suc i) h = get_within xs i (omega (arith, h))
 
--- whoever has a node that shows what its seal shows has the book's node
+-- a node that shows what its seal shows is the book's node
 pub node_of_seal : (name : ℕ) (a : Agreement) (flag : Bool) (seal_name : ℕ) (b : BookValue) (i : ℕ) (n : NodeContents) → IsSealOf name a flag seal_name b i → a.node ≡ n.live → a.frozen ≡ n.frozen → IsNodeOfBytes n.live → IsNodeOf b i n
 node_of_seal name a flag seal_name b i n S node frozen image = record {
   there = S.node ∙ ap Some node;
@@ -49,7 +49,7 @@ node_of_seal name a flag seal_name b i n S node frozen image = record {
   kept = λ here there h t. S.kept here there (frozen ∙ h) t;
 }
 
--- what stands in a list
+-- what is in a list
 pub get_found : {A : Type 0} (xs : List A) (i : ℕ) (x d : A) → slice_get xs i ≡ Some x → get_or xs i d ≡ x
 get_found [] i x d e = cc
 get_found (y ∷ ys) zero x d e = cc
@@ -158,7 +158,7 @@ none_frozen : (given : Option NodeState) → (IsSome given → false ≡ true) �
 none_frozen None h = refl
 none_frozen (Some x) h = let bad : false ≡ true = h refl in cc
 
--- where no snapshot runs no node is frozen, and so it is whatever the book then has frozen
+-- if no snapshot runs, no node is frozen; this stays true of whatever the book then has frozen
 pub sealed_begun : (names : ℕ → ℕ) (seals : List NodeSeal) (b new : BookValue) → Sealed names seals b → b.state.snapshot ≡ None → agreed new.state ≡ agreed b.state → new.runs ≡ b.runs → new.form ≡ b.form
     → happens t414 (world_of b) Begin ≡ Some (world_of new) → Sealed names seals new
 sealed_begun names seals b new S idle nodes runs form act i s e =
@@ -182,7 +182,7 @@ module _ (Are : List Entry → Type 0) (b new : BookValue) (G : Grown Are b new)
   pub entries_new : drop before new.state.entries ≡ entries_among G.acts
   entries_new = ap (drop before) G.entries_are ∙ drop_at b.state.entries (entries_among G.acts) before (sym many)
 
-  -- the entries are those behind all that were there
+  -- the entries are those after all that were there
   pub all_after : (all now : List Entry) → now ≡ all ++ drop before new.state.entries → now ≡ all ++ entries_among G.acts
   all_after all now is = is ∙ ap (λ es. all ++ es) entries_new
 

@@ -9,7 +9,7 @@ use Rattle.tp_shared.specs.Gains.{Gained, HoldNoted}
 use Rattle.tp_shared.specs.Holds.{WasHeld, IsBookOf, in_hand}
 use Rattle.tp_shared.specs.Seals.{IsTied, Stage}
 
--- What lies under the lock is tied to the book, as it is found and as it is left, so that what was noted between is what the book got.
+-- What is under the lock is tied to the book, as it is found and as it is left. So what was noted between is what the book got.
 pub held_by : (Are : List Entry → Type 0) (start : Network NodeState) (first : ℕ) (found left : Stage) (was between seen : List BookValue) (old new : List (ℕ × Entry))
     → IsBookOf start found.book → between ≡ was ++ found.book ∷ [] → seen ≡ between ++ left.book ∷ [] → IsTied first found.all found.book → IsTied first left.all left.book
     → HoldNoted Are first found left old new → WasHeld start found.book left.book (in_hand was old) (in_hand seen new)

@@ -17,7 +17,7 @@ use Rattle.tp_shared.proofs.Cuts.{stays_whole, whole_recorded}
 pub thaws_none : (t : Told) (seals : List NodeSeal) → t.thawed ≡ false → ThawedAsTold t seals
 thaws_none t seals e h = absurd (true≢false (sym h ∙ e))
 
--- one seal is another, beside which stands that no pages are kept
+-- one seal becomes another, with the flag that no pages are kept
 pub thaws_set : (t : Told) (seals : List NodeSeal) (i : ℕ) (s : NodeSeal) → ThawedAsTold t seals → (HasThawed t seals → s.frozen ≡ false) → ThawedAsTold t (set seals i s)
 thaws_set t seals i s T kept h =
     let H = T h in

@@ -1,4 +1,4 @@
--- What the acts of a turn are: a node records, a token is taken, a Marker is taken. None of them is a trim, and their entries are Takes.
+-- The acts of a turn: a node records, a token is taken, a Marker is taken. None of them is a trim, and their entries are Takes.
 use Rattle.std.proofs.Common.{◌≡◌, ℕ, zero, suc, Bool, true, false, cond, inl, inr, List, [], ◌∷◌, ◌++◌, ◌+◌, ◌*◌, length, refl, sym, subst, Option, Some, None}
 use Rattle.std.specs.Prelude.{Result, Ok, Err, length}
 use Rattle.std.specs.List.{AllByRecursion}

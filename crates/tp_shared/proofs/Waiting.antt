@@ -1,4 +1,4 @@
--- What nodes received for open turns stays in front of their lines, whatever is done that is no entry of theirs.
+-- What nodes received for open turns stays at the front of their lines, if only entries of others are made.
 use Rattle.std.proofs.Common.{◌≡◌, ◌≢◌, ℕ, List, length, refl, sym, subst, ◌∙◌, Option, Some, None, slice_get}
 use Rattle.std.specs.List.{AllByRecursion}
 use Rattle.tp_model.specs.declared.entry.Entry.{Entry}
@@ -23,7 +23,7 @@ many_after : (s : Network NodeState) (es : List Entry) (given : Option (Network 
 many_after s es None e i n at = cc
 many_after s es (Some t) e i n at = (after_shape t414 has_four_links s t es e).nodes
 
--- where a node is agreed on, so are as many as the kept cut has
+-- if a node is agreed on, there are as many as the kept cut has
 pub agreed_many : (b : BookState NodeState) (i : ℕ) (n : NodeState) → slice_get (agreed b) i ≡ Some n → length (agreed b) ≡ length b.start.nodes
 unfolding agreed
 agreed_many b i n at = many_after b.start b.entries (after t414 b.start b.entries) refl i n at

@@ -3,6 +3,6 @@ use Rattle.std.specs.Prelude.{◌<◌, ℕ, List}
 use Rattle.std.specs.List.{AllByRecursion}
 use Rattle.tp_model.specs.declared.entry.Entry.{Entry}
 
--- the numbers of slips are below this one
+-- the numbers of slips are below this number
 abbrev pub AreBelow : ℕ → List (ℕ × Entry) → Type 0
 AreBelow number slips = AllByRecursion (λ slip. slip.0 < number) slips

@@ -11,7 +11,7 @@ use Rattle.tp_book.specs.Book.{BookValue, agreed, next_in_book, world_of}
 use Rattle.tp_turn.specs.Moments.{entries_among}
 use Rattle.tp_shared.specs.Agreement.{Agreement}
 
--- Acts were done, none of them a trim. The book has their entries more, which are so, under the numbers that come next.
+-- Acts were done, none of them a trim. The book has their entries more, as `Are` says, under the numbers that come next.
 pub record Grown (Are : List Entry → Type 0) (old new : BookValue) : Type 0 where
   pub acts : List Act
   pub none : AllByRecursion (λ act. is_trim act ≡ false) acts
@@ -28,11 +28,11 @@ pub record Grown (Are : List Entry → Type 0) (old new : BookValue) : Type 0 wh
   pub form : new.form ≡ old.form
   pub broken : new.broken ≡ old.broken
 
--- Acts of a node were done, and it and whether a turn of it is reserved are then so. The others are as they were: whether they have
--- recorded, and their frozen images.
+-- Acts of a node were done. Then the node, and whether a turn of it is reserved, are as agreed. The others are as they were: whether they
+-- have recorded, and their frozen images.
 pub record NodeActed (Are : List Entry → Type 0) (number : ℕ) (agreement : Agreement) (old new : BookValue) : Type 0 where
   pub grown : Grown Are old new
-  -- no entry among them is another process's, so what others received stays in front of their lines
+  -- all entries among them are the node's own, so what others received stays at the front of their lines
   pub own : AllByRecursion (λ e. process old.state.start.wires (length old.state.start.nodes) e ≡ number) (entries_among grown.acts)
   pub nodes : agreed new.state ≡ set (agreed old.state) number agreement.node
   pub runs : new.runs ≡ set old.runs number agreement.reserved

@@ -25,7 +25,7 @@ IsTakeBy start number (Turn i links k) = ⊥
 abbrev pub AreTakes : Network NodeState → ℕ → List Entry → Type 0
 AreTakes start number = AllByRecursion (IsTakeBy start number)
 
--- `count` entries, each a take of process `number`
+-- `count` entries, each a Take of the process `number`
 abbrev pub CountedTakes : Network NodeState → ℕ → ℕ → List Entry → Type 0
 CountedTakes start number count entries = (length entries ≡ count) × AreTakes start number entries
 
@@ -36,7 +36,7 @@ TakesOf start number (Err e) = AreTakes start number
 
 -- ## A node's turn
 
--- what a node received, without a step: one entry; none where it received nothing
+-- what a node received, without a step: one entry, or none if it received nothing
 pub record TookAtOnce (number : ℕ) (entries : List Entry) : Type 0 where
   pub takes : List Received
   pub are : entries ≡ turn_entries number takes 0
@@ -45,15 +45,15 @@ pub record TookAtOnce (number : ℕ) (entries : List Entry) : Type 0 where
 abbrev pub TookAlone : Network NodeState → ℕ → List Entry → Type 0
 TookAlone start number entries = AreTakes start number entries ⊎ TookAtOnce number entries
 
--- The entries of an opening that was answered so. A turn that is one entry has none before its commit.
+-- The entries of an opening with this answer. A turn that is one entry has none before its commit.
 abbrev pub OpenedEntries : Network NodeState → ℕ → Result Opened Refusal → List Entry → Type 0
 OpenedEntries start number (Ok (Apart taken)) = CountedTakes start number taken
 OpenedEntries start number (Ok (Whole taken)) = λ entries. entries ≡ []
 OpenedEntries start number (Err e) = TookAlone start number
 
--- ## Refusals
+-- ## Errors
 
--- A turn is refused where the journal is full, the store is broken, or memory is wanting.
+-- A turn fails if the journal is full, the store is broken, or memory is out.
 abbrev pub IsTurnRefusal : Refusal → Type 0
 IsTurnRefusal JournalFull = Unit {0}
 IsTurnRefusal StoreBroken = Unit {0}

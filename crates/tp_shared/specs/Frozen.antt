@@ -1,4 +1,4 @@
--- Of which nodes pages are kept as they were when the node recorded.
+-- The nodes with pages that are kept as they were when the node recorded.
 use Rattle.std.specs.Prelude.{◌≡◌, ℕ, ◌*◌, Bool, false, not, nat_lt, List, [], ◌∷◌, length, get_or, Option, Some, None, slice_get}
 use Rattle.std.specs.List.{list_all}
 use Rattle.tp_model.specs.declared.limits.TheConstants.{PAGE_BYTES}
@@ -7,7 +7,7 @@ use Rattle.tp_model.specs.Snapshot.{MarkedNetwork}
 use Rattle.tp_model.specs.FrozenAs.{IsFrozenAs}
 use Rattle.tp_shared.specs.declared.seal.NodeSeal.{NodeSeal}
 
--- what stands beside each seal
+-- what is beside each seal
 abbrev pub frozen_in : List NodeSeal → List Bool
 frozen_in [] = []
 frozen_in (s ∷ seals) = s.frozen ∷ frozen_in seals
@@ -16,11 +16,11 @@ frozen_in (s ∷ seals) = s.frozen ∷ frozen_in seals
 abbrev pub keeps_pages : List Bool → ℕ → Bool
 keeps_pages frozen i = get_or frozen i false
 
--- whether none are kept of any node
+-- whether no node has kept pages
 abbrev pub none_kept : List Bool → Bool
 none_kept frozen = list_all (λ is. not is) frozen
 
--- A node that has recorded in the snapshot that runs, and that had no page kept, has none kept.
+-- A node that has recorded in the snapshot that runs, and has no kept pages, gets none.
 abbrev pub StayGone : MarkedNetwork NodeState → List Bool → List Bool → Type 0
 StayGone net old new = (i : ℕ) (node : NodeState) → IsFrozenAs net i node → keeps_pages old i ≡ false → keeps_pages new i ≡ false
 

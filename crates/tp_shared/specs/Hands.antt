@@ -19,18 +19,18 @@ pub record IsEmptyHand (hand : Hand) : Type 0 where
   pub second : hand.places2.items ≡ []
   pub third : hand.places3.items ≡ []
 
--- the places of the cell that stands at `at` in a row, and behind them one more where it belongs there
+-- the places of the cell at `at` in a row, with one more at the end if it belongs there
 abbrev pub with_place : ℕ → ℕ → Place → List Place → List Place
 with_place at index place places = if index % ROW == at then places ++ place ∷ [] else places
 
--- A place was dealt to its cell, which is one of the row's.
+-- A place was dealt to its cell, which is in this row.
 pub record HasPlace (index : ℕ) (place : Place) (old new : Hand) : Type 0 where
   pub zeroth : new.places0.items ≡ with_place 0 index place old.places0.items
   pub first : new.places1.items ≡ with_place 1 index place old.places1.items
   pub second : new.places2.items ≡ with_place 2 index place old.places2.items
   pub third : new.places3.items ≡ with_place 3 index place old.places3.items
 
--- A place was dealt to its cell. Where that is none of this row's, the row has what it had.
+-- A place was dealt to its cell. If the cell is in another row, this row has what it had.
 pub record IsRowWith (row index : ℕ) (place : Place) (old new : Hand) : Type 0 where
   pub here : index % CELLS / ROW ≡ row → HasPlace index place old new
   pub away : index % CELLS / ROW ≢ row → new ≡ old

@@ -19,8 +19,8 @@ pub record InHand : Type 0 where
 abbrev pub in_hand : List BookValue → List (ℕ × Entry) → InHand
 in_hand seen slips = record { seen = seen; slips = slips }
 
--- In one hold the book was seen as it was found and as it was left, behind all that the hand saw before. The hand gained the slips of just
--- the entries that this book has more, each under the number that the book gave it; all slips that it had have numbers below those.
+-- In one hold the book was seen as it was found and as it was left, after all that the hand saw before. The hand gained the slips of
+-- exactly the new entries of this book, each under the number that the book gave it. All slips that it had have lower numbers.
 pub record WasHeld (start : Network NodeState) (found left : BookValue) (old new : InHand) : Type 0 where
   pub of : IsBookOf start found
   pub seen : new.seen ≡ old.seen ++ found ∷ left ∷ []

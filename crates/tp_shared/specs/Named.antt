@@ -5,9 +5,11 @@ use Rattle.tp_model.specs.NodeState.{NodeState}
 use Rattle.tp_model.specs.Network.{Network}
 use Rattle.tp_shared.specs.Parted.{name_of, PartsValue}
 
--- What is picked is that of the parts: the names of the roll, the nodes, the mark, what the flusher is told and the roll of what is
--- seen of the book, the number of the first entry, a network with its wires and its numbers of nodes and ports, and the bytes that
--- groups may fill on the device.
+-- What is picked is that of the parts:
+-- - the names of the roll, the nodes, the mark, what the flusher is told and the roll of what is seen of the book;
+-- - the number of the first entry;
+-- - a network with its wires and its numbers of nodes and ports;
+-- - the bytes that groups may fill on the device.
 pub record Names (roll first : ℕ) (start : Network NodeState) (node : ℕ → ℕ) (mark : MarkName) (flusher sights : ℕ) (room : Option ℕ) (parts : PartsValue) : Type 0 where
   pub roll_is : parts.roll ≡ roll
   pub first_is : parts.first ≡ first

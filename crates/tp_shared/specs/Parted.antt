@@ -33,8 +33,8 @@ pub record IsDealt (b : BookValue) (seals : List NodeSeal) (dealt : Dealt) (coun
   pub second : AreOfRow 8 9 10 11 (name_of seals) count dealt.row2
   pub third : AreOfRow 12 13 14 15 (name_of seals) count dealt.row3
 
--- The parts belong together: no take is made ready, there is a seal and a place for each node, and there is no entry yet that
--- the roll would have. Both halves of what the flusher is told are of one name, and nothing of the book was seen.
+-- The parts belong together: no take is made ready, and each node has a seal and a place. The roll has no entry yet. Both halves of what
+-- the flusher is told have one name, and nothing of the book was seen.
 pub record AreParts {A : Type 0} (b : BookValue) (seals : List NodeSeal) (dealt : Dealt) (roll_first : ℕ) (all : List Entry) (told_seal told_key : ℕ) (sights : List A) : Type 0 where
   pub idle : b.ready ≡ None
   pub runs : length b.runs ≡ length b.state.start.nodes
@@ -44,8 +44,11 @@ pub record AreParts {A : Type 0} (b : BookValue) (seals : List NodeSeal) (dealt 
   pub twins : told_seal ≡ told_key
   pub unseen : sights ≡ []
 
--- What contracts see of parts: the book, the seals, the name of the roll, the number of its first entry and its entries, the mark, the
--- name of what the flusher is told, and that of the roll of what is seen of the book.
+-- What contracts see of parts:
+-- - the book and the seals;
+-- - the name of the roll, the number of its first entry and its entries;
+-- - the mark;
+-- - the names of what the flusher is told and of the roll of what is seen of the book.
 pub record PartsValue : Type 0 where
   pub book : BookValue
   pub seals : List NodeSeal

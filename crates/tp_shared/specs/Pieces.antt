@@ -19,7 +19,7 @@ pub record IsFrozenPage (net : MarkedNetwork NodeState) (i page : ℕ) (bytes : 
   pub there : PAGE_BYTES * page < length node.memory
   pub is : bytes ≡ take PAGE_BYTES (drop (PAGE_BYTES * page) node.memory)
 
--- It has `count` pages from `first` on, the first ones of `pages`.
+-- It has `count` pages from `first` on: the first ones of `pages`.
 abbrev pub AreFrozenPages : MarkedNetwork NodeState → ℕ → ℕ → ℕ → List (List ℕ) → Type 0
 AreFrozenPages net i first count pages = (k : ℕ) → k < count → IsFrozenPage net i (first + k) (get_or pages k [])
 
@@ -28,6 +28,6 @@ pub record IsPageOf (memory : List ℕ) (page : ℕ) (bytes : List ℕ) : Type 0
   pub there : PAGE_BYTES * page < length memory
   pub is : bytes ≡ take PAGE_BYTES (drop (PAGE_BYTES * page) memory)
 
--- It has `count` pages from `first` on, the first ones of `pages`.
+-- It has `count` pages from `first` on: the first ones of `pages`.
 abbrev pub ArePagesOf : List ℕ → ℕ → ℕ → List (List ℕ) → Type 0
 ArePagesOf memory first count pages = (k : ℕ) → k < count → IsPageOf memory (first + k) (get_or pages k [])

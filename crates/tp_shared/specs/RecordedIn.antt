@@ -9,8 +9,8 @@ use Rattle.tp_turn.specs.Moments.{Done, IsNodeOf, moment_of}
 use Rattle.tp_turn.specs.Settled.{Records}
 use Rattle.tp_shared.specs.Holds.{IsBookOf}
 
--- The book was seen as it was found and as it was left. The node recorded exactly where it was asked to in the book that was found,
--- whose node it was; else nothing was done.
+-- The book was seen as it was found and as it was left. The node recorded exactly if it was asked to in the book that was found, which had
+-- the node; else nothing was done.
 pub record RecordedIn (start : Network NodeState) (number : ℕ) (seen : List BookValue) (done : Bool) : Type 0 where
   pub found : BookValue
   pub left : BookValue

@@ -25,14 +25,15 @@ abbrev pub is_empty : List Token → Bool
 is_empty [] = true
 is_empty (t ∷ ts) = false
 
--- Each node has halted; or nothing is left to do for any node by itself, and nothing is under way on any line; or something is left to do.
+-- Either each node has halted, or nothing is left to do for any node by itself, and nothing is under way on any line, or something is left
+-- to do.
 abbrev pub rest_in : Network NodeState → Rest
 rest_in s =
     if list_all (λ node. is_halted (rest_of node)) s.nodes
     then Halted
     else (if list_all (λ node. leaves_nothing (rest_of node)) s.nodes && list_all is_empty s.lines then Quiet else Busy)
 
--- what is left to do for a node by itself, as a book's entries make it
+-- what is left to do for a node by itself, as a book's entries make the node
 pub record IsRestAt (b : BookValue) (i : ℕ) (rest : Rest) : Type 0 where
   pub node : NodeState
   pub there : slice_get (world_of b).live.nodes i ≡ Some node

@@ -2,7 +2,7 @@
 use Rattle.std.specs.Prelude.{◌≡◌, ℕ, ◌%◌}
 use Rattle.tp_shared.specs.declared.cells.TheConstants.{CELLS, ROW}
 
--- Where a node looks for its cell in a row, whose cells have these numbers, there it is.
+-- In a row, whose cells have these numbers, the place of a node's cell follows from the node's number.
 pub record IsInRow (a b c d number : ℕ) : Type 0 where
   pub zeroth : number % ROW ≡ 0 → number % CELLS ≡ a
   pub first : number % ROW ≡ 1 → number % CELLS ≡ b

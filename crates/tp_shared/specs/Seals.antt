@@ -1,4 +1,4 @@
--- What lies under the book's lock beside the book, and what a node's place shows.
+-- What the book's lock holds beside the book, and what a node's place shows.
 use Rattle.std.specs.Prelude.{◌≡◌, ℕ, ◌+◌, Bool, true, List, length, get_or, Option, Some, None, IsSome, is_some, slice_get}
 use Rattle.tp_law_network.specs.Reserved.{IsReceived}
 use Rattle.tp_law_machine.specs.NodeOfBytes.{IsNodeOfBytes}
@@ -17,8 +17,8 @@ use Rattle.tp_shared.specs.Agreement.{Agreement, at_rest}
 use Rattle.tp_shared.specs.declared.place.Place.{Place}
 use Rattle.tp_shared.specs.declared.seal.NodeSeal.{NodeSeal}
 
--- The book, all entries since it was opened, a position from which on its entries have their positions as numbers, and of each node
--- whether pages of it are kept as they were when it recorded.
+-- The book, and all entries since it was opened. Then a position from which on its entries have their positions as numbers, and for each
+-- node whether pages of it are kept as they were when it recorded.
 pub record Stage : Type 0 where
   pub book : BookValue
   pub all : List Entry
@@ -29,7 +29,7 @@ pub record Stage : Type 0 where
 pub record AreWaiting (b : BookValue) (i : ℕ) (takes : List Received) : Type 0 where
   -- the book may have such an entry
   pub form : b.form ≡ Turns
-  -- they stand in front of the node's lines, and stay there until the turn's commit
+  -- they are at the front of the node's lines, and stay there until the turn's commit
   pub fronts : IsReceived (world_of b).live i takes
 
 -- A seal of this name shows what the book has of a node.
@@ -43,27 +43,27 @@ pub record IsSealOf (name : ℕ) (agreement : Agreement) (is_frozen : Bool) (sea
   pub kept : (here there : NodeState) → agreement.frozen ≡ Some here → get_or b.frozen i None ≡ Some there → here ≡ there
   -- whether a turn of it is reserved
   pub reserved : slice_get b.runs i ≡ Some agreement.reserved
-  -- what it received for an open turn that is one entry is there for the commit, whatever others did since, and after a trim
+  -- what it received for an open turn that is one entry stays for the commit, whatever others did since, and after a trim
   pub received : (takes : List Received) → agreement.takes ≡ Some takes → AreWaiting b i takes
-  -- beside the seal stands whether it is frozen
+  -- a flag beside the seal tells whether it is frozen
   pub flag : is_frozen ≡ is_some agreement.frozen
 
 -- each seal is that of its node, under its name
 abbrev pub Sealed : (ℕ → ℕ) → List NodeSeal → BookValue → Type 0
 Sealed names seals b = (i : ℕ) (s : NodeSeal) → slice_get seals i ≡ Some s → IsSealOf (names i) s.seal.value.state s.frozen s.seal.name b i
 
--- All are the entries since the book was opened; the number of the first is `first`, and the next one will have the book's.
+-- These are all entries since the book was opened. The number of the first is `first`, and the next one will have the book's next number.
 pub record IsTied (first : ℕ) (all : List Entry) (b : BookValue) : Type 0 where
   pub are : all ≡ b.history
   pub next : first + length all ≡ next_in_book b
 
--- No turn of the node is open. Its place's key shows it as it is, also as it is frozen. It has an image.
+-- No turn of the node is open. Its place's key shows it as it is, frozen or not. It has an image.
 pub record KeyShows (place : Place) : Type 0 where
   pub shown : place.key.value.state ≡ at_rest place.node
   pub image : IsNodeOfBytes place.node.live
 
 -- A turn of the node is open. Its place's key shows the node as the book has it, and what the node received since for a turn that is one
--- entry, to which it answered `sent`. Both nodes have an image.
+-- entry. To that the node answered `sent`. Both nodes have an image.
 pub record ShowsOpen (place : Place) (takes : Option (List Received)) (sent : List (ℕ × Token)) : Type 0 where
   pub before : NodeState
   pub shown : place.key.value.state ≡ record { node = before; frozen = place.node.frozen; reserved = true; takes = takes }

@@ -9,7 +9,7 @@ use Rattle.tp_law_network.specs.Invariant.{CutInvariant}
 use Rattle.tp_shared.specs.declared.seal.NodeSeal.{NodeSeal}
 use Rattle.tp_shared.specs.declared.told.Told.{Told}
 
--- What was told is a whole cut, and no node's pages are kept since.
+-- A cut was told to be whole, and no node's pages are kept since.
 pub record HasThawed (told : Told) (seals : List NodeSeal) : Type 0 where
   pub cut : WholeCut
   pub nodes : List NodeState
@@ -17,6 +17,6 @@ pub record HasThawed (told : Told) (seals : List NodeSeal) : Type 0 where
   pub holds : CutInvariant t414 told.net
   pub none : AllByRecursion (λ s. s.frozen ≡ false) seals
 
--- where it was told that a cut is whole and no page is kept, that is so
+-- if it was told that a cut is whole and no page is kept, this is true
 abbrev pub ThawedAsTold : Told → List NodeSeal → Type 0
 ThawedAsTold told seals = told.thawed ≡ true → HasThawed told seals

@@ -1,5 +1,8 @@
--- What lies under the book's lock, and what it keeps together with all that lies elsewhere: the nodes' cells, which have the keys of the
--- seals; the seats, whose slips are of the roll; the flusher, which has the key of what it was told; and the journal on the device.
+-- What the book's lock holds, and keeps together with all that is elsewhere:
+-- - the nodes' cells, which have the keys of the seals;
+-- - the seats, whose slips are from the roll;
+-- - the flusher, which has the key of what it was told;
+-- - the journal on the device.
 use Rattle.std.specs.Prelude.{◌≡◌, ◌≤◌, ◌+◌, ◌-◌, ◌*◌, ℕ, List, length, Option, None}
 use Rattle.tp_token.specs.declared.roll.Roll.{Roll}
 use Rattle.tp_token.specs.declared.twin.Seal.{Seal}
@@ -29,11 +32,11 @@ pub record AreTogether (roll_name first : ℕ) (start : Network NodeState) (node
   pub run_count : length book.runs ≡ length start.nodes
   -- each seal, and so the key in the node's cell, shows the node that the book's entries make, and whether a run of it is reserved
   pub sealed : Sealed node seals book
-  -- the slips of all seats are of this roll
+  -- the slips of all seats are from this roll
   pub roll_is : roll.name ≡ roll_name
   -- its numbers begin with that of the first entry since the opening
   pub first_is : roll.first ≡ first
-  -- on it are just the entries since the opening, each under the number that it has in the journal
+  -- it has exactly the entries since the opening, each under its number in the journal
   pub tied : IsTied first roll.items book
   -- the wires are those of the network
   pub wires_are : book.state.start.wires ≡ start.wires
@@ -41,19 +44,19 @@ pub record AreTogether (roll_name first : ℕ) (start : Network NodeState) (node
   pub count_is : length book.state.start.nodes ≡ length start.nodes
   -- the flusher has the key of this seal
   pub flusher_is : told.name ≡ flusher
-  -- from what the flusher was told, acts that are no trim lead to the book as it is, and pages that had gone are gone
+  -- from what the flusher was told, acts that are no trim lead to the book as it is, and pages that were dropped stay dropped
   pub since : ToldSince told.value (told_of before first (record { book = book; all = roll.items; numbered_from = told.value.numbered_from; frozen = frozen_in seals }))
-  -- the network has a place for a wire at each of four links a node, and at each port
+  -- the network has a place for a wire at each node's four links, and at each port
   pub wire_count : length start.wires ≡ 4 * length start.nodes + length start.ports
   -- the book counts with the bytes that groups may fill on the device
   pub room_is : book.room ≡ room
   -- entries that may lack room there, each in a group of its own, were all made before the opening
   pub floor : book.floor ≤ first - book.base
-  -- where the flusher was told that the cut is whole and no node's pages are kept, none is kept since
+  -- if the flusher was told that the cut is whole and no node's pages are kept, none is kept since
   pub thawed : ThawedAsTold told.value seals
   -- from the position that was told on the entries have their positions as numbers
   pub numbered : IsNumberedFrom told.value.numbered_from book
-  -- it isn't behind the entries that were told
+  -- this position is at most the end of the entries that were told
   pub reaches : told.value.numbered_from ≤ told.value.base + length told.value.net.entries
-  -- whoever saw it broken finds it so
+  -- if it was seen broken, it is broken
   pub seen : BrokenSince book.broken sights

@@ -18,8 +18,8 @@ use Rattle.tp_turn.specs.Opened.{OpensIn, opened_acts, taken_in}
 use Rattle.tp_shared.specs.Holds.{WasHeld, InHand}
 use Rattle.tp_shared.specs.declared.node_turn.NodeTurn.{NodeTurn}
 
--- A node's turn was opened, with this answer, in the book that was found, in which the node was the one that its entries make, and by that
--- book's form: all was done that may be.
+-- A node's turn was opened, with this answer, in the book that was found and by that book's form. The node was the one that the book's
+-- entries make. All was done that may be.
 pub record TurnOpened (start : Network NodeState) (number : ℕ) (answer : Result Opened Refusal) (was is : NodeContents) (old new : InHand) : Type 0 where
   pub found : BookValue
   pub left : BookValue
@@ -27,16 +27,16 @@ pub record TurnOpened (start : Network NodeState) (number : ℕ) (answer : Resul
   pub node : IsNodeOf found number was
   pub opens : OpensIn found.form number answer (moment_of found was) (moment_of left is)
 
--- A turn that was opened so was journalled in the book that was found, of whatever form that was by then: its run, and what it received
--- for one entry.
+-- A turn that was opened with this answer was journalled in the book that was found, whatever its form was by then. That is its run, and,
+-- for a turn that is one entry, what it received.
 pub record TurnCommitted (start : Network NodeState) (number : ℕ) (opened : Opened) (count : ℕ) (node : NodeContents) (old new : InHand) : Type 0 where
   pub found : BookValue
   pub left : BookValue
   pub held : WasHeld start found left old new
   pub added : Added number node.live (opened_acts number opened count) (without_run found number) left
 
--- The turn of a node: it was opened in one hold of the book's lock, ran as far as it may, and was journalled in another by how it was
--- opened. It answers that it took what its opening took: the takes that the book got then, or those of the entry that it got at last.
+-- The turn of a node was opened in one hold of the book's lock, ran as far as it may, and was journalled in another by how it was opened.
+-- It answers how many tokens its opening took: the takes that the book got then, or those of the entry that it got last.
 pub record TurnMade (start : Network NodeState) (number quantum : ℕ) (turn : NodeTurn) (old new : InHand) : Type 0 where
   pub found : NodeContents
   pub settled : NodeContents
@@ -52,7 +52,7 @@ pub record TurnMade (start : Network NodeState) (number quantum : ℕ) (turn : N
   pub shared : memory_kept ran ≡ kept_behind_steps turn.ran.count settled.live (memory_kept settled)
   pub committed : TurnCommitted start number opening turn.ran.count ran between new
 
--- A turn of a node was refused, where it was opened.
+-- A turn of a node failed when it was opened.
 pub record TurnBrokenOff (start : Network NodeState) (number : ℕ) (reason : Refusal) (old new : InHand) : Type 0 where
   pub was : NodeContents
   pub is : NodeContents

@@ -1,4 +1,4 @@
-//! What the flusher was told, beside the book as it is.
+//! What the flusher was told, compared with the book as it is.
 
 ghost use Rattle.std.specs.Prelude.{◌≡◌};
 ghost use Rattle.tp_shared.specs.Told.{ToldSince, told_of};
@@ -9,8 +9,8 @@ use crate::told::Told;
 use tp_token::{Key, agree};
 
 impl<J: Naming> Locked<J> {
-    /// Changes nothing. Acts, none of them a trim, lead from what the flusher was last told, which `key` shows, to the book as it
-    /// is.
+    /// Proves that acts, none of them a trim, lead from what the flusher was last told, which `key` shows, to the book as it is. It changes
+    /// nothing.
     pub fn compare(&mut self, key: &mut Key<Told>)
         requires { key.old.name ≡ J.flusher }
         ensures same { (self.new ≡ self.old) × (key.new.name ≡ key.old.name) × (key.new.value ≡ key.old.value) }

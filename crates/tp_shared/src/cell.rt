@@ -48,7 +48,7 @@ impl<const I: usize, J: Naming> Model for Cell<I, J> {
     ghost invariant = { λ c. AreOfCell I J.node (length J.start.nodes) c.places.items };
 }
 
-// The first hold of the book's lock in a node's turn.
+// Does what a node's turn does in its first hold of the book's lock.
 fn begin<J: Naming, R: Wait>(
     rt: &R,
     book: &Mutex<Locked<J>>,
@@ -70,7 +70,7 @@ fn begin<J: Naming, R: Wait>(
     held.begin_seen(place, seat, seen, number)
 }
 
-// The second one.
+// Does what a node's turn does in its second hold of the book's lock.
 fn commit<J: Naming, R: Wait>(
     rt: &R,
     book: &Mutex<Locked<J>>,
@@ -95,7 +95,7 @@ fn commit<J: Naming, R: Wait>(
     held.commit_seen(place, seat, seen, number, opened, stretch)
 }
 
-// A turn of a node whose lock is held: it is opened in one hold of the book's lock and committed in another. The node runs between them.
+// Makes a turn of a node whose lock is held: opens it in one hold of the book's lock, lets the node run, and commits it in another hold.
 fn turn_of<J: Naming, G: Gate, R: Wait>(
     rt: &R,
     gate: &G,
@@ -127,7 +127,7 @@ fn turn_of<J: Naming, G: Gate, R: Wait>(
     Ok(NodeTurn { taken, ran })
 }
 
-// A node whose lock is held records where it is asked to.
+// Lets a node whose lock is held record, if it is asked to.
 fn record_of<J: Naming, R: Wait>(
     rt: &R,
     book: &Mutex<Locked<J>>,
@@ -155,7 +155,7 @@ impl<const I: usize, J: Naming> Cell<I, J> {
         }
     }
 
-    /// A turn of the node `number`, which is one of the cell's.
+    /// Makes a turn of the node `number` of this cell.
     pub(crate) fn turn<G: Gate, R: Wait>(
         &mut self,
         rt: &R,
@@ -179,7 +179,7 @@ impl<const I: usize, J: Naming> Cell<I, J> {
         turn_of(rt, gate, book, place, seat, seen, runs, number, quantum)
     }
 
-    /// The node `number`, which is one of the cell's, records where it is asked to.
+    /// Lets the node `number` of this cell record, if it is asked to.
     pub(crate) fn record<R: Wait>(
         &mut self,
         rt: &R,

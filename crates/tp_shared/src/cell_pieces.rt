@@ -17,7 +17,7 @@ use tp_model::limits::{IMAGE_HEAD_BYTES, PAGE_BYTES};
 use tp_token::Key;
 
 impl<const I: usize, J: Naming> Cell<I, J> {
-    /// The head of the image of the node `number`, which is one of the cell's.
+    /// Gives the head of the image of the node `number` of this cell.
     pub(crate) fn frozen_head<R: Wait>(
         &mut self,
         rt: &R,
@@ -38,7 +38,7 @@ impl<const I: usize, J: Naming> Cell<I, J> {
         head_of(rt, book, place, key, number, out)
     }
 
-    /// Pages of its memory, from `first` on. Answers how many.
+    /// Copies pages of its memory, from the page `first` on. Answers how many.
     pub(crate) fn frozen_pages<R: Wait>(
         &mut self,
         rt: &R,

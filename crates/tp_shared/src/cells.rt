@@ -1,13 +1,13 @@
-//! The locks that nodes lie under.
+//! The locks that hold the nodes.
 
-/// How many locks there are: the node `i` lies under that of cell `i` mod this.
+/// How many locks there are: the lock of cell `i` mod this holds node `i`.
 pub(crate) const CELLS: usize = 16;
 
-/// How many of them lie in a row: the cell `c` lies in row `c` / this. What a function costs to prove grows with the square of its arms, so
-/// one picks a row, and the next one a cell of it.
+/// How many of them are in a row: the cell `c` is in row `c` / this. Proving a function costs the square of its arms; so one function picks
+/// a row, and the next one a cell of it.
 pub(crate) const ROW: usize = 4;
 
-// Does `$then`, where `$row` has the lock that the node `$number` lies under.
+// Does `$then`, with the row of the node `$number` as `$row`.
 macro_rules! in_row {
     ($shared:ident, $number:ident, $row:ident => $then:expr) => {
         match $number as usize % CELLS / ROW {
@@ -31,7 +31,7 @@ macro_rules! in_row {
     };
 }
 
-// Does `$then`, where `$lock` is the lock of the row `$row` that its node `$number` lies under.
+// Does `$then`, with the lock of the node `$number` in the row `$row` as `$lock`.
 macro_rules! in_cell {
     ($row:ident, $number:ident, $lock:ident => $then:expr) => {
         match $number as usize % ROW {

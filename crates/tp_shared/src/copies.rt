@@ -8,7 +8,7 @@ use std::alloc::{AllocError, Global};
 use tp_book::PortParts;
 use tp_net::Lines;
 
-// Puts onto an empty line what stands on that line of others.
+// Copies the tokens of a line in `from` onto that line of `lines`, which is empty.
 fn copy_line(lines: &mut Lines, line: usize, from: &Lines)
     requires there { (line < length lines.old) × (line < length from.now) }
     requires empty { on_line lines.old line ≡ [] }
@@ -22,7 +22,7 @@ fn copy_line(lines: &mut Lines, line: usize, from: &Lines)
     }
 }
 
-/// A copy of lines.
+/// Copies lines. `AllocError` if memory is out.
 pub(crate) fn copy_lines(alloc: Global, from: &Lines) -> Result<Lines, AllocError>
     ensures { IfOk result (λ lines. lines ≡ from.now) }
 {
@@ -44,7 +44,7 @@ fn copy_port(alloc: Global, port: &PortParts) -> Result<PortParts, AllocError>
     })
 }
 
-/// A copy of ports.
+/// Copies ports. `AllocError` if memory is out.
 pub(crate) fn copy_ports(alloc: Global, ports: &[PortParts]) -> Result<Vec<PortParts>, AllocError>
     ensures { IfOk result (λ parts. map port_made parts.items ≡ map port_made ports.now) }
 {

@@ -32,7 +32,7 @@ impl Dealt {
         }
     }
 
-    /// Puts the place of the node `index` behind the others of its cell.
+    /// Puts the place of the node `index` after the others of its cell. `AllocError` if memory is out.
     pub(crate) fn push(&mut self, index: usize, place: Place) -> Result<(), AllocError>
         ensures zeroth { OnOk result (IsRowWith 0 index place self.old.row0 self.new.row0) }
         ensures first { OnOk result (IsRowWith 1 index place self.old.row1 self.new.row1) }

@@ -1,4 +1,4 @@
-//! Points of a turn that a test can hold, and what is called there.
+//! Points of a turn at which a test can hold it, and what is called there.
 
 pub use tp_gate::{
     BACKLOG_COPIED, COMMITTED, Gate, NODE_LOCKED, NUMBER_TAKEN, NoGate, PAGE_COPIED, PIECE_BEGUN,

@@ -28,7 +28,7 @@ impl Hand {
         }
     }
 
-    /// Puts the place of the node `index`, which is one of the row's, behind the others of its cell.
+    /// Puts the place of the node `index` of this row after the others of its cell. `AllocError` if memory is out.
     pub(crate) fn push(&mut self, index: usize, place: Place) -> Result<(), AllocError>
         ensures { OnOk result (HasPlace index place self.old self.new) }
     {

@@ -14,7 +14,7 @@ use tp_book::{Book, Refusal};
 use tp_node::{Node, Ran};
 use tp_turn::{Opened, Stretch, commit_opened, open_in_form, record_asked};
 
-/// Opens a node's turn in the form of its book: the node records where it is asked to, takes or receives what came in, and a turn of it is
+/// Opens a node's turn in the form of its book. The node records if it is asked to, takes or receives what came in, and a turn of it is
 /// reserved. Answers how it was opened.
 pub(crate) fn begin(book: &mut Book, node: &mut Node, number: u8) -> Result<Opened, Refusal>
     requires free { slice_get book.old.runs number ≡ Some false }
@@ -29,7 +29,7 @@ pub(crate) fn begin(book: &mut Book, node: &mut Node, number: u8) -> Result<Open
     open_in_form(book, node, number)
 }
 
-/// A node records where it is asked to. It takes nothing, and nothing runs.
+/// Lets a node record, if it is asked to. It takes nothing, and nothing runs.
 pub(crate) fn record(book: &mut Book, node: &mut Node, number: u8)
     requires free { slice_get book.old.runs number ≡ Some false }
     requires is { IsNodeOf book.old number node.old }
@@ -41,7 +41,8 @@ pub(crate) fn record(book: &mut Book, node: &mut Node, number: u8)
     record_asked(book, node, number);
 }
 
-/// A node's turn is journalled by how it was opened, whatever the book's form is by now: its run, and what it received for one entry.
+/// Journals a node's turn by how it was opened, whatever the book's form is by now: its run, and, for a turn that is one entry, what it
+/// received.
 pub(crate) fn commit(
     book: &mut Book,
     node: &Node,

@@ -20,8 +20,8 @@ use tp_book::{Receipt, Refusal};
 use tp_turn::host_turn;
 
 impl<J: Naming> Locked<J> {
-    /// Journals bytes that the host hands to a port: all of them or, where it is refused, none. `seat` gets the slips of their entries. The
-    /// receipt is the book's.
+    /// Journals bytes that the host hands to a port: all of them, or none if it fails. `seat` gets the slips of their entries. The receipt
+    /// is the book's.
     pub fn host_in(
         &mut self,
         seat: &mut Seat<J>,
@@ -45,8 +45,8 @@ impl<J: Naming> Locked<J> {
         Ok(given)
     }
 
-    /// Journals that the host has a port's outputs up to a position, which go. Up to a position that was confirmed before nothing is
-    /// done. `seat` gets the entry's slip, where there is one. The receipt is the book's.
+    /// Journals that the host has a port's outputs up to the position `upto`, and drops them. Does nothing if they were confirmed before.
+    /// `seat` gets the entry's slip, if there is an entry. The receipt is the book's.
     pub fn confirm(&mut self, seat: &mut Seat<J>, port: u8, upto: u64) -> Result<Receipt, Refusal>
         requires there { port < length self.old.book.state.ports }
         requires held { upto ≤ (port_in self.old.book port).out_base + length (port_in self.old.book port).outputs }
@@ -66,9 +66,8 @@ impl<J: Naming> Locked<J> {
         Ok(given)
     }
 
-    /// The host's turn: each of its ports in order takes at most three tokens of the line that comes to it, a Marker among them.
-    /// `seat` gets the slips of the entries, also where the turn broke off. Answers how many tokens were taken; a Marker isn't
-    /// counted.
+    /// Makes the host's turn: each of its ports, in order, takes at most three tokens of its line, a Marker among them. `seat` gets the
+    /// slips of the entries, also if the turn broke off. Answers how many tokens were taken, without Markers.
     pub fn host_turn(&mut self, seat: &mut Seat<J>) -> Result<u64, Refusal>
         ensures of { IsBookOf J.start self.old.book }
         ensures did { HostDone (HostTurns result) self.old.book self.new.book }

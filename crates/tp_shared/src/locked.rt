@@ -1,4 +1,4 @@
-//! What lies under the book's lock.
+//! What the book's lock holds.
 
 ghost use Rattle.std.specs.Prelude.{◌≡◌, ◌<◌, ◌≤◌, ◌+◌, ◌-◌, ◌*◌, ℕ, None, [], true, length, IfErr, MatchResult};
 ghost use Rattle.tp_model.specs.declared.limits.TheConstants.{MAX_STEPS};
@@ -30,9 +30,13 @@ use tp_node::Ran;
 use tp_token::{Roll, Seal, agree, turn};
 use tp_turn::{Opened, Stretch};
 
-/// The book, the seal of each node, the roll of all entries since the opening, the seal of what the flusher was told, and the roll of what
-/// was seen of the book. Contracts see the book, the roll of entries, from which position on entries have their positions as numbers, and
-/// which nodes have kept pages, as they recorded.
+/// What is under the book's lock:
+/// - the book, and the seal of each node;
+/// - the roll of all entries since the opening;
+/// - the seal of what the flusher was told, and the roll of what was seen of the book.
+///
+/// Contracts see the book and the roll of entries. They also see from which position on entries have their positions as numbers, and which
+/// nodes have kept pages, as they recorded.
 #[derive(Drop)]
 pub struct Locked<J: Naming> {
     pub(crate) book: Book,
@@ -57,8 +61,8 @@ impl<J: Naming> Model for Locked<J> {
 }
 
 impl<J: Naming> Locked<J> {
-    /// A book, with a seal for each node, a roll without an entry yet, the seal of what the flusher was told, and a roll of what is seen
-    /// on which nothing is yet.
+    /// Puts a book under the lock, with a seal for each node and the seal of what the flusher was told. The rolls of entries and of what is
+    /// seen are empty.
     pub(crate) fn new(
         book: Book,
         seals: Vec<NodeSeal>,
@@ -88,15 +92,15 @@ impl<J: Naming> Locked<J> {
         }
     }
 
-    /// The book.
+    /// Gives the book.
     pub fn book(&self) -> &Book
         ensures { result.now ≡ self.now.book }
     {
         &self.book
     }
 
-    /// All entries since the opening are the book's, under the numbers from the first on, and from a position on the entries have their
-    /// positions as numbers. Pages are kept only of nodes that have recorded in the snapshot that runs. It does nothing.
+    /// Proves that the roll has all entries of the book since the opening, with the numbers from the first on. From a position on, entries
+    /// have their positions as numbers. Only nodes that have recorded in the snapshot that runs have kept pages. The function does nothing.
     pub fn known(&self)
         ensures tied { IsTied J.first self.now.all self.now.book }
         ensures numbered { IsNumberedFrom self.now.numbered_from self.now.book }
@@ -107,9 +111,9 @@ impl<J: Naming> Locked<J> {
         self.book.known();
     }
 
-    /// Opens a node's turn in the form of the book: the node records where it is asked to, takes or receives what it may on links 0 to 3 in
-    /// order, and a turn of it is reserved. Answers how it was opened. What it received for a turn that is one entry stays on its lines,
-    /// and its seal and key say so.
+    /// Opens a node's turn in the form of the book. The node records if it is asked to, takes or receives what it may on links 0 to 3 in
+    /// order, and a turn of it is reserved. Answers how it was opened. If the turn is one entry, what the node received stays on its lines,
+    /// as its seal and key show.
     pub(crate) fn begin(
         &mut self,
         place: &mut Place,
@@ -146,8 +150,8 @@ impl<J: Naming> Locked<J> {
         done
     }
 
-    /// A node's turn is journalled by how it was opened, whatever the book's form is by now. Its key still shows the node as the book has
-    /// it, and what it received since.
+    /// Journals a node's turn by how it was opened, whatever the book's form is by now. Its key still shows the node as the book has it,
+    /// and what it received since.
     pub(crate) fn commit(
         &mut self,
         place: &mut Place,

@@ -1,4 +1,4 @@
-//! A look at the snapshot.
+//! Reading the state of the snapshot.
 
 ghost use Rattle.std.specs.Prelude.{◌≡◌, ◌<◌, ◌≤◌, ℕ, false, get_or, length};
 ghost use Rattle.tp_model.specs.declared.limits.TheConstants.{MAX_NODES};
@@ -10,14 +10,14 @@ use crate::naming::Naming;
 use tp_book::Book;
 use tp_model::limits::MAX_NODES;
 
-/// Whether a snapshot runs, in which the host has recorded as it began; and of each node whether it has recorded in it.
+/// Whether a snapshot runs, in which the host recorded as it began, and which nodes have recorded in it.
 #[derive(Clone, Copy)]
 pub struct Look {
     pub running: bool,
     pub recorded: [bool; MAX_NODES],
 }
 
-// Of each node whether it has recorded.
+// Tells for each node whether it has recorded.
 fn recorded_in(book: &Book) -> [bool; MAX_NODES]
     requires { count_of_nodes book.now ≤ MAX_NODES }
     ensures { (i : ℕ) → i < count_of_nodes book.now → get_or result i false ≡ has_recorded_in book.now.state.snapshot i }
@@ -30,7 +30,7 @@ fn recorded_in(book: &Book) -> [bool; MAX_NODES]
 }
 
 impl<J: Naming> Locked<J> {
-    /// A look at the snapshot. Where none runs, no node's lock is needed for one.
+    /// Reads the state of the snapshot. If none runs, no node's lock is needed for one.
     pub fn look(&self) -> Look
         ensures running { result.running ≡ has_recorded_in self.now.book.state.snapshot (length J.start.nodes) }
         ensures recorded { (i : ℕ) → i < length J.start.nodes → get_or result.recorded i false ≡ has_recorded_in self.now.book.state.snapshot i }

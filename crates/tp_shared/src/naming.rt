@@ -9,7 +9,7 @@ ghost use Rattle.tp_model.specs.WriteOrder.{Resting};
 
 use std::marker::Brand;
 
-/// Which network, tokens, mark and history all that lies under locks belongs to. Each call of a program picks it.
+/// The network, tokens, mark and history of all that is under locks. Each call of a program picks it.
 pub trait Naming {
     /// The name of the roll of all entries.
     ghost roll: { ℕ };
@@ -17,7 +17,7 @@ pub trait Naming {
     /// The number of the first entry after the opening.
     ghost first: { ℕ };
 
-    /// A network with this one's wires, and its numbers of nodes and ports.
+    /// A network with the wires, and the numbers of nodes and ports, of this one.
     ghost start: { Network NodeState };
 
     /// The name of each node's twin.
@@ -32,10 +32,10 @@ pub trait Naming {
     /// The name of the roll of what is seen of the book under its lock.
     ghost sights: { ℕ };
 
-    /// The bytes that groups may fill in an area of the device; none without a device.
+    /// The bytes that groups may fill in an area of the device; `None` without a device.
     ghost room: { Option ℕ };
 
-    /// The network of the images that the device was formatted with.
+    /// The network of the images with which the device was formatted.
     ghost formatted: { Network NodeState };
 
     /// The world before this process opened the device.

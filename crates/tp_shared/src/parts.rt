@@ -22,8 +22,8 @@ use tp_node::Node;
 use tp_ready::Mark;
 use tp_token::{Key, Roll, Seal, pair, start, turn};
 
-/// A book, its nodes, their seals and keys, the roll of its entries, the mark, both halves of what the flusher is told, and the roll of
-/// what is seen of the book, before they are put under locks.
+/// What isn't under locks yet: a book, its nodes, their seals and keys, the roll of its entries, and the mark. Then both halves of what the
+/// flusher is told, and the roll of what is seen of the book.
 #[derive(Drop)]
 pub struct Parts {
     pub(crate) book: Book,
@@ -46,7 +46,7 @@ impl Model for Parts {
     ghost invariant = { λ p. AreParts p.book p.seals.items p.dealt p.roll.first p.roll.items p.told.name p.key.name p.sights.items };
 }
 
-// A node's seal and key.
+// Makes a node's seal and key.
 fn ends_of(node: &Node) -> (Seal<Shown>, Key<Shown>)
     ensures names { result.0.name ≡ result.1.name }
     ensures seal { result.0.value.state ≡ at_rest node.now }
@@ -78,7 +78,7 @@ fn deal(alloc: Global, book: &Book, nodes: Vec<Node>) -> Result<(Vec<NodeSeal>, 
 }
 
 impl Parts {
-    /// The parts of the book of an opened device, and of the nodes of its network as it is.
+    /// Makes the parts of the book of an opened device, and of the nodes of its network as it is. `AllocError` if memory is out.
     pub fn opened(
         alloc: Global,
         book: Book,
@@ -95,7 +95,7 @@ impl Parts {
         Parts::new(alloc, book, nodes, mark)
     }
 
-    /// The parts of a book that has just been started or opened, and of its nodes.
+    /// Makes the parts of a book that has just been started or opened, and of its nodes. `AllocError` if memory is out.
     pub fn new(alloc: Global, book: Book, nodes: Vec<Node>, mark: Mark) -> Result<Parts, AllocError>
         requires idle { book.ready ≡ None }
         requires opened { book.history ≡ [] }

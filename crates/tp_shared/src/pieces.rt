@@ -23,8 +23,8 @@ use tp_node::Node;
 use tp_token::{Key, agree, turn};
 
 impl<J: Naming> Locked<J> {
-    /// Changes nothing. The node is the one that the book has, and frozen where pages of it are kept; then it is as the book has it
-    /// recorded in the snapshot that runs.
+    /// Proves that the node is the one that the book has. It is frozen if pages of it are kept; then it is as the book has it recorded in
+    /// the snapshot that runs. It changes nothing.
     pub(crate) fn audit_frozen(&mut self, place: &mut Place, number: u8)
         requires there { number < length J.start.nodes }
         requires named { place.old.key.name ≡ J.node number }
@@ -42,7 +42,7 @@ impl<J: Naming> Locked<J> {
         agree(&mut here.seal, &mut place.key);
     }
 
-    /// Changes nothing, and the flusher is told of the book. Where the node is frozen, it is as the told network has it recorded.
+    /// Tells the flusher of the book. If the node is frozen, it is as the told network has it recorded. The function changes nothing else.
     pub(crate) fn tell_frozen(&mut self, place: &mut Place, key: &mut Key<Told>, number: u8)
         requires there { number < length J.start.nodes }
         requires named { place.old.key.name ≡ J.node number }
@@ -62,7 +62,7 @@ impl<J: Naming> Locked<J> {
         self.tell(key);
     }
 
-    /// The node's frozen pages went, and its key shows it as it was with them. The book's recorded image is what it was.
+    /// Notes that the node's frozen pages are dropped: its key shows it as it was with them. The book's recorded image stays.
     pub(crate) fn thaw(&mut self, key: &mut Key<Shown>, node: &Node, number: u8)
         requires there { number < length J.start.nodes }
         requires named { key.old.name ≡ J.node number }
@@ -79,7 +79,7 @@ impl<J: Naming> Locked<J> {
         here.frozen = false;
     }
 
-    /// Does what `thaw` does, and tells the flusher of the book, in which no page of the node is kept then.
+    /// Does what `thaw` does, and tells the flusher of the book, which keeps no page of the node then.
     pub(crate) fn thaw_told(
         &mut self,
         key: &mut Key<Shown>,
@@ -103,7 +103,7 @@ impl<J: Naming> Locked<J> {
     }
 }
 
-// A short hold of the book's lock: the frozen node is audited, and the flusher is told of the book.
+// Audits the frozen node and tells the flusher of the book, in a short hold of the book's lock.
 fn audit<J: Naming, R: Wait>(
     rt: &R,
     book: &Mutex<Locked<J>>,
@@ -128,7 +128,7 @@ fn audit<J: Naming, R: Wait>(
     held.tell_frozen(place, key, number);
 }
 
-/// The head of the image of a node whose lock is held, as it recorded. False where it isn't frozen.
+/// Gives the head of the image of a node whose lock is held, as it recorded. False if it isn't frozen.
 pub(crate) fn head_of<J: Naming, R: Wait>(
     rt: &R,
     book: &Mutex<Locked<J>>,
@@ -158,7 +158,7 @@ pub(crate) fn head_of<J: Naming, R: Wait>(
     true
 }
 
-// Copies pages of a frozen node, from `first` on: as many as the node has and as find room. Answers how many.
+// Copies pages of a frozen node, from `first` on, until its last page or the end of `out`. Answers how many.
 fn copy_pages(node: &Node, first: usize, out: &mut [[u8; PAGE_BYTES]]) -> usize
     requires frozen { IsSome node.now.frozen }
     ensures few { result ≤ length out.old }
@@ -172,8 +172,8 @@ fn copy_pages(node: &Node, first: usize, out: &mut [[u8; PAGE_BYTES]]) -> usize
     count
 }
 
-/// Pages of it from `first` on, as many as it has and as find room. Answers how many: none where it isn't frozen. One short hold of the
-/// book's lock shows that all of them are pages of the frozen node.
+/// Copies pages of it, from `first` on, until its last page or the end of `out`. Answers how many: 0 if it isn't frozen. One short hold of
+/// the book's lock shows that all of them are pages of the frozen node.
 pub(crate) fn pages_of<J: Naming, R: Wait>(
     rt: &R,
     book: &Mutex<Locked<J>>,
@@ -204,7 +204,8 @@ pub(crate) fn pages_of<J: Naming, R: Wait>(
     copy_pages(&place.node, first, out)
 }
 
-/// Lets the frozen pages of a node go whose lock is held, and then says so under the book's; the flusher is told of the book as it is then.
+/// Drops the frozen pages of a node whose lock is held, and then says so under the book's lock. The flusher is told of the book as it is
+/// then.
 pub(crate) fn drop_of<J: Naming, R: Wait>(
     rt: &R,
     book: &Mutex<Locked<J>>,

@@ -4,7 +4,7 @@ use crate::shown::Shown;
 use tp_node::Node;
 use tp_token::Key;
 
-/// A node behind its lock, with its key.
+/// A node under its lock, with its key.
 #[derive(Drop)]
 pub struct Place {
     pub(crate) node: Node,

@@ -18,7 +18,7 @@ use crate::sights::Sights;
 use tp_token::{agree, turn};
 
 impl<J: Naming> Locked<J> {
-    /// The node records where it is asked to. It takes nothing, and nothing runs. Answers whether it recorded.
+    /// Lets the node record, if it is asked to. It takes nothing, and nothing runs. Answers whether it recorded.
     pub(crate) fn record(&mut self, place: &mut Place, number: u8) -> bool
         requires there { number < length J.start.nodes }
         requires named { place.old.key.name ≡ J.node number }
@@ -43,7 +43,7 @@ impl<J: Naming> Locked<J> {
         asked
     }
 
-    /// Records, and has the book seen as it was found and as it was left.
+    /// Records, and sees the book before and after that.
     pub(crate) fn record_seen(&mut self, place: &mut Place, number: u8) -> Recorded<J>
         requires there { number < length J.start.nodes }
         requires named { place.old.key.name ≡ J.node number }

@@ -1,4 +1,4 @@
-//! What is left to do in the network as it stands.
+//! What is left to do in the network as it is.
 
 ghost use Rattle.std.specs.Prelude.{◌≡◌, ◌<◌, ◌%◌, if◌then◌else◌, length};
 ghost use Rattle.tp_book.specs.Book.{world_of};
@@ -18,7 +18,7 @@ use std::sync::Wait;
 use tp_node::Rest;
 
 impl<const I: usize, J: Naming> Cell<I, J> {
-    /// What is left to do for the node `number`, which is one of the cell's, by itself.
+    /// Tells what is left to do for the node `number` of this cell by itself.
     pub(crate) fn rest(&mut self, held: &mut Locked<J>, number: u8) -> Rest
         requires there { number < length J.start.nodes }
         requires here { number % CELLS ≡ I }
@@ -32,7 +32,7 @@ impl<const I: usize, J: Naming> Cell<I, J> {
 }
 
 impl<const A: usize, const B: usize, const C: usize, const D: usize, J: Naming> Row<A, B, C, D, J> {
-    /// What is left to do for the node `number`, which is one of the row's, by itself.
+    /// Tells what is left to do for the node `number` of this row by itself.
     pub(crate) fn rest<R: Wait>(&self, rt: &R, held: &mut Locked<J>, number: u8) -> Rest
         requires there { number < length J.start.nodes }
         requires here { IsInRow A B C D number }
@@ -43,7 +43,8 @@ impl<const A: usize, const B: usize, const C: usize, const D: usize, J: Naming> 
     }
 }
 
-/// What is left to do in a network in which nothing is for any node by itself: all have halted, or the lines are clear, or neither is so.
+/// Tells what is left to do in a network if nothing is left for any node by itself. Either all have halted, or the lines are clear, or
+/// tokens are under way.
 fn rest_of(have_halted: bool, is_clear: bool) -> Rest
     ensures { result ≡ (if have_halted then Rest.Halted else (if is_clear then Rest.Quiet else Rest.Busy)) }
 {
@@ -57,7 +58,7 @@ fn rest_of(have_halted: bool, is_clear: bool) -> Rest
 }
 
 impl<J: Naming> Shared<J> {
-    /// What is left to do for the node `number` by itself.
+    /// Tells what is left to do for the node `number` by itself.
     fn rest_at<R: Wait>(&self, rt: &R, held: &mut Locked<J>, number: u8) -> Rest
         requires there { number < length J.start.nodes }
         ensures same { held.new ≡ held.old }
@@ -66,9 +67,9 @@ impl<J: Naming> Shared<J> {
         in_row!(self, number, row => row.rest(rt, held, number))
     }
 
-    /// What is left to do in the network as it stands, exactly: whether each node has halted; else whether no node has a step, and nothing
-    /// is under way on a line. It changes nothing. The book's lock is held, and each node's is taken behind it: so it is called once no other
-    /// thread makes turns, which take a node's lock first.
+    /// Tells exactly what is left to do in the network as it is. First, whether each node has halted. If not, whether no node has a step,
+    /// and nothing is under way on a line. It changes nothing. The book's lock is held, and each node's is taken after it. Turns take a
+    /// node's lock first; so call it only once no other thread makes turns.
     pub fn rest<R: Wait>(&self, rt: &R, held: &mut Locked<J>) -> Rest
         ensures same { held.new ≡ held.old }
         ensures rest { result ≡ rest_in (plain_network (world_of held.old.book).live) }

@@ -26,7 +26,7 @@ use std::sync::{Mutex, Wait};
 use tp_book::Refusal;
 use tp_node::Runs;
 
-/// Four cells whose numbers follow one another, each under its lock.
+/// Four cells with consecutive numbers, each under its lock.
 #[derive(Drop)]
 pub struct Row<const A: usize, const B: usize, const C: usize, const D: usize, J: Naming> {
     pub(crate) cell0: Mutex<Cell<A, J>>,
@@ -47,7 +47,7 @@ impl<const A: usize, const B: usize, const C: usize, const D: usize, J: Naming> 
         }
     }
 
-    /// A turn of the node `number`, which is one of the row's.
+    /// Makes a turn of the node `number` of this row.
     #[inline(always)]
     pub(crate) fn turn<G: Gate, R: Wait>(
         &self,
@@ -70,7 +70,7 @@ impl<const A: usize, const B: usize, const C: usize, const D: usize, J: Naming> 
         in_cell!(self, number, cell => lock_soon(rt, cell).turn(rt, gate, book, seat, seen, runs, number, quantum))
     }
 
-    /// The node `number`, which is one of the row's, records where it is asked to.
+    /// Lets the node `number` of this row record, if it is asked to.
     pub(crate) fn record<R: Wait>(&self, rt: &R, book: &Mutex<Locked<J>>, number: u8) -> Recorded<J>
         requires there { number < length J.start.nodes }
         requires here { IsInRow A B C D number }

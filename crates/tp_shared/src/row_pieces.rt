@@ -17,7 +17,7 @@ use tp_model::limits::{IMAGE_HEAD_BYTES, PAGE_BYTES};
 use tp_token::Key;
 
 impl<const A: usize, const B: usize, const C: usize, const D: usize, J: Naming> Row<A, B, C, D, J> {
-    /// The head of the image of the node `number`, which is one of the row's.
+    /// Gives the head of the image of the node `number` of this row.
     pub(crate) fn frozen_head<R: Wait>(
         &self,
         rt: &R,
@@ -37,7 +37,7 @@ impl<const A: usize, const B: usize, const C: usize, const D: usize, J: Naming> 
         in_cell!(self, number, cell => lock_soon(rt, cell).frozen_head(rt, book, key, number, out))
     }
 
-    /// Pages of its memory, from `first` on. Answers how many.
+    /// Copies pages of its memory, from the page `first` on. Answers how many.
     pub(crate) fn frozen_pages<R: Wait>(
         &self,
         rt: &R,

@@ -1,4 +1,4 @@
-//! Runs of nodes while the book's lock is let go.
+//! Runs of nodes, while the book's lock isn't held.
 
 ghost use Rattle.std.specs.Prelude.{◌≡◌, ◌≤◌, Some};
 ghost use Rattle.tp_law_machine.specs.NodeOfBytes.{IsNodeOfBytes};

@@ -3,7 +3,7 @@
 use crate::shown::Shown;
 use tp_token::Seal;
 
-/// The seal of a node, which lies beside the book, and whether the node is frozen.
+/// The seal of a node, which is under the book's lock, and whether the node is frozen.
 #[derive(Drop)]
 pub struct NodeSeal {
     pub(crate) frozen: bool,

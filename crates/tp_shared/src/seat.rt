@@ -9,8 +9,8 @@ use tp_model::Entry;
 use tp_token::{Slips, empty, transfer};
 
 /// The slips of entries, in the order in which they came, and how many there are. Contracts see each as its number and its entry. Nobody
-/// can copy one, and nobody who shares a network with others can make one: each call that makes entries is lent a seat, and its contract says
-/// which slips that got.
+/// can copy one, and nobody who shares a network with others can make one. Each call that makes entries is lent a seat, and its contract
+/// names the slips that the seat got.
 #[derive(Drop)]
 pub struct Seat<J: Naming> {
     pub(crate) slips: Slips<Entry>,
@@ -31,7 +31,7 @@ impl<J: Naming> Model for Seat<J> {
 }
 
 impl<J: Naming> Seat<J> {
-    /// A seat without a slip. `Shared::seat` alone hands one out.
+    /// Makes a seat without a slip. Only `Shared::seat` hands one out.
     pub(crate) fn new() -> Seat<J>
         ensures { result ≡ [] }
     {
@@ -42,14 +42,14 @@ impl<J: Naming> Seat<J> {
         }
     }
 
-    /// How many slips there are, or the greatest number where there are more.
+    /// Counts the slips, up to the greatest number.
     pub fn count(&self) -> u64
         ensures { IsSlipCount result self.now }
     {
         self.count
     }
 
-    /// Takes all slips of `other` behind its own.
+    /// Puts all slips of `other` after its own.
     pub fn absorb(&mut self, other: Seat<J>)
         ensures { self.new ≡ self.old ++ other }
     {

@@ -1,4 +1,4 @@
-//! Turns' holds of the book's lock, in which the book is seen as it is found and as it is left.
+//! Turns' holds of the book's lock. The book is seen at their beginning and at their end.
 
 ghost use Rattle.std.specs.Prelude.{◌≡◌, ◌<◌, ◌≤◌, length, IfErr, MatchResult};
 ghost use Rattle.tp_model.specs.declared.limits.TheConstants.{MAX_STEPS};
@@ -19,7 +19,7 @@ use tp_node::Ran;
 use tp_turn::{Opened, Stretch};
 
 impl<J: Naming> Locked<J> {
-    /// Opens a node's turn in the form of the book, which was seen before and behind that.
+    /// Opens a node's turn in the form of the book, which is seen before and after that.
     pub(crate) fn begin_seen(
         &mut self,
         place: &mut Place,
@@ -44,7 +44,7 @@ impl<J: Naming> Locked<J> {
         done
     }
 
-    /// A node's turn is journalled by how it was opened. The book was seen before and behind that.
+    /// Journals a node's turn by how it was opened. The book is seen before and after that.
     pub(crate) fn commit_seen(
         &mut self,
         place: &mut Place,
@@ -72,7 +72,7 @@ impl<J: Naming> Locked<J> {
         ran
     }
 
-    /// The host's turn. The book was seen before and behind it.
+    /// Makes the host's turn. The book is seen before and after it.
     pub(crate) fn host_turn_seen(
         &mut self,
         seat: &mut Seat<J>,

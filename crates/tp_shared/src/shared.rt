@@ -30,7 +30,7 @@ use tp_node::Runs;
 use tp_ready::Mark;
 use tp_token::{Key, turn};
 
-// The hold of the book's lock in the host's turn.
+// Does what the host's turn does in its hold of the book's lock.
 fn host_hold<J: Naming, R: Wait>(
     rt: &R,
     book: &Mutex<Locked<J>>,
@@ -45,8 +45,8 @@ fn host_hold<J: Naming, R: Wait>(
     held.host_turn_seen(seat, seen)
 }
 
-/// The book under its lock, the nodes under sixteen others, node `i` in cell `i` mod 16, and the mark. Where a thread holds two
-/// locks, the first is a cell's, and the second the book's; but `rest` takes a cell's while the book's is held.
+/// The book under its lock, the nodes under sixteen others, node `i` in cell `i` mod 16, and the mark. A thread that holds two locks takes
+/// a cell's first, and then the book's; only `rest` takes a cell's while the book's is held.
 #[derive(Drop)]
 pub struct Shared<J: Naming> {
     book: Mutex<Locked<J>>,
@@ -62,8 +62,8 @@ pub struct Shared<J: Naming> {
 }
 
 impl<J: Naming> Shared<J> {
-    /// Puts `parts` under locks. The names are those of `parts`: whoever calls picks them. The key is the flusher's, and shows what is
-    /// told of the book as it is.
+    /// Puts `parts` under locks. The names are those of `parts`: the caller picks them. The key is the flusher's, and shows what is told of
+    /// the book as it is.
     pub fn start(parts: Parts) -> (Shared<J>, Key<Told>)
         requires { Names J.roll J.first J.start J.node J.mark J.flusher J.sights J.room parts }
         ensures first { J.first ≡ parts.first }
@@ -98,7 +98,7 @@ impl<J: Naming> Shared<J> {
         (shared, key)
     }
 
-    /// A seat without a slip. Threads that share the network can't ask for one.
+    /// Makes a seat without a slip. Threads that share the network can't call this.
     pub fn seat(&mut self) -> Seat<J>
         ensures same { self.new ≡ self.old }
         ensures empty { result ≡ [] }
@@ -106,38 +106,42 @@ impl<J: Naming> Shared<J> {
         Seat::new()
     }
 
-    /// The book's lock.
+    /// Gives the book's lock.
     pub fn book(&self) -> &Mutex<Locked<J>> {
         &self.book
     }
 
-    /// The durable mark.
+    /// Gives the durable mark.
     pub fn mark(&self) -> &Mark
         ensures { result.now ≡ J.mark }
     {
         &self.mark
     }
 
-    /// How many nodes there are.
+    /// Counts the nodes.
     pub fn nodes(&self) -> u8
         ensures { result ≡ length J.start.nodes }
     {
         self.nodes
     }
 
-    /// How many ports there are.
+    /// Counts the ports.
     pub fn ports(&self) -> u8
         ensures { result ≡ length J.start.ports }
     {
         self.ports
     }
 
-    /// A turn of the node `number`, in the form that the book has as it is opened. The node records where a snapshot asks it to. In a book
-    /// of form Plain it takes what came in on its links 0 to 3, in order, at most three tokens of each, a Marker among them, each with an
-    /// entry. In one of form Turns it closes at Markers, and receives what stands in front of its lines, which stays there until the turn's
-    /// one entry. A turn is reserved, and the node runs for at most `quantum` steps while the book's lock is let go. `seat` gets the slips
-    /// of the entries. Where no turn can be reserved, or memory or the store is wanting, nothing ran, and the slips of what was taken are
-    /// in `seat`. `seen` gets the book as it was found and as it was left, for each hold of its lock. `runs` is what the thread keeps of
+    /// Makes a turn of the node `number`, in the form that the book has when the turn is opened:
+    /// - The node records, if a snapshot asks it to.
+    /// - In a book of form Plain it takes what came in on its links 0 to 3, in order, each token with an entry. It takes at most three
+    ///   tokens of each link, a Marker among them.
+    /// - In a book of form Turns it closes at Markers. It receives what is at the front of its lines, which stays there until the turn's
+    ///   one entry.
+    /// - A turn is reserved, and the node runs for at most `quantum` steps, while the book's lock isn't held.
+    ///
+    /// If the turn can't be reserved, memory is out or the store fails, nothing ran. In each case `seat` gets the slips of the entries of
+    /// what was taken. `seen` gets the book at the beginning and at the end of each hold of its lock. `runs` is what the thread keeps of
     /// instructions.
     #[inline(always)]
     pub fn turn<G: Gate, R: Wait>(
@@ -159,8 +163,8 @@ impl<J: Naming> Shared<J> {
         in_row!(self, number, row => row.turn(rt, gate, &self.book, seat, seen, runs, number, quantum))
     }
 
-    /// The node `number` records where a snapshot asks it to. It takes nothing, and nothing runs. Answers whether it recorded, with the
-    /// book as it was found and as it was left.
+    /// Lets the node `number` record, if a snapshot asks it to. It takes nothing, and nothing runs. Answers whether it recorded, with the
+    /// book before and after that.
     pub fn record<R: Wait>(&self, rt: &R, number: u8) -> Recorded<J>
         requires { number < length J.start.nodes }
         ensures recorded { RecordedIn J.start number result.seen result.done }
@@ -168,9 +172,9 @@ impl<J: Naming> Shared<J> {
         in_row!(self, number, row => row.record(rt, &self.book, number))
     }
 
-    /// The host's turn: each of its ports in order takes at most three tokens of the line that comes to it, a Marker among them.
-    /// `seat` gets the slips of the entries, also where the turn broke off, and `seen` the book as it was found and as it was left. Answers
-    /// how many tokens were taken; a Marker isn't counted.
+    /// Makes the host's turn: each of its ports, in order, takes at most three tokens of its line, a Marker among them. `seat` gets the
+    /// slips of the entries, also if the turn broke off, and `seen` the book before and after it. Answers how many tokens were taken,
+    /// without Markers.
     #[inline(always)]
     pub fn host_turn<G: Gate, R: Wait>(
         &self,
@@ -188,7 +192,7 @@ impl<J: Naming> Shared<J> {
         done
     }
 
-    /// What lies under the book's lock, once no thread shares it any more.
+    /// Gives what the book's lock holds, once no thread shares it any more.
     pub fn into_locked(self) -> Locked<J> {
         let Shared { book, .. } = self;
         book.into_inner()

@@ -14,8 +14,8 @@ use tp_model::limits::{IMAGE_HEAD_BYTES, PAGE_BYTES};
 use tp_token::Key;
 
 impl<J: Naming> Shared<J> {
-    /// The bytes in front of the memory in the image of node `number`, as it recorded in the snapshot that runs. False exactly
-    /// where no pages of it are kept. `key` shows then what is told of the book, also which nodes have kept pages.
+    /// Copies the bytes before the memory in the image of the node `number`, as it recorded in the snapshot that runs. False exactly if no
+    /// pages of it are kept. `key` then shows what is told of the book, with which nodes have kept pages.
     pub fn frozen_head<R: Wait>(
         &self,
         rt: &R,
@@ -34,9 +34,9 @@ impl<J: Naming> Shared<J> {
         in_row!(self, number, row => row.frozen_head(rt, book, key, number, out))
     }
 
-    /// Pages of its memory as it recorded, from the page `first` on: as many as it has and as find room in `out`. Answers how many: none
-    /// where no pages of it are kept. They are copied in one hold of the node's lock, so a turn of a node of its cell waits for all of them,
-    /// and turns of the node may fall between two calls.
+    /// Copies pages of its memory as it recorded, from the page `first` on, until its last page or the end of `out`. Answers how many: 0 if
+    /// no pages of it are kept. One hold of the node's lock copies all of them, so a turn of a node of its cell waits for that. The node
+    /// may have turns between two calls.
     pub fn frozen_pages<R: Wait>(
         &self,
         rt: &R,
@@ -57,8 +57,8 @@ impl<J: Naming> Shared<J> {
         in_row!(self, number, row => row.frozen_pages(rt, book, key, number, first, out))
     }
 
-    /// Lets the frozen pages of node `number` go, once all are out. `key` shows then what is told of the book: no page of the node is
-    /// kept, and where it has recorded in the snapshot that runs, none is from now on, until the next one.
+    /// Drops the frozen pages of the node `number`, once all are written. `key` then shows what is told of the book: it keeps no page of
+    /// the node. If the node has recorded in the snapshot that runs, it keeps none until the next snapshot.
     pub fn drop_frozen<R: Wait>(&self, rt: &R, key: &mut Key<Told>, number: u8)
         requires name { key.old.name ≡ J.flusher }
         requires there { number < length J.start.nodes }

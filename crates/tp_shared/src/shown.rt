@@ -9,7 +9,7 @@ use tp_book::{Book, Refusal};
 use tp_node::Node;
 use tp_turn::Opened;
 
-/// What the book's lock and a node's lock agree on of the node. It has no bytes: contracts alone see it.
+/// What the book's lock and a node's lock agree on of the node. It has no bytes: only contracts see it.
 #[derive(Drop)]
 pub struct Shown {
     pub ghost state: { Agreement },
@@ -20,7 +20,7 @@ impl Model for Shown {
 }
 
 impl Shown {
-    // Gives the ghost value `state`, which a contract says by what is lent as `_value`. It does nothing.
+    // Gives the ghost value `state`, which a contract names by what is lent as `_value`. The function does nothing.
     fn of<T>(_value: &T) -> Shown
         ghost state: { Agreement }
         ensures { result.state ≡ state }
@@ -28,14 +28,14 @@ impl Shown {
         Shown {}
     }
 
-    /// The node as it is, with no turn open.
+    /// Shows the node as it is, with no turn open.
     pub(crate) fn free(node: &Node) -> Shown
         ensures { result.state ≡ at_rest node.now }
     {
         Shown::of(node)
     }
 
-    /// What the book has of the node once the opening of its turn was answered, and what the node received by then.
+    /// Shows what the book has of the node once the opening of its turn was answered, and what the node received by then.
     pub(crate) fn answered(
         book: &Book,
         node: &Node,

@@ -10,7 +10,7 @@ use std::snapshot::Snapshot;
 use tp_book::Book;
 use tp_token::{Roll, Slips, empty, write};
 
-/// The roll of all that was seen of the book. It lies beside it.
+/// The roll of all that was seen of the book, beside the book.
 #[derive(Drop)]
 pub(crate) struct SightRoll<J: Naming> {
     pub(crate) roll: Roll<Snapshot<Book>>,
@@ -30,9 +30,8 @@ impl<J: Naming> SightRoll<J> {
     }
 }
 
-/// Slips of books as they were at moments at which their lock was held. Contracts see these books, in the order in which they were seen.
-/// Whoever holds the lock gets a slip of the book as it is, and nobody can make or copy one. Behind a book that was broken each one is. It
-/// has no bytes.
+/// Slips of books as they were while their lock was held. Contracts see these books, in the order in which they were seen. The holder of
+/// the lock gets a slip of the book as it is, and nobody can make or copy one. After a broken book all are broken. It has no bytes.
 #[derive(Drop)]
 pub struct Sights<J: Naming> {
     slips: Slips<Snapshot<Book>>,
@@ -52,7 +51,7 @@ impl<J: Naming> Model for Sights<J> {
 }
 
 impl<J: Naming> Sights<J> {
-    /// Nothing was seen.
+    /// Makes one that has seen nothing.
     pub fn new() -> Sights<J>
         ensures { result ≡ [] }
     {
@@ -62,7 +61,8 @@ impl<J: Naming> Sights<J> {
         }
     }
 
-    /// Behind a book that was broken each one that was seen is: the store breaks once, and nobody mends it. It does nothing.
+    /// Proves that after a broken book all that were seen are broken: the store breaks once, and nobody mends it. The function does
+    /// nothing.
     pub fn known(&self)
         ensures { StayBroken self.now }
     {
@@ -71,7 +71,7 @@ impl<J: Naming> Sights<J> {
 }
 
 impl<J: Naming> Locked<J> {
-    /// Changes nothing. The book as it is was seen.
+    /// Adds the book as it is to `sights`. It changes nothing else.
     pub fn show(&mut self, sights: &mut Sights<J>)
         ensures same { self.new ≡ self.old }
         ensures seen { sights.new ≡ sights.old ++ self.old.book ∷ [] }

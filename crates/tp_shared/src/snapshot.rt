@@ -30,8 +30,8 @@ impl<J: Naming> Locked<J> {
         Ok(())
     }
 
-    /// Takes each Marker off its line, also from behind other tokens, where its receiver has recorded. So a snapshot in which all have
-    /// recorded has a whole cut, whatever stands on the lines.
+    /// Takes each Marker off its line, also from behind other tokens, if its receiver has recorded. So a snapshot in which all have
+    /// recorded has a whole cut, whatever is on the lines.
     pub fn close_all(&mut self)
         ensures done { HostDone ClosesAll self.old.book self.new.book }
         ensures all { self.new.all ≡ self.old.all }
@@ -39,8 +39,8 @@ impl<J: Naming> Locked<J> {
         close_all(&mut self.book);
     }
 
-    /// Nothing is journalled from now on. Only the holder of `key`, the flusher's, can ask for that: it shows what it showed, and that the
-    /// store is broken.
+    /// Ends journalling. Only the holder of `key`, the flusher's, can ask for that: `key` shows what it showed, and that the store is
+    /// broken.
     pub fn break_store(&mut self, key: &mut Key<Told>)
         requires name { key.old.name ≡ J.flusher }
         ensures book { self.new ≡ record self.old { book = record self.old.book { broken = true } } }

@@ -1,4 +1,4 @@
-//! Where nodes stand between their turns.
+//! What nodes do between their turns.
 
 ghost use Rattle.std.specs.Prelude.{◌≡◌, ◌<◌, ◌%◌, ◌/◌, IfSome, length, slice_get};
 ghost use Rattle.tp_node.specs.Standing.{standing};
@@ -14,7 +14,7 @@ use std::sync::Wait;
 use tp_node::Standing;
 
 impl<const I: usize, J: Naming> Cell<I, J> {
-    /// Where the node `number`, which is one of the cell's, stands.
+    /// Tells how the node `number` of this cell is standing.
     pub(crate) fn standing(&self, number: u8) -> Standing
         requires there { number < length J.start.nodes }
         requires here { number % CELLS ≡ I }
@@ -25,7 +25,7 @@ impl<const I: usize, J: Naming> Cell<I, J> {
 }
 
 impl<const A: usize, const B: usize, const C: usize, const D: usize, J: Naming> Row<A, B, C, D, J> {
-    /// Where the node `number`, which is one of the row's, stands.
+    /// Tells how the node `number` of this row is standing.
     pub(crate) fn standing<R: Wait>(&self, rt: &R, number: u8) -> Standing
         requires there { number < length J.start.nodes }
         requires here { IsInRow A B C D number }
@@ -35,7 +35,7 @@ impl<const A: usize, const B: usize, const C: usize, const D: usize, J: Naming> 
 }
 
 impl<J: Naming> Shared<J> {
-    /// Where the node `number` stands between its turns.
+    /// Tells how the node `number` is standing between its turns.
     pub fn standing<R: Wait>(&self, rt: &R, number: u8) -> Standing
         requires there { number < length J.start.nodes }
     {

@@ -9,7 +9,7 @@ use crate::told::Told;
 use tp_token::{Key, turn};
 
 impl<J: Naming> Locked<J> {
-    /// `key` shows what is told of the book as it is.
+    /// Lets `key` show what is told of the book as it is.
     pub(crate) fn tell(&mut self, key: &mut Key<Told>)
         requires { key.old.name ≡ J.flusher }
         ensures same { self.new ≡ self.old }

@@ -8,8 +8,8 @@ use crate::naming::Naming;
 use crate::seat::Seat;
 
 impl<J: Naming> Locked<J> {
-    /// Changes nothing. Whether `seat` has a slip for each entry since the opening, as the counts of both tell: then of each
-    /// number there is the slip of the journal's entry, once, and no other. The first entry's number is `first`.
+    /// Whether `seat` has a slip for each entry since the opening, as the counts of both tell. If so, it has for each number the slip of
+    /// the journal's entry, once, and no other. The first entry's number is `first`. It changes nothing.
     pub fn has_all(&mut self, seat: &mut Seat<J>, first: u64) -> bool
         requires first { first ≡ J.first }
         ensures same { (self.new ≡ self.old) × (seat.new ≡ seat.old) }

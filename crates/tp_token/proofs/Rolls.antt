@@ -1,6 +1,6 @@
 -- Rolls and bundles of slips.
---     begins        a roll begins        writes        items are written, and their slips handed out, where all slips are sound
---     deals        the slips of two bundles, which are apart, are dealt anew        empties        a bundle without a slip owns nothing
+--     begins        a roll begins        writes        items are written, and their slips handed out, if all slips are sound
+--     deals        the slips of two bundles, which are apart, are dealt again        empties        a bundle without a slip owns nothing
 --     roll_keyless, slips_keyless        what they own is of no thread
 -- Assumes `Logic`.
 use Rattle.std.proofs.Common.{◌≡◌, ℕ, zero, suc, ◌+◌, List, [], ◌∷◌, ◌++◌, length, take, drop, sym, refl, ap, subst, arith}

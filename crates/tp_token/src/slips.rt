@@ -18,7 +18,7 @@ impl<T> Model for Slips<T> {
     ghost also_owns = { λ s. slips_own T.row.coded.code s.name s.items };
 }
 
-/// A bundle without a slip, of the roll with the ghost name `of_roll`.
+/// Makes a bundle without a slip, of the roll with the ghost name `of_roll`.
 pub fn empty<T>() -> Slips<T>
     ghost of_roll: { ℕ }
     ensures name { result.name ≡ of_roll }
@@ -29,8 +29,8 @@ pub fn empty<T>() -> Slips<T>
     }
 }
 
-// Deals the slips of both bundles anew, in their order: `one` gets the first ones, as many as the ghost number `kept`
-// says, which a caller may say by `_at`.
+// Deals the slips of both bundles again, in their order: `one` gets the first ones, as many as the ghost number `kept` says, which a caller
+// may name by `_at`.
 fn deal<T>(one: &mut Slips<T>, two: &mut Slips<T>, _at: u64)
     ghost kept: { ℕ }
     requires { one.old.name ≡ two.old.name }

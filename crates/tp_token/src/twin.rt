@@ -29,7 +29,7 @@ impl<T> Model for Key<T> {
     ghost also_owns = { λ k. key_owns T.row.coded.code k.name k.value };
 }
 
-/// The two halves of a new twin. Both show the ghost value `first`.
+/// Makes the two halves of a new twin. Both show the ghost value `first`.
 pub fn pair<T>() -> (Seal<T>, Key<T>)
     ghost first: { T }
     ensures name { result.0.name ≡ result.1.name }
@@ -46,7 +46,7 @@ pub fn pair<T>() -> (Seal<T>, Key<T>)
     )
 }
 
-// Sets both halves of a twin to the ghost value `to`, which a contract says by what is lent as `_by`.
+// Sets both halves of a twin to the ghost value `to`, which a contract names by what is lent as `_by`.
 fn set<T, W>(seal: &mut Seal<T>, key: &mut Key<T>, _by: &W)
     ghost to: { T }
     requires { seal.old.name ≡ key.old.name }
@@ -67,7 +67,7 @@ pub fn turn<T>(seal: &mut Seal<T>, key: &mut Key<T>, to: &T)
     set(seal, key, to)
 }
 
-/// Changes nothing. The two halves of a twin show one value.
+/// Proves that the two halves of a twin show one value. It changes nothing.
 pub fn agree<T>(seal: &mut Seal<T>, key: &mut Key<T>)
     requires { seal.old.name ≡ key.old.name }
     ensures names { (seal.new.name ≡ seal.old.name) × (key.new.name ≡ key.old.name) }

@@ -95,7 +95,7 @@ receives_kept b all number takes s answers t R =
     order_kept (λ link. ReceivesOf link (offered_on b all number link) (get_or takes link Nothing))
     (λ link x answers y D. each_kept link (received (get_or takes link Nothing)) x answers y D.did) 4 s answers t R.did
 
--- ## What was received stands in front
+-- ## What was received is at the front
 
 before_front : (ts : List Token) → (rest : List Token) × (ts ≡ before ts ++ rest)
 before_front [] = ([], refl)
@@ -137,7 +137,7 @@ module _ (b : BookValue) (K : BookKeeps b.state) (all : Bool) (number : ℕ) (be
   abbrev on : ℕ → Received → NodeContents → List (ℕ × Token) → NodeContents → Type 0
   on link one = ReceivesOf link (offered_on b all number link) one
 
-  -- the answers, one link's behind another's
+  -- the answers, one link's after another's
   answers_are : (s0 s1 s2 s3 s4 a c d e : List (ℕ × Token)) → s0 ≡ [] → s1 ≡ s0 ++ a → s2 ≡ s1 ++ c → s3 ≡ s2 ++ d → s4 ≡ s3 ++ e → a ++ (c ++ (d ++ (e ++ []))) ≡ s4
   answers_are s0 s1 s2 s3 s4 a c d e none A C D E =
       let one : s1 ≡ a = A ∙ ap (λ ms. ms ++ a) none in
@@ -202,12 +202,12 @@ not_of b number other apart (Journal entry ∷ acts) own = (λ same. apart (sym 
 not_of b number other apart (Close line ∷ acts) own = (tt, not_of b number other apart acts own)
 not_of b number other apart (Trim ∷ acts) own = (tt, not_of b number other apart acts own)
 
--- What a node received stays in front of its lines, whatever is done that is no entry of the node.
+-- What a node received stays at the front of its lines, whatever is done that is no entry of the node.
 pub received_stays : (a b : BookValue) (number : ℕ) (takes : List Received) (acts : List Act) → acted t414 (world_of a) acts ≡ Some (world_of b) → AllByRecursion (IsNotOf (world_of a).live number) acts
     → IsReceived (world_of a).live number takes → IsReceived (world_of b).live number takes
 received_stays a b number takes acts did others R = received_after t414 has_four_links number takes (world_of a) (world_of b) acts did others R
 
--- so it does where the acts are those of one other process
+-- so it does if the acts are those of one other process
 pub stays_with : (a b : BookValue) → BookKeeps a.state → (number other : ℕ) (takes : List Received) (acts : List Act) → acted t414 (world_of a) acts ≡ Some (world_of b) → other ≢ number
     → AllByRecursion (λ e. process a.state.start.wires (length a.state.start.nodes) e ≡ other) (entries_among acts) → IsReceived (world_of a).live number takes → IsReceived (world_of b).live number takes
 stays_with a b K number other takes acts did apart own R =

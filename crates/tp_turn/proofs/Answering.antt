@@ -19,7 +19,7 @@ pub each_none : (link : ℕ) (n : NodeContents) (sent : List (ℕ × Token)) →
 unfolding TakesEach
 each_none link n sent = record { answers = []; are = sym (append-nil sent); did = (refl, refl) }
 
--- one, and then those behind it
+-- one, and then those after it
 pub each_more : (link : ℕ) (token : Token) (tokens : List Token) (a b c : NodeContents) (first second third : List (ℕ × Token))
     → Answered (TakesOne link token) a first b second → Answered (TakesEach link tokens) b second c third → Answered (TakesEach link (token ∷ tokens)) a first c third
 unfolding TakesEach
@@ -40,7 +40,7 @@ each_two link token other a b c first second third A B = each_more link token (o
 
 -- ## A link
 
--- all that stood there was received
+-- all that was there was received
 pub of_all : (link : ℕ) (one : Received) (a b : NodeContents) (first second : List (ℕ × Token)) → Answered (TakesEach link (received one)) a first b second → Answered (ReceivesOf link (received one) one) a first b second
 of_all link one a b first second A = record {
   answers = A.answers;
@@ -48,7 +48,7 @@ of_all link one a b first second A = record {
   did = record { rest = []; are = sym (append-nil (received one)); did = A.did; end = tt };
 }
 
--- what is in front of a token for which memory has no frame
+-- what comes before a token for which memory has no frame
 pub of_front : (link : ℕ) (one : Received) (token : Token) (rest : List Token) (a b c : NodeContents) (first second third : List (ℕ × Token)) → Answered (TakesEach link (received one)) a first b second
     → (c ≡ b) × (third ≡ second) × LacksFrames (memory_kept b) (took_ranges b.live link token) → Answered (ReceivesOf link (received one ++ token ∷ rest) one) a first c third
 of_front link one token rest a b c first second third A L =
@@ -99,7 +99,7 @@ took_none n m answers h =
     let pair : ◌≡◌ {A = NodeState × List (ℕ × Token)} (n, []) (m, answers) = cc in
     (ap (λ (x : NodeState × List (ℕ × Token)). x.0) pair, sym (ap (λ (x : NodeState × List (ℕ × Token)). x.1) pair))
 
--- behind other tokens
+-- after other tokens
 pub took_more : (ms ns : List (ℕ × Token)) (n m p : NodeState) (first second : List (ℕ × Token)) → took_all t414 ms n ≡ Some (m, first) → took_all t414 ns m ≡ Some (p, second) → took_all t414 (ms ++ ns) n ≡ Some (p, first ++ second)
 took_more [] ns n m p first second A B =
     let N = took_none n m first A in

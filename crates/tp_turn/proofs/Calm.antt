@@ -1,5 +1,5 @@
--- A book of one node and one port that has no device, and in which no snapshot runs: what acts journal in it, and why it refuses nothing
--- but for want of memory.
+-- A book of one node and one port that has no device, and in which no snapshot runs: what acts journal in it. Its calls only fail if memory
+-- is out.
 use Rattle.std.proofs.Common.{◌≡◌, ℕ, ◌+◌, ◌<◌, Bool, true, false, inl, inr, List, [], ◌∷◌, length, refl, sym, ap, subst, ◌∙◌, arith, Option, Some, None, get_or}
 use Rattle.std.specs.Prelude.{◌⊎◌, ◌-◌, count_by, is_none, nat_lt, Err, length}
 use Rattle.std.specs.Option.{option_map}
@@ -58,7 +58,7 @@ one_journalled w v e h =
     let is : journalled w e second.0 ≡ v = made ∙ same in
     record { leads = second.1 ∙ ap (λ (x : MarkedNetwork NodeState). Some x.live) is; snapshot = sym (ap (λ (x : MarkedNetwork NodeState). x.snapshot) is) }
 
--- no line is closed where no snapshot runs
+-- no line is closed if no snapshot runs
 no_close : (w v : MarkedNetwork NodeState) (line : ℕ) → w.snapshot ≡ None → acted t414 w (Close line ∷ []) ≡ Some v → ⊥
 unfolding acted happens
 no_close w v line idle h =
@@ -103,7 +103,7 @@ module _ (a b : BookValue) (L : IsLoneBook a) (acts : List Act) (did : acted t41
       (sym (ap (λ (w : MarkedNetwork NodeState). w.snapshot) same) ∙ L.idle)
       (ap (λ (w : MarkedNetwork NodeState). Some w.live) same)
 
-  -- what was in front of a line was taken
+  -- what was at the front of a line was taken
   pub front_goes : (line : ℕ) (token : Token) → acts ≡ front_act line token ∷ [] → Goes (Take line token ∷ []) a b
   front_goes line (Data byte) are = goes_one (Take line (Data byte)) are
   front_goes line Ack are = goes_one (Take line Ack) are
@@ -161,7 +161,7 @@ module _ (b : BookValue) (L : IsLoneBook b) (left : next_in_book b + 1 < NUMBER_
       go false false false true whole not e = cc
       go false false false false whole not e = cc
 
--- where the port has no room the journal isn't told to be full
+-- if the port has no room, the answer isn't a full journal
 pub host_not_full : (b : BookValue) → IsLoneBook b → next_in_book b + 1 < NUMBER_LIMIT → (line : ℕ) → host_refusal b line ≡ Some JournalFull → ⊥
 host_not_full b L left line =
     go (is_none (takeable_of (on_line b.state.lines line))) b.broken (is_full_for (port_behind b (receiver b.state.start.wires line)) (get_or (on_line b.state.lines line) 0 Marker)) (is_full_for_take b (needs_take b line))
@@ -187,7 +187,7 @@ host_not_broken b whole line =
 
 -- ## The network
 
--- a Marker in front is nothing to take
+-- a Marker at the front is nothing to take
 pub marker_stays : (ts : List Token) → is_first ts Marker ≡ true → takeable_of ts ≡ None
 marker_stays [] e = refl
 marker_stays (Data byte ∷ ts) e = cc

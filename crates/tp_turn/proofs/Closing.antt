@@ -1,4 +1,4 @@
--- Lines that are closed from behind other tokens.
+-- Lines that are closed while other tokens come before their Markers.
 use Rattle.std.proofs.Common.{◌≡◌, ℕ, true, false, cond, List, [], ◌∷◌, refl, sym, ap, subst, ◌∙◌, Option, Some, None}
 use Rattle.std.specs.Option.{option_map}
 use Rattle.std.proofs.lemmas.List.{append-nil}

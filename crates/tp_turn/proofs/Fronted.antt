@@ -29,7 +29,7 @@ use Rattle.tp_turn.specs.Books.{Grew}
 use Rattle.tp_turn.specs.Moments.{moment_of, IsNodeOf, Added, Done}
 use Rattle.tp_turn.specs.Fronts.{front_act, AtFront}
 
--- ## What is in front
+-- ## What is at the front
 
 pub front_takes : (line : ℕ) (token : Token) → is_marker token ≡ false → front_act line token ≡ Journal (Take line token)
 front_takes line (Data byte) plainly = refl
@@ -49,7 +49,7 @@ marker_ranges node link token is = rw is refl
 
 -- ## The node of a book
 
--- who has recorded stays so
+-- each process that has recorded still has
 pub collected_recorded : (given : Option Snapshot) (q p : ℕ) (ms : List (ℕ × Token)) → has_recorded_in (option_map (collected q ms) given) p ≡ has_recorded_in given p
 collected_recorded None q p ms = refl
 collected_recorded (Some snap) q p ms = go (has_recorded snap q)

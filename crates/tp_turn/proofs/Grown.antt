@@ -9,7 +9,7 @@ use Rattle.tp_turn.specs.Books.{Grew}
 pub grew_none : (b : BookValue) → Grew [] b b
 grew_none b = record { start = refl; entries_are = sym (append-nil b.state.entries); numbers = sym (append-nil b.numbers); base = refl; runs = refl; ready = refl; broken = refl; room = refl; history = sym (append-nil b.history); generation = refl; floor = refl; form = refl }
 
--- numbers behind numbers
+-- numbers after numbers
 range_more : (n : ℕ) (es fs : List Entry) → range_with_len n (length es) ++ range_with_len (n + length es) (length fs) ≡ range_with_len n (length (es ++ fs))
 range_more n [] fs = let e : n + 0 ≡ n = omega arith in ap (λ k. range_with_len k (length fs)) e
 range_more n (x ∷ es) fs =

@@ -1,4 +1,4 @@
--- What stands in front of a line and was made ready is taken.
+-- What was at the front of a line and was made ready is taken.
 use Rattle.std.proofs.Common.{◌≡◌, ℕ, Bool, true, false, List, [], ◌∷◌, get_or, refl, sym, subst, Option, Some, None, slice_get}
 use Rattle.std.specs.Prelude.{is_none, Ok}
 use Rattle.tp_model.specs.declared.link.Token.{Token}
@@ -13,7 +13,7 @@ use Rattle.tp_book.specs.Calls.{front_of, with_ready, HasTaken}
 use Rattle.tp_book.specs.Refusals.{takeable_of, else_if, needs_take, take_refusal, ready_refusal, IsAnswer}
 use Rattle.tp_book.specs.declared.refusal.Refusal.TheVariants.{NothingToTake, StoreBroken}
 
--- what can be taken stands in front, and is no Marker
+-- what can be taken is at the front, and is no Marker
 pub takeable_front : (ts : List Token) → is_none (takeable_of ts) ≡ false → (rest : List Token) × (ts ≡ get_or ts 0 Marker ∷ rest) × (is_marker (get_or ts 0 Marker) ≡ false)
 takeable_front [] e = cc
 takeable_front (Data b ∷ rest) e = (rest, refl, refl)

@@ -39,7 +39,7 @@ module _ (number line count : ℕ) (a b : TurnMoment) (D : Done number (InOrder 
   pub line_enough : count ≡ TAKES → Done number (OnLine number line (Ok Enough)) a b
   line_enough all = record { acts = D.acts; added = D.added; did = record { count = count; did = D.did; ends = all } }
 
--- ## What was answered at the front
+-- ## The answer at the front
 
 pub front_none : (number line : ℕ) (o : Option Left) (s t : TurnMoment) → o ≡ None → FrontAnswers number line (Ok o) s t → Done number (AtFront number line) s t
 front_none number line o s t e h = subst (λ o. FrontAnswers number line (Ok o) s t) e h

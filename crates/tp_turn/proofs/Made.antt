@@ -61,7 +61,7 @@ pub order_more : (act : ℕ → Act) (n few more : ℕ) (a b c : LoneValue) → 
 unfolding InOrder
 order_more act n few more a b c G H = subst (λ m. Made (InOrder act m) (few + more) a c) (sym (add-one n)) (then_made (InOrder act n) (act n) few more a b c G H)
 
--- one act behind others in order
+-- one act after others in order
 pub order_next : (act : ℕ → Act) (n few more most : ℕ) (a b c : LoneValue) → few + more ≤ most → Made (InOrder act n) few a b → Made (act n) more b c → Made (InOrder act (suc n)) most a c
 unfolding InOrder
 order_next act n few more most a b c enough G H = made_more (InOrder act (suc n)) (few + more) most a c enough (then_made (InOrder act n) (act n) few more a b c G H)

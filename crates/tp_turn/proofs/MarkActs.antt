@@ -1,4 +1,4 @@
--- What the acts of a whole turn are: as it is opened a node records and lines are closed at Markers; at its commit there is its entry, or
+-- What the acts of a whole turn are. When it is opened a node records and lines are closed at Markers. At its commit there is its entry, or
 -- none. None of them is a trim.
 use Rattle.std.proofs.Common.{◌≡◌, ℕ, ◌+◌, ◌*◌, zero, suc, Bool, true, false, cond, inl, inr, List, [], ◌∷◌, ◌++◌, map, refl, sym, ap, subst, ◌∙◌, Option, Some, None}
 use Rattle.std.specs.Prelude.{◌&&◌}
@@ -105,7 +105,7 @@ opened_untrimmed number opened count = journals_untrimmed (opened_entries number
 pub opened_listed : (number : ℕ) (opened : Opened) (count : ℕ) → entries_among (opened_acts number opened count) ≡ opened_entries number opened count
 opened_listed number opened count = journals_listed (opened_entries number opened count)
 
--- ## Where a whole turn is refused
+-- ## When a whole turn fails
 
 -- what ends it is one entry of no steps, or none
 ends_listed : (number : ℕ) (e : Refusal) (s t : TurnMoment) (acts : List Act) → EndsWhole number e s acts t → (takes : List Received) × (acts ≡ turn_acts number takes 0)

@@ -22,7 +22,7 @@ module _ (b : BookValue) (number link : ℕ) (n : NodeContents) (N : IsNodeOf b 
       let added = added_none number n.live b N.there in
       record { acts = []; added = added; did = record { are = sym none; added = added; node = refl } }
 
-  -- where the node hasn't recorded
+  -- if the node hasn't recorded
   pub front_unrecorded : has_recorded_in b.state.snapshot number ≡ false → Done number (ClosesFront number link) (moment_of b n) (moment_of b n)
   front_unrecorded not = nothing_closed (none (back b.state.start (4 * number + link)))
     where
@@ -35,17 +35,17 @@ module _ (b : BookValue) (number link : ℕ) (n : NodeContents) (N : IsNodeOf b 
       none (Some line) =
           ap (λ recorded. cond (is_first (on_line b.state.lines line) Marker && recorded) (Close line ∷ []) []) not ∙ either line (is_first (on_line b.state.lines line) Marker)
 
-  -- where no line comes in
+  -- if no line comes in
   pub front_unwired : back b.state.start (4 * number + link) ≡ None → Done number (ClosesFront number link) (moment_of b n) (moment_of b n)
   front_unwired to = nothing_closed (ap (close_acts b number) to)
 
   module _ (line : ℕ) (to : back b.state.start (4 * number + link) ≡ Some line) where
-    -- where no Marker is in front
+    -- if no Marker is at the front
     pub front_open : is_first (on_line b.state.lines line) Marker ≡ false → Done number (ClosesFront number link) (moment_of b n) (moment_of b n)
     front_open shut =
         nothing_closed (ap (close_acts b number) to ∙ ap (λ first. cond (first && has_recorded_in b.state.snapshot number) (Close line ∷ []) []) shut)
 
-    -- where one is
+    -- if one is
     pub front_closed : (new : BookValue) → new ≡ after_close b line → is_first (on_line b.state.lines line) Marker ≡ true → has_recorded_in b.state.snapshot number ≡ true
         → happens t414 (world_of b) (Close line) ≡ Some (world_of new) → Done number (ClosesFront number link) (moment_of b n) (moment_of new n)
     front_closed new is first recorded act =
@@ -57,7 +57,7 @@ module _ (b : BookValue) (number link : ℕ) (n : NodeContents) (N : IsNodeOf b 
           did = record { are = sym (ap (close_acts b number) to ∙ ap (λ c. cond c (Close line ∷ []) []) both); added = added; node = refl };
         }
 
--- one part, parts in order behind it, and one more of these
+-- one part, parts in order after it, and one more of these
 pub behind_more : (number : ℕ) (one : TurnMoment → List Act → TurnMoment → Type 0) (part : ℕ → TurnMoment → List Act → TurnMoment → Type 0) (count : ℕ) (a b c : TurnMoment)
     → Done number (Then one (InOrder part count)) a b → Done number (part count) b c → Done number (Then one (InOrder part (count + 1))) a c
 unfolding InOrder

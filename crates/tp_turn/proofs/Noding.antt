@@ -41,7 +41,7 @@ pub record IsCalm (m : TurnMoment) : Type 0 where
   pub book : IsLoneBook m.book
   pub thawed : m.node.frozen ≡ None
 
--- nothing was done that changes what the book stands for
+-- nothing was done that changes what the book holds
 record Rests (s t : TurnMoment) : Type 0 where
   calm : IsCalm t
   value : lone_value s.book ≡ lone_value t.book
@@ -97,7 +97,7 @@ at_markers s t acts C D =
 
 -- ## The entry
 
--- what a line has for its node is all that stands there
+-- what a line has for its node is all that is there
 offered_all : (b : BookValue) → IsLoneBook b → (link : ℕ) → offered_on b true 0 link ≡ standing_on (network_now b) (back (network_now b) (4 * 0 + link))
 offered_all b L link = same (back b.state.start (4 * 0 + link)) ∙ ap (standing_on (network_now b)) (back_now b L (4 * 0 + link))
   where
@@ -179,9 +179,9 @@ node_turned quantum turn s t acts C D there =
     let B = turns quantum turn D.between t D.second A.calm D.other_did there in
     (B.0, subst (λ v. Made (IsNodeTurn quantum 0) TURN_ENTRIES v (lone_value t.book)) (sym A.value) B.1)
 
--- ## A turn that is refused
+-- ## A turn that fails
 
--- only memory is wanting
+-- it can only be that memory is out
 pub node_refused : (quantum : ℕ) (e : Refusal) (s t : TurnMoment) (acts : List Act) → IsCalm s → next_in_book s.book + TURN_ENTRIES + 1 < NUMBER_LIMIT → TurnsWhole 0 quantum (Err e) s acts t → e ≡ Memory
 node_refused quantum e s t acts C left D =
     let A = at_markers s D.between D.first C D.one_did in

@@ -110,7 +110,7 @@ same_takes line (suc most) s t u (x ∷ xs) (y ∷ ys) few less a b all none =
     let rest = same_takes line most N.0 t u xs ys (omega (arith, few)) (omega (arith, less)) N.2 (ap (λ v. after t414 v (map (λ token. Take line token) ys)) next_is ∙ M.2) (λ l. all (omega (arith, l))) (λ l. none (omega (arith, l))) in
     ap (λ z. z ∷ xs) same ∙ ap (λ zs. y ∷ zs) rest
 
--- one network behind one list of entries
+-- one network after one list of entries
 same_end : (s t u : Network NodeState) (xs ys : List Entry) → xs ≡ ys → after t414 s xs ≡ Some t → after t414 s ys ≡ Some u → t ≡ u
 same_end s t u xs ys same a b = let both : Some t ≡ Some u = sym a ∙ ap (after t414 s) same ∙ b in cc
 

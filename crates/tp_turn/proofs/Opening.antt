@@ -26,7 +26,7 @@ use Rattle.tp_turn.specs.Moments.{TurnMoment, IsNodeOf}
 use Rattle.tp_turn.specs.Whole.{BreaksWhole, EndsWhole}
 use Rattle.tp_turn.specs.Opened.{HasTurnedBy, IsOpenedIn, OpensIn, sent_in, turn_received, tokens_in}
 
--- ## Why it is refused
+-- ## Why it fails
 
 module _ (P : Refusal → Type 0) (full : P JournalFull) (broken : P StoreBroken) (memory : P Memory) where
   refused_for : (is_broken is_full : Bool) (e : Refusal) → IsAnswer {A = Unit {0}} (else_if (else_if None is_broken StoreBroken) is_full JournalFull) (Err e) → P e
@@ -38,7 +38,7 @@ module _ (P : Refusal → Type 0) (full : P JournalFull) (broken : P StoreBroken
   ends_refused number e s t acts (inl D) = refused_for s.book.broken (is_full_for_take s.book (has_recorded_in s.book.state.snapshot number)) e D.answer
   ends_refused number e s t acts (inr D) = subst P (sym D.answer) full
 
-  -- a whole turn, where it is to be reserved
+  -- a whole turn, when it is to be reserved
   pub whole_refused : (number : ℕ) (e : Refusal) (s t : TurnMoment) (acts : List Act) → BreaksWhole number e s acts t → P e
   whole_refused number e s t acts D = ends_refused number e D.between t D.second D.other_did
 

@@ -1,4 +1,4 @@
--- There is place at a node's ends for what stands in front of its lines, as long as it takes tokens in front of them.
+-- There is place at a node's ends for what is at the front of its lines, as long as it takes tokens from the front.
 use Rattle.std.proofs.Common.{◌≡◌, ◌≢◌, ℕ, ◌+◌, ◌*◌, ◌<◌, ◌≤◌, Bool, true, false, cond, List, [], ◌∷◌, length, refl, sym, ap, subst, ◌∙◌, arith, Option, Some, None, slice_get}
 use Rattle.std.specs.Prelude.{◌||◌, IsSome}
 use Rattle.std.specs.Option.{option_map}
@@ -38,7 +38,7 @@ placed_taken link Ack rest node N four plain P =
     takes_ack node link N four (bit_some (waits node link) (omega (arith, some)))
 placed_taken link Marker rest node N four plain P = cc
 
--- and then there is place for those behind it
+-- and then there is place for those after it
 pub placed_behind : (link : ℕ) (token : Token) (rest : List Token) (node : NodeState) (x : NodeState × List (ℕ × Token)) → took node link token ≡ Some x → HasPlace link (token ∷ rest) node → HasPlace link rest x.0
 placed_behind link token rest node x did P =
     let K = took_keeps node link token x did in
@@ -62,7 +62,7 @@ placed_beside j link token tokens node x did apart P =
     let out = K.out link in
     record { free = omega (arith, inn, bytes, P.free); awaited = omega (arith, out, answers, P.awaited) }
 
--- so is there when tokens were taken on one
+-- a place stays when tokens were taken on another link
 pub placed_apart : (j link : ℕ) (tokens others : List Token) (s : NodeContents) (answers : List (ℕ × Token)) (t : NodeContents) → j ≢ link → TakesEach j tokens s answers t → HasPlace link others s.live → HasPlace link others t.live
 unfolding TakesEach
 placed_apart j link [] others s answers t apart T P = subst (λ n. HasPlace link others n.live) (sym T.1) P
@@ -72,7 +72,7 @@ placed_apart j link (token ∷ tokens) others s answers t apart T P =
 pub placed_next : (j link : ℕ) (there others : List Token) (one : Received) (a b : NodeContents) (first second : List (ℕ × Token)) → j ≢ link → Answered (ReceivesOf j there one) a first b second → HasPlace link others a.live → HasPlace link others b.live
 placed_next j link there others one a b first second apart D P = placed_apart j link (received one) others a D.answers b apart D.did.did P
 
--- ## In front of a line
+-- ## At the front of a line
 
 placed_none : (link : ℕ) (node : NodeState) → HasPlace link [] node
 placed_none link node = record { free = omega (arith, bit_small (holds node link)); awaited = omega arith }

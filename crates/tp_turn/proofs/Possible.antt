@@ -1,4 +1,4 @@
--- In a sound network a node can take what stands in front of a line that leads to it.
+-- In a sound network a node can take the token at the front of a line that leads to it.
 use Rattle.std.proofs.Common.{◌≡◌, ℕ, ◌+◌, ◌*◌, ◌%◌, ◌<◌, ◌≤◌, false, List, [], ◌∷◌, length, map, refl, sym, ap, subst, ◌∙◌, arith, Some, slice_get}
 use Rattle.std.specs.Prelude.{IsSome}
 use Rattle.std.specs.Option.{option_map}
@@ -25,7 +25,7 @@ use Rattle.tp_law_network.proofs.Sound.{end_waits_is, end_holds_is}
 use Rattle.tp_book.specs.Book.{agreed}
 use Rattle.tp_book.specs.Kept.{BookKeeps}
 
--- what stands in front of the first Marker is part of it
+-- the tokens before the first Marker are part of it
 datas_before : (ts : List Token) → datas (before ts) ≤ datas ts
 datas_before [] = omega arith
 datas_before (Data byte ∷ ts) = omega (arith, datas_before ts)
@@ -82,8 +82,7 @@ module _ (b : BookState NodeState) (K : BookKeeps b) (line number link : ℕ) (n
       takes_ack node link N inside.1 (sym waits_is ∙ bit_some (end_waits t414_ends s (4 * number + link)) some)
   can_take Marker rest N front plainly = cc
 
-  -- of what stands in front of the first Marker, there is at most one Data, and none beside one that the node holds; and an Ack only where
-  -- the node waits
+  -- Before the first Marker there is at most one Data, and none if the node holds one; and an Ack only if the node waits.
   pub datas_front : datas (before (on_line b.lines line)) + bit (holds node link) ≤ 1
   datas_front =
       let flight = K.sound.flight line (4 * number + link) comes_back in

@@ -18,7 +18,7 @@ use Rattle.tp_turn.specs.Moments.{moment_of, IsNodeOf, Added, Done}
 use Rattle.tp_turn.specs.Settled.{frozen_now, Records}
 use Rattle.tp_turn.proofs.Adding.{added_none}
 
--- who is asked hasn't recorded
+-- a node that is asked hasn't recorded
 asked_not : (given : Option Snapshot) (p : ℕ) → is_asked given p ≡ true → has_recorded_in given p ≡ false
 asked_not None p e = cc
 asked_not (Some snap) p e = go (has_recorded snap p) e
@@ -37,7 +37,7 @@ asked_thawed b number n N asked = go n.frozen refl
         let no = asked_not b.state.snapshot number asked in
         cc
 
--- who records has recorded, and the others as before
+-- a process that records has recorded, and the others as before
 counted : (counts : List (Option ℕ)) (p count : ℕ) → is_some (get_or (set counts p (Some count)) p (Some 0)) ≡ true
 counted [] p count = refl
 counted (c ∷ counts) zero count = refl
@@ -104,7 +104,7 @@ module _ (b new : BookValue) (number : ℕ) (n : NodeContents) (asked : is_asked
         sym mine ∙ set_there b.frozen number n.live its (ap (λ xs. get_or xs number None) (sym frozen_is) ∙ t);
   }
 
--- who isn't asked doesn't record
+-- a node that isn't asked doesn't record
 pub unasked_done : (b : BookValue) (number : ℕ) (n : NodeContents) → is_asked b.state.snapshot number ≡ false → IsNodeOf b number n → Done number (Records number) (moment_of b n) (moment_of b n)
 unasked_done b number n unasked N =
     let nothing = added_none number n.live b N.there in

@@ -1,4 +1,4 @@
--- What a node received stands in front of its lines.
+-- What a node received is at the front of its lines.
 use Rattle.std.proofs.Common.{◌≡◌, ◌≢◌, ℕ, ◌+◌, ◌*◌, ◌<◌, ◌⊎◌, inl, inr, true, List, [], ◌∷◌, ◌++◌, length, map, append-nil, refl, sym, ap, ◌∙◌, arith, Option, Some, None, eq-eqb}
 use Rattle.std.specs.Prelude.{◌==◌}
 use Rattle.std.specs.Option.{option_map}
@@ -14,7 +14,7 @@ use Rattle.tp_model.specs.Turn.{by_line, by_link, comes_in, incoming, is_link, l
 use Rattle.tp_law_network.specs.Reserved.{IsReceived}
 use Rattle.tp_law_network.proofs.Lines.{for_line-append, for_line-here, for_line-other, taken_from}
 
--- These tokens stand in front of the line that comes in on a link.
+-- These tokens are at the front of the line that comes in on a link.
 pub record StandsOn (s : Network NodeState) (i link : ℕ) (tokens : List Token) : Type 0 where
   pub line : ℕ
   pub from : back s (4 * i + link) ≡ Some line
@@ -22,7 +22,7 @@ pub record StandsOn (s : Network NodeState) (i link : ℕ) (tokens : List Token)
   pub rest : List Token
   pub front : on_line s.lines line ≡ tokens ++ rest
 
--- so do those of each link, from link k on, where there are any
+-- the tokens of each link, from link k on, are at the front of its line, if there are any
 abbrev pub AreStanding : Network NodeState → ℕ → ℕ → List Received → Type 0
 AreStanding s i k [] = Unit {0}
 AreStanding s i k (one ∷ more) = ((received one ≡ []) ⊎ StandsOn s i k (received one)) × AreStanding s i (k + 1) more
@@ -84,7 +84,7 @@ module _ (s : Network NodeState) (i : ℕ) where
       ap (for_line l) (map-append (λ (m : ℕ × Token). (incoming s.wires N i m.0, m.1)) (map (λ token. (k, token)) tokens) ms)
       ∙ for_line-append l (on_lines_of (map (λ token. (k, token)) tokens)) (on_lines_of ms)
 
-  -- on the line of an earlier link stands none of those of the later ones
+  -- the line of an earlier link has none of those of the later ones
   later_none : (n k l : ℕ) (takes : List Received) → AreStanding s i k takes → receiver s.wires l ≡ Some (Link i n) → n < k → for_line l (on_lines_of (by_link k takes)) ≡ []
   later_none n k l [] A goes below = refl
   later_none n k l (one ∷ more) A goes below =

@@ -22,7 +22,7 @@ use Rattle.tp_turn.specs.declared.take.TheConstants.{TURN_ENTRIES}
 use Rattle.tp_turn.proofs.Calm.{front_goes, took_goes, host_refused, host_not_full, host_not_broken, marker_stays, port_same, back_now}
 use Rattle.tp_turn.proofs.Made.{Act as Part, took_none, took_more, took_all, made_more, order_none, order_next}
 
--- an act was done, and nothing else is changed
+-- an act was done, and nothing else has changed
 record Leads (act : Part) (most : ℕ) (a b : BookValue) : Type 0 where
   book : IsLoneBook b
   made : Made act most (lone_value a) (lone_value b)
@@ -72,7 +72,7 @@ ends_so line count NoFrame b L left h = absurd h
 ends_so line count PortFull b L left h = record { few = omega (arith, h.0); all = λ less. left_so line PortFull b L (left (omega (arith, less))) h.1; room = refl }
 ends_so line count JournalFull b L left h = absurd (host_not_full b L (left (omega (arith, h.0))) line h.1)
 
--- All that may be taken was taken, and the line wasn't left for want of room in the journal.
+-- All that may be taken was taken, and the line wasn't left for lack of room in the journal.
 record LeftBy (act : Part) (why : Left) (a b : BookValue) : Type 0 where
   leads : Leads act TAKES a b
   room : is_for_room why ≡ false
@@ -117,7 +117,7 @@ at_port port why a b acts L left D =
       room = A.room;
     }
 
--- ports in order, where the journal was full for none
+-- ports in order, if the journal was full for none
 record Ports (n : ℕ) (full : Bool) (a b : BookValue) : Type 0 where
   leads : Leads (InOrder (λ p. TookIn (4 * 1 + p)) n) (TAKES * n) a b
   room : full ≡ false
@@ -153,7 +153,7 @@ host_turned takes a b acts L left D =
       record { entries = P.leads.made.entries; few = omega (arith, P.leads.made.few, L.ports); counted = P.leads.made.counted; did = is (length (agreed a.state)) L.many },
     )
 
--- ## A turn that is refused
+-- ## A turn that fails
 
 stop_so : (line : ℕ) (e : Refusal) (b : BookValue) → b.broken ≡ false → PortIsStop line e b → e ≡ Memory
 stop_so line Full b whole h = absurd h
@@ -167,7 +167,7 @@ wire_stop : (o : Option ℕ) (e : Refusal) (a b : BookValue) (acts : List Act) �
 wire_stop None e a b acts whole D = cc
 wire_stop (Some line) e a b acts whole D = stop_so line e b whole D.ends.1
 
--- only memory is wanting
+-- it can only be that memory is out
 pub host_refused_so : (e : Refusal) (a b : BookValue) (acts : List Act) → IsLoneBook a → next_in_book a + TURN_ENTRIES + 1 < NUMBER_LIMIT → b.broken ≡ false → HostTurns (Err e) a acts b → e ≡ Memory
 host_refused_so Full a b acts L left whole D = let P = ports (length a.state.ports) true a b acts L (omega (arith, left, L.ports)) D in let no = P.room in cc
 host_refused_so StoreBroken a b acts L left whole D = wire_stop _ StoreBroken _ b _ whole D.did.other_did

@@ -61,14 +61,14 @@ full_unrecorded b recorded not full =
 pub full_recorded : (b : BookValue) (recorded : Bool) (e : Refusal) → recorded ≡ true → IsAnswer {A = Unit {0}} (takes_refusal b) (Err e) → IsAnswer {A = Unit {0}} (turn_refusal b recorded) (Err e)
 full_recorded b recorded e has h = subst (λ r. IsAnswer {A = Unit {0}} (turn_refusal b r) (Err e)) (sym has) h
 
--- what is received doesn't hang on what is reserved
+-- what is received doesn't depend on what is reserved
 pub receives_before : (b x : BookValue) (node : ℕ) (all : Bool) (number : ℕ) (takes : List Received) (s : NodeContents) (answers : List (ℕ × Token)) (t : NodeContents) → x ≡ with_run b node → Receives x all number takes s answers t
     → Receives b all number takes s answers t
 receives_before b x node all number takes s answers t is R =
     let same : Receives (with_run b node) all number takes s answers t = subst (λ y. Receives y all number takes s answers t) is R in
     record { four = same.four; did = same.did }
 
--- what is reserved is so
+-- what is reserved is reserved
 pub is_reserved : (b x : BookValue) (number : ℕ) → x ≡ with_run b number → slice_get b.runs number ≡ Some false → slice_get x.runs number ≡ Some true
 is_reserved b x number is free = ap (λ y. slice_get y.runs number) is ∙ slice_get-set_same b.runs number true false free
 

@@ -4,7 +4,7 @@ use Rattle.std.specs.List.{range_with_len}
 use Rattle.tp_model.specs.declared.entry.Entry.{Entry}
 use Rattle.tp_book.specs.Book.{BookValue, next_in_book}
 
--- The book has `entries` more, under the numbers that come next, and nothing else is changed but lines, ports and nodes.
+-- The book has `entries` more, under the numbers that come next, and apart from these only lines, ports and nodes have changed.
 pub record Grew (entries : List Entry) (old new : BookValue) : Type 0 where
   pub start : new.state.start ≡ old.state.start
   pub entries_are : new.state.entries ≡ old.state.entries ++ entries

@@ -23,14 +23,14 @@ use Rattle.tp_turn.specs.Moments.{TurnMoment, Added, Done}
 
 -- ## One act
 
--- what is done with the token in front of a line: it is taken, or, where it is a Marker, the line is closed
+-- what is done with the token at the front of a line: it is taken, or, if it is a Marker, the line is closed
 abbrev pub front_act : ℕ → Token → Act
 front_act line (Data byte) = Journal (Take line (Data byte))
 front_act line Ack = Journal (Take line Ack)
 front_act line Marker = Close line
 
--- That was done, and the node stays frozen as it was, or not frozen. Just the pages that the token was written to are shared
--- no more.
+-- That was done, and the node stays frozen as it was, or not frozen. The pages that the token was written to are shared no more, and all
+-- others are as before.
 pub record AtFront (number line : ℕ) (s : TurnMoment) (acts : List Act) (t : TurnMoment) : Type 0 where
   pub are : acts ≡ front_act line (front_of s.book line) ∷ []
   pub added : Added number t.node.live acts s.book t.book
@@ -41,16 +41,19 @@ pub record AtFront (number line : ℕ) (s : TurnMoment) (acts : List Act) (t : T
 
 -- ## Why a line is left
 
--- The token in front finds no frame, though the journal has room: the shared pages that it would be written to outnumber
--- the free frames.
+-- The token at the front finds no frame, though the journal has room: the shared pages that it would be written to outnumber the free
+-- frames.
 pub record WantsFrame (number line : ℕ) (m : TurnMoment) : Type 0 where
   pub room : ready_refusal m.book line ≡ None
   pub link : ℕ
   pub goes : receiver m.book.state.start.wires line ≡ Some (Link number link)
   pub wants : LacksFrames (memory_kept m.node) (took_ranges m.node.live link (front_of m.book line))
 
--- The line is empty; a Marker is in front, and no snapshot runs in which the node has recorded; the token in front finds no
--- frame; the journal is full.
+-- Why a line is left:
+-- - it is empty;
+-- - or a Marker is at the front, and no snapshot runs in which the node has recorded;
+-- - or the token at the front finds no frame;
+-- - or the journal is full.
 abbrev pub IsLeft : ℕ → ℕ → Left → TurnMoment → Type 0
 IsLeft number line left.NoWire m = ⊥
 IsLeft number line left.Enough m = ⊥
@@ -61,8 +64,8 @@ IsLeft number line left.NoFrame m = WantsFrame number line m
 IsLeft number line left.PortFull m = ⊥
 IsLeft number line left.JournalFull m = ready_refusal m.book line ≡ Some JournalFull
 
--- A token is in front that can't be taken, and the turn ends: the store is broken, or memory was refused, which is told
--- only where nothing else is in the way.
+-- A token is at the front that can't be taken, and the turn ends. The store is broken, or memory is out, which is only told if nothing else
+-- is in the way.
 abbrev pub EndsTurn : ℕ → Refusal → BookValue → Type 0
 EndsTurn line JournalFull b = ⊥
 EndsTurn line StoreBroken b = ready_refusal b line ≡ Some StoreBroken
@@ -90,13 +93,13 @@ LineEnds number line count (Ok left.PortFull) m = ⊥
 LineEnds number line count (Ok left.JournalFull) m = (count < TAKES) × IsLeft number line left.JournalFull m
 LineEnds number line count (Err e) m = (count < TAKES) × EndsTurn line e m.book
 
--- Acts one after another at the front of a line: three, or fewer, where there is a reason why there are no more.
+-- Acts one after another at the front of a line: three, or fewer, if there is a reason why there are no more.
 pub record OnLine (number line : ℕ) (answer : Result Left Refusal) (s : TurnMoment) (acts : List Act) (t : TurnMoment) : Type 0 where
   pub count : ℕ
   pub did : InOrder (λ at. AtFront number line) count s acts t
   pub ends : LineEnds number line count answer t
 
--- What is done at the front of a line that may have no wire: where it has none, nothing.
+-- What is done at the front of a line that may have no wire: without one, nothing.
 abbrev pub OnWire : ℕ → Option ℕ → Result Left Refusal → TurnMoment → List Act → TurnMoment → Type 0
 OnWire number None answer s acts t = (answer ≡ Ok left.NoWire) × (acts ≡ []) × (t ≡ s)
 OnWire number (Some line) answer s acts t = OnLine number line answer s acts t

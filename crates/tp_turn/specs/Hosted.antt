@@ -20,8 +20,8 @@ use Rattle.tp_turn.specs.Turns.{Then, InOrder}
 use Rattle.tp_turn.specs.Moments.{entries_among}
 use Rattle.tp_turn.specs.Fronts.{front_act}
 
--- `acts` of the host were done, and nothing else: the entries among them are the host's. The agreed nodes and the
--- frozen ones stay, and who has recorded.
+-- `acts` of the host were done, and nothing else: the entries among them are the host's. The agreed nodes and the frozen ones stay, and so
+-- does which processes have recorded.
 pub record HostAdded (acts : List Act) (old new : BookValue) : Type 0 where
   pub did : acted t414 (world_of old) acts ≡ Some (world_of new)
   pub grew : Grew (entries_among acts) old new
@@ -36,13 +36,16 @@ pub record HostDone (part : BookValue → List Act → BookValue → Type 0) (ol
   pub added : HostAdded acts old new
   pub did : part old acts new
 
--- The port takes the token in front of the line, or the Marker there.
+-- The port takes the token at the front of the line, or the Marker there.
 pub record PortAtFront (line : ℕ) (s : BookValue) (acts : List Act) (t : BookValue) : Type 0 where
   pub are : acts ≡ front_act line (front_of s line) ∷ []
   pub added : HostAdded acts s t
 
--- The line is empty; a Marker is in front, and no snapshot runs in which the host has recorded; a byte is in front, and
--- the port's outputs are full; the journal is full.
+-- Why a line is left:
+-- - it is empty;
+-- - or a Marker is at the front, and no snapshot runs in which the host has recorded;
+-- - or a byte is at the front, and the port's outputs are full;
+-- - or the journal is full.
 abbrev pub PortIsLeft : ℕ → Left → BookValue → Type 0
 PortIsLeft line left.NoWire b = ⊥
 PortIsLeft line left.Enough b = ⊥
@@ -53,8 +56,8 @@ PortIsLeft line left.NoFrame b = ⊥
 PortIsLeft line left.PortFull b = host_refusal b line ≡ Some PortFull
 PortIsLeft line left.JournalFull b = host_refusal b line ≡ Some JournalFull
 
--- A token is in front that the port could take, and the turn ends: the store is broken, or memory was refused, which is
--- told only where nothing else is in the way.
+-- A token is at the front that the port could take, and the turn ends. The store is broken, or memory is out, which is only told if nothing
+-- else is in the way.
 abbrev pub PortIsStop : ℕ → Refusal → BookValue → Type 0
 PortIsStop line JournalFull b = ⊥
 PortIsStop line StoreBroken b = host_refusal b line ≡ Some StoreBroken
@@ -80,13 +83,13 @@ PortLineEnds line count (Ok left.PortFull) b = (count < TAKES) × PortIsLeft lin
 PortLineEnds line count (Ok left.JournalFull) b = (count < TAKES) × PortIsLeft line left.JournalFull b
 PortLineEnds line count (Err e) b = (count < TAKES) × PortIsStop line e b
 
--- Acts one after another at the front of a line: three, or fewer, where there is a reason why there are no more.
+-- Acts one after another at the front of a line: three, or fewer, if there is a reason why there are no more.
 pub record OnPortLine (line : ℕ) (answer : Result Left Refusal) (s : BookValue) (acts : List Act) (t : BookValue) : Type 0 where
   pub count : ℕ
   pub did : InOrder (λ at. PortAtFront line) count s acts t
   pub ends : PortLineEnds line count answer t
 
--- What is done at the front of a line that may have no wire: where it has none, nothing.
+-- What is done at the front of a line that may have no wire: without one, nothing.
 abbrev pub OnPortWire : Option ℕ → Result Left Refusal → BookValue → List Act → BookValue → Type 0
 OnPortWire None answer s acts t = (answer ≡ Ok left.NoWire) × (acts ≡ []) × (t ≡ s)
 OnPortWire (Some line) answer s acts t = OnPortLine line answer s acts t
@@ -117,7 +120,7 @@ unfoldable pub LeavesPorts : ℕ → Bool → BookValue → List Act → BookVal
 LeavesPorts zero full s acts t = (full ≡ false) × (acts ≡ []) × (t ≡ s)
 LeavesPorts (suc count) full s acts t = LeavesPort (LeavesPorts count) count full s acts t
 
--- Its turn ends at a port: what comes before in it was done whole, and nothing that comes after.
+-- Its turn ends at a port. What comes before in the turn was done whole, and nothing of what comes after.
 pub record StopsAtPort (e : Refusal) (s : BookValue) (acts : List Act) (t : BookValue) : Type 0 where
   pub port : ℕ
   pub there : port < length s.state.ports
@@ -129,7 +132,7 @@ pub record TakesAtPorts (takes : ℕ) (s : BookValue) (acts : List Act) (t : Boo
   pub many : takes ≡ length (entries_among acts)
   pub did : LeavesPorts (length s.state.ports) false s acts t
 
--- The host's turn, and what it answers: that the journal was full for a port is told at the end, once all ports were left.
+-- The host's turn, and what it answers. That the journal was full for a port is told at the end, once all ports were left.
 abbrev pub HostTurns : Result ℕ Refusal → BookValue → List Act → BookValue → Type 0
 HostTurns (Ok takes) s acts t = TakesAtPorts takes s acts t
 HostTurns (Err JournalFull) s acts t = LeavesPorts (length s.state.ports) true s acts t

@@ -12,7 +12,7 @@ use Rattle.tp_turn.specs.Moments.{IsNodeOf}
 use Rattle.tp_turn.specs.Tried.{lone_network}
 use Rattle.tp_turn.specs.declared.lone.Lone.{Lone}
 
--- the network that a book stands for, and the number that its next entry gets
+-- the network of a book, and the number that its next entry gets
 pub record LoneValue : Type 0 where
   pub network : Network NodeState
   pub entries : ℕ
@@ -23,7 +23,7 @@ lone_value b = record { network = network_now b; entries = next_in_book b }
 abbrev pub lone_of : Lone → LoneValue
 lone_of t = lone_value t.book
 
--- A book of one node and one port: it has no device, so it may hold every entry; no snapshot runs, nothing is reserved or made ready, and
+-- A book of one node and one port. It has no device, so it may hold every entry. No snapshot runs, nothing is reserved or made ready, and
 -- its store isn't broken.
 pub record IsLoneBook (b : BookValue) : Type 0 where
   pub alone : b.room ≡ None
@@ -66,7 +66,7 @@ pub record IsOutputOf (s : Network NodeState) (output : List ℕ) : Type 0 where
   pub there : slice_get s.ports 0 ≡ Some port
   pub is : output ≡ port.outputs
 
--- how node 0 stands
+-- the state of node 0 between its turns
 pub record StandsAs (s : Network NodeState) (how : Standing) : Type 0 where
   pub node : NodeState
   pub there : slice_get s.nodes 0 ≡ Some node

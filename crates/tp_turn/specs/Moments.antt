@@ -20,8 +20,8 @@ pub record TurnMoment : Type 0 where
 abbrev pub moment_of : BookValue → NodeContents → TurnMoment
 moment_of book node = record { book = book; node = node }
 
--- The node is the one that the book's entries make of it, and it has an image. While it is frozen, it has recorded in a
--- snapshot that runs, and is kept as the book has it frozen.
+-- The node is the one that the book's entries make of it, and it has an image. While it is frozen, it has recorded in a snapshot that runs,
+-- and is kept as the book has it frozen.
 pub record IsNodeOf (b : BookValue) (number : ℕ) (node : NodeContents) : Type 0 where
   pub there : slice_get (agreed b.state) number ≡ Some node.live
   pub image : IsNodeOfBytes node.live
@@ -37,9 +37,8 @@ entries_among (Journal entry ∷ acts) = entry ∷ entries_among acts
 entries_among (Close line ∷ acts) = entries_among acts
 entries_among (Trim ∷ acts) = entries_among acts
 
--- `acts` of a node were done, and nothing else: the entries among them are the node's, and what is agreed on is
--- then this node, and the others as before. Whether others have recorded stays, as do their frozen images, and what each
--- mark shows.
+-- `acts` of a node were done, and nothing else: the entries among them are the node's, and the agreed nodes are then this node and the
+-- others as before. Whether others have recorded stays, as do their frozen images, and what each mark shows.
 pub record Added (number : ℕ) (node : NodeState) (acts : List Act) (old new : BookValue) : Type 0 where
   pub did : acted t414 (world_of old) acts ≡ Some (world_of new)
   pub grew : Grew (entries_among acts) old new

@@ -1,4 +1,4 @@
--- A node's turn in the form of its book: one is opened by the book's form, and committed by how it was opened.
+-- A node's turn in the form of its book: it is opened by the book's form, and committed by how it was opened.
 use Rattle.std.specs.Prelude.{◌≡◌, ℕ, List, [], ◌++◌, map, length, Option, Some, None, Result, Ok, Err}
 use Rattle.tp_model.specs.declared.entry.Entry.{Entry}
 use Rattle.tp_model.specs.declared.form.Form.{Form}
@@ -21,7 +21,7 @@ use Rattle.tp_turn.specs.Whole.{OpensWhole, HasTurnedOn}
 
 -- ## What was taken
 
--- what the node received for the turn's one entry, by link; none where each token that it took is an entry
+-- what the node received for the turn's one entry, by link; `None` if each token that it took is an entry
 abbrev pub turn_received : Opened → Option (List Received)
 turn_received (Apart taken) = None
 turn_received (Whole taken) = Some taken.takes
@@ -43,7 +43,7 @@ taken_in (Whole taken) = length (by_link 0 taken.takes)
 
 -- ## A turn is opened
 
--- In a book of form Plain it is opened with an entry for each token, in one of form Turns for one entry in all.
+-- In a book of form `Plain` it is opened with an entry for each token, in one of form `Turns` for one entry in all.
 abbrev pub OpensIn : Form → ℕ → Result Opened Refusal → TurnMoment → TurnMoment → Type 0
 OpensIn Plain number (Ok (Apart taken)) s t = Opens number (Ok taken) s t
 OpensIn Plain number (Ok (Whole taken)) s t = ⊥
@@ -52,7 +52,7 @@ OpensIn Turns number (Ok (Apart taken)) s t = ⊥
 OpensIn Turns number (Ok (Whole taken)) s t = OpensWhole number (Ok taken) s t
 OpensIn Turns number (Err e) s t = OpensWhole number (Err e) s t
 
--- The node is then ahead of its book where it received; else the book has its node.
+-- The node is then ahead of its book if it received; else the book has its node.
 abbrev pub IsOpenedIn : Result Opened Refusal → BookValue → ℕ → NodeContents → Type 0
 IsOpenedIn (Ok (Apart taken)) b number node = IsNodeOf b number node
 IsOpenedIn (Ok (Whole taken)) b number node = IsAhead b number taken.takes taken.sent.items node

@@ -22,12 +22,12 @@ pub record IsOutput (node : NodeState) (turns quantum : ℕ) (output : List ℕ)
   pub turned : AreTurns quantum turns (lone_network node) entries end
   pub held : IsOutputOf end output
 
--- That, and the standing is that of the node to which they lead.
+-- The output, and the state between turns of the node to which they lead.
 pub record IsTrial (node : NodeState) (turns quantum : ℕ) (output : List ℕ) (standing : Standing) : Type 0 where
   pub output_is : IsOutput node turns quantum output
   pub stands : StandsAs output_is.end standing
 
--- The answer: an image is refused just where it is none of a node with idle links, and memory is wanting only where it is.
+-- The answer is `BadImage` exactly if the image is none of a node with idle links, and `Memory` is only answered if it is one.
 abbrev pub OutputAs : Option NodeState → ℕ → ℕ → Result (Vec ℕ Global) TryFault → Type 0
 OutputAs (Some node) turns quantum (Ok output) = IsOutput node turns quantum output.items
 OutputAs (Some node) turns quantum (Err Memory) = Unit {0}

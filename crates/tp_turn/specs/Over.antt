@@ -1,11 +1,11 @@
--- Lines that are closed from behind what stands in front of their Markers.
+-- Lines that are closed while tokens come before their Markers.
 use Rattle.std.specs.Prelude.{◌≡◌, ℕ, if◌then◌else◌, List, [], ◌∷◌, length}
 use Rattle.tp_model.specs.Acts.{Act, Close}
 use Rattle.tp_book.specs.Book.{BookValue}
 use Rattle.tp_book.specs.Marked.{after_close_over, is_closable}
 use Rattle.tp_turn.specs.Turns.{InOrder}
 
--- A line is closed, where a Marker is on it and its receiver has recorded.
+-- A line is closed if a Marker is on it and its receiver has recorded.
 pub record ClosesOver (line : ℕ) (s : BookValue) (acts : List Act) (t : BookValue) : Type 0 where
   pub are : acts ≡ (if is_closable s line then Close line ∷ [] else [])
   pub is : t ≡ (if is_closable s line then after_close_over s line else s)

@@ -10,7 +10,7 @@ use Rattle.tp_turn.specs.Turns.{Then, InOrder}
 use Rattle.tp_turn.specs.Moments.{TurnMoment, Added, entries_among}
 use Rattle.tp_turn.specs.Fronts.{OnLink}
 
--- a node records once, where it is asked to
+-- a node records once, if it is asked to
 abbrev pub record_acts : BookValue → ℕ → List Act
 record_acts b number = if is_asked b.state.snapshot number then Record number ∷ [] else []
 
@@ -23,7 +23,7 @@ abbrev pub recorded_node : BookValue → ℕ → NodeContents → NodeContents
 recorded_node b number node =
     if is_asked b.state.snapshot number then frozen_now node else node
 
--- The node records where it is asked to.
+-- The node records if it is asked to.
 pub record Records (number : ℕ) (s : TurnMoment) (acts : List Act) (t : TurnMoment) : Type 0 where
   pub are : acts ≡ record_acts s.book number
   pub added : Added number t.node.live acts s.book t.book
@@ -34,11 +34,11 @@ pub record LeavesLink (number link : ℕ) (s : TurnMoment) (acts : List Act) (t 
   pub why : Left
   pub did : OnLink number link (Ok why) s acts t
 
--- The node records where it is asked to, and then does what it may on links 0 to 3 in order.
+-- The node records if it is asked to, and then does what it may on links 0 to 3 in order.
 abbrev pub Settles : ℕ → TurnMoment → List Act → TurnMoment → Type 0
 Settles number = Then (Records number) (InOrder (λ link. LeavesLink number link) 4)
 
--- Its turn ends at a link: what comes before in it was done whole, and nothing that comes after.
+-- Its turn ends at a link. What comes before in the turn was done whole, and nothing of what comes after.
 pub record EndsAtLink (number : ℕ) (e : Refusal) (s : TurnMoment) (acts : List Act) (t : TurnMoment) : Type 0 where
   pub link : ℕ
   pub there : link < 4

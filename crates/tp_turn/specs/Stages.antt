@@ -33,7 +33,7 @@ pub record IsRefused (number : ℕ) (e : Refusal) (s : TurnMoment) (acts : List 
   pub did : Settles number s acts t
   pub answer : IsAnswer {A = Unit {0}} (reserve_refusal t.book) (Err e)
 
--- The turn ended at a link, or where its run was to be reserved. Nothing ran.
+-- The turn ended at a link, or when its run was to be reserved. Nothing ran.
 abbrev pub Breaks : ℕ → Refusal → TurnMoment → List Act → TurnMoment → Type 0
 Breaks number e s acts t = EndsAtLink number e s acts t ⊎ IsRefused number e s acts t
 
@@ -51,8 +51,8 @@ pub record HasRunOn (b : BookValue) (number count : ℕ) (tokens : List (ℕ × 
   pub made : steps t414 count before.live ≡ Some (node.live, tokens)
   pub kept : node.frozen ≡ before.frozen
 
--- The node ran on as far as it may, and that is one entry; none without a step. It ended for want of a frame only before a
--- step that would write shared pages which outnumber the free frames. Just the pages that were written are shared no more.
+-- The node ran on as far as it may, and that is one entry; none without a step. It ended for lack of a frame only before a step that would
+-- write more shared pages than there are free frames. The pages that were written are shared no more, and all others are as before.
 pub record Runs (number quantum : ℕ) (ran : RunEnd) (s : TurnMoment) (acts : List Act) (t : TurnMoment) : Type 0 where
   pub are : acts ≡ run_acts number ran.count
   pub added : Added number t.node.live acts s.book t.book

@@ -22,14 +22,14 @@ use Rattle.tp_turn.specs.declared.take.TheConstants.{TAKES}
 
 -- ## Takes
 
--- the port at an end, where it is one
+-- the port at an end, if it is one
 abbrev pub port_there : List Port → Option WireEnd → Option Port
 port_there ports None = None
 port_there ports (Some (Link i k)) = None
 port_there ports (Some (AtPort p)) = slice_get ports p
 
--- Nothing can be taken from the line: it is empty, a Marker stands in front, or Data stands in front for a port that has
--- no room for another output.
+-- Nothing can be taken from the line. It is empty, or a Marker is at the front, or Data is at the front for a port that has no room for
+-- another output.
 abbrev pub StaysOnLine : Network NodeState → ℕ → Type 0
 StaysOnLine s line =
     (takeable_of (on_line s.lines line) ≡ None)
@@ -42,14 +42,14 @@ pub record TookSo (line count : ℕ) (s : Network NodeState) (entries : List Ent
   pub are : entries ≡ map (λ token. Take line token) tokens
   pub leads : after t414 s entries ≡ Some t
 
--- All tokens were taken from a line that a turn may take from it: fewer only where nothing more can be taken.
+-- All tokens were taken from a line that a turn may take from it: fewer only if nothing more can be taken.
 pub record TookAll (line : ℕ) (s : Network NodeState) (entries : List Entry) (t : Network NodeState) : Type 0 where
   pub count : ℕ
   pub few : count ≤ TAKES
   pub took : TookSo line count s entries t
   pub all : count < TAKES → StaysOnLine t line
 
--- That was done on the line that comes back on a wire; where there is no wire, nothing was.
+-- That was done on the line that comes back on a wire; without a wire, nothing was.
 abbrev pub TookBack : Option ℕ → Network NodeState → List Entry → Network NodeState → Type 0
 TookBack None s entries t = (entries ≡ []) × (t ≡ s)
 TookBack (Some line) s entries t = TookAll line s entries t
@@ -60,13 +60,13 @@ TookIn out s entries t = TookBack (back s out) s entries t
 
 -- ## Turns
 
--- what stands on the line that comes back on a wire, in front of its first Marker; without a wire nothing
+-- the tokens on the line that comes back on a wire, before its first Marker; none without a wire
 abbrev pub standing_on : Network NodeState → Option ℕ → List Token
 standing_on s None = []
 standing_on s (Some line) = before (on_line s.lines line)
 
--- A node's turn: it took all that stood on its lines, and ran for `quantum` steps, or for fewer, after which it has no step. That is one
--- entry: a Run where nothing stood there; none without a step, either.
+-- A node's turn: it took all that was on its lines, and ran for `quantum` steps, or for fewer, after which it has no step. That is one
+-- entry: a Run if nothing was there; none without a step, too.
 pub record IsNodeTurn (quantum node : ℕ) (s : Network NodeState) (entries : List Entry) (t : Network NodeState) : Type 0 where
   pub takes : List Received
   pub four : length takes ≡ 4

@@ -15,8 +15,8 @@ use Rattle.tp_turn.specs.declared.image.TryFault.TheVariants.{BadImage, Memory}
 abbrev pub fresh_image : List ℕ → Option NodeState
 fresh_image image = only_if has_idle_links (node_of image)
 
--- What reading an image answers whose links have to be idle: the node, not frozen, or a fault. Memory is wanting only where
--- the image is one.
+-- What reading an image whose links have to be idle answers: the node, not frozen, or a fault. `Memory` is only answered if the image is
+-- one.
 abbrev pub ReadsFresh : List ℕ → Result NodeContents TryFault → Type 0
 ReadsFresh image (Ok node) = (fresh_image image ≡ Some node.live) × (node.frozen ≡ None)
 ReadsFresh image (Err BadImage) = fresh_image image ≡ None

@@ -1,4 +1,5 @@
--- A node's turn that is one entry: it records and closes at Markers, receives, and runs; the book gets the entry once the node has run.
+-- A node's turn that is one entry. The node records and closes at Markers, receives, and runs. The book gets the entry once the node has
+-- run.
 use Rattle.std.specs.Prelude.{◌≡◌, ◌≤◌, ◌⊎◌, ℕ, ◌+◌, ◌*◌, Bool, true, false, ◌&&◌, if◌then◌else◌, List, [], ◌∷◌, length, Option, Some, None, Result, Ok, Err}
 use Rattle.tp_model.specs.declared.limits.TheConstants.{MAX_STEPS}
 use Rattle.tp_model.specs.declared.link.Token.{Token}
@@ -30,30 +31,30 @@ use Rattle.tp_turn.specs.Receiving.{Receives}
 
 -- ## At Markers
 
--- a line is closed, where a Marker stands in front of it and the node has recorded
+-- a line is closed if a Marker is at its front and the node has recorded
 abbrev pub close_acts : BookValue → ℕ → Option ℕ → List Act
 close_acts b number None = []
 close_acts b number (Some line) =
     if is_first (on_line b.state.lines line) Marker && has_recorded_in b.state.snapshot number then Close line ∷ [] else []
 
--- The line that comes in on a link is closed where it can be, and the node stays as it is. What stands behind the Marker stays there.
+-- The line that comes in on a link is closed if it can be, and the node stays as it is. The tokens after the Marker stay there.
 pub record ClosesFront (number link : ℕ) (s : TurnMoment) (acts : List Act) (t : TurnMoment) : Type 0 where
   pub are : acts ≡ close_acts s.book number (back s.book.state.start (4 * number + link))
   pub added : Added number t.node.live acts s.book t.book
   pub node : t.node ≡ s.node
 
--- The node records where it is asked to, and then the lines on links 0 to 3 are closed where they can be.
+-- The node records if it is asked to, and then the lines on links 0 to 3 are closed if they can be.
 abbrev pub Closes : ℕ → TurnMoment → List Act → TurnMoment → Type 0
 Closes number = Then (Records number) (InOrder (λ link. ClosesFront number link) 4)
 
 -- ## A turn is opened
 
--- Why neither a turn can be reserved nor, for a node that has recorded, what it takes: a broken store, or a full journal; what is kept
--- for snapshots is there for a node that has recorded.
+-- Why neither a turn can be reserved nor, for a node that has recorded, what it takes: a broken store, or a full journal. A node that has
+-- recorded may use the room that is kept for snapshots.
 abbrev pub turn_refusal : BookValue → Bool → Option Refusal
 turn_refusal b recorded = take_refusal b recorded (else_if None b.broken StoreBroken)
 
--- the turn is reserved, and the node received all that stood there
+-- the turn is reserved, and the node received all that was there
 pub record IsOpenWhole (number : ℕ) (taken : Taken) (s t : TurnMoment) : Type 0 where
   pub between : TurnMoment
   pub closed : Done number (Closes number) s between
@@ -67,8 +68,8 @@ pub record IsUnreserved (number : ℕ) (e : Refusal) (s : TurnMoment) (acts : Li
   pub are : acts ≡ []
   pub same : t ≡ s
 
--- The journal is full for a turn, and that is answered. The node has recorded, and received what the running snapshot needs: one entry of
--- no steps; none where there was nothing.
+-- The journal is full for a turn, and that is the answer. The node has recorded, and received what the running snapshot needs: one entry of
+-- no steps; none if there was nothing.
 pub record TakesNeeded (number : ℕ) (e : Refusal) (s : TurnMoment) (acts : List Act) (t : TurnMoment) : Type 0 where
   pub answer : e ≡ JournalFull
   pub full : reserve_refusal s.book ≡ Some JournalFull
@@ -84,7 +85,7 @@ pub record TakesNeeded (number : ℕ) (e : Refusal) (s : TurnMoment) (acts : Lis
 abbrev pub EndsWhole : ℕ → Refusal → TurnMoment → List Act → TurnMoment → Type 0
 EndsWhole number e s acts t = IsUnreserved number e s acts t ⊎ TakesNeeded number e s acts t
 
--- The turn ended where it was to be reserved. Nothing ran.
+-- The turn ended when it was to be reserved. Nothing ran.
 abbrev pub BreaksWhole : ℕ → Refusal → TurnMoment → List Act → TurnMoment → Type 0
 BreaksWhole number e = Then (Closes number) (EndsWhole number e)
 
@@ -94,7 +95,7 @@ OpensWhole number (Err e) s t = Done number (BreaksWhole number e) s t
 
 -- ## The entry
 
--- Since the book agreed on the node, it took these tokens, which stand in front of its lines, made `count` steps, and sent `tokens` for
+-- Since the book agreed on the node, it took these tokens, which are at the front of its lines, made `count` steps, and sent `tokens` for
 -- all of it. It has an image.
 pub record HasTurnedOn (b : BookValue) (number : ℕ) (takes : List Received) (count : ℕ) (tokens : List (ℕ × Token)) (node : NodeContents) : Type 0 where
   pub before : NodeContents
@@ -107,9 +108,8 @@ pub record HasTurnedOn (b : BookValue) (number : ℕ) (takes : List Received) (c
 
 -- ## A whole turn
 
--- The node received all that stood there and ran on as far as it may, and that is one entry: a Run where nothing stood there, none
--- where it made no step, either. It ended for want of a frame only before a step that would write shared pages which outnumber the free
--- frames.
+-- The node received all that was there and ran on as far as it may, and that is one entry. If nothing was there, the entry is a Run;
+-- without a step, too, there is none.
 pub record TurnsOnce (number quantum : ℕ) (turn : Turn) (s : TurnMoment) (acts : List Act) (t : TurnMoment) : Type 0 where
   pub takes : List Received
   pub sent : List (ℕ × Token)

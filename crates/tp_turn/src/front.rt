@@ -13,8 +13,8 @@ use tp_law_machine::carries_byte;
 use tp_net::line_of;
 use tp_node::Node;
 
-/// A node takes the token in front of a line that leads to it, or closes the line at its Marker. Answers why not, where
-/// nothing was done: then the node and the book are as before.
+/// Lets a node take the token at the front of a line that leads to it, or close the line at its Marker. If nothing can be done it answers
+/// why, and leaves the node and the book as they are.
 fn act_on_front(
     book: &mut Book,
     node: &mut Node,
@@ -56,7 +56,7 @@ fn act_on_front(
     }
 }
 
-/// A node does at the front of a line that leads to it what a turn may do there. Answers why it left the line.
+/// Lets a node do at the front of a line that leads to it what a turn may do there. Answers why it left the line.
 fn act_on_line(
     book: &mut Book,
     node: &mut Node,
@@ -78,7 +78,7 @@ fn act_on_line(
     Ok(Left::Enough)
 }
 
-/// Takes and closes at the line that comes in on a link, where there is one.
+/// Takes and closes at the line that comes in on a link, if there is one.
 pub(crate) fn act_on_link(
     book: &mut Book,
     node: &mut Node,

@@ -26,12 +26,12 @@ pub enum TryFault {
     /// The bytes are no image of a node whose links are idle.
     #[error("BadImage")]
     BadImage,
-    /// Memory was refused.
+    /// Out of memory.
     #[error("Memory")]
     Memory,
 }
 
-/// The node of an image whose links are idle.
+/// Makes the node of an image whose links are idle. `BadImage` for any other bytes, and `Memory` if memory is out.
 pub fn lone_node(alloc: Global, image: &[u8]) -> Result<Node, TryFault>
     ensures { ReadsFresh image.now result }
 {
@@ -45,7 +45,7 @@ pub fn lone_node(alloc: Global, image: &[u8]) -> Result<Node, TryFault>
     }
 }
 
-/// The network of the node of an image, before its first entry.
+/// Makes the network of the node of an image, before its first entry.
 pub(crate) fn lone_parts(alloc: Global, image: &[u8]) -> Result<NetParts, AllocError>
     ensures { IfOk result (λ net. network_made net ≡ lone_network (node_at image.now)) }
 {

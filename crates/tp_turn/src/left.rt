@@ -9,11 +9,11 @@ pub enum Left {
     Enough,
     /// The line is empty.
     Empty,
-    /// A Marker is in front, and no snapshot runs in which the receiver has recorded.
+    /// A Marker is at the front, and no snapshot runs in which the receiver has recorded.
     Marked,
-    /// The node's memory has no frame for the token in front.
+    /// The node's memory has no frame for the token at the front.
     NoFrame,
-    /// The port has no room for the byte in front.
+    /// The port has no room for the byte at the front.
     PortFull,
     /// The journal has no room for another entry, or no number.
     JournalFull,

@@ -1,5 +1,5 @@
-//! Turns of a network, over a book and a node that are lent: a node records, takes what came in and runs; the host takes what
-//! came to its ports. A node's turn is an entry for each token that it takes and one for its run, or one entry in all.
+//! Turns of a network, over a book and a node that are lent: a node records, takes what came in and runs; the host takes what came to its
+//! ports. A node's turn is an entry for each token that it takes and one for its run, or one entry in all.
 #![tactic(auto)]
 
 mod front;

@@ -15,12 +15,12 @@ use tp_node::{Node, Runs, Standing};
 pub(crate) struct Lone {
     pub(crate) book: Book,
     pub(crate) node: Node,
-    /// What is kept of the instructions that it has read.
+    /// What it keeps of the instructions that it has read.
     pub(crate) runs: Runs,
 }
 
 impl Lone {
-    /// The network of the node of an image, before its first entry.
+    /// Makes the network of the node of an image, before its first entry. `AllocError` if memory is out.
     pub(crate) fn start(alloc: Global, image: &[u8], node: Node) -> Result<Lone, AllocError>
         requires fresh { fresh_image image.now ≡ Some node.live }
         requires thawed { node.frozen ≡ None }
@@ -32,7 +32,7 @@ impl Lone {
         Ok(Lone { book, node, runs })
     }
 
-    /// What port 0 has put out.
+    /// Copies what port 0 has put out. `AllocError` if memory is out.
     pub(crate) fn output(&self, alloc: Global) -> Result<Vec<u8>, AllocError>
         requires { IsLone self.now }
         ensures { IfOk result (λ output. IsOutputOf (lone_of self.now).network output.items) }
@@ -40,7 +40,7 @@ impl Lone {
         Vec::from_slice(alloc, self.book.outputs(0))
     }
 
-    /// How the node stands.
+    /// Tells the node's state between its turns.
     pub(crate) fn standing(&self) -> Standing
         requires { IsLone self.now }
         ensures { StandsAs (lone_of self.now).network result }

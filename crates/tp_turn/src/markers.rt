@@ -1,4 +1,4 @@
-//! Lines that are closed at the Markers in front of them.
+//! Lines that are closed at the Markers at their fronts.
 
 ghost use Rattle.std.specs.Prelude.{◌≡◌, ◌<◌};
 ghost use Rattle.tp_turn.specs.Moments.{IsNodeOf, Done, moment_of};
@@ -9,8 +9,8 @@ use tp_book::Book;
 use tp_net::line_of;
 use tp_node::Node;
 
-/// Closes the line that comes in on a link, where a Marker stands in front of it and the node has recorded. What stands behind the
-/// Marker stays on the line.
+/// Closes the line that comes in on a link, if a Marker is at its front and the node has recorded. The tokens after the Marker stay on the
+/// line.
 fn close_front(book: &mut Book, node: &Node, number: u8, link: u8)
     requires link { link < 4 }
     requires is { IsNodeOf book.old number node.now }
@@ -31,8 +31,8 @@ fn close_front(book: &mut Book, node: &Node, number: u8, link: u8)
     }
 }
 
-/// A node records where it is asked to. Then, on links 0 to 3 in order, the line that comes in is closed, where a Marker stands in front
-/// of it and the node has recorded. Nothing is taken, and nothing runs.
+/// Has a node record if it is asked to. Then, on links 0 to 3 in order, closes the line that comes in, if a Marker is at its front and the
+/// node has recorded. Takes nothing, and runs nothing.
 pub(crate) fn answer_markers(book: &mut Book, node: &mut Node, number: u8)
     requires is { IsNodeOf book.old number node.old }
     ensures done { Done number (Closes number) (moment_of book.old node.old) (moment_of book.new node.new) }

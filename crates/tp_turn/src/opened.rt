@@ -1,5 +1,5 @@
-//! A node's turn in the form of its book. It is opened in one hold of the book and committed in another, between which the form may
-//! change: so it is committed by how it was opened.
+//! A node's turn in the form of its book. It is opened in one hold of the book and committed in another, between which the form may change.
+//! So it is committed by how it was opened.
 
 ghost use Rattle.std.specs.Prelude.{◌≡◌, Some, None, true, false, length, slice_get};
 ghost use Rattle.tp_model.specs.Turn.{by_link, received};
@@ -17,7 +17,7 @@ use tp_node::{Node, Ran};
 /// How a node's turn was opened.
 #[derive(Drop)]
 pub enum Opened {
-    /// Each of this many tokens that it took is an entry already.
+    /// It took this many tokens, and each is already an entry.
     Apart(u64),
     /// It received these, which stay on their lines until the turn's one entry.
     Whole(Taken),
@@ -44,7 +44,7 @@ fn count_all(takes: &[Received; 4]) -> u64
 }
 
 impl Opened {
-    /// How many tokens the node took.
+    /// Counts the tokens that the node took.
     pub fn taken(&self) -> u64
         ensures { result ≡ taken_in self.now }
     {
@@ -55,10 +55,10 @@ impl Opened {
     }
 }
 
-/// Opens a node's turn in the form of its book: as `open_turn` in one of form Plain, as `open_whole` in one of form Turns. A run or a
-/// turn of the node is then reserved.
+/// Opens a node's turn in the form of its book: as `open_turn` for `Plain`, and as `open_whole` for `Turns`. A run or a turn of the node is
+/// then reserved.
 ///
-/// Errors: those of `open_turn`, or of `open_whole`. What was done before stays, and nothing is reserved.
+/// Fails as `open_turn` or `open_whole` does. What was done before stays, and nothing is reserved.
 pub fn open_in_form(book: &mut Book, node: &mut Node, number: u8) -> Result<Opened, Refusal>
     requires free { slice_get book.old.runs number ≡ Some false }
     requires idle { book.old.ready ≡ None }
@@ -72,8 +72,9 @@ pub fn open_in_form(book: &mut Book, node: &mut Node, number: u8) -> Result<Open
     }
 }
 
-/// Journals what a node ran since its turn was opened, and what it received for it: as `commit_turn` where it took tokens apart, whatever
-/// the book's form is by now, else as `commit_whole`. The reservation ends. The book may have changed in between by what others do.
+/// Journals what a node ran since its turn was opened, and what it received for it. It works as `commit_turn` if the turn took tokens
+/// apart, whatever the book's form is by now, and else as `commit_whole`. The reservation ends. Others may have changed the book in
+/// between.
 pub fn commit_opened(
     book: &mut Book,
     node: &Node,

@@ -1,4 +1,4 @@
-//! Lines that are closed from behind what stands in front of their Markers.
+//! Lines that are closed while tokens come before their Markers.
 
 ghost use Rattle.std.specs.Prelude.{◌≡◌, ◌<◌, length};
 ghost use Rattle.tp_turn.specs.Hosted.{HostDone};
@@ -6,7 +6,7 @@ ghost use Rattle.tp_turn.specs.Over.{ClosesOver, ClosesAll};
 
 use tp_book::Book;
 
-/// Takes the Marker off a line, also from behind other tokens, where its receiver has recorded.
+/// Takes the Marker off a line, also from after other tokens, if its receiver has recorded.
 fn close_over(book: &mut Book, line: u16)
     requires there { line < length book.old.state.lines }
     ensures { HostDone (ClosesOver line) book.old book.new }
@@ -16,9 +16,9 @@ fn close_over(book: &mut Book, line: u16)
     }
 }
 
-/// Takes each Marker off its line, also from behind other tokens, where its receiver has recorded. What stands in front of it belongs
-/// to the cut, and stays on the line. So a snapshot in which all have recorded has a whole cut, whatever stands on the lines. It makes
-/// no entry, and takes no memory.
+/// Takes each Marker off its line, also from after other tokens, if its receiver has recorded. The tokens before it belong to the cut, and
+/// stay on the line. So a snapshot in which all have recorded has a whole cut, whatever the lines have. It makes no entry, and takes no
+/// memory.
 pub fn close_all(book: &mut Book)
     ensures { HostDone ClosesAll book.old book.new }
 {

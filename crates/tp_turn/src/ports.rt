@@ -10,8 +10,8 @@ use crate::take::TAKES;
 use tp_book::{Book, Refusal};
 use tp_net::line_of;
 
-/// A port takes the token in front of a line that leads to it, or closes the line at its Marker. Answers why not, where
-/// nothing was done: then the book is as before.
+/// Lets a port take the token at the front of a line that leads to it, or close the line at its Marker. If nothing can be done it answers
+/// why, and leaves the book as it is.
 fn act_on_front(book: &mut Book, port: u8, line: u16) -> Result<Option<Left>, Refusal>
     requires goes { receiver book.old.state.start.wires line ≡ Some (AtPort port) }
     requires idle { book.old.ready ≡ None }
@@ -34,7 +34,7 @@ fn act_on_front(book: &mut Book, port: u8, line: u16) -> Result<Option<Left>, Re
     }
 }
 
-/// A port does at the front of a line that leads to it what a turn may do there. Answers why it left the line.
+/// Lets a port do at the front of a line that leads to it what a turn may do there. Answers why it left the line.
 fn act_on_line(book: &mut Book, port: u8, line: u16) -> Result<Left, Refusal>
     requires goes { receiver book.old.state.start.wires line ≡ Some (AtPort port) }
     requires idle { book.old.ready ≡ None }
@@ -48,7 +48,7 @@ fn act_on_line(book: &mut Book, port: u8, line: u16) -> Result<Left, Refusal>
     Ok(Left::Enough)
 }
 
-/// Takes and closes at the line that comes to a port, where there is one.
+/// Takes and closes at the line that comes to a port, if there is one.
 fn act_on_port(book: &mut Book, port: u8) -> Result<Left, Refusal>
     requires there { port < length book.old.state.ports }
     requires idle { book.old.ready ≡ None }
@@ -72,12 +72,12 @@ fn is_full_by(before: bool, left: Left) -> bool
     before || matches!(left, Left::JournalFull)
 }
 
-/// The host's turn. Each of its ports in order takes at most three tokens of the line that comes to it, a Marker among
-/// them, at which the line is closed. A port leaves a line that is empty, whose byte its outputs have no room for, or for
-/// which the journal is full. Answers how many tokens were taken; a Marker isn't counted.
+/// Does the host's turn. Each of its ports in order takes at most three tokens of the line that comes to it. A Marker is one of these, and
+/// closes the line. A port leaves a line that is empty, whose byte its outputs have no room for, or for which the journal is full. Answers
+/// how many tokens were taken, without Markers.
 ///
-/// Errors: `JournalFull` where it was full for a port, once all had their turn. `StoreBroken` and `Memory` end the turn
-/// where they come. What was done before stays. No other comes.
+/// Fails with `JournalFull` if it was full for a port, once all had their turn. `StoreBroken` and `Memory` end the turn where they come.
+/// What was done before stays. There is no other error.
 pub fn host_turn(book: &mut Book) -> Result<u64, Refusal>
     requires { book.old.ready ≡ None }
     ensures { HostDone (HostTurns result) book.old book.new }

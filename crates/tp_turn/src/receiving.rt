@@ -22,7 +22,7 @@ pub struct Taken {
     pub sent: ArrayVec<(u8, Token), 8>,
 }
 
-/// Has a node take a token. What it answers goes behind `sent`. Answers whether it took it: memory may have no frame for it.
+/// Has a node take a token, and appends its answer to `sent`. Answers whether it took it: memory may have no frame for it.
 #[inline(always)]
 fn take_one(node: &mut Node, link: u8, token: Token, sent: &mut ArrayVec<(u8, Token), 8>) -> bool
     requires possible { IsSome (took node.old.live link token) }
@@ -43,8 +43,8 @@ fn take_one(node: &mut Node, link: u8, token: Token, sent: &mut ArrayVec<(u8, To
     }
 }
 
-/// Has a node take what stands there for it on a link, in order. Answers what it took: all, or what is in front of a token for which memory
-/// has no frame.
+/// Has a node take what is there for it on a link, in order. Answers what it took: all, or what comes before a token for which memory has
+/// no frame.
 #[inline(always)]
 fn take_each(
     node: &mut Node,
@@ -97,8 +97,8 @@ fn take_each(
     }
 }
 
-/// What a line has for its node in a turn: what stands in front of its first Marker. Where not `all` is received, nothing on lines from
-/// which no running snapshot needs what is taken.
+/// Gives what a line has for its node in a turn: the tokens before its first Marker. Without `all` a line has nothing, unless a running
+/// snapshot needs what is taken from it.
 #[inline(always)]
 fn offered(book: &Book, line: u16, all: bool) -> Received
     requires there { line < length book.now.state.lines }
@@ -111,7 +111,7 @@ fn offered(book: &Book, line: u16, all: bool) -> Received
     }
 }
 
-/// What a line has for the node that it leads to on a link; nothing where no line does.
+/// Gives what a line has for the node that it leads to on a link; nothing if there is no such line.
 #[inline(always)]
 fn offered_on(book: &Book, number: u8, link: u8, all: bool) -> Received
     requires number { number < count_of_nodes book.now }
@@ -125,9 +125,9 @@ fn offered_on(book: &Book, number: u8, link: u8, all: bool) -> Received
     }
 }
 
-/// A node receives on links 0 to 3 in order: it takes what stands in front of the line's first Marker, one token after the other, and
-/// leaves a link at a token for which memory has no frame. Where not `all` is received, only on lines from which a running snapshot needs
-/// what is taken. The book stays as it is, so the node is ahead of it.
+/// Has a node receive on links 0 to 3 in order: it takes the tokens before the line's first Marker, one after the other. It leaves a link
+/// at a token for which memory has no frame. Without `all` it receives only on lines from which a running snapshot needs what is taken. The
+/// book stays as it is, so the node is ahead of it.
 #[inline(always)]
 pub(crate) fn receive(book: &Book, node: &mut Node, number: u8, all: bool) -> Taken
     requires is { IsNodeOf book.now number node.old }

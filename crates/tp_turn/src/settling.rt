@@ -8,8 +8,7 @@ use crate::front::act_on_link;
 use tp_book::{Book, Refusal};
 use tp_node::Node;
 
-/// A node records where it is asked to: it is frozen, and a Marker goes onto each of its wired lines. It takes nothing, and nothing
-/// runs.
+/// Has a node record if it is asked to: it is frozen, and a Marker goes onto each of its wired lines. Takes nothing, and runs nothing.
 pub fn record_asked(book: &mut Book, node: &mut Node, number: u8)
     requires is { IsNodeOf book.old number node.old }
     ensures done { Done number (Records number) (moment_of book.old node.old) (moment_of book.new node.new) }
@@ -22,11 +21,11 @@ pub fn record_asked(book: &mut Book, node: &mut Node, number: u8)
     }
 }
 
-/// A node records where it is asked to. Then, on links 0 to 3 in order, it takes at most three tokens of the line that
-/// comes in, a Marker among them, at which it closes the line. It leaves a line that is empty, whose token finds no frame
-/// in memory, or for which the journal is full. Nothing runs. Answers how many tokens were taken; a Marker isn't counted.
+/// Has a node record if it is asked to. Then, on links 0 to 3 in order, it takes at most three tokens of the line that comes in. A Marker
+/// is one of these, and closes the line. It leaves a line that is empty, whose token finds no frame in memory, or for which the journal is
+/// full. Nothing runs. Answers how many tokens were taken, without Markers.
 ///
-/// Errors: `StoreBroken` and `Memory` end the turn where they come, and what was done before stays. No other comes.
+/// `StoreBroken` and `Memory` end the turn where they come, and what was done before stays. There is no other error.
 pub fn settle(book: &mut Book, node: &mut Node, number: u8) -> Result<u64, Refusal>
     requires idle { book.old.ready ≡ None }
     requires is { IsNodeOf book.old number node.old }

@@ -1,4 +1,4 @@
-//! A node's turn in its stages, so that the book may be let go while the node runs.
+//! A node's turn in its stages, so that the book is free while the node runs.
 
 ghost use Rattle.std.specs.Prelude.{◌≡◌, ◌≤◌, Some, None, true, false, slice_get};
 ghost use Rattle.tp_model.specs.declared.limits.TheConstants.{MAX_STEPS};
@@ -35,7 +35,7 @@ pub struct Turn {
 
 /// Opens a node's turn: the node settles, and a run of it is reserved. Answers how many tokens were taken.
 ///
-/// Errors: those of `settle`, and those of `Book::reserve_run`. What was done before stays, and nothing is reserved.
+/// Fails as `settle` and `Book::reserve_run` do. What was done before stays, and nothing is reserved.
 pub fn open_turn(book: &mut Book, node: &mut Node, number: u8) -> Result<u64, Refusal>
     requires free { slice_get book.old.runs number ≡ Some false }
     requires idle { book.old.ready ≡ None }
@@ -48,8 +48,8 @@ pub fn open_turn(book: &mut Book, node: &mut Node, number: u8) -> Result<u64, Re
     Ok(takes)
 }
 
-/// Lets a node run for at most `quantum` steps. No book is needed. It ends for want of a frame only before a step that would
-/// write shared pages which outnumber the free frames; that step isn't counted. `runs` is what the thread keeps of instructions.
+/// Lets a node run for at most `quantum` steps. It needs no book. It ends for lack of a frame only before a step that would write more
+/// shared pages than there are free frames, and doesn't count that step. `runs` is what the thread keeps of instructions.
 #[inline(never)]
 pub fn run_node(node: &mut Node, runs: &mut Runs, quantum: u16) -> Stretch
     ensures asked { result.ran.max ≡ quantum }
@@ -63,8 +63,8 @@ pub fn run_node(node: &mut Node, runs: &mut Runs, quantum: u16) -> Stretch
     Stretch { ran, sent }
 }
 
-/// Journals what a node ran since its run was reserved: one entry, or none where it made no step. The reservation ends.
-/// The book may have changed in between by what others do.
+/// Journals what a node ran since its run was reserved: one entry, or none without a step. The reservation ends. Others may have changed
+/// the book in between.
 pub fn commit_turn(book: &mut Book, node: &Node, number: u8, stretch: Stretch) -> Ran
     requires reserved { slice_get book.old.runs number ≡ Some true }
     requires idle { book.old.ready ≡ None }
@@ -78,10 +78,10 @@ pub fn commit_turn(book: &mut Book, node: &Node, number: u8, stretch: Stretch) -
     ran
 }
 
-/// A node's turn: it is opened, the node runs for at most `quantum` steps, and the run is journalled. `runs` is what the thread keeps of
+/// Does a node's turn: opens it, lets the node run for at most `quantum` steps, and journals the run. `runs` is what the thread keeps of
 /// instructions.
 ///
-/// Errors: those of `open_turn`. What was done before stays, and nothing ran.
+/// Fails as `open_turn` does. What was done before stays, and nothing ran.
 pub fn node_turn(
     book: &mut Book,
     node: &mut Node,

@@ -10,16 +10,16 @@ use std::alloc::Global;
 use tp_model::limits::MAX_STEPS;
 use tp_node::Standing;
 
-/// What a trial leaves: what port 0 put out, and how the node stands at the end.
+/// What a trial leaves: what port 0 put out, and the node's state at the end.
 #[derive(Drop)]
 pub struct Trial {
     pub output: Vec<u8>,
     pub standing: Standing,
 }
 
-/// What port 0 holds after `turns` turns of the node of `image` and the host, and how the node stands then: node, host, node,
-/// host .. They are the turns that workers make. A run has at most `quantum` steps. It takes no more memory for more turns. The
-/// images that are refused are those with which no device may be formatted.
+/// Tells what port 0 holds after `turns` turns of the node of `image` and the host, and the node's state then. The order is node, host,
+/// node, host, and so on, and the turns are those that workers make. A run has at most `quantum` steps. More turns take no more memory.
+/// `BadImage` for an image with which no device may be formatted, and `Memory` if memory is out.
 pub fn try_standing(
     alloc: Global,
     image: &[u8],
@@ -41,7 +41,7 @@ pub fn try_standing(
     }
 }
 
-/// What port 0 holds after the turns of such a trial.
+/// Tells what port 0 holds after the turns of such a trial. Fails as `try_standing` does.
 pub fn try_output(
     alloc: Global,
     image: &[u8],

@@ -13,7 +13,7 @@ use tp_book::Refusal;
 use tp_model::limits::{MAX_STEPS, NUMBER_LIMIT};
 
 impl Lone {
-    /// A turn of the node, as workers make it.
+    /// Does a turn of the node, as workers make it. `Memory` if memory is out.
     fn node_turn(&mut self, quantum: u16) -> Result<(), TryFault>
         requires quantum { quantum ≤ MAX_STEPS }
         requires lone { IsLone self.old }
@@ -27,7 +27,7 @@ impl Lone {
         }
     }
 
-    /// A turn of the host, as workers make it.
+    /// Does a turn of the host, as workers make it. `Memory` if memory is out.
     fn host_turn(&mut self) -> Result<(), TryFault>
         requires lone { IsLone self.old }
         requires few { next_in_book self.old.book + TURN_ENTRIES + 1 < NUMBER_LIMIT }
@@ -40,7 +40,7 @@ impl Lone {
         }
     }
 
-    /// The turn with this number, of the node and the host in turns.
+    /// Does the turn with this number: an even one is the node's, an odd one the host's.
     fn turn_of(&mut self, number: u32, quantum: u16) -> Result<(), TryFault>
         requires quantum { quantum ≤ MAX_STEPS }
         requires lone { IsLone self.old }
@@ -54,7 +54,7 @@ impl Lone {
         }
     }
 
-    /// The turn with this number, after which the book forgets what it journalled.
+    /// Does the turn with this number, after which the book forgets what it journalled.
     fn turn(&mut self, number: u32, quantum: u16) -> Result<(), TryFault>
         requires quantum { quantum ≤ MAX_STEPS }
         requires lone { IsLone self.old }
@@ -66,7 +66,7 @@ impl Lone {
         Ok(())
     }
 
-    /// `turns` turns of the node and the host in turns.
+    /// Does `turns` turns of the node and the host, one after the other.
     pub(crate) fn turns(&mut self, turns: u32, quantum: u16) -> Result<(), TryFault>
         requires quantum { quantum ≤ MAX_STEPS }
         requires lone { IsLone self.old }

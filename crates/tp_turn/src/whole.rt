@@ -1,4 +1,4 @@
-//! A node's turn that is one entry, in its stages, so that the book may be let go while the node runs.
+//! A node's turn that is one entry, in its stages, so that the book is free while the node runs.
 
 ghost use Rattle.std.specs.Prelude.{◌≡◌, ◌++◌, ◌≤◌, ◌+◌, Some, None, true, false, length, slice_get};
 ghost use Rattle.tp_model.specs.declared.form.Form.TheVariants.{Turns};
@@ -41,8 +41,8 @@ fn commit(
     let _note = book.commit_turn(number, takes, count, tokens);
 }
 
-/// The journal is full for a turn. Where the node has recorded, it receives what the running snapshot needs, for which room is kept, and
-/// that is one entry of no steps; none where there is nothing. Answers why the turn ends.
+/// Ends a turn for which the journal is full, and answers why. If the node has recorded, it first receives what the running snapshot needs,
+/// for which room is kept. That is one entry of no steps; none if there is nothing.
 #[inline(never)]
 fn take_needed(book: &mut Book, node: &mut Node, number: u8) -> Refusal
     requires free { slice_get book.old.runs number ≡ Some false }
@@ -66,12 +66,13 @@ fn take_needed(book: &mut Book, node: &mut Node, number: u8) -> Refusal
     }
 }
 
-/// Opens a node's whole turn: it records where it is asked to, the lines with a Marker in front are closed where it has recorded, a turn of
-/// it is reserved, and it receives what stands in front of its lines. The tokens stay there until the commit. Answers what it received.
+/// Opens a node's whole turn. The node records if it is asked to, lines with a Marker at the front are closed if it has recorded, and a
+/// turn of it is reserved. Then it receives what is at the front of its lines. The tokens stay there until the commit. Answers what it
+/// received.
 ///
-/// Errors: `StoreBroken` and `Memory` where no turn could be reserved, and nothing was received; `JournalFull` where the journal has no
-/// room for a turn: then a node that has recorded received what the running snapshot needs, and that was journalled. What was recorded and
-/// closed before stays, and nothing is reserved. No other comes.
+/// Fails with `StoreBroken` or `Memory` if no turn could be reserved; then it received nothing. Fails with `JournalFull` if the journal has
+/// no room for a turn. A node that has recorded has then received what the running snapshot needs, and that was journalled. What was
+/// recorded and closed before stays, and nothing is reserved. There is no other error.
 #[inline(always)]
 pub fn open_whole(book: &mut Book, node: &mut Node, number: u8) -> Result<Taken, Refusal>
     requires free { slice_get book.old.runs number ≡ Some false }
@@ -89,7 +90,7 @@ pub fn open_whole(book: &mut Book, node: &mut Node, number: u8) -> Result<Taken,
     }
 }
 
-/// What a node answered to what it took, and then what it sent as it ran.
+/// Joins what a node answered to what it took and what it then sent as it ran.
 fn all_sent(answers: &[(u8, Token)], sent: &[(u8, Token)]) -> ArrayVec<(u8, Token), 16>
     requires { length answers.now + length sent.now ≤ 16 }
     ensures { result.items ≡ answers.now ++ sent.now }
@@ -104,8 +105,8 @@ fn all_sent(answers: &[(u8, Token)], sent: &[(u8, Token)]) -> ArrayVec<(u8, Toke
     tokens
 }
 
-/// Journals a turn for which room was reserved, and in which `node` answered `sent` to what it took and then sent `more` as it ran: as
-/// `commit`, with the two joined.
+/// Journals a turn for which room was reserved. In the turn `node` answered `sent` to what it took and then sent `more` as it ran. It does
+/// what `commit` does, with the two joined.
 #[inline(never)]
 fn commit_all(
     book: &mut Book,
@@ -127,8 +128,8 @@ fn commit_all(
     commit(book, node, number, takes, count, tokens.as_slice());
 }
 
-/// Journals what a node received and ran since its turn was opened: one entry, or none where it took nothing and made no step. The
-/// reservation ends. The book may have changed in between by what others do.
+/// Journals what a node received and ran since its turn was opened: one entry, or none if it took nothing and made no step. The reservation
+/// ends. Others may have changed the book in between.
 #[inline(always)]
 pub fn commit_whole(book: &mut Book, node: &Node, number: u8, taken: Taken, stretch: Stretch) -> Ran
     requires reserved { slice_get book.old.runs number ≡ Some true }
@@ -149,10 +150,10 @@ pub fn commit_whole(book: &mut Book, node: &Node, number: u8, taken: Taken, stre
     ran
 }
 
-/// A node's whole turn: it is opened, the node runs for at most `quantum` steps, and what it took and ran is journalled as one entry.
+/// Does a node's whole turn: opens it, lets the node run for at most `quantum` steps, and journals what it took and ran as one entry.
 /// `runs` is what the thread keeps of instructions.
 ///
-/// Errors: those of `open_whole`. What was done before stays, and nothing ran.
+/// Fails as `open_whole` does. What was done before stays, and nothing ran.
 pub fn whole_turn(
     book: &mut Book,
     node: &mut Node,

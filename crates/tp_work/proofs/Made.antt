@@ -22,7 +22,7 @@ made_of spare bytes node spelt image reads frames =
       frames = frames;
     }
 
--- each image spells its node, where all do
+-- each image spells its node, if all do
 pub each_spelt : {X Y : Type 0} (f : X → Y) (g : X → Option Y) (xs : List X) (i : ℕ) (x : X) → i < length xs → x ≡ get_or xs i x → map g xs ≡ map Some (map f xs) → g x ≡ Some (f x)
 each_spelt f g xs i x below is all =
     ap g is ∙ sym (get_or-map g xs i x (Some (f x)) below) ∙ ap (λ ys. get_or ys i (Some (f x))) all ∙ get_or-map Some (map f xs) i (f x) (Some (f x)) (subst (λ n. i < n) (sym (length-map xs f)) below)

@@ -5,7 +5,7 @@ use Rattle.tp_model.specs.NodeState.{NodeState}
 use Rattle.tp_node.specs.FromImage.{HasFrames}
 use Rattle.tp_node.specs.NodeContents.{NodeContents}
 
--- A node in this state, not frozen, with an image and `spare` spare frames, but no more than pages.
+-- A node in this state, not frozen, with an image and `spare` spare frames, but at most as many as pages.
 pub record IsMade (spare : ℕ) (state : NodeState) (node : NodeContents) : Type 0 where
   pub live : node.live ≡ state
   pub thawed : node.frozen ≡ None

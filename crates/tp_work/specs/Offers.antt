@@ -1,4 +1,4 @@
--- Why offers are refused.
+-- Why offers fail.
 use Rattle.std.specs.Prelude.{◌<◌, ℕ, ◌==◌, nat_lt, if◌then◌else◌, Option, Some, None}
 use Rattle.tp_book.specs.Book.{BookValue}
 use Rattle.tp_book.specs.Host.{accepted_of, port_in, room_of}
@@ -8,8 +8,8 @@ use Rattle.tp_book.specs.declared.refusal.Refusal.TheVariants as refusal
 use Rattle.tp_work.specs.declared.host_fault.OfferFault.{OfferFault}
 use Rattle.tp_work.specs.declared.host_fault.OfferFault.TheVariants.{Already, Gap, PortFull, JournalFull, StoreBroken, Memory}
 
--- Why `count` bytes can't be handed to a port: where there are any, the store is broken, the port has no room for them, the
--- journal has none, told in this order.
+-- Why `count` bytes, at least one, can't be handed to a port. The first reason counts: the store is broken, the port has no room for them,
+-- the journal has none.
 abbrev pub bytes_fault : BookValue → ℕ → ℕ → Option OfferFault
 bytes_fault b port count =
     if count == 0 then None
@@ -18,14 +18,14 @@ bytes_fault b port count =
     else if is_journal_full b count then Some JournalFull
     else None
 
--- Why they can't be offered at a position: before all else, the port has accepted more bytes, or fewer.
+-- Why they can't be offered at a position. The first reason is that the port has accepted more bytes, or fewer.
 abbrev pub offer_fault : BookValue → ℕ → ℕ → ℕ → Option OfferFault
 offer_fault b port at count =
     if nat_lt at (accepted_of (port_in b port)) then Some (Already (accepted_of (port_in b port)))
     else if nat_lt (accepted_of (port_in b port)) at then Some (Gap (accepted_of (port_in b port)))
     else bytes_fault b port count
 
--- What a refused offer tells of its position and of how many bytes it has.
+-- What a fault tells of the offer's position and of its number of bytes.
 abbrev pub IsReason : ℕ → ℕ → OfferFault → Type 0
 IsReason at count (Already accepted) = at < accepted
 IsReason at count (Gap accepted) = accepted < at

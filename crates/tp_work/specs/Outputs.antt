@@ -17,8 +17,8 @@ shown_fault b port mark from =
     else if nat_lt (shown_upto_of b port mark) from then Some TooNew
     else None
 
--- Outputs can't be confirmed up to a position: the mark doesn't show them; or, where they weren't confirmed before, the store is
--- broken or the journal is full, told in this order.
+-- Outputs can't be confirmed up to a position. The first reason counts: the mark doesn't show them; or they weren't confirmed before, and
+-- the store is broken or the journal is full.
 abbrev pub confirm_fault : BookValue → ℕ → ℕ → ℕ → Option ConfirmFault
 confirm_fault b port mark upto =
     if nat_lt (shown_upto_of b port mark) upto then Some NotShown

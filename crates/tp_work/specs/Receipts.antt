@@ -5,8 +5,8 @@ use Rattle.tp_model.specs.declared.entry.Entry.{Entry}
 use Rattle.tp_book.specs.Covered.{ReceiptValue}
 use Rattle.tp_shared.specs.Below.{AreBelow}
 
--- A seat got the slips of just the entries, under numbers that follow one another and are above all that it had, and the receipt's number
--- is the next one behind them.
+-- A seat got the slips of exactly the entries. Their numbers follow one another and are above all that the seat had. The receipt's number
+-- is the next one after them.
 pub record IsFor (entries : List Entry) (old new : List (ℕ × Entry)) (receipt : ReceiptValue) : Type 0 where
   pub first : ℕ
   pub slips : new ≡ old ++ enumerate_from first entries

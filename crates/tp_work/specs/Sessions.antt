@@ -23,7 +23,7 @@ use Rattle.tp_work.specs.declared.host_fault.OfferFault.TheVariants.{Memory as N
 use Rattle.tp_work.specs.declared.host_fault.ShownFault.{ShownFault}
 use Rattle.tp_work.specs.declared.host_fault.ShownFault.TheVariants.{Memory as NoMemoryToShow}
 
--- A book with the network's numbers of nodes and ports, the session's port among these.
+-- A book with the network's numbers of nodes and ports. The session's port is among these.
 pub record HasPort (start : Network NodeState) (port : ℕ) (b : BookValue) : Type 0 where
   pub nodes : length b.state.start.nodes ≡ length start.nodes
   pub ports : length b.state.ports ≡ length start.ports
@@ -36,8 +36,8 @@ abbrev pub ShowsJust : BookValue → ℕ → ℕ → ℕ → Result (Vec ℕ Glo
 ShowsJust b port mark from (Ok bytes) = (bytes.items ≡ shown_from b port mark from) × ShowsUpto b port mark (from + vec_len bytes)
 ShowsJust b port mark from (Err fault) = Unit {0}
 
--- The book was seen once, behind all that was seen before. In it the answer is just what the mark shows, or the first reason why it
--- doesn't reach the position, or memory was refused.
+-- The book was seen once, after all that was seen before. The answer is exactly what the mark shows in it, or the first reason why the mark
+-- doesn't reach the position. Or memory is out.
 pub record ShownIn (start : Network NodeState) (port mark from : ℕ) (answer : Result (Vec ℕ Global) ShownFault) (old new : List BookValue) : Type 0 where
   pub found : BookValue
   pub seen : new ≡ old ++ found ∷ []
@@ -47,16 +47,16 @@ pub record ShownIn (start : Network NodeState) (port mark from : ℕ) (answer : 
 
 -- ## What is journalled
 
--- Of the book that was found the call made this one and this receipt, whose number is the next one. The seat got the slips of just these
--- entries, under the numbers that the book gave them, which are above all that it had. Where it is refused the book is left as it was
+-- The call made from the book that was found this book and this receipt, whose number is the next one. The seat got the slips of exactly
+-- these entries, under the numbers that the book gave them, which are above all that it had. If the call fails, the book is left as it was
 -- found, and the seat as it was.
 abbrev pub DidJust : {F : Type 0} → BookValue → BookValue → BookValue → ReceiptValue → List Entry → Result ReceiptValue F → List (ℕ × Entry) → List (ℕ × Entry) → Type 0
 DidJust found left made given entries (Ok receipt) old new =
     (left ≡ made) × (receipt ≡ given) × (receipt.number ≡ next_in_book left) × (new ≡ old ++ enumerate_from (next_in_book found) entries) × AreBelow (next_in_book found) old
 DidJust found left made given entries (Err fault) old new = (left ≡ found) × (new ≡ old)
 
--- The book was seen as it was found and as it was left, behind all that was seen before. The bytes were handed to the port, or refused
--- for the first reason that holds in the book that was found; memory is wanting only where none holds and there are bytes.
+-- The book was seen as it was found and as it was left, after all that was seen before. The bytes were handed to the port, or the call
+-- failed for the first reason that is true of the book that was found. Memory can be out only if no reason is true and there are bytes.
 pub record OfferedIn (start : Network NodeState) (port at : ℕ) (bytes : List ℕ) (answer : Result ReceiptValue OfferFault) (old new : InHand) : Type 0 where
   pub found : BookValue
   pub left : BookValue
@@ -66,8 +66,8 @@ pub record OfferedIn (start : Network NodeState) (port at : ℕ) (bytes : List �
   pub nothing : length bytes ≡ 0 → at ≡ accepted_of (port_in found port) → IsOk answer
   pub did : DidJust found left (after_inputs found port bytes) (input_receipt found port bytes) (map (HostIn port) bytes) answer old.slips new.slips
 
--- The book was found and left so as outputs of the port were confirmed up to `upto`. That is refused where the mark doesn't show it. Where
--- it was confirmed before, it isn't refused, and nothing is done.
+-- The book was found and left like this as outputs of the port were confirmed up to `upto`. The call fails if the mark doesn't show them.
+-- If they were confirmed before, it succeeds, and nothing is done.
 pub record ConfirmedIn (start : Network NodeState) (port mark upto : ℕ) (answer : Result ReceiptValue ConfirmFault) (old new : InHand) : Type 0 where
   pub found : BookValue
   pub left : BookValue

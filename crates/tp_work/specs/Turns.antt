@@ -18,8 +18,8 @@ use Rattle.tp_work.specs.declared.fault.TurnFault.{TurnFault}
 use Rattle.tp_work.specs.declared.fault.TurnFault.TheVariants.{Empty, JournalFull, StoreBroken, Memory}
 use Rattle.tp_work.specs.declared.turn.Turn.{Turn}
 
--- A node that is there took and ran as the turn says; or the host took the number of tokens that it says. The seat has the slips of what
--- was journalled and no others, behind all that it had.
+-- A node of the network took and ran as the turn says, or the host took the number of tokens that it says. The seat has the slips of what
+-- was journalled and no others, after all that it had.
 abbrev pub TurnedAs : Network NodeState → ℕ → ℕ → ℕ → Option RunEnd → List (ℕ × Entry) → List (ℕ × Entry) → Type 0
 TurnedAs start quantum process takes (Some ran) old new =
     (process < length start.nodes) × NodeTurned start process quantum (record { taken = takes; ran = ran }) old new
@@ -29,11 +29,11 @@ TurnedAs start quantum process takes None old new =
 abbrev pub Turned : Network NodeState → ℕ → Turn → List (ℕ × Entry) → List (ℕ × Entry) → Type 0
 Turned start quantum turn old new = TurnedAs start quantum turn.process turn.takes turn.ran old new
 
--- what a process took before its turn was refused: an entry for each token; or, of a node, one for all
+-- what a process took before its turn failed: an entry for each token; or, of a node, one for all
 abbrev pub TookBefore : Network NodeState → ℕ → List Entry → Type 0
 TookBefore start process entries = AreTakes start process entries ⊎ ((process < length start.nodes) × TookAtOnce process entries)
 
--- Some process took tokens before its turn was refused, and the seat has the slips of their entries.
+-- Some process took tokens before its turn failed, and the seat has the slips of their entries.
 pub record BrokenOff (start : Network NodeState) (old new : List (ℕ × Entry)) : Type 0 where
   pub process : ℕ
   pub there : process ≤ length start.nodes
@@ -57,7 +57,7 @@ turn_fault refusal.PortFull = Memory
 
 -- ## Whose turn it was, and how it went
 
--- The queue was asked once, and handed out this number, or none.
+-- The queue was asked once, and handed out this number, or `None`.
 abbrev pub Handed : Numbers → Option ℕ → List Answer → List Answer → Type 0
 Handed queue number old new = new ≡ old ++ answer queue number ∷ []
 
@@ -69,12 +69,12 @@ WentAs start quantum process takes None old new = HostTurnMade start (Ok takes) 
 abbrev pub TurnWent : Network NodeState → ℕ → Turn → InHand → InHand → Type 0
 TurnWent start quantum turn old new = WentAs start quantum turn.process turn.takes turn.ran old new
 
--- how a turn of this process was refused, in the book that was seen
+-- how a turn of this process failed, in the book that was seen
 abbrev pub RefusedAt : Network NodeState → ℕ → Refusal → InHand → InHand → Type 0
 RefusedAt start process reason old new =
     ((process < length start.nodes) × TurnBrokenOff start process reason old new) ⊎ ((process ≡ length start.nodes) × HostTurnMade start (Err reason) old new)
 
--- A turn of this process was refused with this reason, and the seat has the slips of what it took before.
+-- A turn of this process failed for this reason, and the seat has the slips of what it took before.
 abbrev pub RefusedWith : Network NodeState → ℕ → Refusal → InHand → InHand → Type 0
 RefusedWith start process reason old new = Gained (TookBefore start process) old.slips new.slips × RefusedAt start process reason old new
 
@@ -84,11 +84,11 @@ RefusedFor start process JournalFull old new = RefusedWith start process refusal
 RefusedFor start process StoreBroken old new = RefusedWith start process refusal.StoreBroken old new
 RefusedFor start process Memory old new = RefusedWith start process refusal.Memory old new
 
--- The process that was refused is the one whose number the queue handed out.
+-- The process whose turn failed is the one whose number the queue handed out.
 abbrev pub RefusedOne : Network NodeState → Numbers → TurnFault → List Answer → List Answer → InHand → InHand → Type 0
 RefusedOne start queue fault asked_old asked_new old new = (process : ℕ) × Handed queue (Some process) asked_old asked_new × RefusedFor start process fault old new
 
--- `Empty` is the queue's own answer, and comes only where there are more seats than processes. Nothing was seen then.
+-- `Empty` is the queue's own answer, and comes only if there are more seats than processes. Nothing was seen then.
 abbrev pub RefusedBy : Network NodeState → Numbers → TurnFault → List Answer → List Answer → InHand → InHand → Type 0
 RefusedBy start queue Empty asked_old asked_new old new = Handed queue None asked_old asked_new × (queue.count < queue.hands) × (new.seen ≡ old.seen)
 RefusedBy start queue JournalFull asked_old asked_new old new = RefusedOne start queue JournalFull asked_old asked_new old new

@@ -14,8 +14,8 @@ use crate::host_fault::ConfirmFault;
 use tp_book::Receipt;
 use tp_shared::{Locked, Naming, Seat};
 
-/// Journals, under the book's lock, that the host has a port's outputs up to the position `upto`, which go: a mark has to show them.
-/// Up to a position that was confirmed before nothing is done. `seat` gets the entry's slip.
+/// Journals, under the book's lock, that the host has a port's outputs up to the position `upto`, and drops them. They must be shown by the
+/// mark. Does nothing if they were confirmed before. `seat` gets the entry's slip.
 pub fn confirm<J: Naming>(
     held: &mut Locked<J>,
     seat: &mut Seat<J>,

@@ -1,4 +1,4 @@
-//! Why a turn is refused.
+//! Why a turn fails.
 
 ghost use Rattle.std.specs.Prelude.{◌≡◌};
 ghost use Rattle.tp_work.specs.Turns.{turn_fault};
@@ -7,8 +7,7 @@ ghost use Rattle.tp_shared.specs.Entries.{IsTurnRefusal};
 use thiserror::Error;
 use tp_book::Refusal;
 
-/// After `Empty` nothing is changed. After the others the process is back in the ready queue; what it took before stays, and nothing
-/// ran.
+/// After `Empty` nothing has changed. After the others the process is back in the ready queue; what it took before stays, and nothing ran.
 #[derive(Clone, Copy, Debug, PartialEq, Eq, Error)]
 pub enum TurnFault {
     /// No process was in the ready queue: all were with other seats.
@@ -20,13 +19,13 @@ pub enum TurnFault {
     /// The store failed, and nothing is journalled until it is opened again.
     #[error("StoreBroken")]
     StoreBroken,
-    /// Memory was refused.
+    /// Out of memory.
     #[error("Memory")]
     Memory,
 }
 
 impl TurnFault {
-    /// The fault of a turn that the book refused.
+    /// Gives the fault of a turn that the book refused.
     pub(crate) fn of(refusal: Refusal) -> TurnFault
         requires { IsTurnRefusal refusal }
         ensures { result ≡ turn_fault refusal }

@@ -1,4 +1,4 @@
-//! What sessions do under the book's lock, which is seen as it is found and as it is left.
+//! What sessions do under the book's lock. The book is seen before and after that.
 
 ghost use Rattle.std.specs.Prelude.{◌≡◌, ◌<◌, ◌⊎◌, ◌∷◌, [], length, map, Some, IfOk, IfErr};
 ghost use Rattle.tp_model.specs.declared.entry.Entry.TheVariants.{HostIn, Confirm};
@@ -37,7 +37,7 @@ pub(crate) fn offer_seen<J: Naming>(
     done
 }
 
-/// A copy of the outputs of a port that a mark shows.
+/// Copies the outputs of a port that a mark shows.
 pub(crate) fn shown_seen<J: Naming>(
     held: &mut Locked<J>,
     alloc: Global,

@@ -1,4 +1,4 @@
-//! Why sessions' calls are refused.
+//! Why sessions' calls fail.
 
 ghost use Rattle.std.specs.Prelude.{◌≡◌};
 ghost use Rattle.tp_work.specs.Offers.{IsInputRefusal, input_fault};
@@ -7,16 +7,16 @@ ghost use Rattle.tp_work.specs.Outputs.{IsConfirmRefusal, confirmation_fault};
 use thiserror::Error;
 use tp_book::Refusal;
 
-/// Why an offer is refused. Nothing was handed in.
+/// Why an offer fails. Nothing was handed in.
 #[derive(Clone, Copy, Debug, PartialEq, Eq, Error)]
 pub enum OfferFault {
-    /// The offer begins before the end of what the port has accepted: the number of bytes that it has.
+    /// The offer begins before the end of what the port has accepted. Has the number of bytes that the port has accepted.
     #[error("Already {0}")]
     Already(u64),
-    /// The offer begins behind the next byte that the port accepts: the number of bytes that it has accepted.
+    /// The offer begins after the next byte that the port accepts. Has the number of bytes that the port has accepted.
     #[error("Gap {0}")]
     Gap(u64),
-    /// The port has no room for all the bytes: the number of bytes that it has room for.
+    /// The port has no room for all the bytes. Has the number of bytes that it has room for.
     #[error("PortFull {0}")]
     PortFull(u64),
     /// There is no room on the device for the entries, or there are no numbers.
@@ -25,13 +25,13 @@ pub enum OfferFault {
     /// The store failed, and nothing is journalled until it is opened again.
     #[error("StoreBroken")]
     StoreBroken,
-    /// Memory was refused.
+    /// Out of memory.
     #[error("Memory")]
     Memory,
 }
 
 impl OfferFault {
-    /// The fault of an offer that the book refused. The port has room for `room` bytes.
+    /// Gives the fault of an offer that the book refused. The port has room for `room` bytes.
     pub(crate) fn of(refusal: Refusal, room: u64) -> OfferFault
         requires { IsInputRefusal refusal }
         ensures { result ≡ input_fault room refusal }
@@ -58,13 +58,13 @@ pub enum ConfirmFault {
     /// The store failed, and nothing is journalled until it is opened again.
     #[error("StoreBroken")]
     StoreBroken,
-    /// Memory was refused.
+    /// Out of memory.
     #[error("Memory")]
     Memory,
 }
 
 impl ConfirmFault {
-    /// The fault of a confirmation that the book refused.
+    /// Gives the fault of a confirmation that the book refused.
     pub(crate) fn of(refusal: Refusal) -> ConfirmFault
         requires { IsConfirmRefusal refusal }
         ensures { result ≡ confirmation_fault refusal }
@@ -89,7 +89,7 @@ pub enum ShownFault {
     /// The mark doesn't show the outputs up to the position.
     #[error("TooNew")]
     TooNew,
-    /// Memory was refused.
+    /// Out of memory.
     #[error("Memory")]
     Memory,
 }

@@ -15,8 +15,7 @@ use tp_ready::ReadyQueue;
 use tp_shared::gate::NUMBER_TAKEN;
 use tp_shared::{Gate, Naming, NodeTurn, Shared, Sights};
 
-/// What threads share, the ready queue of all processes, how many steps a node's turn may have, and the gate that each turn
-/// passes.
+/// What threads share, the ready queue of all processes, how many steps a node's turn may have, and the gate that each turn passes.
 #[derive(Drop)]
 pub struct Net<J: Naming, G: Gate> {
     pub(crate) shared: Shared<J>,
@@ -28,13 +27,13 @@ pub struct Net<J: Naming, G: Gate> {
 }
 
 impl<J: Naming, G: Gate> Net<J, G> {
-    /// What threads share.
+    /// Gives what threads share.
     pub fn shared(&self) -> &Shared<J> {
         &self.shared
     }
 
-    /// A seat without a slip, for what is journalled at no worker's seat: what the host hands in and confirms, and turns that no worker
-    /// makes. Threads that share the network can't ask for one.
+    /// Makes a seat without a slip, for what is journalled at no worker's seat: what the host hands in and confirms, and turns that no
+    /// worker makes. Threads that share the network can't call this.
     pub fn seat(&mut self) -> tp_shared::Seat<J>
         ensures same { (self.new.shared ≡ self.old.shared) × (self.new.queue ≡ self.old.queue) × (self.new.quantum ≡ self.old.quantum) × (self.new.gate ≡ self.old.gate) }
         ensures empty { result ≡ [] }
@@ -42,9 +41,9 @@ impl<J: Naming, G: Gate> Net<J, G> {
         self.shared.seat()
     }
 
-    /// A turn of the process that waits longest: the one whose number the ready queue hands out, as `seat` keeps. It goes to the end of
-    /// the queue, whatever its turn did, and the hand of `seat` makes no other call. `seat` gets the slips of what was journalled, and what
-    /// was seen of the book. `Empty` is the queue's own answer, and comes only where there are more seats than processes.
+    /// Makes a turn of the process that waits longest: the process whose number the ready queue hands out, as `seat` keeps. Afterwards the
+    /// process is at the end of the queue, whatever its turn did; the hand of `seat` makes no other call. `seat` gets the slips of what was
+    /// journalled, and what was seen of the book. `Empty` is the queue's own answer, and comes only if there are more seats than processes.
     #[inline(always)]
     pub fn turn<R: Wait>(&self, rt: &R, seat: &mut Seat<J>) -> Result<Turn, TurnFault>
         requires queue { seat.old.hand.of ≡ Some self.now.queue }
@@ -70,7 +69,7 @@ impl<J: Naming, G: Gate> Net<J, G> {
         done
     }
 
-    // A turn of a process.
+    // Makes a turn of a process.
     #[inline(always)]
     fn turn_of<R: Wait>(
         &self,

@@ -13,7 +13,7 @@ use tp_book::{NetParts, NetState};
 use tp_law_machine::nodes_stay_nodes;
 use tp_node::Node;
 
-// The node that an image spells, with `spare` frames.
+// Makes the node that an image spells, with `spare` frames.
 fn node_in(alloc: Global, image: &[u8], spare: usize) -> Result<Node, AllocError>
     requires { node_of image.now ≡ Some (node_at image.now) }
     ensures { IfOk result (IsMade spare (node_at image.now)) }
@@ -25,8 +25,9 @@ fn node_in(alloc: Global, image: &[u8], spare: usize) -> Result<Node, AllocError
     }
 }
 
-/// The nodes of an opened device, as the kept entries left them. Each has `spare` frames, but no more than it has pages, for pages
-/// that it writes while it is frozen. An image goes as soon as its node is made, so that the memory holds few pages twice.
+/// Makes the nodes of an opened device, as the kept entries left them. Each has `spare` frames, but at most as many as pages, for pages
+/// that it writes while it is frozen. Drops each image as soon as its node is made, so that the memory holds few pages twice. `AllocError`
+/// if memory is out.
 pub fn nodes_of(alloc: Global, state: NetState, spare: usize) -> Result<Vec<Node>, AllocError>
     requires { IsWellOpen state }
     ensures live { IfOk result (λ nodes. map (λ node. node.live) nodes.items ≡ (now_of state).nodes) }

@@ -15,8 +15,8 @@ use crate::host_fault::OfferFault;
 use tp_book::Receipt;
 use tp_shared::{Locked, Naming, Seat};
 
-/// Hands bytes to a port, under the book's lock, where the first of them is the next one that the port accepts: all of them or,
-/// where the offer is refused, none. No bytes are always accepted there, and make no entry. `seat` gets the slips of the entries.
+/// Hands bytes to a port, under the book's lock: all of them, or none if the offer fails. The first of them must be the next one that the
+/// port accepts. Offering 0 bytes there always works, and makes no entry. `seat` gets the slips of the entries.
 pub fn offer<J: Naming>(
     held: &mut Locked<J>,
     seat: &mut Seat<J>,

@@ -9,7 +9,7 @@ use crate::host_fault::ShownFault;
 use std::alloc::Global;
 use tp_book::Book;
 
-/// A copy of the outputs of a port from the position `from` on that a mark shows.
+/// Copies the outputs of a port from the position `from` on that a mark shows.
 pub fn shown(
     book: &Book,
     alloc: Global,

@@ -7,9 +7,9 @@ use tp_node::Runs;
 use tp_ready::{Answers, Hand};
 use tp_shared::{Naming, Sights};
 
-/// Where a worker makes turns: it takes one process at a time, has the slips of what its turns journalled, and keeps what its thread has read
-/// of instructions, of whichever nodes; and what the ready queue answered and what was seen of the book under its lock, as proofs alone
-/// see. Nobody can copy it.
+/// The place at which a worker makes turns. It takes one process at a time, and has the slips of what its turns journalled. It keeps what
+/// its thread has read of instructions, of all nodes. Only proofs see what the ready queue answered and what was seen of the book under its
+/// lock. Nobody can copy it.
 #[derive(Drop)]
 pub struct Seat<J: Naming> {
     pub(crate) hand: Hand,
@@ -20,14 +20,14 @@ pub struct Seat<J: Naming> {
 }
 
 impl<J: Naming> Seat<J> {
-    /// How many entries its turns made, or the greatest number where there were more.
+    /// Counts the entries that its turns made, up to the greatest number.
     pub fn count(&self) -> u64
         ensures { IsSlipCount result self.now.slips }
     {
         self.slips.count()
     }
 
-    /// The slips of all that its turns journalled, for an audit.
+    /// Gives the slips of all that its turns journalled, for an audit.
     pub fn into_slips(self) -> tp_shared::Seat<J>
         ensures { result ≡ self.slips }
     {

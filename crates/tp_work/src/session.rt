@@ -25,7 +25,7 @@ pub struct Session<'a, J: Naming> {
 }
 
 impl<'a, J: Naming> Session<'a, J> {
-    /// A session at the port `port`; `None` where there is none.
+    /// Makes a session at the port `port`; `None` if there is no such port.
     pub fn new(shared: &'a Shared<J>, port: u8) -> Option<Session<'a, J>>
         ensures there { IsSome result ↔ (port < length J.start.ports) }
         ensures port { IfSome result (λ session. session.port ≡ port) }
@@ -37,8 +37,8 @@ impl<'a, J: Naming> Session<'a, J> {
         }
     }
 
-    /// Hands bytes to the port, where the first of them is the next one that it accepts: all of them or, where the offer is refused,
-    /// none. `seat` gets the slips of their entries, and `seen` the book as it was found and as it was left.
+    /// Hands bytes to the port: all of them, or none if the offer fails. The first of them must be the next one that the port accepts.
+    /// `seat` gets the slips of their entries, and `seen` the book before and after that.
     pub fn offer<R: Wait>(
         &self,
         rt: &R,
@@ -56,7 +56,7 @@ impl<'a, J: Naming> Session<'a, J> {
         offer_seen(&mut held, self.port, at, bytes, seat, seen)
     }
 
-    /// Whether all that a receipt is for is on the device. What is true stays true for `pass`.
+    /// Whether all that a receipt is for is on the device. If so, it stays true for `pass`.
     pub fn is_stored(&self, receipt: &Receipt, pass: &mut Pass) -> bool
         requires { pass.old.mark ≡ J.mark }
         ensures stored { IsTrue result ↔ (receipt.now.number ≤ pass.new.at) }
@@ -68,8 +68,8 @@ impl<'a, J: Naming> Session<'a, J> {
         receipt.number() <= self.shared.mark().load(pass)
     }
 
-    /// The outputs of the port from the position `from` on that are shown: the mark that `pass` loads is above their entries. `seen` gets
-    /// the book that they are in.
+    /// Copies the outputs of the port from the position `from` on that are shown: the mark that `pass` loads is above their entries. `seen`
+    /// gets the book that has them.
     pub fn shown<R: Wait>(
         &self,
         rt: &R,
@@ -90,8 +90,8 @@ impl<'a, J: Naming> Session<'a, J> {
         shown_seen(&mut held, alloc, self.port, mark, from, seen)
     }
 
-    /// Journals that the host has the port's outputs up to the position `upto`, which go. They have to be shown, by the mark that
-    /// `pass` loads. `seat` gets the entry's slip, and `seen` the book as it was found and as it was left.
+    /// Journals that the host has the port's outputs up to the position `upto`, and drops them. They must be shown, by the mark that `pass`
+    /// loads. `seat` gets the entry's slip, and `seen` the book before and after that.
     pub fn confirm<R: Wait>(
         &self,
         rt: &R,

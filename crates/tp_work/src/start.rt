@@ -23,7 +23,7 @@ pub const MAX_SEATS: u8 = 32;
 /// The most workers of a run, each at a seat of its own.
 pub const MAX_WORKERS: u8 = 16;
 
-// A seat without a slip for each hand, of what isn't shared yet.
+// Makes a seat without a slip for each hand, while nothing is shared yet.
 fn seats_of<J: Naming>(
     alloc: Global,
     shared: &mut Shared<J>,
@@ -47,9 +47,8 @@ fn seats_of<J: Naming>(
 }
 
 impl<J: Naming, G: Gate + Drop> Net<J, G> {
-    /// Puts `parts` under locks, fills the ready queue with the numbers of all processes, the nodes' in order and then the
-    /// host's, and gives `seats` seats. A node's turn may have `quantum` steps. The key is the flusher's, and shows
-    /// what is told of the book as it is.
+    /// Puts `parts` under locks, fills the ready queue with the numbers of all processes, the nodes' in order and then the host's, and
+    /// makes `seats` seats. A node's turn may have `quantum` steps. The key is the flusher's, and shows what is told of the book as it is.
     #[inline(never)]
     pub fn start<R: Wait>(
         rt: &R,

@@ -2,7 +2,7 @@
 
 use tp_node::Ran;
 
-/// Which process made a turn, how many tokens it took, and how it ran. The host, whose number is behind the nodes', only takes.
+/// The process that made a turn, how many tokens it took, and how it ran. The host, whose number comes after the nodes', only takes.
 #[derive(Drop)]
 pub struct Turn {
     pub process: u8,

@@ -8,7 +8,7 @@ ghost use Rattle.tp_model.specs.Coding.{decoded, spelling};
 ghost use Rattle.tp_model.specs.Registers.{op_row, error_if};
 ghost use Rattle.tp_law_machine.specs.Start.{regs};
 
-/// Operands from 0 on and below, a spelling that is longer than need be, and an operation.
+/// Operands from 0 on and below 0, a spelling that is longer than it has to be, and an operation.
 pub fn instructions_are_read()
     ensures positive { decoded (0x27 ∷ 0x25 ∷ 0x44 ∷ []) ≡ Ok (record { fun = Ldc; operand = pos 0x754; len = 3 }) }
     ensures negative { decoded (0x61 ∷ 0x41 ∷ []) ≡ Ok (record { fun = Ldc; operand = negsuc 30; len = 2 }) }
@@ -24,7 +24,7 @@ pub fn instructions_are_refused()
     ensures no_operation { decoded (0x22 ∷ 0xF2 ∷ []) ≡ Err UnknownOp }
 {}
 
-/// A spelling is one of the shortest.
+/// No spelling of an instruction is shorter than this one.
 pub fn instructions_are_spelt()
     ensures positive { spelling Ldc 0x123 ≡ 0x21 ∷ 0x22 ∷ 0x43 ∷ [] }
     ensures minus_one { spelling Ldc 0xFFFF_FFFF ≡ 0x60 ∷ 0x4F ∷ [] }
@@ -44,7 +44,7 @@ pub fn divisions_go_towards_zero()
     ensures rem { op_row Rem (regs 2 0xFFFF_FFF9 5) ≡ Some (regs 0xFFFF_FFFF 5 5) }
 {}
 
-/// Products and quotients of two words, and a quotient that has no place in a word.
+/// Products and quotients of two words, and a quotient that doesn't fit a word.
 pub fn words_come_in_pairs()
     ensures lmul { op_row Lmul (regs 0xFFFF_FFFF 0xFFFF_FFFF 0xFFFF_FFFF) ≡ Some (regs 0 0xFFFF_FFFF 0xFFFF_FFFF) }
     ensures ldiv { op_row Ldiv (regs 2 0 1) ≡ Some (regs 0x8000_0000 0 1) }

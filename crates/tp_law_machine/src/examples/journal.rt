@@ -33,8 +33,8 @@ pub fn entries_are_refused()
     ensures filler { entry_at (1 ∷ 0 ∷ 3 ∷ 0 ∷ 1 ∷ zeros 11) ≡ None }
 {}
 
-/// Turns with their numbers: what each link gave, its data bytes, and a number of 6 bytes in front of the pattern. One such row
-/// is no entry of an area without turns.
+/// Turns with their numbers: what each link gave, its data bytes, and a number of 6 bytes before the pattern. Such a row is no entry of an
+/// area without turns.
 pub fn turns_are_read()
     ensures ack { entry_at (5 ∷ 0 ∷ 16 ∷ 0 ∷ zeros 4 ++ (2 ∷ zeros 5 ++ (2 ∷ 0 ∷ []))) ≡ Some (Turn 0 (JustAck ∷ Nothing ∷ Nothing ∷ Nothing ∷ []) 16, 2) }
     ensures links { entry_at (5 ∷ 3 ∷ 0 ∷ 0 ∷ 0 ∷ 0x5A ∷ 0x61 ∷ 0x62 ∷ 0x2C ∷ 1 ∷ 0 ∷ 0 ∷ 0 ∷ 0 ∷ 0xCA ∷ 8 ∷ [])
@@ -42,8 +42,8 @@ pub fn turns_are_read()
     ensures plain { row_entry Plain (5 ∷ 0 ∷ 16 ∷ 0 ∷ zeros 4 ++ (2 ∷ zeros 5 ++ (2 ∷ 0 ∷ []))) ≡ None }
 {}
 
-/// A turn that takes nothing, a digit of 5, a bit above those of four links, a data byte where no data was taken, and a node and a count
-/// above their limits.
+/// A turn that takes nothing, a digit of 5, a bit above those of four links, a data byte without Data, and a node and a count above their
+/// limits.
 pub fn turns_are_refused()
     ensures nothing { entry_at (5 ∷ 0 ∷ 16 ∷ 0 ∷ zeros 12) ≡ None }
     ensures digit { entry_at (5 ∷ 0 ∷ 16 ∷ 0 ∷ zeros 10 ++ (5 ∷ 0 ∷ [])) ≡ None }
@@ -53,8 +53,8 @@ pub fn turns_are_refused()
     ensures steps { entry_at (5 ∷ 0 ∷ 1 ∷ 16 ∷ zeros 10 ++ (2 ∷ 0 ∷ [])) ≡ None }
 {}
 
-/// A group of one entry, with a closed gate behind it; without that gate, and too short, it is none. Where its own gate
-/// is closed nothing stands there.
+/// A group of one entry, followed by a closed gate. Without that gate, or too short, it is no group. If its own gate is closed, there is
+/// none.
 pub fn a_group_is_read()
     ensures bytes { group_bytes (rows_of ((Run 0 5, 7) ∷ [])) ≡ short_run }
     ensures group { group_at (short_run ++ 0 ∷ []) ≡ Ok (Some (rows_of ((Run 0 5, 7) ∷ []))) }
@@ -63,16 +63,16 @@ pub fn a_group_is_read()
     ensures closed { group_at (0xA4 ∷ drop 1 short_run) ≡ Ok None }
 {}
 
-/// The head of the image of a node that runs a low process: version and pages, the instruction pointer, the workspace,
-/// three registers, four words of queues, Error, the state, the slice count, and eight ends of links.
+/// The head of the image of a node that runs a low process. First version and pages, the instruction pointer, the workspace and three
+/// registers. Then four words of queues, Error, the state, the slice count, and eight ends of links.
 pub fn an_image_begins()
     ensures { image_head sending_node ≡ 1 ∷ 0 ∷ 4 ∷ 0 ∷ 0 ∷ 1 ∷ 0 ∷ 0x80 ∷ 0 ∷ 2 ∷ 0 ∷ 0x80 ∷ (zeros 12
         ++ (0 ∷ 0 ∷ 0 ∷ 0x80 ∷ 0 ∷ 0 ∷ 0 ∷ 0x80 ∷ 0 ∷ 0 ∷ 0 ∷ 0x80 ∷ 0 ∷ 0 ∷ 0 ∷ 0x80 ∷ [])
         ++ (0 ∷ 2 ∷ 0 ∷ 0 ∷ zeros 128)) }
 {}
 
-/// A device with areas of 16,384 bytes, for one node of four pages and one port. Anyone may make 105 entries behind the
-/// cut, and takes that a running snapshot needs may go on up to 120.
+/// A device with areas of 16,384 bytes, for one node of four pages and one port. Anyone may make entries up to the 105th after the cut.
+/// Takes that a running snapshot needs may go on up to the 120th.
 pub fn the_journal_fills()
     ensures cut { cut_length one_node ≡ 12508 }
     ensures room { room one_node 16384 ≡ 3862 }

@@ -18,8 +18,8 @@ pub fn a_byte_goes_out()
     ensures acknowledged { took awaits 0 Ack ≡ Some (has_sent, []) }
 {}
 
-/// A process that is alone makes room too: it is dispatched, jumps 1,024 times and is queued again. A run of 4,096 steps
-/// is three such slices, a dispatch and 1,020 jumps.
+/// A process that is alone makes room, too: it is dispatched, jumps 1,024 times and is queued again. A run of 4,096 steps is three such
+/// slices, a dispatch and 1,020 jumps.
 pub fn a_slice_ends()
     ensures begins { steps t414 16 has_sent ≡ Some (jumps 15, []) }
     ensures whole { steps t414 1025 has_sent ≡ Some (has_jumped, []) }
@@ -33,23 +33,24 @@ pub fn a_message_comes_in()
     ensures second { took has_got_first 0 (Data 9) ≡ Some (has_got_both, (0, Ack) ∷ []) }
 {}
 
-/// An end that another process enabled is busy, before the message's length counts; but for no bytes no end is. A
-/// message that ends outside memory is refused whole.
+/// An end that another process enabled is busy, before the message's length counts; but it isn't for a message of no bytes. A message that
+/// ends outside memory halts the node before its first byte.
 pub fn a_link_may_be_busy()
     ensures busy { steps t414 1 (gets 0xFFFF_FFFF (Enabled 0x8000_0281)) ≡ Some (halted LinkBusy (gets 0xFFFF_FFFF (Enabled 0x8000_0281)), []) }
     ensures nothing { steps t414 1 (gets 0 (Enabled 0x8000_0281)) ≡ Some (has_got_none (Enabled 0x8000_0281), []) }
     ensures outside { steps t414 1 (gets 0xFFFF_FFFF (Idle (Some 7))) ≡ Some (halted BadAddress (gets 0xFFFF_FFFF (Idle (Some 7))), []) }
 {}
 
-/// `out` on a link's input word; `outbyte` where the output end waits; and that again with a workspace outside memory,
-/// where the byte would be stored first.
+/// `out` on a link's input word; `outbyte` while the output end waits; and `outbyte` with a workspace outside memory, where it would store
+/// the byte first.
 pub fn outputs_are_refused()
     ensures direction { steps t414 1 (puts 0xFB 0x8000_0010 0x8000_0200) ≡ Some (halted BadAddress (puts 0xFB 0x8000_0010 0x8000_0200), []) }
     ensures busy { steps t414 1 (puts 0xFE 0x8000_0000 0x8000_0200) ≡ Some (halted LinkBusy (puts 0xFE 0x8000_0000 0x8000_0200), []) }
     ensures workspace { steps t414 1 (puts 0xFE 0x8000_0000 0x200) ≡ Some (halted BadAddress (puts 0xFE 0x8000_0000 0x200), []) }
 {}
 
-/// Data at an end that an alternative enabled is held, and the alternative is ready. What can't be done is left undone.
+/// An end that an alternative enabled holds the Data that comes, and the alternative is ready. A queue whose last word is outside memory
+/// stays, and the node halts.
 pub fn an_alternative_hears()
     ensures queued { took (hears (queue 0x8000_0300 0x8000_0300)) 0 (Data 9) ≡ Some (has_heard, []) }
     ensures halts { took (hears (queue 0x8000_0300 0x300)) 0 (Data 9) ≡ Some (cannot_queue, []) }

@@ -8,8 +8,12 @@ ghost use Rattle.tp_model.specs.Memory.{set_byte};
 ghost use Rattle.tp_model.specs.Opening.{verdict};
 ghost use Rattle.tp_law_machine.specs.OneDevice.{device_of, device_with, four_entries, fresh_device, later_device, opened_as};
 
-/// A device that was formatted, with one byte too few for a head, with another version, with its open gate closed, with an open gate
-/// behind the cut but no group there, and with a form of its area that isn't known.
+/// Formatted devices with one fault each:
+/// - one byte too few for a head;
+/// - another version;
+/// - a closed gate for its open one;
+/// - an open gate after the cut, but no group there;
+/// - an unknown form of its area.
 pub fn devices_are_refused()
     ensures short { verdict (take 511 fresh_device) ≡ Err NotFormatted }
     ensures version { verdict (set_byte fresh_device 7 9) ≡ Err BadVersion }
@@ -18,7 +22,7 @@ pub fn devices_are_refused()
     ensures form { verdict (set_byte fresh_device 531 1) ≡ Err (Damaged 512) }
 {}
 
-/// The network is the one that the entries of the group lead to, and the next group goes behind them.
+/// The network is the one that the entries of the group lead to, and the next group goes after them.
 pub fn a_device_opens()
     ensures { verdict later_device ≡ Ok (opened_as Narrow Turns 13113) }
 {}
@@ -28,7 +32,7 @@ pub fn a_plain_area_opens()
     ensures { verdict (device_of Narrow Plain four_entries) ≡ Ok (opened_as Narrow Plain 13113) }
 {}
 
-/// A wide head is read, too, of a network that a narrow one can say; a wide one of fewer bytes than it has is damaged.
+/// A wide head is read, too, of a network for which a narrow one is enough. A wide head that is cut short is damaged.
 pub fn a_wide_head_opens()
     ensures opens { verdict (device_of Wide Turns four_entries) ≡ Ok (opened_as Wide Turns 13625) }
     ensures short { verdict (take 1023 (device_of Wide Turns [])) ≡ Err (Damaged 0) }

@@ -1,4 +1,4 @@
--- The numbers so far stand for an end, or for none.
+-- The numbers so far are those of an end, or of none.
 use Rattle.std.proofs.Common.{◌≡◌, true, take}
 use Rattle.std.specs.List.{list_all}
 use Rattle.tp_area.specs.Ends.{is_end_number}

@@ -1,4 +1,4 @@
--- The numbers that were read, and those that stand in the rest, are all.
+-- The numbers that were read, and those in the rest, are all.
 use Rattle.std.proofs.Common.{◌≡◌, ◌*◌, ◌≤◌, ◌++◌, length, ◌-◌}
 use Rattle.tp_model.specs.Head.{u16s_at}
 use Rattle.tp_area.proofs.numbers.u16s_in.Given as goal

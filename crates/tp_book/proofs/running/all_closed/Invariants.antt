@@ -1,4 +1,4 @@
--- The lines so far are closed where they have a wire.
+-- The lines so far are closed if they have a wire.
 use Rattle.std.proofs.Common.{◌≡◌, true, get_or}
 use Rattle.tp_model.specs.Network.{has_wire}
 use Rattle.tp_model.specs.WholeCut.{all_closed}

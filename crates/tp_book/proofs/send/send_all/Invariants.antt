@@ -1,4 +1,4 @@
--- What is left to be sent leads to the same lines, and has room.
+-- What is left to be sent leads to the final lines, and has room.
 use Rattle.std.proofs.Common.{◌≡◌, length, drop}
 use Rattle.tp_model.specs.Network.{has_wire, sent}
 use Rattle.tp_book.specs.Room.{HasRoom, from_line}

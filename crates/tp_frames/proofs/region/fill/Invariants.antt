@@ -4,7 +4,7 @@ use Rattle.core.specs.Mem.Slots.Ownership.{Filled}
 use Rattle.tp_frames.specs.FreeList.{next_in}
 use Rattle.tp_frames.proofs.region.fill.Given as goal
 
--- the places so far are filled, and each leads to the one behind it
+-- the places so far are filled, and each leads to the next
 abbrev pub invariant-loop-index : goal.invariant-loop-index
 invariant-loop-index l =
     Filled (slots_filled l.slots) 0 l.index × ((i : ℕ) → i < l.index → next_in (get_or (slots_items l.slots) i []) ≡ i + 1)

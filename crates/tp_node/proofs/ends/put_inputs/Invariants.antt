@@ -3,6 +3,6 @@ use Rattle.std.specs.List.{flat_map}
 use Rattle.tp_model.specs.EndBytes.{in_end_bytes}
 use Rattle.tp_node.proofs.ends.put_inputs.Given as goal
 
--- the ends so far stand in front of what was there
+-- the ends so far are before what was there
 abbrev pub invariant-loop-i : goal.invariant-loop-i
 invariant-loop-i l = l.out ≡ flat_map in_end_bytes (take l.i l.ends) ++ drop (16 * l.i) l.fn.out

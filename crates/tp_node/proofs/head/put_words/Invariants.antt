@@ -3,6 +3,6 @@ use Rattle.std.specs.List.{flat_map}
 use Rattle.tp_model.specs.Bytes.{u32_bytes}
 use Rattle.tp_node.proofs.head.put_words.Given as goal
 
--- the words so far stand in front of what was there
+-- the words so far are before what was there
 abbrev pub invariant-loop-i : goal.invariant-loop-i
 invariant-loop-i l = l.out ≡ flat_map u32_bytes (take l.i l.words) ++ drop (4 * l.i) l.fn.out

@@ -5,11 +5,11 @@ use Rattle.tp_model.specs.Image.{node_of}
 use Rattle.tp_node.proofs.Images.{node_of-short}
 use Rattle.tp_node.proofs.image.read_image.Goals as goal
 
--- the memory behind the head
+-- the memory after the head
 behind : List ℕ → List ℕ
 behind bytes = take (length bytes - IMAGE_HEAD_BYTES) (drop IMAGE_HEAD_BYTES bytes)
 
--- the bytes are their head and what stands behind it
+-- the bytes are their head and what follows it
 in_parts : (bytes : List ℕ) → node_of bytes ≡ node_of (take IMAGE_HEAD_BYTES bytes ++ behind bytes)
 unfolding behind
 in_parts bytes = ap node_of (sym (ap (λ ys. take IMAGE_HEAD_BYTES bytes ++ ys) (take_rest bytes IMAGE_HEAD_BYTES) ∙ take-append-drop IMAGE_HEAD_BYTES bytes))

@@ -6,7 +6,7 @@ use Rattle.tp_node.specs.StateWith.{state_with}
 use Rattle.tp_node.proofs.RunSoFar.{Runs}
 use Rattle.tp_node.proofs.run.run.Given as goal
 
--- the steps that were made are no more than were asked for
+-- at most as many steps were made as the call allows
 pub record RunsWithin (max count : ℕ) (before now : NodeState) (sent : List (ℕ × Token)) (was now_kept : Kept) : Type 0 where
   pub runs : Runs count before now sent was now_kept
   pub most : count ≤ max

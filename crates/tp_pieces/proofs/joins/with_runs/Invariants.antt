@@ -1,4 +1,4 @@
--- The first runs are left, and those behind them are joined.
+-- The first runs are left, and those after them are joined.
 use Rattle.std.proofs.Common.{◌≡◌, length, take, vec_len}
 use Rattle.tp_model.specs.NodeState.{NodeState}
 use Rattle.tp_model.specs.Network.{Network}

@@ -1,4 +1,4 @@
--- The workers so far have their parts, and the nodes behind these are left.
+-- The workers so far have their parts, and the nodes after these are left.
 use Rattle.std.proofs.Common.{◌≡◌, map, drop}
 use Rattle.tp_pieces.specs.Dealt.{first_of}
 use Rattle.tp_pieces.specs.Dealing.{run_part}

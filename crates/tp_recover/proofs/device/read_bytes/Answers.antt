@@ -11,7 +11,7 @@ use Rattle.tp_recover.proofs.device.read_bytes.Goals as goal
 take-whole : (n : ℕ) (xs ys : List ℕ) → length xs ≡ n → take n (xs ++ ys) ≡ xs
 take-whole n xs ys is = let inside : n ≤ length xs = omega arith in rw take-append-le (take_all n xs (omega arith))
 
--- where a value stands there whatever the bytes are, a fault is no answer
+-- if a value is there whatever the bytes are, a fault is no answer
 no_fault : {A B C : Type 0} (one : A → C) (other : B → C) (x y : C) (error : Unopened) → ReadAnswer one (found x) (Err error) → ReadAnswer other (found y) (Err error)
 no_fault one other x y (Fault fault) is = absurd (cc)
 no_fault one other x y ReadFailed is = tt

@@ -21,7 +21,7 @@ flights_in-done : (E : EndsSeen NodeState) (s : Network NodeState) (at line coun
 unfolding flights_in
 flights_in-done E s at line count h = ap (flights_in E s at line) h
 
--- what is left of the lines is this one and those behind it
+-- what is left of the lines is this one and those after it
 left : (E : EndsSeen NodeState) (s : Network NodeState) (at line many : ℕ) (rest : ℕ) → many ≡ suc rest → flights_in E s at line many ≡ flights_in E s at line (suc rest)
 left E s at line many rest h = ap (flights_in E s at line) h
 

@@ -10,7 +10,7 @@ use Rattle.tp_recover.proofs.front.read_front.Given as given
 use Rattle.tp_recover.proofs.front.read_front.Goals as goal
 use Rattle.tp_recover.proofs.front.read_front.Goals.{After-cut_front}
 
--- what the fields say was answered
+-- the answer was what the fields say
 is_front : (g : given.Over) (c : After-cut_front g) → (k : g.D.Disk.keeps)
     → front_given c.args.head.now.topology (area_start c.args.head.now.areas c.args.second) (content_of c.args.head.now.areas c.args.second (g.D.Disk.state c.args.disk.now).now.bytes) ≡ c.cut_front.result
 is_front g c k =

@@ -1,4 +1,4 @@
--- The lines that were read, and those that stand in the rest, are all.
+-- The lines that were read, and those in the rest, are all.
 use Rattle.std.proofs.Common.{◌≡◌, ◌+◌, ◌*◌, ◌-◌, drop, length, map}
 use Rattle.tp_model.specs.declared.limits.TheConstants.{LINE_BYTES}
 use Rattle.tp_model.specs.CutImage.{lines_in}

@@ -1,4 +1,4 @@
--- The nodes that were read, and those that stand behind them, are all.
+-- The nodes that were read, and those after them, are all.
 use Rattle.std.proofs.Common.{◌≡◌, ◌+◌, take, drop, length, map, true}
 use Rattle.std.specs.Prelude.{sum_by}
 use Rattle.tp_model.specs.CutImage.{nodes_in}

@@ -1,4 +1,4 @@
--- The ports that were read, and those that stand behind them, are all.
+-- The ports that were read, and those after them, are all.
 use Rattle.std.proofs.Common.{◌≡◌, ◌+◌, ◌*◌, ◌-◌, drop, length, map, true}
 use Rattle.tp_book.specs.PortParts.{port_made}
 use Rattle.tp_model.specs.declared.limits.TheConstants.{PORT_BYTES}

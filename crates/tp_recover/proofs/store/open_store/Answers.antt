@@ -6,7 +6,7 @@ use Rattle.tp_recover.specs.declared.unopened.Unopened.TheVariants.{Fault, ReadF
 use Rattle.tp_recover.specs.Reading.{has_read}
 use Rattle.tp_recover.proofs.store.open_store.Goals as goal
 
--- where a call failed, it is counted
+-- if a call failed, it is counted
 failed_counts : {A : Type 0} (error : Unopened) (answer : Result A Unopened) (old_size new_size old_failures new_failures : ℕ)
     → answer ≡ Err error → answer ≡ Err ReadFailed → (let given : Result Opened Unopened = Err error in Counts (has_read given) old_size new_size old_failures new_failures)
     → Counts false old_size new_size old_failures new_failures

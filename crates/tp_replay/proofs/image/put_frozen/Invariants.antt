@@ -1,4 +1,4 @@
--- The head and the pages so far stand behind what was there.
+-- The head and the pages so far come after what was there.
 use Rattle.std.proofs.Common.{◌≡◌, ◌*◌, ◌++◌, Some, take}
 use Rattle.tp_model.specs.Image.{image_head}
 use Rattle.tp_model.specs.NodeState.{NodeState}

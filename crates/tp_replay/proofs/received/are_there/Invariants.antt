@@ -1,4 +1,4 @@
--- What stands from a link on decides for all of them.
+-- What comes from a link on decides for all of them.
 use Rattle.std.proofs.Common.{◌≡◌, drop}
 use Rattle.tp_replay.proofs.Stands.{all_stand}
 use Rattle.tp_replay.proofs.received.are_there.Given as goal

@@ -1,4 +1,4 @@
--- The nodes so far have been looked at.
+-- The nodes so far were read.
 use Rattle.std.proofs.Common.{◌≡◌, ◌<◌, ℕ, false, length, get_or}
 use Rattle.tp_model.specs.declared.limits.TheConstants.{MAX_NODES}
 use Rattle.tp_book.specs.Needs.{has_recorded_in}

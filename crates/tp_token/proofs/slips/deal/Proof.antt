@@ -1,4 +1,4 @@
--- `deal` joins what the slips of both bundles own, and cuts it anew.
+-- `deal` joins what the slips of both bundles own, and cuts it again.
 use Rattle.tp_token.proofs.Walks.{List, [], ◌∷◌, refl, proved, ftrue, fsep, flft, inst_fn, Fn, a_type, named, Val, vunit, ‵, raw, ◌⊛◌, ◌$◌, ◌∵◌, !, qed, move, join, fjoin, frame, suffices, feq_i, enter, of_opd, unit_lit, returns, alloc_all, pass_all, free_all, look_at, sets, u64, w64, uint_vals, uint_Tells, yes, layouts, param, RattleType, MutRef, mut_vals, mut_Tells, plain, nothing, heard, Stays, stay_ref, stay_dropped, Goes-ref, Goes-dropped, walk_of, ends_at}
 use Rattle.tp_token.proofs.Lent.{unpacks, packs, both, hears, tells, tells_last}
 use Rattle.tp_token.proofs.Rolls.{deals}

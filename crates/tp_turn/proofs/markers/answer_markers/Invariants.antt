@@ -1,4 +1,4 @@
--- The node recorded where it was asked to, and the lines so far were closed where they could be.
+-- The node recorded if it was asked to, and the lines so far were closed if they could be.
 use Rattle.tp_turn.specs.Turns.{Then, InOrder}
 use Rattle.tp_turn.specs.Moments.{moment_of, IsNodeOf, Done}
 use Rattle.tp_turn.specs.Settled.{Records}

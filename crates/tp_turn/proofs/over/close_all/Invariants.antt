@@ -1,4 +1,4 @@
--- The lines so far were closed, where they could be.
+-- The lines so far were closed if they could be.
 use Rattle.tp_turn.specs.Turns.{InOrder}
 use Rattle.tp_turn.specs.Hosted.{HostDone}
 use Rattle.tp_turn.specs.Over.{ClosesOver}

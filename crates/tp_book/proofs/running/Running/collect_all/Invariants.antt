@@ -1,4 +1,4 @@
--- What is left to be collected has room, and leads to the same lines of the cut.
+-- What is left to be collected has room, and leads to the final lines of the cut.
 use Rattle.std.proofs.Common.{◌≡◌, not, length, drop}
 use Rattle.tp_model.specs.Network.{sent}
 use Rattle.tp_model.specs.Snapshot.{is_closed}

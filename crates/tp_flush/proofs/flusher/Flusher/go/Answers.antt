@@ -12,7 +12,7 @@ use Rattle.tp_flush.proofs.Rooms.{checkpoint_not_full, not_full_on}
 use Rattle.tp_flush.proofs.flusher.Flusher.go.Given as given
 use Rattle.tp_flush.proofs.flusher.Flusher.go.Goals as goal
 
--- ## Memory was refused
+-- ## Memory was out
 
 pub returns-in_default-clause-goes : goal.returns-in_default-clause-goes
 returns-in_default-clause-goes g c =
@@ -40,7 +40,7 @@ pub returns-in_err-append_all-clause-room : goal.returns-in_err-append_all-claus
 returns-in_err-append_all-clause-room g c k began =
     not_full_on (Unit {0}) c.from_residual.result c.in_err-append_all.field-0.0 (search rules) (c.in_err-append_all.ensures.room k (subst (Began g.J.Naming.formatted g.J.Naming.before) (sym c.copy_under.ensures.looked.opened) began))
 
--- ## The mark was raised, and a call failed behind it
+-- ## The mark was raised, and a call failed after it
 
 raised_failed : (g : given.Over) (c : goal.After-drop-backlog-in_err-done g) → WaitsBehind c.args.self.now c.raise.new.self
 raised_failed g c =

@@ -39,11 +39,11 @@ resting g c = ap (λ (v : Flushing). v.world.at) c.self.view_is ∙ c.requires.r
 unbroken : (g : given.Over) (c : goal.After-answer_of g) → c.self.inside.parts.store.broken ≡ false
 unbroken g c = rests_unbroken c.self.inside.parts.store.broken (sym c.self.invariant.3.at ∙ resting g c)
 
--- where its first byte goes
+-- the place of its first byte
 abbrev place : (g : given.Over) (c : goal.After-answer_of g) → ℕ
 place g c = c.args.image + c.args.inner
 
--- where the image begins and ends
+-- the begin and the end of the image
 begins : (g : given.Over) (c : goal.After-answer_of g) → c.args.image ≡ piece_place c.self.inside.parts.topology c.args.node 0
 begins g c = subst (λ (v : Flushing). c.args.image ≡ piece_place v.topology c.args.node 0) (sym c.self.view_is) c.requires.image
 

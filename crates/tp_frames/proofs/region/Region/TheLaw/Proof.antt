@@ -1,4 +1,4 @@
--- A `&` to a region holds nothing beside its fields.
+-- A `&` to a region holds nothing but its fields.
 use mathlib.Core.Path.{refl}
 use denote.RattleType.{RattleType}
 use denote.Builtin.{Array, u8}

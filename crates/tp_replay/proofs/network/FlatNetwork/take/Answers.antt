@@ -19,7 +19,7 @@ returns-then-at-len-clause-applies c =
     let n = c.self.inside in
     rw (← c.self.view_is) (refused _ _ _ (take_unwired (replay_state n) c.args.line c.args.token (get_or_past n.wires.items c.args.line None (omega (arith, n.wires.ok.0)))))
 
--- a token that isn't in front, or is a Marker
+-- a token that isn't at the front, or is a Marker
 not_there : (s : Network NodeState) (line : _) (token : Token) → (is_first (on_line s.lines line) token && not (is_marker token)) ≡ false → next t414 s (Take line token) ≡ None
 not_there s line (Data byte) is = elim (cases_Bool (is_first (on_line s.lines line) (Data byte))) [
   | inl stands ↦ absurd (true≢false (sym (rw stands refl) ∙ is))

@@ -1,4 +1,4 @@
--- The nodes so far were looked at, and the book is as it was.
+-- The nodes so far were read, and the book is as it was.
 use Rattle.std.proofs.Common.{◌≡◌}
 use Rattle.tp_book.specs.Book.{world_of}
 use Rattle.tp_shared.proofs.RestSoFar.{HaveRested}

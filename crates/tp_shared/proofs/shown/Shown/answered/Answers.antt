@@ -1,4 +1,4 @@
--- What is lent lives as long as all that are named by it.
+-- What is lent lives as long as all that it names.
 use Rattle.std.proofs.Common.{[]}
 use contract.BorrowLft.{◌⊑◌, ⊑_meet, ⊑_static}
 use Rattle.tp_shared.proofs.shown.Shown.answered.Goals as goal

@@ -1,4 +1,4 @@
--- What is lent lives as long as both that are named by it.
+-- What is lent lives as long as both that it names.
 use Rattle.std.proofs.Common.{[]}
 use contract.BorrowLft.{◌⊑◌, ⊑_meet, ⊑_static}
 use Rattle.tp_shared.proofs.told.Told.trimmed.Goals as goal
