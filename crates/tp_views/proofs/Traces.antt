@@ -1,4 +1,4 @@
--- Lines that are printed one behind the other.
+-- Lines that are printed one after the other.
 use Rattle.std.proofs.Common.{◌≡◌, ◌∙◌, ℕ, zero, suc, ◌+◌, ◌<◌, ◌≤◌, true, false, List, [], ◌++◌, length, take, drop, Option, Some, None, Ok, Err, Result, OnOk, refl, sym, ap, subst, append_assoc, append-nil, arith}
 use Rattle.std.proofs.Math.Seq.{take-add, take-append_seam, drop-append_seam}
 use Rattle.std.proofs.lemmas.List.{take-append-drop}
@@ -13,7 +13,7 @@ use Rattle.tp_views.specs.Traced.{Makes, by_step, last_text, next_text, traced}
 
 -- ## Bytes
 
--- bytes behind bytes
+-- bytes after bytes
 pub then_appended : (was then now : Option (List ℕ)) (xs ys : List ℕ) → Appends was then xs → Appends then now ys → Appends was now (xs ++ ys)
 then_appended None then now xs ys first second = tt
 then_appended (Some a) None now xs ys first second = absurd first
@@ -28,7 +28,7 @@ pub whole_front : (was now : Option (List ℕ)) (xs : List ℕ) → Appends was 
 whole_front was now xs is =
     (length xs, subst (λ bytes. Appends was now bytes) (sym (ap (take (length xs)) (sym (append-nil xs)) ∙ take-append_seam xs [])) is)
 
--- a front of bytes that stand in front
+-- the first bytes of those that come first
 pub front_more : (was now : Option (List ℕ)) (xs rest : List ℕ) → AppendsFront was now xs → AppendsFront was now (xs ++ rest)
 front_more was now xs rest (n, is) =
     let front = take n xs in
@@ -37,7 +37,7 @@ front_more was now xs rest (n, is) =
     ∙ ap (take (length front)) (append_assoc front (drop n xs) rest) ∙ take-append_seam front (drop n xs ++ rest) in
     (length front, subst (λ bytes. Appends was now bytes) (sym same) is)
 
--- a front of bytes that stand behind others
+-- the first of bytes that are after others
 pub then_front : (was then now : Option (List ℕ)) (xs ys : List ℕ) → Appends was then xs → AppendsFront then now ys → AppendsFront was now (xs ++ ys)
 then_front was then now xs ys first (n, second) =
     let same : take (length xs + n) (xs ++ ys) ≡ xs ++ take n ys =
@@ -46,7 +46,7 @@ then_front was then now xs ys first (n, second) =
     ∙ ap (λ zs. xs ++ take n zs) (drop-append_seam xs ys) in
     (length xs + n, subst (λ bytes. Appends was now bytes) (sym same) (then_appended was then now xs (take n ys) first second))
 
--- what is so where a call was done
+-- what holds if a call was done
 pub on_ok : {T E : Type 0} (P Q : Type 0) (r : Result T E) → (P → Q) → OnOk r P → OnOk r Q
 on_ok P Q (Ok x) turn h = turn h
 on_ok P Q (Err e) turn h = h
@@ -62,7 +62,7 @@ by_none node lines is = ap (λ o. by_step o node lines) is
 
 -- ## Lines
 
--- the lines where a step goes on, and where there is none
+-- the lines if a step goes on, and if there is none
 goes_on : (left number : ℕ) (node next : NodeState) → stepped node ≡ Some next → traced (suc left) number node ≡ next_text number node ++ traced left (number + 1) next
 unfolding traced
 goes_on left number node next is =
@@ -75,7 +75,7 @@ stops left number node is =
     by_none node (λ next. step_line number (seen node next) ++ traced left (number + 1) next) is
     ∙ sym (by_none node (λ next. step_line number (seen node next)) is)
 
--- the next line stands in front either way
+-- the next line comes first either way
 fronted : (left number : ℕ) (node : NodeState) → (rest : List ℕ) × (traced (suc left) number node ≡ next_text number node ++ rest)
 fronted left number node = go (stepped node) refl
   where
@@ -128,7 +128,7 @@ goes_stopped was then now whole steps index node next g few made = go g.left g.c
         subst (λ bytes. Appends was now bytes) (sym (is ∙ ap (λ xs. g.done ++ xs) (stops left (index + 1) node made.step.0)))
         (then_appended was then now g.done (next_text (index + 1) node) g.appended made.shown)
 
--- a front of the next line
+-- the first bytes of the next line
 pub goes_front : (was then now : Option (List ℕ)) (whole : List ℕ) (steps index : ℕ) (node : NodeState) → Goes was then whole steps index node → index < steps
     → AppendsFront then now (next_text (index + 1) node) → AppendsFront was now whole
 goes_front was then now whole steps index node g few front = go g.left g.counted g.whole_is
@@ -140,7 +140,7 @@ goes_front was then now whole steps index node g few front = go g.left g.counted
         subst (λ bytes. AppendsFront was now bytes) (sym (is ∙ ap (λ xs. g.done ++ xs) rest.1))
         (then_front was then now g.done (next_text (index + 1) node ++ rest.0) g.appended (front_more then now (next_text (index + 1) node) rest.0 front))
 
--- what is left behind the last step
+-- what is left after the last step
 last_is : (was now : Option (List ℕ)) (whole : List ℕ) (steps index : ℕ) (node : NodeState) (g : Goes was now whole steps index node) → steps ≤ index → whole ≡ g.done ++ last_text node
 last_is was now whole steps index node g all = go g.left g.counted g.whole_is
   where

@@ -10,7 +10,7 @@ use tp_area::area_for;
 use tp_net::{Named, Topology};
 use tp_words::Shown;
 
-/// Says which rule an image breaks, where it breaks one: whether it does.
+/// Says which rule an image breaks, if it breaks one: whether it does.
 fn push_image(
     alloc: Global,
     text: &mut String,
@@ -72,7 +72,7 @@ fn push_images<R: Files + AllocGlobal>(
     Ok(false)
 }
 
-/// Says that an area is too small for a topology, where it is: whether it is. One that nobody asked for isn't.
+/// Says that an area is too small for a topology, if it is: whether it is. One that nobody asked for isn't.
 fn push_small(
     text: &mut String,
     topology: &Topology,
