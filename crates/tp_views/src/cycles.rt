@@ -97,7 +97,7 @@ fn rows_of(alloc: Global, scene: &Scene) -> Result<Vec<u64>, AllocError>
     Ok(rows)
 }
 
-/// A row, with those that this node leads to where it has the node.
+/// A row, with those that this node leads to if it has the node.
 fn passed(node: usize, through: u64, row: u64) -> u64
     ensures { result ≡ passed node through row }
 {
