@@ -1,6 +1,6 @@
 //! What `tpnet status` is told beside the device: who holds it, and the time.
 
-/// Says who holds a device and what time it is, and waits between two looks. It promises nothing.
+/// Says who holds a device and what time it is, and waits between two checks. It promises nothing.
 pub trait Watch {
     /// Whether another process holds the device's file.
     fn is_held(&mut self, device: &str) -> bool;
@@ -8,6 +8,6 @@ pub trait Watch {
     /// How many milliseconds have gone by since some start.
     fn now(&mut self) -> u64;
 
-    /// Waits `seconds`. Answers whether a further look is wanted.
+    /// Waits `seconds`. Answers whether to check once more.
     fn pause(&mut self, seconds: u32) -> bool;
 }
