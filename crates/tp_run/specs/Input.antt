@@ -24,7 +24,7 @@ rest_fault b count =
     else if is_journal_full b count then Some OfferRefused
     else None
 
--- the same for a port's outset
+-- for the outset of a port
 abbrev pub rest_at : Outset → List ℕ → List ℕ
 rest_at outset input = take outset.room (drop outset.accepted input)
 
