@@ -42,7 +42,7 @@ pub record HasTold (journal : JournalRoom) (f : Flushing) (made : ℕ) (outputs 
   pub put : SaysPut outputs progress.put
   pub told : Noticed (HasCome progress ∷ []) old new
 
--- the same if that is to be told; else nothing was told
+-- how far it has come was told, if that is to be told; else nothing was
 abbrev pub TellsProgress : Bool → JournalRoom → Flushing → ℕ → List OutputValue → Option (List Notice) → Option (List Notice) → Type 0
 TellsProgress true journal f made outputs old new = HasTold journal f made outputs old new
 TellsProgress false journal f made outputs old new = Noticed [] old new
