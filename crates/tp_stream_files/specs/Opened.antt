@@ -19,12 +19,12 @@ IsSinkOf calls end old new (File sink) =
 IsSinkOf calls end old new (Out out) = (is_standard end ≡ true) × (new ≡ old)
 IsSinkOf calls end old new Nothing = ⊥
 
--- Standard input of which nothing was read.
+-- Standard input, with nothing read of it.
 abbrev pub IsUnread : {F I : Type 0} → AnySource F I → Type 0
 IsUnread (FromFile file) = ⊥
 IsUnread (In pipe) = pipe.held.trace.told ≡ []
 
--- What an input of an end comes from: a file, which was opened at that path; or standard input of which nothing was read.
+-- What an input of an end comes from: a file, which was opened at that path; or standard input, with nothing read of it.
 abbrev pub IsSourceOf : {F I : Type 0} → (calls : F → List EndTold) → PortFile → List EndTold → List EndTold → AnySource F I → Type 0
 IsSourceOf calls end old new (FromFile file) =
     (is_standard end ≡ false) × (calls file ≡ []) × (new ≡ old ++ Opened to_read (string_bytes end.path) true ∷ [])
