@@ -68,7 +68,7 @@ pub struct Kept {
     pub next: u64,
 }
 
-/// Freshly formatted; after the first turns; with the letter confirmed; the same while a checkpoint isn't done; after the checkpoint; and with two
+/// Freshly formatted; after the first turns; with the letter confirmed; also while a checkpoint isn't done; after the checkpoint; and with two
 /// runs after that.
 pub const KEPT: [Kept; 6] = [
     Kept {
