@@ -19,7 +19,7 @@ use tp_stream_files::{Ends, PortFile, PortNumber};
 /// An option whose values are files of ports.
 #[derive(Clone, Copy)]
 pub enum FileOption {
-    /// `--out`: if outputs go.
+    /// `--out`: where outputs go.
     Out,
     /// `--in`: where inputs come from.
     In,
