@@ -145,7 +145,7 @@ pub(crate) fn look<D: Disk>(disk: &mut D) -> Result<Option<Fronts>, Unopened>
     }
 }
 
-/// Whether the area that counted at the look `before` has its front at the look `after`; if none counted, whether both looks found the same fronts.
+/// Whether the area that counted at the look `before` has its front at the look `after`; if none counted, whether both looks found equal fronts.
 fn has_stayed(second: Option<bool>, before: Fronts, after: Fronts) -> bool
     ensures { IsTrue result ↔ StayedOpen second before after }
 {
