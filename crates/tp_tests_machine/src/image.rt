@@ -5,7 +5,7 @@ use std::alloc::{AllocError, Global};
 /// The first address, which is also the word that names no process.
 pub const FIRST: u32 = 0x8000_0000;
 
-/// If the tests' programs begin, and the workspace of the process that runs them.
+/// Where the tests' programs begin, and the workspace of the process that runs them.
 pub const START: u32 = 0x8000_0100;
 
 pub const WORKSPACE: u32 = 0x8000_0200;

@@ -16,7 +16,7 @@ fn is_image(alloc: Global, bytes: &[u8]) -> Option<bool> {
     }
 }
 
-/// A byte of an image: if it is, what it is instead, and whether the bytes still are an image.
+/// A byte of an image: where it is, what it is instead, and whether the bytes still are an image.
 const BYTES: &[(usize, u8, bool)] = &[
     // version, halt code, pages, Wptr, Error, state, slice count
     (0, 0, false),
