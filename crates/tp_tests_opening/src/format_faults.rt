@@ -108,7 +108,7 @@ impl Made {
     }
 
     /// Whether a format that ends in this call leaves a device that isn't formatted. If the call is the last, its head, which is whole, is torn to
-    /// `byte`; the same if the front of each area is `byte`.
+    /// `byte`; so it is if the front of each area is `byte`.
     fn says_none(
         &self,
         alloc: Global,
