@@ -29,7 +29,8 @@ OpenedFor given job fault = OpenedWith given (λ (opened : Opened). job_fault jo
 abbrev pub HasInput : Job → List ℕ → Opened → Type 0
 HasInput job input opened = (job_fault job.spare job.port opened.head.topology ≡ None) × (0 < length (rest_at (outset_in opened job.port) input))
 
--- A fault is the opening's own, or that of the job, or comes if nothing is wrong with either. That the input is refused comes only if there is some.
+-- A fault is the opening's own, or that of the job, or comes if nothing is wrong with either. That
+-- the input is refused comes only if there is some.
 abbrev pub FaultFor : Result Opened OpenFault → Job → List ℕ → RunFault → Type 0
 FaultFor given job input (Opening unopened) = IsUnopened given unopened
 FaultFor given job input Spare = OpenedFor given job (Some Spare)

@@ -30,7 +30,8 @@ use Rattle.tp_run.specs.Shown.{LeadsToOutputs}
 abbrev pub output_slips : Outset → ℕ → List ℕ → List (ℕ × Entry)
 output_slips outset number printed = enumerate_from number (confirms outset.port outset.confirmed printed)
 
--- What was settled with the flusher when a run ended: bytes were printed, and some slips were made. The flusher's journal, as far as it reaches, has
+-- What was settled with the flusher when a run ended:
+-- bytes were printed, and some slips were made. The flusher's journal, as far as it reaches, has
 -- the entries of these slips and, last, the entry that confirms what was printed, under a number of its own. All numbers are below `next`. If the
 -- entries before that number lead, the bytes are all outputs of the port after those confirmed. These entries and those of the workers' turns, on a
 -- network of this shape, are all that was journalled since the opening.
@@ -93,8 +94,8 @@ pub record Ran (start : Network NodeState) (job : Job) (input : List ℕ) (was n
   pub carried : IfOk result (λ next. Carried start journal job input was now next old new)
   pub printed : ((now ≡ was) × MayBeSilent result) ⊎ IsPrinted start journal job.port was now result old new
 
--- What an outlet was called for, however the run ended. It took what was printed. Each call was made while whatever a crash leaves from then on had
--- each entry that leads to that output.
+-- What an outlet was called for, however the run ended. It took what was printed.
+-- Each call was made while whatever a crash leaves from then on had each entry that leads to that output.
 pub record IsCalled (start : Network NodeState) (journal : List Entry) (port : ℕ) (was now : OutletValue) (result : Result ℕ RunFault) (old new : State) : Type 0 where
   pub printed : IsPrinted start journal port was.taken now.taken result old new
   pub called : WasCalled printed.there printed.outputs was now
