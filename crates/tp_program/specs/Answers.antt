@@ -17,7 +17,7 @@ use Rattle.tp_program.specs.RunFile.{RanFile}
 use Rattle.tp_program.specs.Stops.{StopAnswered}
 use Rattle.tp_program.specs.StreamFile.{StreamedFile}
 
--- Help was printed, if the status says so. No device was opened.
+-- Help was printed, where the status says so. No device was opened.
 pub record Helped (text : List ℕ) (old new : List DeviceCall) (was now : Option (List ℕ)) (status : ℕ) : Type 0 where
   pub unopened : new ≡ old
   pub printed : status ≡ 0 → Appends was now text
@@ -85,6 +85,6 @@ pub record DidCommand (keeps : Type 0) (history : History) (unread : Type 0) (wo
   pub few : status ≤ most_status command
   pub done : CommandDone keeps history unread command old new was now status
 
--- What the program did for the words of a command line: it refused them; or they were read as this command, and it did that.
+-- What the program did for the words of a command line: it was refused, or they were read so, and that was done.
 abbrev pub Answered : (keeps : Type 0) → History → (unread : Type 0) → List (String Global) → (old new : List DeviceCall) → (was now : Option (List ℕ)) → ℕ → Type 0
 Answered keeps history unread words old new was now status = WasRefused old new was now status ⊎ DidCommand keeps history unread words old new was now status

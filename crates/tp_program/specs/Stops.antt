@@ -10,7 +10,7 @@ use Rattle.tp_program.specs.Devices.{DeviceCall, Holds, WasRefused}
 abbrev pub request_path : List ℕ → List ℕ
 request_path device = device ++ codes ".stop"
 
--- what is printed of a stream that was asked, or, if the command waits, has ended
+-- what is printed of a stream that was asked; or, where it was waited for, has ended
 abbrev pub stop_line : Option ℕ → List ℕ
 stop_line None = codes "asked" ++ 10 ∷ []
 stop_line (Some seconds) = codes "ended" ++ 10 ∷ []

@@ -123,7 +123,7 @@ fn unmade_of(error: &io::Error) -> Unmade {
     }
 }
 
-/// Makes a request, if there is none. Puts what the system said into `system`.
+/// Makes a request, where there is none. What the system said is put into `system`.
 fn make_request<R: Files>(
     rt: &R,
     file: &RequestFile,

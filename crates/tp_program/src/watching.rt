@@ -8,6 +8,6 @@ pub trait Watch {
     /// How many milliseconds have gone by since some start.
     fn now(&mut self) -> u64;
 
-    /// Waits `seconds`. Answers whether to check once more.
+    /// Waits `seconds`. Answers whether a further look is wanted.
     fn pause(&mut self, seconds: u32) -> bool;
 }

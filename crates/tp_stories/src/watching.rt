@@ -6,8 +6,8 @@ use std::fs::Files;
 use std::{fs, io};
 use tp_program::Watch;
 
-/// Another process that has the device that `status` checks, if there is one; after how many checks `status` makes a further one; and the file that
-/// the process moves to `device` after the first check, as if it had gone on.
+/// Another process that has the device at which `status` looks, where there is one; behind how many looks `status` takes a further one; and
+/// the file that the process moves to `device` behind the first look, as if it had gone on.
 #[derive(Drop)]
 pub(crate) struct Watched {
     is_held: bool,

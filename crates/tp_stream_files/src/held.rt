@@ -9,7 +9,7 @@ use crate::feeds::Feed;
 use crate::trace::Trace;
 use tp_model::limits::MAX_HELD;
 
-/// The last bytes that came of a feed, kept since a port may have no room for them yet. Those before them are gone.
+/// The last bytes that came of a feed: they are kept, since a port may have no room for them yet. Those in front of them are gone.
 #[derive(Drop)]
 pub(crate) struct Held {
     /// What the feed has given.

@@ -166,7 +166,7 @@ fn no_reader_is_no_end(rt: HostRuntime) {
     assert!(rt; drained.count == 0 && !drained.has_ended);
 }
 
-/// Bytes that were skipped are gone: a read from their position fails, and gives no others.
+/// Bytes that were passed over are gone: a read from their position fails, and gives no others.
 #[test]
 fn bytes_that_are_gone_are_not_given(rt: HostRuntime) {
     let mut feed = Plain::new(Numbered::new(7, false));
@@ -199,7 +199,7 @@ impl Feed for Slow {
     }
 }
 
-/// Whether a byte after six pieces is there once each of seven was awaited by itself, and no longer than it was asked to.
+/// Whether a byte behind six pieces is there once each of seven was waited for by itself, and no longer than it was asked to.
 fn waits_once_a_piece(feed: &mut Slow) -> bool {
     let mut source: AnySource<'_, Lent<'_>, Slow> = AnySource::In(Pipe::new(feed));
     for _ in 0..6 {
@@ -210,7 +210,7 @@ fn waits_once_a_piece(feed: &mut Slow) -> bool {
     !source.would_wait(42, 20)
 }
 
-/// While bytes are skipped each call waits for one piece only, so it doesn't hold up what else is to be done meanwhile.
+/// Where bytes are passed over each call waits for one piece alone: so what else is to be done meanwhile isn't kept waiting.
 #[test]
 fn bytes_that_are_passed_over_are_waited_for_by_pieces(rt: HostRuntime) {
     let mut feed = Slow {

@@ -93,7 +93,7 @@ all_halted_items number (node ∷ nodes) = halted_items number (standing node) +
 abbrev pub halts_json : List NodeState → List ℕ
 halts_json nodes = codes "],\"halted\":[" ++ (json_items 0 (all_halted_items 0 nodes) ++ codes "]}\n")
 
--- The object of a device that opened, if a process held it or none did, at a time in milliseconds, after what the check before saw.
+-- The object of a device that opened, where a process held it or none did, at a time in milliseconds, behind what a look before saw.
 abbrev pub status_json : Bool → ℕ → Option Seen → Opened → List ℕ
 status_json held at before o =
     front_json held o.generation o.form (next_of o) (next_before at before)

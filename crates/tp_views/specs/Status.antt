@@ -121,7 +121,7 @@ halted_or_none (byte ∷ bytes) = byte ∷ bytes
 abbrev pub entries_room : Opened → ℕ
 entries_room o = entries_left 0 o.base (journal_of o.head.topology o.head.areas.length)
 
--- The line of a device that opened, if a process held it or none did, at a time in milliseconds, after what the check before saw.
+-- The line of a device that opened, where a process held it or none did, at a time in milliseconds, behind what a look before saw.
 abbrev pub status_line : Bool → ℕ → Option Seen → Opened → List ℕ
 status_line held at before o =
     front_part held o.generation o.form (next_of o) (next_before at before)

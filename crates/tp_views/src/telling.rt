@@ -82,9 +82,10 @@ fn look<D: Disk, O: Write>(
     tell(alloc, &opened, held, at, before, json, out)
 }
 
-/// One check of `tpnet status`: `held` says whether another process holds the device, `at` is the time in milliseconds, `before` what the check
-/// before saw, and `json` whether it is printed as JSON. Answers what was seen, if the device opens and exactly its line was printed; else the status
-/// 1, and says why. It writes nothing to the device, and a crash finds nothing that the call made. Of a device that doesn't open nothing is printed.
+/// One look of `tpnet status` at a device: `held` says whether another process holds it, `at` is the time in milliseconds, `before` what
+/// the look before saw, and `json` whether it is printed as JSON. Answers what was seen, where the device opens and exactly its line was
+/// printed, else the status 1, and why is said then. Nothing is written to the device, and a crash finds nothing that the call made. Of one
+/// that doesn't open nothing is printed.
 pub fn status_on<D: Disk, O: Write, E: Write>(
     alloc: Global,
     disk: &mut D,
