@@ -150,7 +150,7 @@ fn push_stop(text: &mut String, standing: Standing) -> Result<(), AllocError>
     }
 }
 
-/// The line of a node that has no step, by the reason.
+/// The line of a node that has no step, by how it stands.
 pub fn stop_line(alloc: Global, standing: Standing) -> Result<String, AllocError>
     ensures { IfOk result (λ text. string_bytes text ≡ stop_line standing) }
 {

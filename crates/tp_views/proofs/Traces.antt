@@ -62,7 +62,7 @@ by_none node lines is = ap (λ o. by_step o node lines) is
 
 -- ## Lines
 
--- the lines if a step goes on, and if there is none
+-- the lines where a step goes on, and where there is none
 goes_on : (left number : ℕ) (node next : NodeState) → stepped node ≡ Some next → traced (suc left) number node ≡ next_text number node ++ traced left (number + 1) next
 unfolding traced
 goes_on left number node next is =
@@ -75,7 +75,7 @@ stops left number node is =
     by_none node (λ next. step_line number (seen node next) ++ traced left (number + 1) next) is
     ∙ sym (by_none node (λ next. step_line number (seen node next)) is)
 
--- the next line comes first either way
+-- the next line stands in front either way
 fronted : (left number : ℕ) (node : NodeState) → (rest : List ℕ) × (traced (suc left) number node ≡ next_text number node ++ rest)
 fronted left number node = go (stepped node) refl
   where
@@ -128,7 +128,7 @@ goes_stopped was then now whole steps index node next g few made = go g.left g.c
         subst (λ bytes. Appends was now bytes) (sym (is ∙ ap (λ xs. g.done ++ xs) (stops left (index + 1) node made.step.0)))
         (then_appended was then now g.done (next_text (index + 1) node) g.appended made.shown)
 
--- the first bytes of the next line
+-- a front of the next line
 pub goes_front : (was then now : Option (List ℕ)) (whole : List ℕ) (steps index : ℕ) (node : NodeState) → Goes was then whole steps index node → index < steps
     → AppendsFront then now (next_text (index + 1) node) → AppendsFront was now whole
 goes_front was then now whole steps index node g few front = go g.left g.counted g.whole_is
@@ -140,7 +140,7 @@ goes_front was then now whole steps index node g few front = go g.left g.counted
         subst (λ bytes. AppendsFront was now bytes) (sym (is ∙ ap (λ xs. g.done ++ xs) rest.1))
         (then_front was then now g.done (next_text (index + 1) node ++ rest.0) g.appended (front_more then now (next_text (index + 1) node) rest.0 front))
 
--- what is left after the last step
+-- what is left behind the last step
 last_is : (was now : Option (List ℕ)) (whole : List ℕ) (steps index : ℕ) (node : NodeState) (g : Goes was now whole steps index node) → steps ≤ index → whole ≡ g.done ++ last_text node
 last_is was now whole steps index node g all = go g.left g.counted g.whole_is
   where

@@ -10,7 +10,7 @@ use tp_area::area_for;
 use tp_net::{Named, Topology};
 use tp_words::Shown;
 
-/// Says which rule an image breaks, if it breaks one: whether it does.
+/// Says which rule an image breaks, where it breaks one: whether it does.
 fn push_image(
     alloc: Global,
     text: &mut String,

@@ -53,7 +53,7 @@ fn trace_device(alloc: Global, words: &[String], found: &ArgMatches) -> Result<A
     Ok(Asked::TraceDevice { device, part })
 }
 
-/// Steps of one node: of its image, or, if a node's number is after the file, of a device. `--from` and `--to` go with a device.
+/// Steps of one node: of its image, or, where a node's number stands behind the file, of a device. `--from` and `--to` go with a device.
 pub fn asked_trace(alloc: Global, words: &[String], found: &ArgMatches) -> Result<Asked, ArgFault>
     ensures range { IfOk result IsInRange }
     ensures typed { IfOk result (WasTyped words.now) }

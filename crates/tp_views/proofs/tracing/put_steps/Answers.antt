@@ -54,7 +54,7 @@ returns-in_err-put_next-clause-front g c =
     let front = subst (λ n. AppendsFront was now (next_text (n + 1) node)) c.from.ensures c.in_err-put_next.ensures.front in
     goes_front (g.O.Write.contents c.args.out.now) was now (traced c.args.steps 1 c.args.node.now.live) c.args.steps c.loop-index.index node c.loop-index.invariant.goes c.loop-index-test.true front
 
--- after the last step that was asked for
+-- behind the last step that was asked for
 pub returns-clause-printed : goal.returns-clause-printed
 returns-clause-printed g c =
     on_ok _ _ c.put_last.result
