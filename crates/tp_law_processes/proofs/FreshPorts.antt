@@ -22,7 +22,7 @@ use Rattle.tp_law_device.proofs.Faults.{bind_ok}
 use Rattle.tp_law_device.proofs.Opens.{held_opened, reads_of}
 use Rattle.tp_law_device.proofs.ReadCuts.{ports_read}
 
--- ports of a cut with so many entries in it
+-- ports of a cut with this many entries in it
 abbrev ArePortsOf : ℕ → Network NodeState → Type 0
 ArePortsOf base s = AllByRecursion (λ port. is_port_of base port ≡ true) s.ports
 

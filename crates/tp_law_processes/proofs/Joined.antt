@@ -51,7 +51,7 @@ module _ {A : Type 0} where
       let all = length-append (take n xs) (drop n ys) in
       omega (arith, long, rest, all, then)
 
--- it leads where the second one does, where both lead to one network there
+-- it leads where the second one does, if both lead to one network there
 pub after_joined : (start now : Network NodeState) (n m : ℕ) (xs ys : List Entry) → n ≤ m → n ≤ length xs → n ≤ length ys → after t414 start (take n xs) ≡ Some now → after t414 start (take n ys) ≡ Some now
     → after t414 start (take m (joined n xs ys)) ≡ after t414 start (take m ys)
 after_joined start now n m xs ys up there then one other =

@@ -23,8 +23,8 @@ use Rattle.tp_stream_files.specs.Outputs.{OutputValue, given_of}
 use Rattle.tp_stream.specs.Put.{AreShown, ArePut, EachWith, Got, LeadsToBytes, PutPiece, port_or_fresh}
 use Rattle.tp_law_processes.specs.Processes.{ByCompaction, ByReading, ByRun, ByStream, Did, Showing, answered, got_showings, journal_of, outlet_showings, piece_showings, set_out_at, showings, sink_showings}
 
--- Bytes were shown while the device stood somewhere: they are outputs where some first entries lead, no fewer than the device had as it was opened, and
--- whatever a crash leaves from then on has each of these entries.
+-- Bytes were shown while the device was in some state. They are outputs where some first entries lead, no fewer than the device had when it was
+-- opened. Whatever a crash leaves from then on has each of these entries.
 pub record IsShowing (start : Network NodeState) (journal : List Entry) (old new : State) (x : Showing) : Type 0 where
   pub opened : Opened
   pub reads : verdict old.now.bytes ≡ Ok opened

@@ -77,7 +77,7 @@ module _ (start : Network NodeState) (p : Process start) where
   pub shown_recovers : (x : Showing) (S : IsShowing start journal p.old p.new x) → x.there ≤ p.at → RecoversTo t414 device_areas start journal S.number p.left
   shown_recovers x S by = let at = S.at in S.since.each p.left (may_from p.new p.at (moment S.there) p.left (omega (arith, at, by)) p.may)
 
-  -- so is what was answered, once it has ended
+  -- the same holds of what was answered, once it has ended
   pub answer_stands : moment p.new ≤ p.at → (k : ℕ) → k < answered p.did → Follows start journal (answered p.did) p.old.now.bytes p.left
   answer_stands ended k below = (facts start p.old p.new p.did).stored p.left (may_last p.new p.at p.left ended p.may) k below
 

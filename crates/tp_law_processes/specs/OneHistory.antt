@@ -24,8 +24,8 @@ pub record OpensAfter (start : Network NodeState) (journal : List Entry) (bytes 
 abbrev pub IsPartOf : Network NodeState → List Entry → Showing → Type 0
 IsPartOf start journal x = x.bytes ≡ take (length x.bytes) (drop x.from (bytes_out start.wires x.port journal))
 
--- A process in a journal: the device that it began with stands for the journal's first entries; whatever it had shown when it was stopped is part of what
--- the whole journal puts out; and if it ended, each entry below the number that it answered is there, from those that it found on.
+-- A process in a journal. The device that it began with stands for the journal's first entries. Whatever it had shown when it was stopped is part of what
+-- the whole journal puts out. If it ended, each entry below the number that it answered is there, from those that it found on.
 pub record HasPlace (start : Network NodeState) (journal : List Entry) (p : Process start) : Type 0 where
   pub number : ℕ
   pub few : number ≤ length journal

@@ -7,7 +7,7 @@ use Rattle.tp_model.specs.declared.entry.Entry.TheVariants.{Run, Take, HostIn, C
 use Rattle.tp_model.specs.Network.{Port, receiver}
 use Rattle.tp_model.specs.Counted.{is_at}
 
--- the byte that comes out of port p by an entry, where one does
+-- the byte that comes out of port p by an entry, if one does
 abbrev pub byte_out : List (Option WireEnd) → ℕ → Entry → List ℕ
 byte_out wires p (Run i k) = []
 byte_out wires p (Take line (Data b)) = if is_at p (receiver wires line) then b ∷ [] else []
@@ -22,7 +22,7 @@ unfoldable pub bytes_out : List (Option WireEnd) → ℕ → List Entry → List
 bytes_out wires p [] = []
 bytes_out wires p (e ∷ es) = byte_out wires p e ++ bytes_out wires p es
 
--- Bytes came out of a port, behind those that it had; some of the first ones are confirmed, and the others are there.
+-- Bytes came out of a port, after those that it had; some of the first ones are confirmed, and the others are there.
 pub record Grew (more : List ℕ) (before later : Port) : Type 0 where
   pub gone : List ℕ
   pub base : later.out_base ≡ before.out_base + length gone

@@ -89,7 +89,7 @@ showings start old new (ByStream result was now clause) = sink_showings start cl
 showings start old new (ByCompaction result clause) = []
 showings start old new (ByReading clause) = []
 
--- A process: the device that it began with, all of it synced, and the one that it would end with; what it did; and what was left of the device as it
+-- A process: the device that it began with, all of it synced, and the one that it would end with; what it did; and what was left of the device, as it
 -- ended there, or as a crash stopped it at some moment from `at` on.
 pub record Process (start : Network NodeState) : Type 0 where
   pub old : State

@@ -22,10 +22,10 @@ pub fn ports_put_out()
         → (later : Port) × (slice_get t.ports p ≡ Some later) × Grew (bytes_out s.wires p es) port later }
 {}
 
-/// However many processes open a device one after the other, each what the one before it left as it ended, or as a crash stopped it at any moment: there
-/// is one journal of one-thread steps. Each process finds the first entries of it. What each has shown of a port by then is, from its position on, part of
-/// what comes out of that port by this journal; and of one that was done, all entries below the number that it answered are in it. What is left in
-/// the end stands for all of it. On a device that was formatted the first process begins with the number 0.
+/// However many processes open a device, one after the other, each finds what the one before it left when it ended, or when a crash stopped it at any
+/// moment. Then there is one journal of one-thread steps. Each process finds the first entries of it. What each has shown of a port by then is, from its
+/// position on, part of what comes out of that port by this journal. If a process was done, all entries below the number that it answered are in the
+/// journal. What is left in the end stands for all of it. On a device that was formatted the first process begins with the number 0.
 pub fn processes_show_one_history()
     ensures history { (start : Network NodeState) (before : World NodeState) (was : List ℕ) → Began start before was
         → (processes : List (Process start)) → AreInOrder start was processes → OneHistory start was processes }

@@ -1,4 +1,4 @@
--- A history of nothing, where a caller knows none.
+-- A history of nothing, if a caller knows none.
 use Rattle.std.specs.Prelude.{[], None}
 use Rattle.tp_model.specs.NodeState.{NodeState}
 use Rattle.tp_model.specs.Network.{Network}

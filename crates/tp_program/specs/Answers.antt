@@ -31,33 +31,33 @@ CarriedOut keeps history (Format device) old new was now status = MadeAtMost (st
 CarriedOut keeps history (Help text) old new was now status = Helped (string_bytes text) old new was now status
 CarriedOut keeps history _ old new was now status = new ≡ old
 
--- What was asked for was done, or it was refused before.
+-- What was asked for was done, or was refused before.
 abbrev pub AnsweredHeld : (keeps : Type 0) → History → Asked → (old new : List DeviceCall) → (was now : Option (List ℕ)) → ℕ → Type 0
 AnsweredHeld keeps history asked old new was now status = WasRefused old new was now status ⊎ CarriedOut keeps history asked old new was now status
 
--- the call that asks for the device that is to be written, where one is, for as many seconds as are asked for
+-- the call that asks for the device that is to be written, if one is, for as many seconds as are asked for
 abbrev pub asking_for : Asked → Bool → List DeviceCall
 asking_for (Format new) ok = Holds (string_bytes new.device) new.wait_lock ok ∷ []
 asking_for (Runs run) ok = Holds (string_bytes run.device) run.wait_lock ok ∷ []
 asking_for (Compact device wait_lock) ok = Holds (string_bytes device) wait_lock ok ∷ []
 asking_for _ ok = []
 
--- The device that is to be written, where one is, is held.
+-- The device that is to be written, if one is, is held.
 abbrev pub HoldsWritten : Asked → (held : Option (List ℕ)) → Type 0
 HoldsWritten (Format new) held = held ≡ Some (string_bytes new.device)
 HoldsWritten (Runs run) held = held ≡ Some (string_bytes run.device)
 HoldsWritten (Compact device wait_lock) held = held ≡ Some (string_bytes device)
 HoldsWritten _ held = Unit {0}
 
--- Another process had the device that is to be written, and it was refused. Or it was got, where one is to be written, before all else; and
--- then it was refused, or what was asked for was done.
+-- Another process had the device that is to be written, and the command was refused. Or it got the device, if one is to be written, before all else;
+-- and then it was refused, or did what was asked for.
 abbrev pub AnsweredAs : (keeps : Type 0) → History → Asked → (old new : List DeviceCall) → (was now : Option (List ℕ)) → ℕ → Type 0
 AnsweredAs keeps history asked old new was now status =
     WasRefused (old ++ asking_for asked false) new was now status
     ⊎ AnsweredHeld keeps history asked (old ++ asking_for asked true) new was now status
 
--- Another process had the device, and it was refused, before anything was read of standard input (`unread`). Or it was got, before all
--- else; and then it was streamed.
+-- Another process had the device, and the stream was refused, before anything was read of standard input (`unread`). Or it got the device, before all
+-- else, and then streamed.
 abbrev pub StreamedHeld : (keeps : Type 0) → History → (unread : Type 0) → StreamRun → (old new : List DeviceCall) → (was now : Option (List ℕ)) → ℕ → Type 0
 StreamedHeld keeps history unread run old new was now status =
     WasRefused (old ++ Holds (string_bytes run.device) run.wait_lock false ∷ []) new was now status × unread

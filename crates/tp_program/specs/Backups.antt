@@ -14,7 +14,7 @@ use Rattle.tp_model.specs.Opening.{Opened, verdict}
 abbrev pub copied_line : ℕ → List ℕ
 copied_line next = codes "copied next " ++ (decimal next ++ 10 ∷ [])
 
--- A device with the bytes `source` opens, and the copy has all of it that counts, over the bytes `before`; it opens to that device's areas,
+-- A device with the bytes `source` opens, and the copy has all of it that counts, over the bytes `before`. The copy opens to that device's areas,
 -- open area, generation, end of the groups and next number, and is synced.
 pub record IsBackup (source before : List ℕ) (copy : Moment) (next : ℕ) : Type 0 where
   pub opened : Opened

@@ -12,7 +12,7 @@ pub record CompactedBetween (keeps : Type 0) (history : History) (was now : Opti
   pub done : CompactedAs keeps history opened closed was now status
   pub unopened : keeps → IsErr (verdict opened.now.bytes) → (status ≡ 1) × LeavesNothingNew opened closed × (now ≡ was)
 
--- It was refused, or just the device at this path was opened, compacted, and given back.
+-- It was refused; or only the device at this path was opened, compacted, and given back.
 abbrev pub CompactedFile : (keeps : Type 0) → History → (path : List ℕ) → (old new : List DeviceCall) → (was now : Option (List ℕ)) → ℕ → Type 0
 CompactedFile keeps history path old new was now status =
     WasRefused old new was now status ⊎ UsedOne path old new (CompactedBetween keeps history was now status)

@@ -18,7 +18,7 @@ path_held (Makes path ok ∷ calls) = path
 path_held (Opens path state ∷ calls) = []
 path_held (Closes state ∷ calls) = []
 
--- A file was to be made once at this path, where nothing stood, or none was. No device was asked for, opened or given back.
+-- A file was to be made once at this path, if nothing was, or none was. No device was asked for, opened or given back.
 abbrev pub MadeAtMost : (path : List ℕ) → (old new : List DeviceCall) → Type 0
 MadeAtMost path old new = (new ≡ old) ⊎ ((new ≡ old ++ Makes path true ∷ []) ⊎ (new ≡ old ++ Makes path false ∷ []))
 

@@ -1,7 +1,7 @@
 -- The rights of a copy.
 use Rattle.std.specs.Prelude.{ℕ, bit_and, bit_or, ◌==◌, if◌then◌else◌}
 
--- a right of a file's group and of all others, where both have it
+-- a right of a file's group and of all others, if both have it
 abbrev pub shared_right : (bits right : ℕ) → ℕ
 shared_right bits right = if bit_and bits right == right then right else 0
 

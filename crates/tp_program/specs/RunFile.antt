@@ -15,7 +15,7 @@ pub record RanBetween (keeps : Type 0) (history : History) (run : Run) (input : 
   pub words : status ≡ 2 → (keeps → LeavesNothingNew opened closed) × (now ≡ was)
   pub unopened : keeps → IsErr (verdict opened.now.bytes) → (status ≡ 1) × LeavesNothingNew opened closed × (now ≡ was)
 
--- It was refused, or just the device at the path that is asked for was opened, run with this input, and given back.
+-- It was refused; or only the device at the path that is asked for was opened, run with this input, and given back.
 abbrev pub RanWith : (keeps : Type 0) → History → Run → (input : List ℕ) → (old new : List DeviceCall) → (was now : Option (List ℕ)) → ℕ → Type 0
 RanWith keeps history run input old new was now status =
     WasRefused old new was now status ⊎ UsedOne (string_bytes run.device) old new (RanBetween keeps history run input was now status)

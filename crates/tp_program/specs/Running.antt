@@ -31,8 +31,8 @@ status_of (Err Spare) = 2
 status_of (Err Port) = 2
 status_of _ = 1
 
--- A run of this job and input that ended with this status, for a reason that the device and the job give, what it left on the device and
--- on standard output, and how the device stood at each call for that.
+-- A run of this job and input that ended with this status, for a reason that the device and the job give; what it left on the device and on standard
+-- output, and the device's state at each call for that output.
 pub record RanAs (keeps : Type 0) (history : History) (job : Job) (input : List ℕ) (old new : State) (was now : OutletValue) (status : ℕ) : Type 0 where
   pub done : Result ℕ RunFault
   pub is : status ≡ status_of done

@@ -6,7 +6,7 @@ use Rattle.tp_program.specs.declared.asking.Unasked.{Unasked}
 use Rattle.tp_program.specs.declared.asking.Unasked.TheVariants.{Device, NoDevice, NotRunning, Request, StillRunning}
 use Rattle.tp_program.specs.Devices.{DeviceCall, Holds, WasRefused}
 
--- where a stream of a device is asked to stop
+-- the path at which a stream of a device is asked to stop
 abbrev pub request_path : List ℕ → List ℕ
 request_path device = device ++ codes ".stop"
 
@@ -26,21 +26,21 @@ pub record GotWithin (path : List ℕ) (seconds : ℕ) (old new : List DeviceCal
   pub within : times < seconds
   pub calls : new ≡ (old ++ replicate times (Holds path 1 false)) ++ Holds path 1 true ∷ []
 
--- What came behind a request: the device was asked for once more; or, where it was waited for, until it was got.
+-- What came after a request: the command asked for the device once more; or, if it waits, until it got it.
 abbrev pub CameThen : Option ℕ → (path : List ℕ) → (old new : List DeviceCall) → Type 0
 CameThen None path old new = LookedAgain path old new
 CameThen (Some seconds) path old new = GotWithin path seconds old new
 
--- A stream was asked to stop, since another process had the device, and has ended where that was waited for.
+-- A stream was asked to stop, since another process had the device; if the command waits, it has ended.
 abbrev pub HasAsked : Option ℕ → (path : List ℕ) → (old new : List DeviceCall) → Type 0
 HasAsked wait path old new = CameThen wait path (old ++ Holds path 0 false ∷ []) new
 
--- It was waited for as many seconds as were typed, in each of which another process had the device.
+-- It waited for as many seconds as were typed, in each of which another process had the device.
 abbrev pub WaitedInVain : Option ℕ → (path : List ℕ) → (old new : List DeviceCall) → Type 0
 WaitedInVain None path old new = ⊥
 WaitedInVain (Some seconds) path old new = new ≡ old ++ replicate seconds (Holds path 1 false)
 
--- It is said where nobody else has the device.
+-- It is said if no other process has the device.
 abbrev pub IsOfNobody : Unasked → Type 0
 IsOfNobody (Device refusal) = ⊥
 IsOfNobody (NoDevice refusal) = Unit {0}
@@ -48,8 +48,8 @@ IsOfNobody NotRunning = Unit {0}
 IsOfNobody (Request unmade) = ⊥
 IsOfNobody StillRunning = ⊥
 
--- Why a stream wasn't asked, or hasn't ended: before the device was asked for; since nobody else had it; since the request couldn't be
--- made; or since another process had it still.
+-- Why a stream wasn't asked, or hasn't ended: before the device was asked for; since no other process had it; since the request couldn't be made; or
+-- since another process still had it.
 abbrev pub WasUnasked : Unasked → Option ℕ → (path : List ℕ) → (old new : List DeviceCall) → Type 0
 WasUnasked (Device refusal) wait path old new = new ≡ old
 WasUnasked (NoDevice refusal) wait path old new = new ≡ old ++ Holds path 0 true ∷ []
@@ -57,7 +57,7 @@ WasUnasked NotRunning wait path old new = new ≡ old ++ Holds path 0 true ∷ [
 WasUnasked (Request unmade) wait path old new = new ≡ old ++ Holds path 0 false ∷ []
 WasUnasked StillRunning wait path old new = WaitedInVain wait path (old ++ Holds path 0 false ∷ []) new
 
--- A stream was asked, and where the status says so exactly that was printed.
+-- A stream was asked, and if the status says so, exactly that was printed.
 pub record WasAsked (request : StopRequest) (old new : List DeviceCall) (was now : Option (List ℕ)) (status : ℕ) : Type 0 where
   pub asked : HasAsked request.wait (string_bytes request.device) old new
   pub printed : status ≡ 0 → Appends was now (stop_line request.wait)

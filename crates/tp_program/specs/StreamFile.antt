@@ -20,7 +20,7 @@ pub record StreamedBetween (keeps : Type 0) (history : History) (run : StreamRun
   pub unopened : keeps → IsErr (verdict opened.now.bytes) → IsUnopened done
   pub why : IfOk done (λ ended. IsAsked (task_of run) ended.why)
 
--- It was refused, or just the device at the path that is asked for was opened, streamed, and given back.
+-- It was refused; or only the device at the path that is asked for was opened, streamed, and given back.
 abbrev pub StreamedFile : (keeps : Type 0) → History → StreamRun → (old new : List DeviceCall) → (was now : Option (List ℕ)) → ℕ → Type 0
 StreamedFile keeps history run old new was now status =
     WasRefused old new was now status ⊎ UsedOne (string_bytes run.device) old new (StreamedBetween keeps history run status)

@@ -32,7 +32,7 @@ task_of run = record {
   tells = run.has_progress || is_some run.progress_every;
 }
 
--- what it is asked where standard error may be a terminal: there it says how far it has come, whatever was typed
+-- what it is asked if standard error may be a terminal: there it says how far it has come, whatever was typed
 abbrev pub shown_on : Bool → Task → Task
 shown_on on_terminal task = record {
   turns = task.turns;
@@ -46,7 +46,7 @@ shown_on on_terminal task = record {
   tells = task.tells || on_terminal;
 }
 
--- and by how many threads, where nothing was typed: as many as there are processors, up to 4
+-- and by how many threads, if nothing was typed: as many as there are processors, up to 4
 abbrev pub spread_over : ℕ → Task → Task
 spread_over processors task = record {
   turns = task.turns;
@@ -70,7 +70,7 @@ end_status (SameFile port) = 2
 end_status (Twice port) = 2
 end_status _ = 1
 
--- the status that a stream ends with that is refused
+-- the status of a stream that is refused
 abbrev pub fault_status : StreamFault → ℕ
 fault_status Spare = 2
 fault_status (Port port) = 2
@@ -109,7 +109,7 @@ IsOfEnds (End fault) = Unit {0}
 IsOfEnds (Stop fault) = Unit {0}
 IsOfEnds (Stream fault) = ⊥
 
--- A device that doesn't open is refused so, where all ends are opened.
+-- A device that doesn't open is refused as that, if all ends are opened.
 abbrev pub IsUnopened : Result Ended FilesFault → Type 0
 IsUnopened (Ok ended) = ⊥
 IsUnopened (Err (End fault)) = Unit {0}

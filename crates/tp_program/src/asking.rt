@@ -23,18 +23,18 @@ use tp_words::StopRequest;
 /// Why a request to stop isn't made.
 #[derive(Clone, Copy)]
 pub enum Unmade {
-    /// What stands at its path is none, and stays.
+    /// What is at its path is no request, and stays.
     StopExists,
     /// Its file can't be made.
     DeviceFailed,
-    /// Memory was refused.
+    /// Out of memory.
     Memory,
 }
 
 /// Why a stream isn't asked to stop, or hasn't stopped.
 #[derive(Clone, Copy)]
 pub enum Unasked {
-    /// The device's file can't be opened to be read and written, or memory was refused, before it was asked who has it.
+    /// The device's file can't be opened to be read and written, or memory ran out, before it was asked who has it.
     Device(Refusal),
     /// No other process has what is there, and by its head it is no device.
     NoDevice(Refusal),
@@ -42,7 +42,7 @@ pub enum Unasked {
     NotRunning,
     /// The request isn't made.
     Request(Unmade),
-    /// It is asked, and another process has the device still.
+    /// It is asked, and another process still has the device.
     StillRunning,
 }
 
@@ -67,8 +67,7 @@ impl fmt::Display for Unasked {
     }
 }
 
-/// Opens the device's file as who runs it does, and lets it go: nothing of it is read or written. What the system said is put into
-/// `system`.
+/// Opens the device's file as a run does, and closes it: reads and writes nothing of it. Puts what the system said into `system`.
 fn look_at<R: Files>(rt: &R, device: &str, system: &mut Option<io::Error>) -> Result<(), Refusal> {
     if !is_openable(rt, device) {
         return Err(Refusal::ReadFailed);
@@ -84,7 +83,7 @@ fn look_at<R: Files>(rt: &R, device: &str, system: &mut Option<io::Error>) -> Re
     }
 }
 
-/// Why what is at a path is no device, by its head alone, where it is none.
+/// Why what is at a path is no device, by its head alone, if it is none.
 fn head_fault<R: Files<File = F>, F: FileExt + OpenFile + Drop>(
     rt: &R,
     device: &str,
@@ -98,7 +97,7 @@ fn head_fault<R: Files<File = F>, F: FileExt + OpenFile + Drop>(
     }
 }
 
-/// Why nobody is asked where nobody else has the device: it is held here. A request that was left beside a device is taken away.
+/// Why nobody is asked if no other process has the device: it is held here. It takes away a request that was left beside a device.
 fn nobody_asked<R: Files<File = F>, F: FileExt + OpenFile + Drop>(
     rt: &R,
     device: &str,
@@ -158,8 +157,8 @@ fn look_again<R: Files, S: Devices>(
     }
 }
 
-/// Asks for the device, for a second each time, until it was got or `seconds` are over. The request is made again each time that it is gone and
-/// another process has the device still: that took it for one from before. Answers whether it was got: then the request is taken away.
+/// Asks for the device, for a second each time, until it was got or `seconds` are over. If the request is gone and another process still has the
+/// device, it makes the request again: that process took it for one from before. Answers whether the device was got: then it takes the request away.
 fn wait_for<R: Files, S: Devices>(
     rt: &R,
     devices: &mut S,
@@ -184,7 +183,7 @@ fn wait_for<R: Files, S: Devices>(
     false
 }
 
-/// Asks the stream that has a device to end, by `file`, where another process has it, and waits for that as long as it is asked.
+/// Asks the stream that has a device to end, by `file`, if another process has it, and waits for that as long as it is asked.
 fn ask_by<R: Files<File = F>, F: FileExt + OpenFile + Drop, S: Devices>(
     rt: &R,
     devices: &mut S,
@@ -213,7 +212,7 @@ fn ask_by<R: Files<File = F>, F: FileExt + OpenFile + Drop, S: Devices>(
     }
 }
 
-/// Asks the stream that has a device to end, where another process has it, and waits for that as long as it is asked. Nothing is read
+/// Asks the stream that has a device to end, if another process has it, and waits for that as long as it is asked. Nothing is read
 /// of the device then, and nothing is ever written to it.
 fn ask_to_stop<R: Files<File = F> + AllocGlobal, F: FileExt + OpenFile + Drop, S: Devices>(
     rt: &R,
@@ -234,7 +233,7 @@ fn ask_to_stop<R: Files<File = F> + AllocGlobal, F: FileExt + OpenFile + Drop, S
     }
 }
 
-/// Says that a stream was asked, or, where that was waited for, that it has ended.
+/// Says that a stream was asked, or, if the command waited, that it has ended.
 fn say_asked<O: Write>(wait: Option<u32>, out: &mut O) -> Result<(), Refusal>
     ensures { OnOk result (Appends (O.contents out.old) (O.contents out.new) (stop_line wait)) }
 {
@@ -255,7 +254,7 @@ fn report_asked<O: Write, E: Write>(wait: Option<u32>, out: &mut O, err: &mut E)
     }
 }
 
-/// Says why a stream wasn't asked, or hasn't ended. Answers the status. A failed write is let go.
+/// Says why a stream wasn't asked, or hasn't ended. Answers the status. A failed write is ignored.
 fn refuse_unasked<E: Write>(err: &mut E, fault: Unasked) -> u8
     ensures { result ≡ 1 }
 {
@@ -263,10 +262,9 @@ fn refuse_unasked<E: Write>(err: &mut E, fault: Unasked) -> u8
     1
 }
 
-/// `tpnet stop`: asks the stream that has a device to end, waits for that as long as it is asked, and says so, or why not; more of that
-/// where `explains`. `devices` says whether another process has the device. Answers the program's status: 0 where the stream is asked,
-/// has ended where that was waited for, and that was printed; 1 where it was refused; or 2 where standard output is the file of the
-/// device; nobody is asked then.
+/// `tpnet stop`: asks the stream that has a device to end, waits for that as long as it is asked, and says so, or why not; if `explains`, says more.
+/// `devices` says whether another process has the device. Answers the program's status: 0 if the stream is asked, has ended if the command waits, and
+/// that was printed; 1 if it was refused; or 2 if standard output is the file of the device: then it asks nobody.
 pub(crate) fn answer_stop<
     R: Files<File = F> + StandardStreams + AllocGlobal,
     F: FileExt + OpenFile + Drop,

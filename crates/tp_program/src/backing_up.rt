@@ -53,8 +53,8 @@ fn copy_or_refuse<D: Disk, K: Disk, E: Write>(
     }
 }
 
-/// Opens and copies a device once. Answers none where another process wrote it so that another try may do: then `show` opens it, or the
-/// area that was copied is another one now. Where both keep the model none is never answered. Else says why there is no copy, and answers
+/// Opens and copies a device once. Answers none if another process wrote it so that another try may do: then `show` opens it, or the
+/// area that was copied is another one now. If both keep the model none is never answered. Else says why there is no copy, and answers
 /// the status.
 fn copy_once<D: Disk, K: Disk, E: Write>(
     alloc: Global,
@@ -78,11 +78,10 @@ fn copy_once<D: Disk, K: Disk, E: Write>(
     }
 }
 
-/// Makes a copy of a device that another process may be running, over what is in `copy`, which has to have as many bytes at least. Answers
-/// the number of the copy's next entry: the device opens then, the copy has what of it counts, opens to its areas, open area,
-/// generation, end of the groups and number, and all of it is synced. Else says why not, as `show` does where the device doesn't open, and
-/// answers the status, 1: of the copy nothing is known then. Nothing is written to the device, and a crash finds nothing there that the
-/// call made.
+/// Makes a copy of a device that another process may be running, over what is in `copy`, which has to have at least as many bytes. Answers the number
+/// of the copy's next entry. Then the device opens, and the copy has all of it that counts, opens to its areas, open area, generation, end of the
+/// groups and number, and is synced. Else it says why not, as `show` does if the device doesn't open, and answers the status, 1: nothing is known of
+/// the copy then. It writes nothing to the device, and a crash finds nothing there that the call made.
 pub fn backup_on<D: Disk, K: Disk, E: Write>(
     alloc: Global,
     source: &mut D,

@@ -12,7 +12,7 @@ use tp_stream_files::is_one_file;
 use tp_views::push_file;
 use tp_words::{Backup, Shown};
 
-/// Says what stands in the way of the copy's name.
+/// Says what is in the way of the copy's name.
 fn push_there<R: Files + AllocGlobal>(
     rt: &R,
     text: &mut String,

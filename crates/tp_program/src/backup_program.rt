@@ -12,9 +12,8 @@ use std::os::unix::fs::FileExt;
 use tp_stream_files::StandardStreams;
 use tp_words::Backup;
 
-/// Makes the copy that is asked for, and says so, or why there is none; more of that where `explains`. Answers the program's status: 0
-/// where the copy is made and that was printed, 1 where it was refused, or 2 where standard output is the file of the device; no other
-/// file is opened then.
+/// Makes the copy that is asked for, and says so, or why there is none; if `explains`, it says more of that. Answers the program's status: 0 if the
+/// copy is made and that was printed, 1 if it was refused, or 2 if standard output is the file of the device; it opens no other file then.
 pub(crate) fn answer_backup<
     R: Files<File = F> + StandardStreams + AllocGlobal,
     F: FileExt + OpenFile + Drop,

@@ -37,7 +37,7 @@ fn print_done<O: Write>(alloc: Global, done: Compaction, out: &mut O) -> Result<
     put(out, text.as_bytes())
 }
 
-/// Says why a device wasn't compacted. Answers the status. A failed write of that is let go.
+/// Says why a device wasn't compacted. Answers the status. A failed write of that is dropped.
 fn refuse_compaction<E: Write>(err: &mut E, fault: CompactFault) -> u8
     ensures { result ≡ 1 }
 {
@@ -45,7 +45,7 @@ fn refuse_compaction<E: Write>(err: &mut E, fault: CompactFault) -> u8
     1
 }
 
-/// Prints what is so of a device that was compacted, or says why it wasn't. Answers the status.
+/// Prints what a compacted device has, or says why it wasn't compacted. Answers the status.
 fn report<O: Write, E: Write>(
     alloc: Global,
     done: Result<Compaction, CompactFault>,
@@ -66,9 +66,9 @@ fn report<O: Write, E: Write>(
     }
 }
 
-/// `tpnet compact`, on a device: makes its network, as it is, its cut, behind which the journal is empty, and prints the generation of that
-/// cut, which number the next entry gets, and how many entries the journal takes. Answers the device, and the program's status: 0 where
-/// that was done and printed, else 1. A device that doesn't open is left as it is, and nothing is printed then.
+/// `tpnet compact`, on a device: makes its network, as it is, its cut, after which the journal is empty, and prints the generation of that cut, which
+/// number the next entry gets, and how many entries the journal takes. Answers the device, and the program's status: 0 if that was done and printed,
+/// else 1. A device that doesn't open is left as it is, and nothing is printed then.
 pub fn compact_on<D: Disk, O: Write, E: Write, R: Wait>(
     rt: &R,
     alloc: Global,

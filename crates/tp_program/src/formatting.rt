@@ -43,8 +43,8 @@ fn make<D: Disk, O: Write>(
     put(out, b"formatted\n")
 }
 
-/// `tpnet format`, on a device of the size that is asked for, whose areas have as many bytes as are asked for, or the default. Answers the program's status: 0 where the device is formatted,
-/// all of it synced, and that is printed; else 1. Where the images don't fit the topology, or the device is too small, nothing
+/// `tpnet format`, on a device of the size that is asked for, whose areas have as many bytes as are asked for, or the default. Answers the program's status: 0 if the device is formatted,
+/// all of it synced, and that is printed; else 1. If the images don't fit the topology, or the device is too small, nothing
 /// has changed. Nothing is printed before the device is formatted. Whatever a crash on the way leaves is old outside the areas, or has both areas
 /// complete.
 pub fn format_on<D: Disk, O: Write, E: Write>(

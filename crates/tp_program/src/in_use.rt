@@ -1,4 +1,4 @@
-//! What is said where another process holds the device.
+//! What is said if another process holds the device.
 
 ghost use Rattle.std.specs.Prelude.{◌≡◌};
 ghost use Rattle.std.specs.IoError.{error_kind};
@@ -7,8 +7,8 @@ use std::io;
 use std::io::{ErrorKind, Write};
 use tp_views::{Refusal, refuse};
 
-/// Refuses what a command line asks for, since another process holds the device; says more of it where `explains`. Answers the status. A
-/// failed write is let go.
+/// Refuses what a command line asks for, since another process holds the device; if `explains`, says more of it. Answers the status. A failed write
+/// is ignored.
 pub fn refuse_in_use<E: Write>(explains: bool, err: &mut E) -> u8
     ensures { result ≡ 1 }
 {
@@ -22,7 +22,7 @@ pub fn refuse_in_use<E: Write>(explains: bool, err: &mut E) -> u8
     status
 }
 
-/// That another file stands at the device's path than the one that stood there as the device was asked for.
+/// That another file is at the device's path than the one that was there as the device was asked for.
 pub(crate) fn changed() -> io::Error
     ensures { error_kind result ≡ ErrorKind.ResourceBusy }
 {
@@ -34,7 +34,7 @@ pub(crate) fn is_busy(error: &io::Error) -> bool {
     error.kind() == ErrorKind::ResourceBusy
 }
 
-/// Says more of a refusal since another file stands at the device's path. A failed write is let go.
+/// Says more of a refusal since another file is at the device's path. A failed write is dropped.
 pub(crate) fn explain_changed<E: Write>(err: &mut E) {
     let _ = write!(
         err,

@@ -40,6 +40,6 @@ pub trait Locks<F: Drop> {
     fn take_made(&mut self, path: &str, file: F) -> Result<Held<Self::Lock>, InUse>
         ensures { IfOk result (λ held. path_held held.noted.told ≡ path.now) };
 
-    /// Whether what stands at a path is what stood there as this lock was taken: the very file that is locked, or nothing.
+    /// Whether what is at a path is what was there as this lock was taken: the very file that is locked, or nothing.
     fn is_kept(&self, lock: &Self::Lock, path: &str) -> bool;
 }

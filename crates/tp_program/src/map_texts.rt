@@ -6,7 +6,7 @@ use std::fs::Files;
 use tp_model::limits::MAX_NODES;
 use tp_views::{Refusal, is_regular, map_path};
 
-/// The texts of maps: each node's own at its number, and the one of each node that has none of its own. One that isn't there is empty.
+/// The texts of maps: each node's own at its number, and the one for all nodes that have none of their own. A missing map is empty.
 #[derive(Drop)]
 pub(crate) struct MapTexts {
     pub(crate) own: Vec<Vec<u8>>,
@@ -53,7 +53,7 @@ fn read_noted<R: Files + AllocGlobal>(
     }
 }
 
-/// Reads the maps of a folder. One without any is refused.
+/// Reads the maps of a folder. Refuses a folder without any.
 fn read_folder<R: Files + AllocGlobal>(rt: &R, folder: &str) -> Result<MapTexts, Refusal> {
     let mut texts = no_texts(rt.alloc());
     let mut is_there = false;

@@ -28,7 +28,7 @@ pub(crate) struct Rights {
     group: u32,
 }
 
-/// That right, where a file's group and all others have it; else none.
+/// That right, if a file's group and all others have it; else none.
 fn shared_right(bits: u32, right: u32) -> u32
     ensures { result ≡ shared_right bits right }
 {
@@ -65,7 +65,7 @@ impl Rights {
         self.bits & OWNER
     }
 
-    /// Those that the copy gets. Its file is of this group: where that is another one than the device's, it may do no more than all others.
+    /// Those that the copy gets. Its file is of this group: if that is another one than the device's, it may do no more than all others.
     fn within(self, group: u32) -> u32
         ensures { result ≡ rights_in self.group group self.bits }
     {
@@ -76,7 +76,7 @@ impl Rights {
         }
     }
 
-    /// Gives them to the copy's file, where it hasn't got them.
+    /// Gives them to the copy's file, if it hasn't got them.
     pub(crate) fn give<F: OpenFile>(self, file: &F, kept: &Metadata) -> io::Result<()> {
         let bits = self.within(kept.gid());
         if kept.permissions().mode() & RIGHTS == bits {

@@ -17,7 +17,7 @@ use tp_disk::Disk;
 use tp_views::{Refusal, is_openable, refuse};
 use tp_words::Run;
 
-/// The input of a run, which has none where no file was named.
+/// The input of a run, which has none if no file was named.
 fn read_input<R: Files + AllocGlobal>(rt: &R, run: &Run) -> Result<Vec<u8>, Refusal>
     ensures { run.now.input ≡ None → IfOk result (λ input. input.items ≡ []) }
 {
@@ -61,7 +61,7 @@ fn run_device<
     status
 }
 
-/// `tpnet run`, on files, where the device is held. The input is read first. The device's file is opened as it is, and keeps its length.
+/// `tpnet run`, on files, if the device is held. The input is read first. The device's file is opened as it is, and keeps its length.
 /// What the system said of a call on it that failed is put into `system`.
 #[inline(never)]
 pub(crate) fn run_file<

@@ -43,7 +43,7 @@ fn is_not_there<E: Write>(err: &mut E, what: &str) -> u8
     2
 }
 
-/// Says why a run was refused. Answers the status. A failed write of that is let go.
+/// Says why a run was refused. Answers the status. A failed write is ignored.
 fn refuse_run<E: Write>(err: &mut E, fault: RunFault) -> u8
     ensures { result ≡ 1 }
 {
@@ -51,7 +51,7 @@ fn refuse_run<E: Write>(err: &mut E, fault: RunFault) -> u8
     1
 }
 
-/// What is said behind the number of the next entry, by what is left to do.
+/// What is said after the number of the next entry, by what is left to do.
 fn word_of(rest: Rest) -> &'static str {
     match rest {
         Rest::Halted => " halted",
@@ -60,7 +60,7 @@ fn word_of(rest: Rest) -> &'static str {
     }
 }
 
-/// Says on standard error what came of a run. Answers the status. A failed write of that is let go.
+/// Says on standard error what came of a run. Answers the status. A failed write of that is dropped.
 fn report<E: Write>(err: &mut E, done: Result<u64, RunFault>, rest: Rest) -> u8
     ensures { result ≡ status_of done }
 {
@@ -78,11 +78,10 @@ fn report<E: Write>(err: &mut E, done: Result<u64, RunFault>, rest: Rest) -> u8
     }
 }
 
-/// `tpnet run`, on a device: hands in what the port hasn't accepted of `input`, lets workers make the turns, keeps the journal, prints
-/// and confirms what the port shows, and says on standard error which number the next entry gets, and whether each node has halted, or
-/// nothing is left to do. Answers the device, and the
-/// program's status: 0 where that was done, 2 where `--spare` is above a node's pages or the port isn't there, else 1. A device
-/// that doesn't open is left as it is, and so it is at status 2; nothing is printed then.
+/// `tpnet run`, on a device. It hands in what the port hasn't accepted of `input`, lets workers make the turns, keeps the journal, and prints and
+/// confirms what the port shows. It says on standard error which number the next entry gets, and whether each node has halted, or nothing is left to
+/// do. Answers the device, and the program's status: 0 if that was done, 2 if `--spare` is above a node's pages or the port doesn't exist, else 1. A
+/// device that doesn't open is left as it is, and so it is at status 2; nothing is printed then.
 pub fn run_on<D: Disk + Drop + Send, O: Outlet, E: Write, R: Threads + Wait + Sync>(
     rt: &R,
     alloc: Global,

@@ -17,7 +17,7 @@ const STANDARD: &[StandardStream] = &[
     StandardStream::Error,
 ];
 
-/// Why a stream isn't begun, because of the file that is to end it, or of where it may be asked to stop. The device is as it was.
+/// Why a stream isn't begun, because of the file that is to end it, or of the place where it may be asked to stop. The device is as it was.
 #[derive(Clone, Copy)]
 pub enum StopFault {
     /// It is the file of the device, of an end of a port, or of a standard stream.
@@ -32,8 +32,8 @@ pub enum StopFault {
     RequestLeft,
 }
 
-/// Says that a stream is asked to stop where there is a request beside its device, or something is at a path, where there is one. It is
-/// looked anew each time.
+/// Says that a stream is asked to stop if there is a request beside its device, or if something is at the path of its stop file. It checks anew each
+/// time.
 #[derive(Drop)]
 pub(crate) struct StopFile<'a, R> {
     rt: &'a R,
@@ -58,7 +58,7 @@ impl<'a, R> StopFile<'a, R> {
     }
 }
 
-/// Whether something is at a path. Where that can't be said, nothing is.
+/// Whether something is at a path. If that can't be said, nothing is.
 fn is_there<R: Files>(rt: &R, path: &Option<String>) -> bool {
     match path {
         Some(path) => fs::metadata(rt, path.as_str()).is_ok(),
@@ -104,7 +104,7 @@ fn is_part<R: Files + StandardStreams>(rt: &R, asked: &StreamRun, path: &str) ->
         || is_standard(rt, path)
 }
 
-/// Why a stream isn't begun because of the file that is to end it, where it isn't: as things stand now.
+/// Why a stream isn't begun because of the file that is to end it, if it isn't: as things are now.
 fn stop_fault<R: Files + StandardStreams>(rt: &R, asked: &StreamRun) -> Option<StopFault>
     ensures { asked.now.stop_file ≡ None → result ≡ None }
 {
@@ -125,7 +125,7 @@ fn is_taken<R: Files + StandardStreams>(rt: &R, asked: &StreamRun, request: &Req
     is_end(rt, path, &asked.ends.outs) || is_end(rt, path, &asked.ends.ins) || is_standard(rt, path)
 }
 
-/// Why a stream isn't begun because of the file that is to end it, or of where it may be asked to stop: as things stand now.
+/// Why a stream isn't begun because of the file that is to end it, or of the place where it may be asked to stop, as things are now.
 pub(crate) fn places_fault<R: Files + StandardStreams>(
     rt: &R,
     asked: &StreamRun,
@@ -141,7 +141,7 @@ pub(crate) fn places_fault<R: Files + StandardStreams>(
     }
 }
 
-/// The same before anything was opened; and a request from before, which was for another process, is taken away. The device is held.
+/// The same before anything was opened; it takes away an earlier request, which was for another process. The device is held.
 pub(crate) fn first_fault<R: Files + StandardStreams>(
     rt: &R,
     asked: &StreamRun,
@@ -157,8 +157,8 @@ pub(crate) fn first_fault<R: Files + StandardStreams>(
     }
 }
 
-/// Says why a stream isn't begun because of the file that is to end it, or of where it may be asked to stop. Answers the status. A failed
-/// write is let go.
+/// Says why a stream isn't begun because of the file that is to end it, or of the place where it may be asked to stop. Answers the status. A failed
+/// write is ignored.
 pub(crate) fn report_stop<E: Write>(err: &mut E, fault: StopFault) -> u8
     ensures { result ≡ 2 }
 {

@@ -274,7 +274,7 @@ fn push_stream_fault<R: Files<File = F> + AllocGlobal, F: FileExt + OpenFile + D
     }
 }
 
-/// Says why an end of a stream failed, why it was refused or ended early, or why its device wasn't opened.
+/// Says why an end of a stream failed, why the stream was refused or ended early, or why its device wasn't opened.
 fn push_explanation<R: Files<File = F> + AllocGlobal, F: FileExt + OpenFile + Drop>(
     rt: &R,
     text: &mut String,
@@ -291,7 +291,7 @@ fn push_explanation<R: Files<File = F> + AllocGlobal, F: FileExt + OpenFile + Dr
     }
 }
 
-/// Says what the system said of the device, where a call on it failed, and why the stream was refused or ended early.
+/// Says what the system said of the device, if a call on it failed, and why the stream was refused or ended early.
 fn push_all<R: Files<File = F> + AllocGlobal, F: FileExt + OpenFile + Drop>(
     rt: &R,
     text: &mut String,
@@ -305,7 +305,7 @@ fn push_all<R: Files<File = F> + AllocGlobal, F: FileExt + OpenFile + Drop>(
     push_explanation(rt, text, asked, fault, system.is_some())
 }
 
-/// Says more of a refusal on standard error. `system` is what the system said where a call on the device failed.
+/// Says more of a refusal on standard error. `system` is what the system said if a call on the device failed.
 pub fn explain_stream<R: Files<File = F> + AllocGlobal, F: FileExt + OpenFile + Drop, E: Write>(
     rt: &R,
     asked: &StreamRun,

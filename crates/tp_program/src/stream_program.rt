@@ -22,8 +22,8 @@ use tp_stream_files::{Ending, Feed, Onlooker, StandardStreams};
 use tp_views::{Refusal, is_openable, refuse, tell_inside};
 use tp_words::StreamRun;
 
-/// What came of a command: its status, whether a stream ended since nothing was left to do, or why it ended early, and what the system said
-/// of a call on the device that failed.
+/// What came of a command: its status, whether a stream ended since nothing was left to do, or why it ended early, and what the system said of a call
+/// on the device that failed.
 #[derive(Drop)]
 struct Outcome {
     status: u8,
@@ -130,8 +130,8 @@ fn say_why<R: Files<File = F> + AllocGlobal, F: FileExt + OpenFile + Drop, E: Wr
     }
 }
 
-/// Streams as it is asked for, and where `explains` says more of a refusal, or, of a stream that ended since nothing was left to do, whether
-/// processes wait for other nodes. Answers the status.
+/// Streams as it is asked for. If `explains`, it says more of a refusal, or, of a stream that ended since nothing was left to do, whether processes
+/// wait for other nodes. Answers the status.
 fn stream_and_explain<
     R: Files<File = F> + StandardStreams + AllocGlobal + Threads + Wait + Sync,
     F: FileExt + OpenFile + Drop + Send,
@@ -168,8 +168,8 @@ fn stream_and_explain<
     ended.status
 }
 
-/// Asks for the device first, and streams on it unless another process has it; says more of a refusal where `explains`. Answers the status:
-/// that of the stream, or 3 where it ended since a node halted.
+/// Asks for the device first, and streams on it unless another process has it; if `explains`, says more of a refusal. Answers the status: that of the
+/// stream, or 3 if it ended since a node halted.
 pub(crate) fn hold_and_stream<
     R: Files<File = F> + StandardStreams + AllocGlobal + Threads + Wait + Sync,
     F: FileExt + OpenFile + Drop + Send,

@@ -28,10 +28,10 @@ use tp_stream_files::{
 };
 use tp_words::StreamRun;
 
-/// After how many seconds it is said again how far a stream has come, where none were typed.
+/// After how many seconds it is said again how far a stream has come, if none were typed.
 const SECONDS_TOLD: u32 = 10;
 
-/// How many threads make turns at most, where nothing was typed of that.
+/// How many threads make turns at most, if nothing was typed of that.
 const MOST_WORKERS: usize = 4;
 
 /// Why a stream on files ends early.
@@ -75,7 +75,7 @@ fn task_of(asked: &StreamRun) -> Task
     }
 }
 
-/// The task, where standard error may be a terminal: there it is told how far the stream has come, whatever was typed.
+/// The task, if standard error may be a terminal: there it is told how far the stream has come, whatever was typed.
 fn shown_on(task: Task, on_terminal: bool) -> Task
     requires { task.quantum ≤ MAX_STEPS }
     ensures value { result ≡ shown_on on_terminal task }
@@ -87,7 +87,7 @@ fn shown_on(task: Task, on_terminal: bool) -> Task
     }
 }
 
-/// The task, where nothing was typed of how many threads make turns: as many as there are processors, up to [`MOST_WORKERS`].
+/// The task, if nothing was typed of how many threads make turns: as many as there are processors, up to [`MOST_WORKERS`].
 fn spread_over(task: Task, processors: usize) -> Task
     requires { task.quantum ≤ MAX_STEPS }
     ensures value { result ≡ spread_over processors task }
@@ -101,7 +101,7 @@ fn spread_over(task: Task, processors: usize) -> Task
     Task { workers, ..task }
 }
 
-/// How many processors there are, where that can be said.
+/// How many processors there are, if that can be said.
 fn processors<R: Threads>(rt: &R) -> usize {
     match thread::available_parallelism(rt) {
         Ok(count) => count.get(),
@@ -180,7 +180,7 @@ fn report_fault<E: Write>(err: &mut E, fault: StreamFault) -> u8
     }
 }
 
-/// The status of a stream that was done: 3 where a node has halted, else 0.
+/// The status of a stream that was done: 3 if a node has halted, else 0.
 fn ending_status(why: Ending) -> u8
     ensures value { result ≡ ending_status why }
     ensures few { result ≤ 3 }
@@ -191,7 +191,7 @@ fn ending_status(why: Ending) -> u8
     }
 }
 
-/// Says why a stream ended early. A stream that was done has said so itself. Answers the status. A failed write is let go.
+/// Says why a stream ended early. A stream that was done has said so itself. Answers the status. A failed write is dropped.
 fn report<E: Write>(err: &mut E, done: Result<Ended, FilesFault>) -> u8
     ensures value { result ≡ stream_status done }
     ensures few { result ≤ 3 }
@@ -204,9 +204,9 @@ fn report<E: Write>(err: &mut E, done: Result<Ended, FilesFault>) -> u8
     }
 }
 
-/// Streams a device's network on ends that are open. What is said of it goes to `err`: where standard output and standard input begin,
-/// how far it has come, at the end each node that has stopped, and `next M`, with how much standard output was given and how much of
-/// that is confirmed, and why it ended.
+/// Streams a device's network on ends that are open. It tells `err` where standard output and standard input begin, how far the stream has come, and
+/// at the end each node that has stopped. Then it tells `next M`, with how much standard output was given and how much of that is confirmed, and why
+/// it ended.
 #[inline(never)]
 fn stream_opened<
     R: Files + AllocGlobal + Threads + Wait + Sync,
@@ -255,8 +255,8 @@ fn stream_opened<
     (disk, done)
 }
 
-/// Opens the ends of a device's ports. The file that is to end the stream, and where it may be asked to stop, is looked at before, and behind,
-/// since it may be one of them that was made meanwhile.
+/// Opens the ends of a device's ports. It checks the file that is to end the stream, and the place where it may be asked to stop, before and after:
+/// one of the ends made meanwhile may be that file.
 #[inline(never)]
 fn open_ports<
     'a,
@@ -286,7 +286,7 @@ fn open_ports<
     }
 }
 
-/// Opens the ends of a device's ports, and streams its network on them. A request to stop is taken away behind that, whyever it ended: it was
+/// Opens the ends of a device's ports, and streams its network on them. A request to stop is taken away after that, whyever it ended: it was
 /// for this process, which holds the device.
 fn stream_files<
     R: Files<File = F> + StandardStreams + AllocGlobal + Threads + Wait + Sync,
@@ -329,8 +329,8 @@ fn stream_files<
     }
 }
 
-/// `tpnet run --stream`, on a device: opens the ends of its ports, lets its network run, and puts, makes safe and confirms what ports
-/// show as it comes, until it is over as it was asked to be. Answers the device, the program's status and what came of it.
+/// `tpnet run --stream`, on a device. It opens the ends of its ports, lets its network run, and puts, makes safe and confirms what ports show as it
+/// comes, until the stream is over as it was asked to be. Answers the device, the program's status and what came of it.
 pub fn stream_on<
     R: Files<File = F> + StandardStreams + AllocGlobal + Threads + Wait + Sync,
     F: FileExt + OpenFile + Drop + Send,

@@ -1,6 +1,6 @@
 //! What `tpnet status` is told beside the device: who holds it, and the time.
 
-/// Says who holds a device and what time it is, and waits between two looks. It promises nothing.
+/// Says who holds a device and what time it is, and waits between two checks. It promises nothing.
 pub trait Watch {
     /// Whether another process holds the device's file.
     fn is_held(&mut self, device: &str) -> bool;

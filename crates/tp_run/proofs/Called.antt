@@ -45,6 +45,6 @@ called_on there bytes left count was then now answer some C more =
 pub was_called : (there : State) (bytes left : List ℕ) (count : ℕ) (was now : OutletValue) → CalledFor there bytes left count was now → left ≡ [] → WasCalled there bytes was now
 was_called there bytes left count was now C none = record { calls = C.calls; more = C.more; are = C.are; over = inl (C.rest ∙ none) }
 
--- a front of them is taken, and some are left
+-- some of the first bytes are taken, and some are left
 pub some_left : (taken : ℕ) (bytes : List ℕ) → taken < length bytes → 0 < length (drop taken bytes)
 some_left taken bytes below = let long = length-drop taken bytes in omega (arith, long, below)

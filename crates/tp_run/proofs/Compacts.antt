@@ -24,7 +24,7 @@ use Rattle.tp_flush.specs.Ends.{Ended}
 use Rattle.tp_run.proofs.Failures.{refused_as}
 use Rattle.tp_run.specs.Compacted.{Compacted, IsBeginFault, SaysLast, StaysUnopened, flush_fault, is_failure_in}
 
--- where a flusher walks on, its mark is at least the number that the device's next entry had
+-- if a flusher walks on, its mark is at least the number that the device's next entry had
 mark_grew : (start : Network NodeState) (before : World NodeState) (opened : Opened) (old new : Flushing) → Reached start old.world
     → old.world ≡ reopened before old.state.now.bytes (held_of opened) opened.now → Walked old new → next_of opened ≤ new.world.mark
 mark_grew start before opened old new there first W =

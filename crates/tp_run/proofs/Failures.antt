@@ -66,7 +66,7 @@ outcome_refused (Err refused) (Ok done) given old new is E = tt
 outcome_refused {A} (Err refused) (Err fault) given old new is E =
     let same : flush_fault_of given refused ≡ fault = cc in subst (IsFlushFault given new.world.at) same (refused_by A given refused old new E)
 
--- one behind the other
+-- one after the other
 pub failures_then : (a b c : Flushing) → CountsFailures a b → CountsFailures b c → CountsFailures a c
 failures_then a b c F G = record {
   rests = λ rests. let there = G.rests rests in let here = F.rests there.0 in (here.0, there.1 ∙ here.1);
@@ -87,7 +87,7 @@ counted old new true began C at = elim (C.broken at) [
   | inr once ↦ let more = once.1 in omega (arith, more)
 ]
 
--- where nothing failed
+-- if nothing failed
 pub uncounted : (now before : ℕ) (failed : Bool) → failed ≡ false → now ≡ before → now ≡ failures_after failed before
 uncounted now before failed none same = subst (λ f. now ≡ failures_after f before) (sym none) (omega (arith, same))
 

@@ -112,7 +112,7 @@ offer_unfailed LastFlushFailed offer = absurd offer
 offer_unfailed Unaccounted offer = refl
 offer_unfailed Memory offer = refl
 
--- behind the input it isn't the input that is refused
+-- once the input was handed in, the fault isn't that it was refused
 pub behind_unrefused : (fault : RunFault) (Needs : Type 0) → ComesBehind fault → fault ≡ OfferRefused → Needs
 behind_unrefused fault Needs behind is = absurd (subst ComesBehind is behind)
 

@@ -18,7 +18,7 @@ use Rattle.tp_run.specs.Outset.{outset_in, outset_of, outset_with}
 abbrev fresh : Port
 fresh = record { pending = []; in_base = 0; outputs = []; out_base = 0 }
 
--- a port stands in it as in what was opened
+-- a port is in it as in what was opened
 pub outset_is : (s : NetState) (o : Opened) (room : Option ℕ) (port : ℕ) → now_of s ≡ o.now → s.base ≡ o.base → s.kept.items ≡ o.kept
     → outset_of (opened_book s room) port ≡ outset_in o port
 outset_is s o room port now base kept =

@@ -20,7 +20,7 @@ use Rattle.tp_run.specs.Output.{unconfirmed_fault}
 
 -- ## Input
 
--- the fault of a run whose offer is refused so; the first three don't come
+-- the fault of a run for each reason to refuse an offer; the first three don't occur
 abbrev pub rest_told : OfferFault → RunFault
 rest_told (offer.Already n) = Memory
 rest_told (offer.Gap n) = Memory
@@ -67,7 +67,7 @@ rest_refused A b port at room input bytes r at_is room_is bytes_are is =
 
 -- ## Confirms
 
--- the fault of a run whose confirm is refused so; the first doesn't come
+-- the fault of a run for each reason to refuse a confirm; the first doesn't occur
 abbrev pub confirm_told : ConfirmFault → RunFault
 confirm_told confirm.NotShown = Memory
 confirm_told confirm.JournalFull = ConfirmRefused

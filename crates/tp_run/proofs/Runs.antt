@@ -33,7 +33,7 @@ pub if_both : {A E : Type 0} (r : Result A E) (P Q R : A → Type 0) → ((x : A
 if_both (Ok x) P Q R turn p q = turn x p q
 if_both (Err e) P Q R turn p q = p
 
--- The law of slips that stand in a journal.
+-- The law of slips that are in a journal.
 abbrev pub SlipsAreRecovered : Type 0
 SlipsAreRecovered =
     (start : Network NodeState) (journal : List Entry) (least : ℕ) (slips : List (ℕ × Entry)) (bytes : List ℕ)

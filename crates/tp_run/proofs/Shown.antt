@@ -1,4 +1,4 @@
--- What is printed: outputs of a port in a book, and so where the flusher's journal leads.
+-- What is printed: outputs of a port in a book, and so if the flusher's journal leads.
 use Rattle.std.proofs.Common.{◌≡◌, ℕ, ◌+◌, ◌-◌, ◌≤◌, inl, inr, Bool, true, false, cond, List, [], ◌∷◌, ◌++◌, length, take, drop, Option, Result, Ok, Err, refl, sym, ap, subst, ◌∙◌, arith, append-nil, length-append}
 use Rattle.std.specs.Prelude.{map, nat_le, IfOk}
 use Rattle.std.specs.List.{enumerate_from}
@@ -95,7 +95,7 @@ pub printed_of : {A : Type 0} (b : BookValue) (port mark confirmed : ℕ) (there
 printed_of b port mark confirmed there was now r base all stored printed =
     inr (record { base = base; all = all; stored = stored }, subst (λ bytes. PrintsAt there r was now bytes) (all_shown b port mark all) printed)
 
--- all of it was appended, and the answer behind that says so
+-- all of it was appended, and the answer after that says so
 pub prints_on : {A : Type 0} (there : State) (was now : OutletValue) (bytes : List ℕ) (r : Result A RunFault) → Appends was.taken now.taken bytes → TellsAllPrinted r → WasCalled there bytes was now
     → PrintsAt there r was now bytes
 prints_on there was now bytes r appended told called = record {
@@ -109,7 +109,7 @@ pub nothing_in : {A : Type 0} (xs : List A) → length xs ≡ 0 → xs ≡ []
 nothing_in [] e = refl
 nothing_in (x ∷ xs) e = absurd (omega (arith, e))
 
--- where a mark is above all of a book, the journal that the flusher knows is all of it
+-- if a mark is above all of a book, the journal that the flusher knows is all of it
 shows_book : (start : Network NodeState) (w : World NodeState) (b : BookValue) (port mark confirmed number : ℕ) → IsAheadOf start w b → ShowsAll b port mark confirmed → mark ≡ w.mark
     → number ≡ next_in_book b → AreShownIn start w port confirmed number (port_in b port).outputs
 shows_book start w b port mark confirmed number A S at is =
@@ -191,7 +191,7 @@ pub record SaysAs {A B : Type 0} (r : Result A RunFault) (s : Result B RunFault)
 pub fault_says : (A B : Type 0) (fault : RunFault) → SaysAs (fault_of A fault) (fault_of B fault)
 fault_says A B fault = record { silent = λ silent. silent; prints = λ count all prints. prints }
 
--- what came behind an output that was printed
+-- what came after an output that was printed
 pub done_says : {A B : Type 0} (x : A) (s : Result B RunFault) → TellsAllPrinted s → SaysAs (done_as x) s
 done_says x s told = record { silent = λ none. absurd none; prints = told }
 
@@ -222,7 +222,7 @@ may_print start old at new R W V port confirmed was now r s says (inr H) =
           (λ left r. recovers_less start new.world.journal at.world.mark H.number left H.few r) (walked_recovers start at new reached V);
     })
 
--- nothing came behind it
+-- nothing came after it
 pub may_print_last : {A B : Type 0} (start : Network NodeState) (old at : Flushing) → Reached start old.world → Walked old at → (port confirmed : ℕ) (was now : OutletValue)
     → (r : Result A RunFault) (s : Result B RunFault) → SaysAs r s → MayShow start at.world.journal at.world.mark port confirmed at.state was now r → MayPrint start old at port confirmed was now s
 may_print_last start old at R W port confirmed was now r s says shown = may_print start old at at R W (walked_nowhere at W.now) port confirmed was now r s says shown

@@ -1,4 +1,4 @@
--- Slips of the host: their numbers, and where they stand.
+-- Slips of the host: their numbers, and where they are.
 use Rattle.std.proofs.Common.{◌≡◌, ℕ, ◌+◌, ◌-◌, ◌<◌, List, [], ◌∷◌, ◌++◌, length, take, drop, Option, Result, Ok, Err, sym, ap, subst, ◌∙◌, arith, cond, length-append}
 use Rattle.std.specs.Prelude.{nat_le, map, if◌then◌else◌, IfOk}
 use Rattle.std.specs.List.{AllByRecursion, enumerate_from}
@@ -82,7 +82,7 @@ input_offered b new outset input was now receipt S after number F =
           ∙ ap (λ n. outset.next + n) (length-map bytes (HostIn outset.port) ∙ ap length rest);
     }
 
--- the receipt of the rest of the input, where the port stands as it did
+-- the receipt of the rest of the input, if the port is as it did
 pub offered_at : {E : Type 0} (b new : BookValue) (outset : Outset) (input : List ℕ) (was now : List (ℕ × Entry)) (r : Result ReceiptValue E) → StandsIn outset b
     → IfOk r (λ receipt. new ≡ after_inputs b outset.port (input_rest b outset.port input)) → IfOk r (λ receipt. receipt.number ≡ next_in_book new)
     → IfOk r (IsFor (map (HostIn outset.port) (input_rest b outset.port input)) was now) → IfOk r (IsForInput outset input was now)
@@ -91,7 +91,7 @@ offered_at b new outset input was now (Err e) S after number F = tt
 
 -- ## What is settled
 
--- the host's seat has what was handed in and, behind it, what confirms what was printed; with what workers made that is all
+-- the host's seat has what was handed in and, after it, what confirms what was printed; with what workers made that is all
 pub host_settled : (start network : Network NodeState) (job : Job) (outset : Outset) (Are : ℕ → List ℕ → Type 0) (was now : Option (List ℕ)) (journal : List Entry) (next : ℕ) (handed host : List (ℕ × Entry)) (receipt : ReceiptValue)
     → (O : IsForOutput outset.port outset.confirmed Are was now handed host receipt) → LeadsToOutputs start journal O.confirmed.first outset.port outset.confirmed O.printed → next ≡ receipt.number
     → SlipsStand journal host → Accounted network job journal outset.next next host → Settled start network job outset handed was now journal next

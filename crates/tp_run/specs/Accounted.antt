@@ -8,8 +8,8 @@ use Rattle.tp_flush.specs.All.{AreAll}
 use Rattle.tp_run.specs.declared.job.Job.{Job}
 use Rattle.tp_run.specs.Worked.{Worked}
 
--- There were as many workers as the job says, and the turns of each made some slips. Those of the host's seat and these are all: of each
--- entry of the journal from the number `first` on there is one slip, and `next` is the number behind the last one.
+-- There were as many workers as the job says, and the turns of each made some slips. With those of the host's seat these are all: each entry of the
+-- journal from the number `first` on has one slip. `next` is the number after the last one.
 pub record Accounted (network : Network NodeState) (job : Job) (journal : List Entry) (first next : ℕ) (host : List (ℕ × Entry)) : Type 0 where
   pub workers : List (List (ℕ × Entry))
   pub count : length workers ≡ job.workers

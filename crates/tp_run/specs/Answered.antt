@@ -29,8 +29,8 @@ OpenedFor given job fault = OpenedWith given (λ (opened : Opened). job_fault jo
 abbrev pub HasInput : Job → List ℕ → Opened → Type 0
 HasInput job input opened = (job_fault job.spare job.port opened.head.topology ≡ None) × (0 < length (rest_at (outset_in opened job.port) input))
 
--- A fault is the opening's own, or that of the job, or comes where nothing is wrong with either; that the input is refused, only where there
--- is some.
+-- A fault is the opening's own, or that of the job, or comes if nothing is wrong with either. That
+-- the input is refused comes only if there is some.
 abbrev pub FaultFor : Result Opened OpenFault → Job → List ℕ → RunFault → Type 0
 FaultFor given job input (Opening unopened) = IsUnopened given unopened
 FaultFor given job input Spare = OpenedFor given job (Some Spare)
@@ -38,7 +38,7 @@ FaultFor given job input Port = OpenedFor given job (Some Port)
 FaultFor given job input OfferRefused = OpenedWith given (HasInput job input)
 FaultFor given job input _ = OpenedFor given job None
 
--- An answer comes where nothing is wrong with either.
+-- An answer comes if nothing is wrong with either.
 abbrev pub AnswerFor : Result Opened OpenFault → Job → List ℕ → Result ℕ RunFault → Type 0
 AnswerFor given job input (Ok next) = OpenedFor given job None
 AnswerFor given job input (Err fault) = FaultFor given job input fault

@@ -22,7 +22,7 @@ use Rattle.tp_run.specs.declared.compacting.Compaction.{Compaction}
 use Rattle.tp_run.specs.declared.compacting.CompactFault.{CompactFault}
 use Rattle.tp_run.specs.declared.compacting.CompactFault.TheVariants.{Opening, NoGeneration, DeviceFailed, NotWhole, Memory}
 
--- how many entries the journal of an area takes behind a cut, where the next one gets the number `next`
+-- how many entries the journal of an area takes after a cut, if the next one gets the number `next`
 abbrev pub room_behind : Topology → ℕ → ℕ → ℕ
 room_behind t area next = entries_left 0 next (journal_of t area)
 
@@ -40,8 +40,8 @@ SaysLast (Err NoGeneration) last = last ≡ true
 SaysLast (Err Memory) last = Unit {0}
 SaysLast _ last = last ≡ false
 
--- A fault is the opening's own; or the device opened, and had no generation left just where that is said. Memory may be wanting before
--- that is looked at.
+-- A fault is the opening's own; or the device opened, and had no generation left exactly if the fault says that. Memory may run out before that is
+-- checked.
 abbrev pub CompactAnswer : {A : Type 0} → Result Opened OpenFault → Result A CompactFault → Type 0
 CompactAnswer given (Err (Opening unopened)) = IsUnopened given unopened
 CompactAnswer given (Err NoGeneration) = OpenedWith given (λ (opened : Opened). is_full_for_snapshot opened.generation ≡ true)
@@ -66,7 +66,7 @@ flush_fault flush.StoreBroken = DeviceFailed
 flush_fault flush.Memory = Memory
 flush_fault flush.AreaFull = NotWhole
 
--- the fault of a snapshot that the book refuses to begin; none where one runs
+-- the fault of a snapshot that the book refuses to begin; none if one runs
 abbrev pub begin_fault : Refusal → Option CompactFault
 begin_fault refusal.SnapshotRunning = None
 begin_fault refusal.Memory = Some Memory
@@ -86,9 +86,9 @@ pub record GrewByOne (given : Result Opened OpenFault) (done : Compaction) : Typ
   pub generation : done.generation ≡ opened.generation + 1
   pub room : done.room ≤ room_behind opened.head.topology opened.head.areas.length done.next
 
--- A crash at any moment leaves what one just before might have left, or what opens to where a prefix of the journal leads, with all that
--- the device had as it was opened: that is the journal's beginning, and the next number is no less than it was. Once it was done, the
--- prefix has each entry below the answered number, which is no less than the device's next number was as it opened.
+-- A crash at any moment leaves what one just before might have left, or what opens to where a prefix of the journal leads. The prefix has all that
+-- the device had when it was opened: that is the journal's beginning, and the next number is no less than it was. Once the call was done, the prefix
+-- has each entry below the answered number, which is no less than the device's next number was at the opening.
 pub record Compacted (start : Network NodeState) (result : Result Compaction CompactFault) (old new : State) : Type 0 where
   pub journal : List Entry
   pub leaves : LeavesOnly old new (λ left. MayBe old.now left ⊎ Follows start journal 0 old.now.bytes left)

@@ -27,23 +27,23 @@ abbrev pub has_failed : {A : Type 0} → Result A RunFault → Bool
 has_failed (Ok x) = false
 has_failed (Err fault) = is_failure fault
 
--- as many calls as before have failed, and one more where that is said
+-- as many calls as before have failed, and one more if that is said
 abbrev pub failures_after : Bool → ℕ → ℕ
 failures_after failed before = before + (if failed then 1 else 0)
 
--- As a flusher goes on: where it rests it rested before, and no call has failed since. Where its device has failed, it had before, and no
+-- As a flusher goes on: if it rests it rested before, and no call has failed since. If its device has failed, it had before, and no
 -- call was made since; or it rested, and one call failed.
 pub record CountsFailures (old new : Flushing) : Type 0 where
   pub rests : new.world.at ≡ Resting → (old.world.at ≡ Resting) × (new.failures ≡ old.failures)
   pub broken : new.world.at ≡ Broken → ((old.world.at ≡ Broken) × (new.failures ≡ old.failures)) ⊎ ((old.world.at ≡ Resting) × (new.failures ≡ old.failures + 1))
 
--- the fault of a run whose flush was refused, where `given` says that the device failed
+-- the fault of a run whose flush was refused, if `given` says that the device failed
 abbrev pub flush_fault_of : RunFault → FlushFault → RunFault
 flush_fault_of given flush.DeviceFailed = given
 flush_fault_of given flush.StoreBroken = given
 flush_fault_of given flush.Memory = Memory
 flush_fault_of given flush.AreaFull = Unaccounted
 
--- A fault of a flush, by where the flusher is: `given` where its device has failed; else it rests.
+-- A fault of a flush, by where the flusher is: `given` if its device has failed; else it rests.
 abbrev pub IsFlushFault : RunFault → Position NodeState → RunFault → Type 0
 IsFlushFault given at fault = ((fault ≡ given) × (at ≡ Broken)) ⊎ (((fault ≡ Memory) ⊎ (fault ≡ Unaccounted)) × (at ≡ Resting))

@@ -1,4 +1,4 @@
--- Which faults come where.
+-- Which faults come when.
 use Rattle.std.specs.Prelude.{Result, Err}
 use Rattle.tp_run.specs.declared.fault.RunFault.{RunFault}
 use Rattle.tp_run.specs.declared.fault.RunFault.TheVariants.{Opening, Spare, Port, OfferRefused, FlushFailed, OutputFailed, ConfirmRefused, Unaccounted, Memory}
@@ -26,7 +26,7 @@ IsOfferFault Unaccounted = Unit {0}
 IsOfferFault Memory = Unit {0}
 IsOfferFault _ = ⊥
 
--- a fault of printing and of what comes behind it, but of no call of the device
+-- a fault of printing and of what comes after it, but of no call of the device
 abbrev pub IsLate : RunFault → Type 0
 IsLate OutputFailed = Unit {0}
 IsLate ConfirmRefused = Unit {0}

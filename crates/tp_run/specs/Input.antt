@@ -15,8 +15,8 @@ use Rattle.tp_run.specs.declared.outset.Outset.{Outset}
 abbrev pub input_rest : BookValue → ℕ → List ℕ → List ℕ
 input_rest b port input = take (room_of (port_in b port)) (drop (accepted_of (port_in b port)) input)
 
--- Why `count` bytes that a port has room for aren't handed in: where there are any, the store is broken, the journal has no room for them, told
--- in this order.
+-- Why `count` bytes that a port has room for aren't handed in. If there are any, the reasons are, in this order: the store is broken; the journal has
+-- no room for them.
 abbrev pub rest_fault : BookValue → ℕ → Option RunFault
 rest_fault b count =
     if count == 0 then None
@@ -24,7 +24,7 @@ rest_fault b count =
     else if is_journal_full b count then Some OfferRefused
     else None
 
--- of a port that stands so
+-- for the outset of a port
 abbrev pub rest_at : Outset → List ℕ → List ℕ
 rest_at outset input = take outset.room (drop outset.accepted input)
 
@@ -32,7 +32,7 @@ rest_at outset input = take outset.room (drop outset.accepted input)
 abbrev pub input_slips : Outset → List ℕ → List (ℕ × Entry)
 input_slips outset input = enumerate_from outset.next (map (HostIn outset.port) (rest_at outset input))
 
--- A seat got just the input's slips, and the receipt's number is the next one behind them.
+-- A seat got just the input's slips, and the receipt's number is the next one after them.
 pub record IsForInput (outset : Outset) (input : List ℕ) (old new : List (ℕ × Entry)) (receipt : ReceiptValue) : Type 0 where
   pub slips : new ≡ old ++ input_slips outset input
   pub number : receipt.number ≡ outset.next + length (rest_at outset input)

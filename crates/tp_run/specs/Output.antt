@@ -14,13 +14,13 @@ use Rattle.tp_run.specs.declared.fault.RunFault.TheVariants.{ConfirmRefused, Una
 use Rattle.tp_run.specs.Outlet.{OutletValue}
 use Rattle.tp_run.specs.Prints.{MayBeSilent, PrintsAt}
 
--- the entry that confirms a port's outputs, whose first has the position `from`; none where there is no output
+-- the entry that confirms a port's outputs, whose first has the position `from`; none if there is no output
 abbrev pub confirms : ℕ → ℕ → List ℕ → List Entry
 confirms port from [] = []
 confirms port from (x ∷ xs) = Confirm port (from + length (x ∷ xs)) ∷ []
 
--- Why all outputs of a port that a mark shows can't be confirmed: where some of them weren't confirmed before, the store is broken, or the
--- journal is full, told in this order.
+-- Why all outputs of a port that a mark shows can't be confirmed. If some of them weren't confirmed before, the reasons are, in this order: the store
+-- is broken; the journal is full.
 abbrev pub unconfirmed_fault : BookValue → ℕ → ℕ → Option RunFault
 unconfirmed_fault b port mark =
     if nat_le (shown_upto_of b port mark) (port_in b port).out_base then None
@@ -29,7 +29,7 @@ unconfirmed_fault b port mark =
     else None
 
 -- Bytes were appended, and a seat got the slip, and the host the receipt, of the entry that confirms just the appended ones as a port's
--- outputs from `from` on. `Are` holds of the number of that entry, which is the next one where there is none, and of the bytes.
+-- outputs from `from` on. `Are` holds of the number of that entry, which is the next one if there is none, and of the bytes.
 pub record IsForOutput (port from : ℕ) (Are : ℕ → List ℕ → Type 0) (was now : Option (List ℕ)) (old new : List (ℕ × Entry)) (receipt : ReceiptValue) : Type 0 where
   pub printed : List ℕ
   pub appended : Appends was now printed
@@ -50,8 +50,8 @@ pub record ShowsAll (b : BookValue) (port mark confirmed : ℕ) : Type 0 where
   pub all : shown_of b port mark ≡ length (port_in b port).outputs
   pub stored : next_in_book b ≤ mark
 
--- Nothing was appended, and no call made, where the answer lets that be; or a mark shows all outputs of a port in a book, and as many of
--- them were appended as the answer says, by calls that were made while the device stood so.
+-- Nothing was appended and no call made, if the answer allows that. Or a mark shows all outputs of a port in a book, and as many of them were
+-- appended as the answer says, by calls made while the device was in this state.
 abbrev pub PrintedOf : {A : Type 0} → BookValue → ℕ → ℕ → ℕ → State → OutletValue → OutletValue → Result A RunFault → Type 0
 PrintedOf b port mark confirmed there was now r =
     ((now ≡ was) × MayBeSilent r) ⊎ (ShowsAll b port mark confirmed × PrintsAt there r was now (port_in b port).outputs)

@@ -1,4 +1,4 @@
--- Where a port stands.
+-- What a run notes of its port.
 use Rattle.std.specs.Prelude.{◌≡◌, ℕ}
 use Rattle.tp_model.specs.Network.{Port}
 use Rattle.tp_model.specs.Opening.{Opened, next_of}
@@ -11,7 +11,7 @@ use Rattle.tp_run.specs.declared.outset.Outset.{Outset}
 abbrev pub port_opened : Opened → ℕ → Port
 port_opened o port = port_or_new o.now port
 
--- where a port that is so stands, when the next entry gets this number
+-- what is noted of a port, if the next entry gets this number
 abbrev pub outset_with : ℕ → ℕ → Port → Outset
 outset_with port next there = record { port = port; next = next; accepted = accepted_of there; room = room_of there; confirmed = there.out_base }
 
@@ -19,7 +19,7 @@ outset_with port next there = record { port = port; next = next; accepted = acce
 abbrev pub outset_of : BookValue → ℕ → Outset
 outset_of b port = outset_with port (next_in_book b) (port_in b port)
 
--- The port stands so in a book, as to the next entry and its input.
+-- The port in a book is as noted: the next entry and what it accepted are.
 abbrev pub StandsIn : Outset → BookValue → Type 0
 StandsIn outset b =
     (next_in_book b ≡ outset.next) × (accepted_of (port_in b outset.port) ≡ outset.accepted) × (room_of (port_in b outset.port) ≡ outset.room)

@@ -13,7 +13,7 @@ ComesSilent ConfirmRefused = ⊥
 ComesSilent LastFlushFailed = ⊥
 ComesSilent _ = Unit {0}
 
--- Of `all` bytes `count` were printed: fewer where the output can't be written, else all.
+-- Of `all` bytes `count` were printed: fewer if the output can't be written, else all.
 abbrev pub FaultPrints : RunFault → ℕ → ℕ → Type 0
 FaultPrints OutputFailed count all = count < all
 FaultPrints ConfirmRefused count all = all ≤ count
@@ -40,7 +40,7 @@ TellsAllPrinted r = (count all : ℕ) → all ≤ count → PrintsOf r count all
 abbrev pub PrintsSo : {A : Type 0} → Result A RunFault → Option (List ℕ) → Option (List ℕ) → List ℕ → Type 0
 PrintsSo r was now bytes = (count : ℕ) × Appends was now (take count bytes) × PrintsOf r count (length bytes)
 
--- so; and the outlet was called for these bytes, while the device stood so
+-- so; and the outlet was called for these bytes, while the device was so
 pub record PrintsAt {A : Type 0} (there : State) (r : Result A RunFault) (was now : OutletValue) (bytes : List ℕ) : Type 0 where
   pub prints : PrintsSo r was.taken now.taken bytes
   pub called : WasCalled there bytes was now

@@ -26,14 +26,15 @@ use Rattle.tp_run.specs.Output.{confirms}
 use Rattle.tp_run.specs.Prints.{MayBeSilent, PrintsSo}
 use Rattle.tp_run.specs.Shown.{LeadsToOutputs}
 
--- the entry that confirms what a run printed, under this number; none where nothing was printed
+-- the entry that confirms what a run printed, under this number; none if nothing was printed
 abbrev pub output_slips : Outset → ℕ → List ℕ → List (ℕ × Entry)
 output_slips outset number printed = enumerate_from number (confirms outset.port outset.confirmed printed)
 
--- What was settled with the flusher as a run ended: bytes were printed, and in the flusher's journal, as far as that reaches, stand
--- the entries of some slips and, under a number of its own, the entry that confirms what was printed, which is the last one. All numbers are
--- below `next`. Where the entries before that number lead, the bytes are all outputs of the port behind those confirmed. These entries and
--- those of the turns of the workers, on a network of this shape, are all that was journalled since the opening.
+-- What was settled with the flusher when a run ended:
+-- bytes were printed, and some slips were made. The flusher's journal, as far as it reaches, has
+-- the entries of these slips and, last, the entry that confirms what was printed, under a number of its own. All numbers are below `next`. If the
+-- entries before that number lead, the bytes are all outputs of the port after those confirmed. These entries and those of the workers' turns, on a
+-- network of this shape, are all that was journalled since the opening.
 pub record Settled (start network : Network NodeState) (job : Job) (outset : Outset) (handed : List (ℕ × Entry)) (was now : Option (List ℕ)) (journal : List Entry) (next : ℕ) : Type 0 where
   pub printed : List ℕ
   pub appended : Appends was now printed
@@ -44,12 +45,11 @@ pub record Settled (start network : Network NodeState) (job : Job) (outset : Out
   pub shows : LeadsToOutputs start journal number outset.port outset.confirmed printed
   pub accounted : Accounted network job journal outset.next next (handed ++ output_slips outset number printed)
 
--- What was handed in and printed by a run that was done is in the journal. The device opened, and its port stood somewhere. Behind
--- all that the device had there are the entries of the input from what the port had accepted on, as many bytes as it had room for.
--- Some bytes were printed, and there is the entry that confirms as many outputs behind those confirmed before, the last one: where the entries
--- in front of it lead, the bytes are all the outputs of the port that weren't confirmed. All of the entries have numbers below
--- `next`, and whatever a crash leaves of the device opens to where a prefix of the journal leads in which each stands at its number.
--- They and those of the turns of the workers are all that the journal has behind what the device had, each once, up to `next`.
+-- What a run that was done handed in and printed is in the journal. The device opened with its port in some state. After all that the device had, the
+-- journal has the entries of the input from what the port had accepted on, as many bytes as it had room for. Some bytes were printed, and the last
+-- entry confirms as many outputs after those confirmed before: if the entries before it lead, the bytes are all the outputs of the port that weren't
+-- confirmed. All of the entries have numbers below `next`. Whatever a crash leaves of the device opens to where a prefix of the journal leads that
+-- has each at its number. With those of the workers' turns they are all that the journal has after what the device had, each once, up to `next`.
 pub record Carried (start : Network NodeState) (journal : List Entry) (job : Job) (input : List ℕ) (was now : Option (List ℕ)) (next : ℕ) (old new : State) : Type 0 where
   pub opened : Opened
   pub reads : verdict old.now.bytes ≡ Ok opened
@@ -66,10 +66,10 @@ pub record Carried (start : Network NodeState) (journal : List Entry) (job : Job
       Accounted opened.cut job journal (next_of opened) next
       (input_slips (outset_in opened job.port) input ++ output_slips (outset_in opened job.port) number printed)
 
--- What was printed, however the run ended: the device opened; where the first `number` entries of the journal lead, the port has some
--- outputs behind those that were confirmed as it was opened, and a front of them was printed, while the device stood somewhere since:
--- fewer where the output can't be written, else all. They are no fewer entries than the device had as it was opened. And whatever a crash
--- leaves at any moment from then on has each of them.
+-- What was printed, however the run ended. The device opened. If the first `number` entries of the journal lead, the port has some outputs after
+-- those that were confirmed at the opening. The first of them were printed, while the device was in some state since: fewer if the output can't be
+-- written, else all. These are no fewer entries than the device had at the opening. Whatever a crash leaves at any moment from then on has each of
+-- them.
 pub record IsPrinted (start : Network NodeState) (journal : List Entry) (port : ℕ) (was now : Option (List ℕ)) (result : Result ℕ RunFault) (old new : State) : Type 0 where
   pub opened : Opened
   pub reads : verdict old.now.bytes ≡ Ok opened
@@ -82,11 +82,11 @@ pub record IsPrinted (start : Network NodeState) (journal : List Entry) (port : 
   pub later : moment old ≤ moment there
   pub since : LeavesOnly there new (RecoversTo t414 device_areas start journal number)
 
--- A crash at any moment of the run leaves what one just before might have left, or what opens to where a prefix of the journal leads,
--- with all that the device had as it was opened: that is the journal's beginning, and the next number is no less than it was. After a run
--- that was done, the prefix has each entry below the answered number, and the input and what confirms the output are among them; with
--- those of the workers' turns they are all that the journal has since the opening. However it ended, nothing was printed, where the answer
--- lets that be, or as many outputs as it says of the port where entries lead that whatever a crash leaves has.
+-- A crash at any moment of the run leaves what one just before might have left, or what opens to where a prefix of the journal leads. The prefix has
+-- all that the device had when it was opened: that is the journal's beginning, and the next number is no less than it was. After a run that was done,
+-- the prefix has each entry below the answered number. Among them are the input and what confirms the output; with those of the workers' turns they
+-- are all that the journal has since the opening. However the run ended, nothing was printed, if the answer allows that, or as many outputs of the
+-- port as the answer says: outputs where entries lead that whatever a crash leaves has.
 pub record Ran (start : Network NodeState) (job : Job) (input : List ℕ) (was now : Option (List ℕ)) (result : Result ℕ RunFault) (old new : State) : Type 0 where
   pub journal : List Entry
   pub leaves : LeavesOnly old new (λ left. MayBe old.now left ⊎ Follows start journal 0 old.now.bytes left)
@@ -94,8 +94,8 @@ pub record Ran (start : Network NodeState) (job : Job) (input : List ℕ) (was n
   pub carried : IfOk result (λ next. Carried start journal job input was now next old new)
   pub printed : ((now ≡ was) × MayBeSilent result) ⊎ IsPrinted start journal job.port was now result old new
 
--- What an outlet was called for, however the run ended: it took what was printed, and each call was made while the device stood where
--- whatever a crash leaves from then on has each entry that leads to it.
+-- What an outlet was called for, however the run ended. It took what was printed.
+-- Each call was made while whatever a crash leaves from then on had each entry that leads to that output.
 pub record IsCalled (start : Network NodeState) (journal : List Entry) (port : ℕ) (was now : OutletValue) (result : Result ℕ RunFault) (old new : State) : Type 0 where
   pub printed : IsPrinted start journal port was.taken now.taken result old new
   pub called : WasCalled printed.there printed.outputs was now

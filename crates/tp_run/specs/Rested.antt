@@ -18,7 +18,7 @@ pub record LeadsToRest (start : Network NodeState) (journal : List Entry) (numbe
   pub leads : after t414 start (take number journal) ≡ Some state
   pub is : rest ≡ rest_in state
 
--- Where it is said that nothing is left to do, that is so where the first `number` entries of the journal lead.
+-- If it is said that nothing is left to do, that is so if the first `number` entries of the journal lead.
 abbrev pub SaysRest : Network NodeState → List Entry → ℕ → Rest → Type 0
 SaysRest start journal number Halted = LeadsToRest start journal number Halted
 SaysRest start journal number Quiet = LeadsToRest start journal number Quiet

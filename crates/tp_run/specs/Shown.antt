@@ -14,11 +14,11 @@ use Rattle.tp_run.specs.declared.fault.RunFault.{RunFault}
 use Rattle.tp_run.specs.Outlet.{OutletValue}
 use Rattle.tp_run.specs.Prints.{MayBeSilent, PrintsAt}
 
--- a port of a network; where there is none, one at which nothing has happened
+-- a port of a network; if there is none, one at which nothing has happened
 abbrev pub port_or_new : Network NodeState → ℕ → Port
 port_or_new s port = get_or s.ports port (record { pending = []; in_base = 0; outputs = []; out_base = 0 })
 
--- The first `number` entries of a journal lead to a network in which a port has just `outputs` behind those confirmed.
+-- The first `number` entries of a journal lead to a network in which a port has just `outputs` after those confirmed.
 pub record LeadsToOutputs (start : Network NodeState) (journal : List Entry) (number port confirmed : ℕ) (outputs : List ℕ) : Type 0 where
   pub state : Network NodeState
   pub leads : after t414 start (take number journal) ≡ Some state
@@ -29,8 +29,8 @@ pub record LeadsToOutputs (start : Network NodeState) (journal : List Entry) (nu
 abbrev pub AreShownIn : Network NodeState → World NodeState → ℕ → ℕ → ℕ → List ℕ → Type 0
 AreShownIn start w port confirmed number outputs = (number ≤ w.mark) × LeadsToOutputs start w.journal number port confirmed outputs
 
--- What was appended to an outlet is a front of a port's outputs behind those confirmed, as many as the answer says, where the first
--- entries of the journal lead; there are just `least` of those entries. Each call of it was for them, while the device stood so.
+-- What was appended to an outlet is the first of a port's outputs after those confirmed, as many as the answer says, if the first `least` entries of
+-- the journal lead. Each call of it was for them, while the device was in this state.
 pub record HasShown {A : Type 0} (start : Network NodeState) (journal : List Entry) (least port confirmed : ℕ) (there : State) (was now : OutletValue) (r : Result A RunFault) : Type 0 where
   pub number : ℕ
   pub few : number ≤ least
@@ -39,12 +39,12 @@ pub record HasShown {A : Type 0} (start : Network NodeState) (journal : List Ent
   pub shows : LeadsToOutputs start journal number port confirmed outputs
   pub printed : PrintsAt there r was now outputs
 
--- or nothing was appended, and no call made, where the answer lets that be
+-- or nothing was appended, and no call made, if the answer lets that be
 abbrev pub MayShow : {A : Type 0} → Network NodeState → List Entry → ℕ → ℕ → ℕ → State → OutletValue → OutletValue → Result A RunFault → Type 0
 MayShow start journal least port confirmed there was now r = ((now ≡ was) × MayBeSilent r) ⊎ HasShown start journal least port confirmed there was now r
 
--- What was appended while the device stood somewhere between two moments: a front of a port's outputs behind those confirmed, as many as
--- the answer says, where the first entries of the journal lead; and whatever a crash leaves from then on has each of those entries.
+-- What was appended between two moments of the device: the first of a port's outputs after those confirmed, as many as the answer says, if the first
+-- entries of the journal lead. Whatever a crash leaves from then on has each of those entries.
 pub record HasPrinted {A : Type 0} (start : Network NodeState) (old new : Flushing) (port confirmed : ℕ) (was now : OutletValue) (r : Result A RunFault) : Type 0 where
   pub number : ℕ
   pub behind : old.world.mark ≤ number
@@ -55,6 +55,6 @@ pub record HasPrinted {A : Type 0} (start : Network NodeState) (old new : Flushi
   pub later : moment old.state ≤ moment there
   pub since : LeavesOnly there new.state (RecoversTo t414 device_areas start new.world.journal number)
 
--- or nothing was appended, and no call made, where the answer lets that be
+-- or nothing was appended, and no call made, if the answer lets that be
 abbrev pub MayPrint : {A : Type 0} → Network NodeState → Flushing → Flushing → ℕ → ℕ → OutletValue → OutletValue → Result A RunFault → Type 0
 MayPrint start old new port confirmed was now r = ((now ≡ was) × MayBeSilent r) ⊎ HasPrinted start old new port confirmed was now r

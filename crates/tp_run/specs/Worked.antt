@@ -7,8 +7,8 @@ use Rattle.tp_work.specs.Turns.{Refused, Turned}
 use Rattle.tp_work.specs.declared.fault.TurnFault.{TurnFault}
 use Rattle.tp_work.specs.declared.turn.Turn.{Turn}
 
--- Turns of processes of a network, one after the other, made just these slips: each turn added those of the entries that it says, or, where
--- it was refused, of the tokens that it had taken. Their numbers rise.
+-- Turns of processes of a network, in order, made exactly these slips. Each turn added those of the entries that it says; a refused turn added those
+-- of the tokens that it had taken. Their numbers rise.
 pub data Worked (network : Network NodeState) (quantum : ℕ) : List (ℕ × Entry) → Type 0 where
   idle : Worked network quantum []
   turned : (turn : Turn) (old new : List (ℕ × Entry)) → Worked network quantum old → Turned network quantum turn old new → Worked network quantum new

@@ -23,8 +23,8 @@ fn slips_of<J: Naming>(host: tp_shared::Seat<J>, seats: Vec<Seat<J>>) -> tp_shar
     all
 }
 
-/// Tests, under the book's lock, that the slips of the seat `host` and of `seats` are those of all that was journalled from the number
-/// `first` on, and that the next number is `next`, which it answers. It changes nothing.
+/// Tests, under the book's lock, that the slips of the seat `host` and of `seats` are those of all that was journalled from the number `first` on,
+/// and that the next number is `next`. Answers `next`, and changes nothing.
 pub(crate) fn account<J: Naming, D: Disk>(
     held: &mut Locked<J>,
     flusher: &mut Flusher<J, D>,

@@ -5,7 +5,7 @@ ghost use Rattle.std.specs.Prelude.{◌≡◌, ◌<◌, ◌≤◌, ◌+◌, ◌*
 /// Over how many of its turns a worker counts their steps.
 const COUNTED: u64 = 64;
 
-/// How many steps these turns have where threads beside each other begin to make more of them than one does: 160 each, in the mean.
+/// With this many steps in these turns several threads begin to make more steps than one: 160 a turn, on average.
 const ENOUGH: u64 = 10_240;
 
 /// How many microseconds a worker rests for at first.
@@ -42,7 +42,7 @@ impl Aside {
         }
     }
 
-    /// Counts a turn of `steps` steps. Answers for how many microseconds the worker had better rest, if it had: behind each [`COUNTED`] turns
+    /// Counts a turn of `steps` steps. Answers for how many microseconds the worker had better rest, if it had: after each [`COUNTED`] turns
     /// that had fewer than [`ENOUGH`] steps, each time for longer.
     pub(crate) fn count(&mut self, steps: u16) -> Option<u64>
         ensures early { self.old.turns + 1 < COUNTED → (result ≡ None) × (self.new.turns ≡ self.old.turns + 1) × (self.new.rest ≡ self.old.rest) }

@@ -12,7 +12,7 @@ use tp_book::Refusal;
 use tp_net::Topology;
 use tp_shared::{Locked, Naming};
 
-/// How many entries since the kept cut begin a snapshot, where `asked` were asked for; by default half of a journal.
+/// How many entries since the kept cut begin a snapshot, if `asked` were asked for; by default half of a journal.
 pub(crate) fn every_of(asked: Option<u32>, topology: &Topology, area: u64) -> u64
     ensures { result ≡ every_of asked topology.now area }
 {
@@ -30,7 +30,7 @@ pub(crate) fn missing_in<J: Naming>(held: &Locked<J>, every: u64) -> u64
     every.saturating_sub(made)
 }
 
-/// Begins a snapshot, under the book's lock, where `every` entries have been made since the kept cut. Whether one was begun.
+/// Begins a snapshot, under the book's lock, if `every` entries have been made since the kept cut. Whether one was begun.
 pub(crate) fn begin_where_due<J: Naming>(
     held: &mut Locked<J>,
     alloc: Global,

@@ -38,8 +38,8 @@ use tp_ready::Raiser;
 use tp_recover::{Opened, Unopened, entries_left, open};
 use tp_shared::{Naming, Parts, Shared};
 
-/// What is so of a device that was compacted: the number that its next entry gets, the generation of its cut, and how many entries
-/// its journal takes before it is full.
+/// What a compacted device has: the number that its next entry gets, the generation of its cut, and how many entries its journal takes before it is
+/// full.
 #[derive(Clone, Copy)]
 pub struct Compaction {
     pub next: u64,
@@ -56,10 +56,10 @@ pub enum CompactFault {
     NoGeneration,
     /// A call of the device failed.
     DeviceFailed,
-    /// The cut didn't become whole, or no snapshot could begin for another reason than want of memory. As nothing runs neither comes; that
-    /// is tested, and not proved.
+    /// The cut didn't become whole, or no snapshot could begin for another reason than memory. As nothing runs, neither occurs; that is tested, and
+    /// not proved.
     NotWhole,
-    /// Memory was refused, at whatever step.
+    /// Out of memory, at whatever step.
     Memory,
 }
 
@@ -84,7 +84,7 @@ impl fmt::Debug for CompactFault {
 
 impl Error for CompactFault {}
 
-/// How many entries `journal` takes behind those that were made since the kept cut, where the next one gets the number `next`.
+/// How many entries `journal` takes after those that were made since the kept cut, if the next one gets the number `next`.
 fn left_in<J: Naming, R: Wait>(rt: &R, shared: &Shared<J>, journal: JournalRoom, next: u64) -> u64
     ensures { result ≤ entries_left 0 next journal }
 {
@@ -93,15 +93,15 @@ fn left_in<J: Naming, R: Wait>(rt: &R, shared: &Shared<J>, journal: JournalRoom,
     entries_left(journal, made, next)
 }
 
-/// Whether no generation is left behind this one.
+/// Whether no generation is left after this one.
 fn is_last(generation: u64) -> bool
     ensures { result ≡ is_full_for_snapshot generation }
 {
     generation == NUMBER_LIMIT - 1
 }
 
-/// The fault of a snapshot that doesn't begin, though a generation is left; none where one runs. While nothing was done to the device, and
-/// nothing runs, it is want of memory alone.
+/// The fault of a snapshot that doesn't begin, though a generation is left; `None` if one runs. While nothing was done to the device, and nothing
+/// runs, it can only be out of memory.
 fn fault_of(refusal: Refusal) -> Option<CompactFault>
     ensures is { result ≡ begin_fault refusal }
     ensures begins { IfSome result IsBeginFault }
@@ -114,7 +114,7 @@ fn fault_of(refusal: Refusal) -> Option<CompactFault>
     }
 }
 
-/// What comes of beginning a snapshot, by its answer: no fault where one begins.
+/// What comes of beginning a snapshot, by its answer: `None` if one begins.
 fn outcome_of(answer: Result<(), Refusal>) -> Option<CompactFault>
     ensures is { MatchResult answer (λ begun. result ≡ None) (λ refusal. result ≡ begin_fault refusal) }
     ensures begins { IfSome result IsBeginFault }
@@ -137,7 +137,7 @@ fn begin<J: Naming, D: Disk, R: Wait>(
     outcome_of(flusher.snapshot(rt, alloc, shared).answer())
 }
 
-/// Each node records, and each Marker is taken off its line. Nothing is taken, and nothing runs.
+/// Has each node record, and takes each Marker off its line. No other token is taken, and nothing runs.
 fn record_all<J: Naming, R: Wait>(rt: &R, shared: &Shared<J>) {
     for node in 0..shared.nodes() {
         shared.record(rt, node);
@@ -233,14 +233,14 @@ fn compact_parts<J: Naming, D: Disk, R: Wait>(
     (flusher.into_disk(), done)
 }
 
-/// Opens a device, makes its network as it is the cut of the other area, and switches to that. Nothing runs, nothing is taken, and all
-/// output stays. So its journal is empty, also where it was full. Answers the device, and what is so of it then.
+/// Opens a device, makes its network as it is the cut of the other area, and switches to that. Nothing runs, nothing is taken, and all output stays.
+/// The journal is empty afterwards, even if it was full. Answers the device, and what it has then.
 ///
-/// Whatever a crash leaves at any moment of the call is what one just before might have left, or opens to where a prefix of the journal
-/// leads, with all that the device had: the store's contract says so (`Flusher::turn`, `Store::open_other`), which writes into the area
-/// that isn't open alone until its cut is whole and synced. After a call that was done, the prefix has each entry below the number that is
-/// answered, which is no less than the device's next number was, and the generation is one more than before. A fault tells its reason:
-/// what opening answers; that the device's generation is the last one; and that a call of the device failed, just where one has.
+/// Whatever a crash leaves at any moment of the call is what one just before might have left, or opens to where a prefix of the journal leads, with
+/// all that the device had. The store's contract says so (`Flusher::turn`, `Store::open_other`): until the new cut is whole and synced, it writes
+/// only into the area that isn't open. After a call that was done, the prefix has each entry below the answered number, which is no less than the
+/// device's next number was, and the generation is one more than before. A fault tells its reason: what opening answers; that the device's generation
+/// is the last one; or that a call of the device failed, exactly if one has.
 #[inline(never)]
 pub fn compact<D: Disk, R: Wait>(
     rt: &R,

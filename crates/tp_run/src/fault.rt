@@ -11,22 +11,22 @@ pub enum RunFault {
     Opening(Unopened),
     /// A node has fewer pages than the spare frames that were asked for.
     Spare,
-    /// The port isn't there.
+    /// The port doesn't exist.
     Port,
     /// There is no room on the device for the entries of the input, which has some bytes. None was handed in.
     OfferRefused,
-    /// A call of the device failed while the workers made their turns, or behind them. Nothing is printed.
+    /// A call of the device failed while the workers made their turns, or after them. Nothing is printed.
     FlushFailed,
-    /// The output can't be written. A front of what is shown was, but not all of it; nothing is confirmed.
+    /// The output can't be written: some of what is shown was, but not all; nothing is confirmed.
     OutputFailed,
     /// All that is shown is printed, and there is no room on the device for the entry that confirms it.
     ConfirmRefused,
-    /// All that is shown is printed, and a call of the device failed before that it was confirmed is stored.
+    /// All that is shown is printed, and a call of the device failed before its confirmation is stored.
     LastFlushFailed,
-    /// What lies under the book's lock isn't what this run put there: an entry whose slip neither a worker's seat nor the host's has, or one
-    /// less. It can't come, since no other thread is there.
+    /// What is under the book's lock isn't what this run put there: an entry's slip is in no seat, or one is missing. It can't occur, since no other
+    /// thread is there.
     Unaccounted,
-    /// Memory was refused, at whatever step.
+    /// Out of memory, at whatever step.
     Memory,
 }
 

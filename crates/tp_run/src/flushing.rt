@@ -1,4 +1,4 @@
-//! The flusher's thread, and flushes behind it.
+//! The flusher's thread, and flushes after it.
 
 ghost use Rattle.std.specs.Prelude.{◌≡◌, ◌≤◌, Err, IsOk, IfOk, IfErr, OnOk, MatchResult};
 ghost use Rattle.tp_model.specs.WriteOrder.{Resting};
@@ -15,17 +15,17 @@ use tp_flush::{FlushFault, Flushed, Flusher};
 use tp_model::limits::MAX_PAGES;
 use tp_shared::{Naming, Shared};
 
-/// Tells that the entries since the kept cut are others, where a turn of the flusher switched the areas.
+/// Tells that the entries since the kept cut changed, if a turn of the flusher switched the areas.
 fn tell_of<J: Naming>(watch: &Watch, done: &Result<Flushed<J>, FlushFault>) {
     if let Ok(Flushed { switched: true, .. }) = done {
         watch.count_anew();
     }
 }
 
-/// Makes the flusher's turns while workers make theirs, each once something may have been journalled, until they have ended;
-/// where nothing was it sleeps for a bounded time, and no turn wakes it. Where a turn wants memory, the next one does all; once a call of
-/// the device has failed, a turn does nothing. A turn copies about one frozen image of the largest nodes, so that what is journalled needn't
-/// wait for all of them; once the workers have ended, a turn copies all that it may.
+/// Makes the flusher's turns while workers make theirs, until they have ended: each once something may have been journalled. If nothing was, it
+/// sleeps for a bounded time; no turn wakes it. If a turn runs out of memory, the next one does all. Once a call of the device has failed, a turn
+/// does nothing. A turn copies about one frozen image of the largest nodes, so that what is journalled needn't wait for all of them; once the workers
+/// have ended, a turn copies all that it may.
 pub(crate) fn flush_meanwhile<J: Naming, D: Disk, R: Wait>(
     rt: &R,
     alloc: Global,
@@ -53,8 +53,8 @@ pub(crate) fn flush_meanwhile<J: Naming, D: Disk, R: Wait>(
     flusher
 }
 
-/// The fault of a run whose flush was refused: `given` where the device has failed. All that the book has finds room in an area, so the last
-/// one doesn't come.
+/// The fault of a run whose flush was refused: `given` if the device has failed. An area has room for all that the book has, so the last case doesn't
+/// occur.
 fn fault_in(fault: FlushFault, given: RunFault) -> RunFault
     ensures { result ≡ flush_fault_of given fault }
 {
@@ -65,7 +65,7 @@ fn fault_in(fault: FlushFault, given: RunFault) -> RunFault
     }
 }
 
-/// What comes of a flush whose turn was `turned`: done just where the turn was, else its fault, which is `given` where the device has failed.
+/// What comes of a flush whose turn was `turned`: it is done exactly if the turn was; else its fault, which is `given` if the device has failed.
 fn outcome_of<J: Naming>(
     turned: Result<Flushed<J>, FlushFault>,
     given: RunFault,
@@ -78,7 +78,7 @@ fn outcome_of<J: Naming>(
     }
 }
 
-/// A flush. It answers `fault` where the device fails.
+/// A flush. It answers `fault` if the device fails.
 fn flush<J: Naming, D: Disk, R: Wait>(
     rt: &R,
     alloc: Global,
@@ -95,7 +95,7 @@ fn flush<J: Naming, D: Disk, R: Wait>(
     outcome_of(flusher.turn(rt, alloc, shared), fault)
 }
 
-/// A flush of all entries below `number`, which is the next one of a receipt. Answers the mark. It answers `fault` where the device
+/// A flush of all entries below `number`, which is the next one of a receipt. Answers the mark. It answers `fault` if the device
 /// fails.
 pub(crate) fn flush_upto<J: Naming, D: Disk, R: Wait>(
     rt: &R,
@@ -114,7 +114,7 @@ pub(crate) fn flush_upto<J: Naming, D: Disk, R: Wait>(
 {
     flush(rt, alloc, shared, flusher, fault)?;
     let mark = flusher.mark();
-    // A flush that was done copied all that was journalled before, so this doesn't come.
+    // A flush that was done copied all that was journalled before, so this doesn't occur.
     if mark < number {
         return Err(RunFault::Unaccounted);
     }

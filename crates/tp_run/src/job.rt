@@ -3,7 +3,7 @@
 /// How a device's network is run.
 #[derive(Clone, Copy)]
 pub struct Job {
-    /// How many turns all workers make together. A refused turn counts; behind one that is refused since the store has failed a worker makes none.
+    /// How many turns all workers make together. A refused turn counts. After one that is refused since the store has failed, a worker makes none.
     pub turns: u32,
     /// How many threads make turns, 1 to [`MAX_WORKERS`].
     pub workers: u8,
@@ -11,7 +11,7 @@ pub struct Job {
     pub quantum: u16,
     /// How many spare frames each node has, at most its pages, for pages that it writes while it is frozen.
     pub spare: u16,
-    /// How many entries since the kept cut begin a snapshot; none: as many as fill half of the journal, and at least one.
+    /// How many entries since the kept cut begin a snapshot; `None`: as many as fill half of the journal, and at least one.
     pub every: Option<u32>,
     /// The port that input goes to and output comes from.
     pub port: u8,

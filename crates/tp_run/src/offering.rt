@@ -27,7 +27,7 @@ fn front_from(input: &[u8], from: u64, room: usize) -> &[u8]
     &rest[..rest.len().min(room)]
 }
 
-/// Hands a port the bytes of its whole input that it hasn't accepted, as many as it has room for. Where it has accepted more, it
+/// Hands a port the bytes of its whole input that it hasn't accepted, as many as it has room for. If it has accepted more, it
 /// gets none. The receipt is for all that it has accepted, and `seat` gets the slips of the entries.
 pub(crate) fn offer_rest<J: Naming>(
     held: &mut Locked<J>,
@@ -59,8 +59,8 @@ pub(crate) fn offer_rest<J: Naming>(
     }
 }
 
-/// Hands in the rest of the input where the port stands in the book as `outset` says, and none where it doesn't. It does while no
-/// other thread has been there since the device was opened. `seat` gets the slips.
+/// Hands in the rest of the input if the port in the book is as `outset` says, and none if it isn't. It is, as long as no other thread has been there
+/// since the device was opened. `seat` gets the slips.
 pub(crate) fn offer_at<J: Naming>(
     held: &mut Locked<J>,
     seat: &mut Seat<J>,

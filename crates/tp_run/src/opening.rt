@@ -33,7 +33,7 @@ fn has_pages(spare: u16, topology: &Topology) -> bool
     true
 }
 
-/// What is wrong, where a node has too few pages, or the port isn't there.
+/// What is wrong, if a node has too few pages, or the port doesn't exist.
 fn fault_by(has_pages: bool, has_port: bool) -> Option<RunFault>
     ensures { result ≡ fault_by has_pages has_port }
 {
@@ -44,7 +44,7 @@ fn fault_by(has_pages: bool, has_port: bool) -> Option<RunFault>
     }
 }
 
-/// Why a network isn't run as `job` says, where it isn't.
+/// Why a network isn't run as `job` says; `None` if it is.
 pub(crate) fn job_fault(job: Job, topology: &Topology) -> Option<RunFault>
     ensures { result ≡ job_fault job.spare job.port topology.now }
 {
@@ -72,8 +72,8 @@ fn parts_with(
     Ok((parts, raiser))
 }
 
-/// The book and the nodes of what was opened, the raiser of their mark, and where the port `port` stands. Each node has `spare` frames
-/// for pages that it writes while it is frozen.
+/// The book and the nodes of what was opened, the raiser of their mark, and what the book has of the port `port`. Each node has `spare` frames for
+/// pages that it writes while it is frozen.
 #[inline(never)]
 pub(crate) fn parts_of(
     alloc: Global,

@@ -21,9 +21,9 @@ pub enum OutletFault {
     Failed,
 }
 
-/// What a run prints to. Each call is lent the flusher, so that it is known how the device stands then.
+/// What a run prints to. Each call is lent the flusher, so that the device's state is known then.
 pub trait Outlet {
-    /// The bytes that it has taken, and the calls that were made of it, each where that is known.
+    /// The bytes that it has taken, and the calls that were made of it; `None` for what isn't known.
     ghost value: { Self → OutletValue };
 
     /// Takes some of these bytes, from the first one on, and answers how many; or it takes none, and says why.
@@ -38,7 +38,7 @@ pub trait Outlet {
         ensures noted { CallsMore (value self.old).calls (value self.new).calls (record { bytes = bytes.now; answer = result; there = flusher.now.state } ∷ []) };
 }
 
-/// Why a writer took no byte that failed so: one that was interrupted may be called again.
+/// Why a writer took no byte, by its error: one that was interrupted may be called again.
 fn fault_of(error: &io::Error) -> OutletFault
     ensures { (result ≡ OutletFault.Interrupted) ↔ (error_kind error.now ≡ ErrorKind.Interrupted) }
 {

@@ -1,4 +1,4 @@
-//! Where a port stands as a device is opened.
+//! What a run notes of its port as it opens a device.
 
 ghost use Rattle.std.specs.Prelude.{◌≡◌, ◌<◌, length, IfOk, IfErr};
 ghost use Rattle.tp_book.specs.Host.{port_in};
@@ -7,7 +7,7 @@ ghost use Rattle.tp_run.specs.Outset.{StandsIn, outset_of};
 use crate::fault::RunFault;
 use tp_book::Book;
 
-/// Where a port stands in a book, and the number that the next entry gets.
+/// What a book has of a port, and the number that the next entry gets.
 #[derive(Clone, Copy)]
 pub(crate) struct Outset {
     /// The port.
@@ -23,7 +23,7 @@ pub(crate) struct Outset {
 }
 
 impl Outset {
-    /// Where the port `port` stands in a book.
+    /// What a book has of the port `port`.
     pub(crate) fn of(book: &Book, port: u8) -> Outset
         requires { port < length book.now.state.ports }
         ensures { result ≡ outset_of book.now port }
@@ -37,7 +37,7 @@ impl Outset {
         }
     }
 
-    /// Tests that the port stands so in a book, before its input is handed in.
+    /// Tests that a book has the port as noted, before its input is handed in.
     pub(crate) fn stands_in(self, book: &Book) -> Result<(), RunFault>
         requires { self.port < length book.now.state.ports }
         ensures stands { IfOk result (λ done. StandsIn self book.now) }
@@ -52,7 +52,7 @@ impl Outset {
         Err(RunFault::Unaccounted)
     }
 
-    /// Tests that a book has confirmed just the outputs of the port that it had confirmed at the opening.
+    /// Tests that a book has confirmed exactly the outputs of the port that it had confirmed at the opening.
     pub(crate) fn is_confirmed_in(self, book: &Book) -> Result<(), RunFault>
         requires { self.port < length book.now.state.ports }
         ensures confirmed { IfOk result (λ done. (port_in book.now self.port).out_base ≡ self.confirmed) }

@@ -45,7 +45,7 @@ fn write_front<J: Naming, D: Disk, O: Outlet>(
     written
 }
 
-/// Prints bytes as they are. The outlet has taken a front of them, whatever is answered: where that is a fault, not all of them.
+/// Prints bytes as they are. Whatever it answers, the outlet has taken some of the first ones; after a fault, not all.
 fn put<J: Naming, D: Disk, O: Outlet>(
     flusher: &Flusher<J, D>,
     out: &mut O,
@@ -89,7 +89,7 @@ fn confirm_shown<J: Naming>(
 }
 
 /// Prints, under the book's lock, the outputs of a port that `mark` shows and that aren't confirmed, and confirms them. The receipt
-/// has the number of the next entry, and `seat` gets the slip. Where the output can't be written, nothing is confirmed.
+/// has the number of the next entry, and `seat` gets the slip. If the output can't be written, nothing is confirmed.
 fn print_shown<J: Naming, D: Disk, O: Outlet>(
     held: &mut Locked<J>,
     seat: &mut Seat<J>,
@@ -111,7 +111,7 @@ fn print_shown<J: Naming, D: Disk, O: Outlet>(
     confirm_shown(held, seat, port, mark)
 }
 
-/// Tests that `mark` shows all outputs of a port, and is above all entries of the book: it is refused just where one of the two isn't so.
+/// Tests that `mark` shows all outputs of a port, and is above all entries of the book; fails exactly if one of the two is false.
 fn is_all_shown(book: &Book, port: u8, mark: u64) -> Result<(), RunFault>
     requires { port < length book.now.state.ports }
     ensures all { IfOk result (λ done. shown_of book.now port mark ≡ length (port_in book.now port).outputs) }
@@ -126,8 +126,8 @@ fn is_all_shown(book: &Book, port: u8, mark: u64) -> Result<(), RunFault>
     Err(RunFault::Unaccounted)
 }
 
-/// Prints and confirms, where the book has confirmed what it had as the device was opened, and `mark` shows all outputs and is above
-/// all entries; else it prints nothing. Behind a flush, with no other thread there, both are so. `seat` gets the slip.
+/// Prints and confirms if the book has confirmed what it had at the opening, and `mark` shows all outputs and is above all entries; else it prints
+/// nothing. After a flush, with no other thread there, both hold. `seat` gets the slip.
 pub(crate) fn print_from<J: Naming, D: Disk, O: Outlet>(
     held: &mut Locked<J>,
     seat: &mut Seat<J>,

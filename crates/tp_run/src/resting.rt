@@ -11,8 +11,8 @@ use tp_flush::Flusher;
 use tp_node::Rest;
 use tp_shared::{Naming, Shared};
 
-/// What a run that was `done` leaves to do in the network as it stands, under the book's lock and each node's. Nobody else has one by then.
-/// Where the run wasn't done, or something was journalled behind it, that is something.
+/// What a run that was `done` leaves to do in the network as it is now. It takes the book's lock and each node's; no other thread has one by then. If
+/// the run wasn't done, or something was journalled after it, something is left.
 #[inline(never)]
 pub(crate) fn rest_after<J: Naming, D: Disk, R: Wait>(
     rt: &R,

@@ -104,7 +104,7 @@ fn print<J: Naming, D: Disk, O: Outlet, R: Wait>(
     print_settled(&mut held, seat, flusher, outset, mark, out)
 }
 
-/// Lets workers make turns, and the flusher its own in a thread of its own meanwhile, where one can be made, and else behind them. Answers
+/// Lets workers make turns, and the flusher its own in a thread of its own meanwhile, if one can be made, and else after them. Answers
 /// the flusher, and the seats with the slips of what the turns made.
 #[inline(never)]
 fn work<J: Naming + Send + Sync, D: Disk + Send + Drop, R: Threads + Wait + Sync>(
@@ -166,9 +166,9 @@ fn settle<J: Naming, D: Disk, R: Wait>(
     account(&mut held, flusher, first, next, seats, host)
 }
 
-/// Flushes, prints what is shown, confirms it, and flushes again. Answers the number that the next entry gets. What the host's seat has,
-/// which has the slips of the input, and what confirms the output is then in the journal, and with what the workers made it is all of it
-/// since the opening; and what was printed are outputs of the port where it leads, however it ends.
+/// Flushes, prints what is shown, confirms it, and flushes again. Answers the number that the next entry gets. The journal then has what is in the
+/// host's seat (the slips of the input) and what confirms the output; with what the workers made that is all of it since the opening. What was
+/// printed are outputs of the port where it leads, however it ends.
 #[inline(never)]
 fn finish<J: Naming, D: Disk, O: Outlet, R: Wait>(
     rt: &R,

@@ -9,7 +9,7 @@ use std::time::Duration;
 /// How many turns are drawn until the entries are counted anew, and the flusher has a turn to make though none was made.
 const LOOK_TURNS: u64 = 64;
 
-/// How many microseconds the flusher sleeps where nothing was made. No turn wakes it, so what is journalled then, and the mark with it,
+/// How many microseconds the flusher sleeps if nothing was made. No turn wakes it, so what is journalled then, and the mark with it,
 /// waits for the device and for one such sleep.
 const SLEEP: u64 = 500;
 
@@ -22,8 +22,8 @@ const MAKES_TURNS: u64 = 1;
 /// No turn is left, or the store has failed.
 const ENDED: u64 = 2;
 
-/// At how many made entries it is worth a look at the book again, after `made` were made and `missing` were wanting then. `missing` is
-/// 0 where a snapshot has begun or can't begin: then it isn't until `count_anew`.
+/// At how many made entries it is worth checking the book again, after `made` were made and `missing` were missing then. `missing` is 0 if a snapshot
+/// has begun or can't begin: then it isn't worth it until `count_anew`.
 fn due_behind(made: u64, missing: u64) -> u64
     ensures soon { 0 < missing → result ≤ made + missing }
     ensures later { 0 < missing → made < 2 ^ 64 - 1 → made < result }
@@ -36,9 +36,9 @@ fn due_behind(made: u64, missing: u64) -> u64
     }
 }
 
-/// How many turns there are, and how many were drawn; entries made, or a greater number; whether the workers have ended; how many
-/// entries since the kept cut begin a snapshot (`every`), and at how many made entries that may be so (`due`); and what the first
-/// worker does (`first`). No lock is taken for it.
+/// How many turns there are, and how many were drawn; entries made, or a greater number; whether the workers have ended; how many entries since the
+/// kept cut begin a snapshot (`every`), and at how many made entries there may be as many (`due`); and what the first worker does (`first`). It needs
+/// no lock.
 #[derive(Drop)]
 pub(crate) struct Watch {
     turns: u64,
@@ -73,8 +73,8 @@ impl Watch {
         self.every
     }
 
-    /// Takes one of the turns that are left; false where none is. With the last one of [`LOOK_TURNS`] the flusher has a turn to make: a
-    /// snapshot may go on by what is no entry. Nobody is woken but, where none is left, who rests.
+    /// Takes one of the turns that are left; `false` if none is. With the last one of [`LOOK_TURNS`] the flusher has a turn to make: a snapshot may
+    /// go on without an entry. It wakes nobody; but if no turn is left, it wakes the workers that rest.
     pub(crate) fn draw(&self) -> bool {
         let before = self.drawn.fetch_add(1, Ordering::SeqCst);
         if before % LOOK_TURNS == LOOK_TURNS - 1 {
@@ -88,7 +88,7 @@ impl Watch {
         is_left
     }
 
-    /// Wakes who rests, since no turn is left, or each that is would be refused.
+    /// Wakes the workers that rest, since no turn is left, or each would be refused.
     pub(crate) fn end_rests(&self) {
         self.first.store(ENDED, Ordering::SeqCst);
         self.first.wake_all();
@@ -99,20 +99,20 @@ impl Watch {
         self.first.store(MAKES_TURNS, Ordering::SeqCst);
     }
 
-    /// Sleeps for `micros` microseconds, or until rests end; not at all where the first worker makes no turns.
+    /// Sleeps for `micros` microseconds, or until rests end; not at all if the first worker makes no turns.
     pub(crate) fn rest<R: Wait>(&self, rt: &R, micros: u64) {
         self.first
             .park_timeout(rt, MAKES_TURNS as u32, Duration::from_micros(micros));
     }
 
-    /// Tells that a turn made `count` entries, or fewer. The flusher sees it where it is awake, and once it has slept.
+    /// Tells that a turn made `count` entries, or fewer. The flusher sees it while it is awake, and once it has slept.
     pub(crate) fn tell(&self, count: u64) {
         if count > 0 {
             self.made.fetch_add(count, Ordering::SeqCst);
         }
     }
 
-    /// The count of entries made, where it has come to `due`: since the kept cut there may be `every` then.
+    /// The count of entries made, if it has come to `due`: since the kept cut there may be `every` then.
     pub(crate) fn made_when_due(&self) -> Option<u64> {
         let made = self.made.load(Ordering::SeqCst);
         if made < self.due.load(Ordering::SeqCst) {
@@ -138,8 +138,8 @@ impl Watch {
         self.made.wake_one();
     }
 
-    /// Waits until another number of entries was made than `seen`, and answers it; `None` once the workers have ended. Where none were
-    /// made it sleeps for [`SLEEP`] microseconds, and looks again.
+    /// Waits until another number of entries was made than `seen`, and answers it; `None` once the workers have ended. While none were made it sleeps
+    /// for [`SLEEP`] microseconds, and checks again.
     pub(crate) fn wait<R: Wait>(&self, rt: &R, seen: u64) -> Option<u64> {
         for _ in rt.forever() {
             if self.ended.load(Ordering::SeqCst) {

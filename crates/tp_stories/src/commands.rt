@@ -49,7 +49,7 @@ impl Typed {
         Ok(())
     }
 
-    /// Reads the words behind the program's name.
+    /// Reads the words after the program's name.
     fn read(alloc: Global, words: &str) -> io::Result<Typed> {
         let mut typed = Typed {
             words: Vec::new(alloc),
@@ -82,7 +82,7 @@ struct Done {
     err: Vec<u8>,
 }
 
-/// The reader of standard output: it keeps what comes, and then makes a file, where it is to; or it takes nothing.
+/// The reader of standard output: it keeps what comes, and then makes a file, if it is to; or it takes nothing.
 #[derive(Drop)]
 struct Reader<'a, R> {
     rt: &'a R,
@@ -194,8 +194,8 @@ pub(crate) fn play_command<
     tell(rt, stage, &typed, &done)
 }
 
-/// Prints what the last command asked for: whether `device` was to be opened to write it, how many other files and folders were synced, how
-/// many names were made and removed behind the last sync of a folder, or whether its standard input was asked for something.
+/// Prints what the last command asked for: whether `device` was to be opened to write it, how many other files and folders were synced, how many
+/// names were made and removed after the last sync of a folder, or whether its standard input was asked for something.
 pub(crate) fn tell_asked<S: Redirects>(files: &S, stage: &mut Stage, what: &str) -> io::Result<()> {
     match what {
         "write" => print_answer(&mut stage.transcript, files.faults().asked_write()),

@@ -4,8 +4,8 @@ use crate::faulty::Plan;
 use crate::typed::{count_of, malformed, parted};
 use std::io;
 
-/// How the calls of a command go, by words: no read or write moves more bytes than `most` says, each read is interrupted once, nothing is seen at
-/// a path, or a device can't be opened to write it; with no word all are done.
+/// How the calls of a command go, by words: no read or write moves more bytes than `most` says, each read is interrupted once, nothing is seen at a
+/// path, or a device can't be opened to write it. With no word all are done.
 pub(crate) fn read_calls(words: &str) -> io::Result<Plan> {
     let plan = Plan::NONE;
     match parted(words) {
@@ -30,7 +30,7 @@ pub(crate) fn read_calls(words: &str) -> io::Result<Plan> {
     }
 }
 
-/// How calls fail one after another, by two words: each alone, or onward with all behind it; and whether those on a device count, or on all
+/// How calls fail one after another, by two words: each alone, or onward with all after it; and whether those on a device count, or on all
 /// files.
 pub(crate) fn read_failing(how: &str, files: &str) -> io::Result<Plan> {
     let (goes_on, is_everywhere) = match (how, files) {

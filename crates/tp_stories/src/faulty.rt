@@ -6,13 +6,13 @@ use std::io::{Read, Seek, SeekFrom, Write};
 use std::os::unix::fs::FileExt;
 use std::sync::atomic::{AtomicBool, AtomicU64, AtomicUsize, Ordering};
 
-/// What becomes of the calls that a command makes. Those on files whose path ends with `device` count, or those on all files, and then those that
-/// open, link and remove a file and look what stands at a path, too.
+/// What becomes of the calls that a command makes. Those on files whose path ends with `device` count; or those on all files, and then also those
+/// that open, link and remove a file and check what is at a path.
 #[derive(Clone, Copy)]
 pub(crate) struct Plan {
     /// How many calls that count are done before the one that fails.
     pub(crate) left: u64,
-    /// Whether those behind it are done.
+    /// Whether those after it are done.
     pub(crate) goes_on: bool,
     /// Whether calls on all files count.
     pub(crate) is_everywhere: bool,
@@ -22,7 +22,7 @@ pub(crate) struct Plan {
     pub(crate) interrupts: bool,
     /// Whether nothing is seen at a path.
     pub(crate) is_blind: bool,
-    /// Whether opening a device to write it is refused.
+    /// Whether a device can't be opened to write it.
     pub(crate) only_reads: bool,
 }
 
@@ -132,7 +132,7 @@ impl Faults {
         self.most.load(Ordering::SeqCst)
     }
 
-    /// Whether the next read isn't interrupted: each other one is, where reads are.
+    /// Whether the next read isn't interrupted: each other one is, if reads are.
     fn pass_read(&self) -> io::Result<()> {
         let was_interrupted = self.was_interrupted.load(Ordering::SeqCst);
         if !self.interrupts.load(Ordering::SeqCst) || was_interrupted {

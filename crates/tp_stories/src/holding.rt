@@ -9,8 +9,8 @@ use std::{fs, io};
 use tp_program::{Held, InUse, Locks};
 use tp_stream_files::{FileNumbers, numbers_in};
 
-/// How often another process is asked for a device in vain, before it lets it go; and the file that it removes behind each of the asks up
-/// to one, or makes, where a `+` stands in front of it.
+/// How often a command asks in vain for a device that another process has, before that lets it go; and the file that the process removes after each
+/// request up to one, or makes, if a `+` is before it.
 #[derive(Drop)]
 pub(crate) struct Holding {
     vain: u32,
@@ -18,7 +18,7 @@ pub(crate) struct Holding {
     file: String,
 }
 
-/// The number that a word is; 0 where there is none.
+/// The number that a word is; 0 if there is none.
 fn asks_of(word: &str) -> io::Result<u32> {
     match word {
         "" => Ok(0),
@@ -75,7 +75,7 @@ pub(crate) struct Other<'a, R> {
     asked: AtomicU64,
 }
 
-/// Removes a file, or makes it, empty, where a `+` stands in front of it.
+/// Removes a file, or makes it, empty, if a `+` is before it.
 fn change<R: Files>(rt: &R, file: &str) -> io::Result<()> {
     match file.strip_prefix('+') {
         Some(made) => {
@@ -89,13 +89,13 @@ fn change<R: Files>(rt: &R, file: &str) -> io::Result<()> {
     }
 }
 
-/// The file that stood at a device's path as it was asked for, or was made there.
+/// The file that was at a device's path as it was asked for, or was made there.
 #[derive(Drop)]
 pub(crate) struct Stood {
     file: Option<FileNumbers>,
 }
 
-/// What stands at a path.
+/// What is at a path.
 fn standing<R: Files>(rt: &R, path: &str) -> Stood {
     let file = match fs::metadata(rt, path) {
         Ok(kept) => numbers_in(&kept),

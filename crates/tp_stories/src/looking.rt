@@ -41,7 +41,7 @@ fn tell_length<R: Files>(rt: &R, stage: &mut Stage, file: &str) -> io::Result<()
     write!(stage.transcript, "= {length}\n")
 }
 
-/// Prints who may read, write and run a file, in three octal digits; or that it isn't there.
+/// Prints who may read, write and run a file, in three octal digits; or that it doesn't exist.
 fn tell_rights<R: Files>(rt: &R, stage: &mut Stage, file: &str) -> io::Result<()> {
     let Ok(kept) = fs::metadata(rt, file) else {
         return Ok(stage.transcript.extend_from_slice(b"= none\n")?);
@@ -72,7 +72,7 @@ fn begins<R: Files + AllocGlobal>(rt: &R, file: &str, other: &str) -> io::Result
     Ok(bytes.as_slice().starts_with(front.as_slice()))
 }
 
-/// Whether a text stands in a file: at its start, at its end, or anywhere.
+/// Whether a text is in a file: at its start, at its end, or anywhere.
 fn says<R: Files + AllocGlobal>(rt: &R, verb: &str, file: &str, text: &str) -> io::Result<bool> {
     let (bytes, text) = (fs::read(rt, file)?, text_of(rt.alloc(), text)?);
     let (bytes, text) = (
@@ -87,7 +87,7 @@ fn says<R: Files + AllocGlobal>(rt: &R, verb: &str, file: &str, text: &str) -> i
     }
 }
 
-/// What is answered to a question of a file.
+/// The answer to a question about a file.
 fn is_so<R: Files + AllocGlobal>(rt: &R, verb: &str, file: &str, rest: &str) -> io::Result<bool> {
     match verb {
         "there" => Ok(fs::metadata(rt, file).is_ok()),
@@ -99,7 +99,7 @@ fn is_so<R: Files + AllocGlobal>(rt: &R, verb: &str, file: &str, rest: &str) -> 
     }
 }
 
-/// Prints what is answered to a question of a file.
+/// Prints the answer to a question about a file.
 fn answer<R: Files + AllocGlobal>(
     rt: &R,
     stage: &mut Stage,

@@ -8,7 +8,7 @@ use std::os::unix::fs::{FileExt, PermissionsExt, symlink};
 use std::{fs, io};
 use tp_tests_fixtures::{HEAD, letter, place};
 
-/// Where the process of an image begins, behind the image's head.
+/// Where the process of an image begins, after the image's head.
 const CODE: usize = HEAD + 0x100;
 
 /// The image of a node of four pages that sends the letter A, or does what other instructions say.
@@ -19,7 +19,7 @@ fn image_of(alloc: Global, code: &str) -> io::Result<Vec<u8>> {
     Ok(image)
 }
 
-/// As many bytes as the first word says: those of the words behind it, again and again.
+/// As many bytes as the first word says: those of the words after it, again and again.
 fn filled(alloc: Global, words: &str) -> io::Result<Vec<u8>> {
     let (count, round) = parted(words);
     let (count, round) = (count_of(count)?, bytes_of(alloc, round)?);
@@ -64,7 +64,7 @@ fn part<R: Files<File = F> + AllocGlobal, F: FileExt + Drop>(
     fs::write(rt, new, bytes)
 }
 
-/// Copies a file of the folder in which the stories lie.
+/// Copies a file of the folder in which the stories are.
 fn bring<R: Files + AllocGlobal>(rt: &R, from: &str, file: &str) -> io::Result<()> {
     let from = format!(in rt.alloc(); "../../{from}")?;
     copy(rt, from.as_str(), file)
@@ -76,7 +76,7 @@ fn copy<R: Files>(rt: &R, from: &str, file: &str) -> io::Result<()> {
     Ok(())
 }
 
-/// Makes a file of the bytes of others, one behind another.
+/// Makes a file of the bytes of others, one after another.
 fn join<R: Files + AllocGlobal>(rt: &R, new: &str, files: &str) -> io::Result<()> {
     let mut bytes = Vec::new(rt.alloc());
     for file in files.split_whitespace() {

@@ -4,8 +4,8 @@ use crate::typed::{malformed, number_of, parted};
 use std::io;
 use tp_stream_files::{Onlooker, Times};
 
-/// How many milliseconds go by between two looks at the time, where a stream says by time how far it has come; which of the looks find that
-/// what was said before isn't taken; and whether standard error and standard output are terminals.
+/// How many milliseconds go by between two readings of the clock, if a stream says by time how far it has come; which of them find that what was said
+/// before isn't taken; and whether standard error and standard output are terminals.
 #[derive(Clone, Copy)]
 pub(crate) struct Looks {
     pace: u64,
@@ -14,7 +14,7 @@ pub(crate) struct Looks {
     is_output_terminal: bool,
 }
 
-/// Looks that find what was said untaken: those from number `from` on, the first one being 1, that stand in front of number `until`.
+/// Looks that find what was said untaken: those from number `from` on, the first one being 1, that are before number `until`.
 #[derive(Clone, Copy)]
 struct Stuck {
     from: u64,
@@ -22,7 +22,7 @@ struct Stuck {
 }
 
 impl Stuck {
-    /// What words begin with, as `stuck=3-5`, the last one said, too; and the words behind. Where they don't no look is such.
+    /// What words begin with, as `stuck=3-5`, including the last one said; and the words after. If they begin otherwise, no reading is one.
     fn read(words: &str) -> io::Result<(Stuck, &str)> {
         let Some(rest) = words.strip_prefix("stuck=") else {
             return Ok((Stuck { from: 0, until: 0 }, words));
@@ -35,14 +35,14 @@ impl Stuck {
         Ok((Stuck { from, until }, rest))
     }
 
-    /// Whether the look of this number is such.
+    /// Whether the reading of this number is one.
     fn has(self, number: u64) -> bool {
         self.from <= number && number < self.until
     }
 }
 
 impl Looks {
-    /// How it is where a story says nothing else.
+    /// What holds if a story says nothing else.
     pub(crate) const PLAIN: Looks = Looks {
         pace: 250,
         stuck: Stuck { from: 0, until: 0 },
@@ -50,7 +50,7 @@ impl Looks {
         is_output_terminal: false,
     };
 
-    /// What words say: the milliseconds, the looks that find what was said untaken, and the streams that are terminals.
+    /// What words say: the milliseconds, the readings that find what was said untaken, and the streams that are terminals.
     pub(crate) fn read(words: &str) -> io::Result<Looks> {
         let (pace, rest) = parted(words);
         let (stuck, terminals) = Stuck::read(rest)?;
@@ -80,7 +80,7 @@ impl Looks {
     }
 }
 
-/// A clock that goes so far each time that it is looked at.
+/// A clock that goes on by this much each time that it is read.
 #[derive(Drop)]
 pub(crate) struct Steps {
     looks: Looks,

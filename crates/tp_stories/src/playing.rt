@@ -120,7 +120,7 @@ fn play_any<
     }
 }
 
-/// Prints a line as it stands, and what came of it. Answers whether it could be played.
+/// Prints a line as it is, and what came of it. Answers whether it could be played.
 fn tell_line<
     R: Files<File = F> + Env + AllocGlobal,
     S: Files<File = E> + AllocGlobal + Redirects + Threads + Wait + Sync,

@@ -3,7 +3,7 @@
 use std::io;
 use std::io::Write;
 
-/// Prints a byte: as it is, or as `\xNN` where it is no printable text.
+/// Prints a byte: as it is, or as `\xNN` if it is no printable text.
 fn print_byte(transcript: &mut Vec<u8>, byte: u8) -> io::Result<()> {
     match byte {
         b'\\' => write!(transcript, "\\x5C"),
@@ -12,7 +12,7 @@ fn print_byte(transcript: &mut Vec<u8>, byte: u8) -> io::Result<()> {
     }
 }
 
-/// Prints a line behind a mark. One that has no LF ends in `\`.
+/// Prints a line after a mark. One that has no LF ends in `\`.
 fn print_line(transcript: &mut Vec<u8>, mark: u8, line: &[u8]) -> io::Result<()> {
     transcript.extend_from_slice(&[mark, b' '])?;
     let text = line.strip_suffix(b"\n").unwrap_or(line);
@@ -27,7 +27,7 @@ fn print_line(transcript: &mut Vec<u8>, mark: u8, line: &[u8]) -> io::Result<()>
     Ok(transcript.extend_from_slice(end)?)
 }
 
-/// Prints each line of a text behind a mark.
+/// Prints each line of a text after a mark.
 pub(crate) fn print_lines(transcript: &mut Vec<u8>, mark: u8, text: &[u8]) -> io::Result<()> {
     for line in text.split_inclusive(|byte| *byte == b'\n') {
         print_line(transcript, mark, line)?;

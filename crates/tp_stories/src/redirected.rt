@@ -1,4 +1,4 @@
-//! The files below, where standard streams of a command are files, and calls of it fail.
+//! The files below, for commands whose standard streams are files or whose calls fail.
 
 use crate::faulty::{Faults, FaultyFile};
 use std::alloc::{Allocator, Global};
@@ -20,8 +20,8 @@ pub(crate) trait Redirects: StandardStreams {
     fn faults(&self) -> &Faults;
 }
 
-/// The files below, beside which each of these streams is the file of a path, and calls fail. A story's commands change which they are; it is
-/// made once, where the system is known, since what commands send to threads may not rest on what is only assumed of it.
+/// The files below, beside which each of these streams is the file of a path, and calls fail. A story's commands change which they are. It is made
+/// once, where the system is known, since what commands send to threads may not depend on what is only assumed of it.
 #[derive(Drop)]
 pub(crate) struct Redirected<'a, R> {
     below: &'a R,
@@ -43,7 +43,7 @@ impl<'a, R: AllocGlobal> Redirected<'a, R> {
     }
 }
 
-/// The path of the file that a stream is, where it is redirected to one.
+/// The path of the file that a stream is, if it is redirected to one.
 fn path_behind(streams: &[(StandardStream, String)], stream: StandardStream) -> Option<&str> {
     for (redirected, file) in streams {
         if *redirected == stream {

@@ -13,7 +13,7 @@ pub(crate) struct Rival {
     pub(crate) locks: bool,
     /// Whether it moves a file over one that is to get a second name, right before it gets that.
     links: bool,
-    /// Behind which of the questions that a command asks of the device which it holds a file is moved there; behind none for 0.
+    /// After which of the questions that a command asks of the device which it holds a file is moved there; after none for 0.
     behind: u64,
     /// That file.
     file: String,
@@ -53,7 +53,7 @@ impl Rival {
         }
     }
 
-    /// The file that it moves over one that is to get a second name, where it does so.
+    /// The file that it moves over one that is to get a second name, if it does so.
     pub(crate) fn usurper(&self, alloc: Global) -> io::Result<Option<String>> {
         if self.links {
             Ok(Some(String::from_str(alloc, self.file.as_str())?))
@@ -62,7 +62,7 @@ impl Rival {
         }
     }
 
-    /// Comes to pass behind a question about a path, before which `asked` were.
+    /// Comes to pass after a question about a path, before which `asked` were.
     pub(crate) fn come<R: Files>(&self, rt: &R, path: &str, asked: &AtomicU64) {
         let number = asked.load(Ordering::SeqCst).saturating_add(1);
         asked.store(number, Ordering::SeqCst);

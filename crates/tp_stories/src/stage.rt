@@ -25,9 +25,9 @@ pub(crate) struct Stage {
     pub(crate) transcript: Vec<u8>,
     /// Standard streams that are files of the story, and the path of each.
     pub(crate) streams: Vec<(StandardStream, String)>,
-    /// The file that the reader of a stream's standard output makes once something has come, where it makes one.
+    /// The file that the reader of a stream's standard output makes once something has come, if it makes one.
     pub(crate) made: Option<String>,
-    /// What the reader of standard output says, where it takes nothing.
+    /// What the reader of standard output says, if it takes nothing.
     pub(crate) refuses: Option<ErrorKind>,
     /// What files were.
     pub(crate) kept: Vec<Kept>,
@@ -41,7 +41,7 @@ pub(crate) struct Stage {
     pub(crate) watched: Watched,
     /// How calls of commands go.
     pub(crate) plan: Plan,
-    /// How those of the next command go, where they go in another way.
+    /// How those of the next command go, if they go in another way.
     pub(crate) next: Option<Plan>,
     /// Whether a call of the last command failed whose calls went in another way.
     pub(crate) has_failed: bool,
@@ -93,7 +93,7 @@ impl Stage {
         Ok(())
     }
 
-    /// Says which files standard streams of the commands behind this line are: words as `stdout=FILE`.
+    /// Says which files standard streams of the commands after this line are: words as `stdout=FILE`.
     pub(crate) fn stand(&mut self, alloc: Global, words: &str) -> io::Result<()> {
         self.streams.clear();
         for word in words.split_whitespace() {
@@ -117,7 +117,7 @@ impl Stage {
         Ok(streams)
     }
 
-    /// Says which file the reader of standard output makes in the streams behind this line; with no word none.
+    /// Says which file the reader of standard output makes in the streams after this line; with no word none.
     pub(crate) fn reader_makes(&mut self, alloc: Global, words: &str) -> io::Result<()> {
         self.made = match words {
             "" => None,
@@ -126,8 +126,8 @@ impl Stage {
         Ok(())
     }
 
-    /// Says that standard output takes nothing in the commands behind this line, as on a full disk or where its reader has gone; with no
-    /// word it takes all.
+    /// Says that standard output takes nothing in the commands after this line, as on a full disk or once its reader has gone; with no word it takes
+    /// all.
     pub(crate) fn shut(&mut self, word: &str) -> io::Result<()> {
         self.refuses = match word {
             "" => None,
@@ -138,37 +138,37 @@ impl Stage {
         Ok(())
     }
 
-    /// Says that another process has devices in the commands behind this line; with no word nobody has.
+    /// Says that another process has devices in the commands after this line; with no word nobody has.
     pub(crate) fn hold(&mut self, alloc: Global, words: &str) -> io::Result<()> {
         self.holding = Holding::read(alloc, words)?;
         Ok(())
     }
 
-    /// Says what another process does at the path of a device that the commands behind this line make; with no word it isn't there.
+    /// Says what another process does at the path of a device that the commands after this line make; with no word there is no such process.
     pub(crate) fn meet(&mut self, alloc: Global, words: &str) -> io::Result<()> {
         self.rival = Rival::read(alloc, words)?;
         Ok(())
     }
 
-    /// Says who looks at the streams behind this line.
+    /// Says who looks at the streams after this line.
     pub(crate) fn look_on(&mut self, words: &str) -> io::Result<()> {
         self.looks = Looks::read(words)?;
         Ok(())
     }
 
-    /// Says what `status` is told in the commands behind this line; with no word nobody else has a device, and one look is taken.
+    /// Says what `status` is told in the commands after this line; with no word no other process has a device, and it checks once.
     pub(crate) fn watch(&mut self, alloc: Global, words: &str) -> io::Result<()> {
         self.watched = Watched::read(alloc, words)?;
         Ok(())
     }
 
-    /// Says how calls go in the commands behind this line.
+    /// Says how calls go in the commands after this line.
     pub(crate) fn call(&mut self, words: &str) -> io::Result<()> {
         self.plan = read_calls(words)?;
         Ok(())
     }
 
-    /// Says that the lines behind this one are to be played again and again.
+    /// Says that the lines after this one are to be played again and again.
     pub(crate) fn begin_sweep(&mut self, alloc: Global, words: &str) -> io::Result<()> {
         self.sweep = Some(Sweep::read(alloc, words)?);
         Ok(())

@@ -13,7 +13,7 @@ struct Seen {
     times: (i64, i64, i64, i64),
 }
 
-/// What a file was; nothing where it wasn't there.
+/// What a file was; nothing if it wasn't there.
 #[derive(Drop)]
 pub(crate) struct Kept {
     file: String,

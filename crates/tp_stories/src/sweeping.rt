@@ -1,4 +1,4 @@
-//! Lines that are played again and again, where another call of their first command fails each time.
+//! Lines that are played again and again, if another call of their first command fails each time.
 
 use crate::failing::read_failing;
 use crate::faulty::Plan;
@@ -24,7 +24,7 @@ pub(crate) struct Sweep {
     pub(crate) told: Vec<u8>,
 }
 
-/// The number that a word is; where there is none, one that no count passes.
+/// The number that a word is; if there is none, one that no count passes.
 fn few_of(word: &str) -> io::Result<u64> {
     match word {
         "" => Ok(u64::MAX),
@@ -72,7 +72,7 @@ impl Sweep {
         Ok(())
     }
 
-    /// Takes what came where no call failed.
+    /// Takes what came if no call failed.
     pub(crate) fn end(&mut self, text: &[u8]) -> io::Result<()> {
         self.tell()?;
         self.told.extend_from_slice(b"= no call\n")?;

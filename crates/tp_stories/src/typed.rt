@@ -8,7 +8,7 @@ pub(crate) fn malformed() -> io::Error {
     io::Error::from(io::ErrorKind::InvalidInput)
 }
 
-/// A word, and what stands behind it.
+/// A word, and what is after it.
 pub(crate) fn parted(words: &str) -> (&str, &str) {
     words.split_once(' ').unwrap_or((words, ""))
 }
@@ -37,7 +37,7 @@ pub(crate) fn byte_of(word: &str) -> io::Result<u8> {
     }
 }
 
-/// The bytes that hexadecimal words are; none where there is no word.
+/// The bytes that hexadecimal words are; none if there is no word.
 pub(crate) fn bytes_of(alloc: Global, words: &str) -> io::Result<Vec<u8>> {
     let mut bytes = Vec::new(alloc);
     for word in words.split_whitespace() {
@@ -46,7 +46,7 @@ pub(crate) fn bytes_of(alloc: Global, words: &str) -> io::Result<Vec<u8>> {
     Ok(bytes)
 }
 
-/// The byte behind a `\`, and what stands behind it: `n` is an LF, and `xNN` a byte. None where there is no such byte.
+/// The byte after a `\`, and what is after it: `n` is an LF, and `xNN` a byte. None if there is no such byte.
 fn escaped(piece: &str) -> Option<(u8, &str)> {
     if let Some(rest) = piece.strip_prefix('n') {
         return Some((b'\n', rest));
@@ -58,7 +58,7 @@ fn escaped(piece: &str) -> Option<(u8, &str)> {
     }
 }
 
-/// Adds what stands behind a `\`.
+/// Adds what is after a `\`.
 fn add_escaped(bytes: &mut Vec<u8>, piece: &str) -> io::Result<()> {
     let Some((byte, rest)) = escaped(piece) else {
         return Err(malformed());

@@ -16,7 +16,7 @@ pub(crate) struct Watched {
 }
 
 impl Watched {
-    /// Nobody else has a device, and one look is taken.
+    /// No other process has a device, and `status` checks once.
     pub(crate) fn none(alloc: Global) -> Watched {
         Watched {
             is_held: false,

@@ -1,4 +1,4 @@
--- Why a confirmation is refused that has room.
+-- Why a confirmation is refused though it has room.
 use Rattle.std.proofs.Common.{◌≡◌, ◌≤◌, ℕ, Bool, true, false, Some, None, Result, Err, sym, subst}
 use Rattle.std.proofs.lemmas.Bool.{le-ltb, true≢false}
 use Rattle.std.specs.Prelude.{if◌then◌else◌, nat_le, nat_lt}

@@ -10,7 +10,7 @@ use Rattle.tp_stream.specs.declared.fault.StreamFault.TheVariants.{Opening, Spar
 use Rattle.tp_stream.specs.FailedEnds.{NamesEnd, NamesInput, NamesOutput}
 use Rattle.tp_stream.specs.Streamed.{CameBetween, CameOfTurns}
 
--- where one at a place is put that passes a test, one passes it
+-- if one that passes a test is put at a place, one passes it
 any_set : {A : Type 0} (test : A → Bool) (xs : List A) (i : ℕ) (x : A) → i < length xs → test x ≡ true → list_any test (set xs i x) ≡ true
 any_set test [] i x within passes = absurd (omega (arith, within))
 any_set test (y ∷ ys) zero x within passes = ap (λ b. b || list_any test ys) passes

@@ -58,15 +58,15 @@ turn_refused (Ok x) fault old new is E rests = absurd (cc)
 turn_refused {A} (Err other) fault old new is E rests =
     let same : other ≡ fault = cc in subst (λ f. FailedWhere (fault_failed (flushing_fault f)) old new) same (ended_failed A other old new E rests)
 
--- where the flusher rests no call has failed since
+-- if the flusher rests, no call has failed since
 pub none_failed : (v : Flushing) → v.world.at ≡ Resting → FailedWhere false v v
 none_failed v rests = record { at = rests; calls = omega arith }
 
--- nothing is done behind it, and nothing is answered that failed
+-- nothing is done after it, and nothing is answered that failed
 pub failed_still : (failed : Bool) (old mid new : Flushing) → new ≡ mid → failed ≡ false → FailedWhere false old mid → FailedWhere failed old new
 failed_still failed old mid new same none F = subst (λ f. FailedWhere f old new) (sym none) (subst (λ v. FailedWhere false old v) (sym same) F)
 
--- one behind the other
+-- one after the other
 pub failed_then : (failed : Bool) (old mid new : Flushing) → FailedWhere false old mid → FailedWhere failed mid new → FailedWhere failed old new
 failed_then failed old mid new F G =
     let first = F.calls in
@@ -149,7 +149,7 @@ opening_counted A (opening.Fault fault) before now same = omega (arith, same)
 opening_counted A opening.ReadFailed before now same = omega (arith, same)
 opening_counted A opening.Memory before now same = omega (arith, same)
 
--- where nothing failed
+-- if nothing failed
 pub uncounted : (now before : ℕ) (failed : Bool) → failed ≡ false → now ≡ before → now ≡ calls_failed failed before
 uncounted now before failed none same = subst (λ f. now ≡ calls_failed f before) (sym none) (omega (arith, same))
 

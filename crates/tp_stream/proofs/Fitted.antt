@@ -60,7 +60,7 @@ begun_fits task t outputs inputs (Err Memory) fits begun = fits
 
 -- ## It may be run, and isn't begun
 
--- Why a stream isn't begun is no want of frames, and no port without a name.
+-- Why a stream isn't begun is neither a lack of frames nor a port without a name.
 no_spare : (ports : ℕ) (stands : ℕ → Standing) (accepted_at : ℕ → ℕ) (gs : List Given) (is : List GivenInput) → (Spare ≡ Memory) ⊎ IsNotBegun ports stands accepted_at gs is Spare → ⊥
 no_spare ports stands accepted_at gs is either =
     elim either [
@@ -90,7 +90,7 @@ no_unnamed port ports stands accepted_at gs is either =
       ]
     ]
 
--- where none of some ports is past the last one, each is there
+-- if none of some ports is past the last one, each exists
 some_same : (q p : ℕ) → Some q ≡ Some p → q ≡ p
 some_same q p e = cc
 
@@ -108,13 +108,13 @@ none_past : (ports : ℕ) (others : List ℕ) (one : Option ℕ) → else_past p
 none_past ports others None none = (refl, none)
 none_past ports others (Some p) none = absurd (cc)
 
--- the number of what stands at a place
+-- the number of what is at a place
 number_at : {A B : Type 0} (f : A → B) (number : B → ℕ) (xs : List A) (k : ℕ) (y : B) → slice_get (map f xs) k ≡ Some y → slice_get (map (λ x. number (f x)) xs) k ≡ Some (number y)
 number_at f number [] k y is = absurd (cc)
 number_at f number (x ∷ xs) zero y is = ap (option_map number) is
 number_at f number (x ∷ xs) (suc k) y is = number_at f number xs k y is
 
--- and no port that isn't there
+-- nor a port that doesn't exist
 no_absent : {A : Type 0} (task : Task) (t : Topology) (outputs : List OutputValue) (f : A → GivenInput) (xs : List A) (port ports : ℕ) (stands : ℕ → Standing) (accepted_at : ℕ → ℕ) → ports ≡ t.ports
     → Fits task t outputs (map (λ x. (f x).port) xs) → (Absent port ≡ Memory) ⊎ IsNotBegun ports stands accepted_at (map given_of outputs) (map f xs) (Absent port) → ⊥
 no_absent task t outputs f xs port ports stands accepted_at many fits either =

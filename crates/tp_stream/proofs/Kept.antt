@@ -71,7 +71,7 @@ confirmed_room : (journal : JournalRoom) (b : BookValue) (port upto left : ℕ) 
 confirmed_room journal b port upto left true L there = (L, fewer journal b left there)
 confirmed_room journal b port upto left false L there = with_room journal b port upto left L there
 
--- behind one confirm there is room for one fewer
+-- after one confirm there is room for one fewer
 pub room_then : (journal : JournalRoom) (b c : BookValue) (left : ℕ) → IsConfirmed b c → UnreservedBook journal b → has_room_for journal b (left + 1) ≡ true
     → UnreservedBook journal c × (has_room_for journal c left ≡ true)
 room_then journal b c left is L there =

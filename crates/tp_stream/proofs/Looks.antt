@@ -1,4 +1,4 @@
--- Looks whether a stream is asked to stop, one behind the other.
+-- Looks whether a stream is asked to stop, one after the other.
 use Rattle.std.proofs.Common.{◌≡◌, Bool, true, false, inl, inr, List, [], ◌∷◌, ◌++◌, Option, Some, None, Result, Ok, Err, refl, sym, ap, subst, ◌∙◌, append_assoc, append-nil}
 use Rattle.std.specs.Prelude.{if◌then◌else◌, IfOk, IfSome}
 use Rattle.std.proofs.lemmas.Bool.{true≢false}
@@ -19,7 +19,7 @@ IsNo answer = answer ≡ false
 pub none_looked : (task : Task) (old : List Bool) → HaveLooked task old old None
 none_looked task old = record { noes = []; each = All-nil IsNo; are = sym (append-nil old); unasked = λ until. refl }
 
--- what is behind a last answer that is no, or behind one that is yes
+-- what is after a last answer that is no, or after one that is yes
 behind_no : (old noes : List Bool) (ended : Option Ending) → is_stopped ended ≡ false → old ++ (noes ++ []) ≡ old ++ (noes ++ (if is_stopped ended then true ∷ [] else []))
 behind_no old noes ended isnt = ap (λ answer. old ++ (noes ++ (if answer then true ∷ [] else []))) (sym isnt)
 
@@ -28,7 +28,7 @@ behind_yes old noes ended is =
     append_assoc old (noes ++ []) (true ∷ []) ∙ ap (λ front. old ++ (front ++ true ∷ [])) (append-nil noes)
     ∙ ap (λ answer. old ++ (noes ++ (if answer then true ∷ [] else []))) (sym is)
 
--- one more that answers no, where it is looked, or isn't
+-- one more check that answers no, if there is one
 one_no : (until : Bool) (task : Task) (old mid new : List Bool) (ended : Option Ending) → task.until_asked ≡ until → is_stopped ended ≡ false → HaveLooked task old mid None
     → new ≡ mid ++ (if until then false ∷ [] else []) → HaveLooked task old new ended
 one_no true task old mid new ended until isnt H grew =
@@ -54,7 +54,7 @@ one_yes task old mid new ended until is H grew = record {
   unasked = H.unasked;
 }
 
--- where it is over so, it was to end so
+-- if it is over since it was asked to stop, that was to end it
 stopped_until : (start : Network NodeState) (task : Task) (ended : Option Ending) → IfSome ended (IsWhyEnded start task) → is_stopped ended ≡ true → task.until_asked ≡ true
 stopped_until start task None why is = absurd (true≢false (sym is))
 stopped_until start task (Some Quiet) why is = absurd (true≢false (sym is))
@@ -68,7 +68,7 @@ one_look : (answer : Bool) (start : Network NodeState) (task : Task) (old mid ne
 one_look true start task old mid new ended is why H grew = one_yes task old mid new ended (stopped_until start task ended why is) is H grew
 one_look false start task old mid new ended isnt why H grew = one_no task.until_asked task old mid new ended refl isnt H grew
 
--- what comes in a cycle, and behind it
+-- what comes in a cycle, and after it
 looks_more : (start : Network NodeState) (task : Task) (old mid new : List Bool) (ended : Option Ending) → IfSome ended (IsWhyEnded start task)
     → HaveLooked task old mid None → LooksAtMostOnce task mid new ended → HaveLooked task old new ended
 looks_more start task old mid new ended why H once =

@@ -1,4 +1,4 @@
--- What a listener is told, one notice behind the other.
+-- What a listener is told, one notice after the other.
 use Rattle.std.proofs.Common.{◌≡◌, ◌<◌, ◌≤◌, ◌+◌, ℕ, Bool, true, false, not, List, [], ◌∷◌, ◌++◌, map, take, set, length, get_or, get_or-set_other, get_or-set_same, Option, Some, None, Result, Ok, Err, sym, ap, subst, ◌∙◌, append_assoc, append-nil, arith, below_more}
 use Rattle.std.proofs.lemmas.Bool.{true≢false}
 use Rattle.std.proofs.lemmas.List.{map-append, take_all, take_more}
@@ -64,7 +64,7 @@ pub said_input : (accepted_at : ℕ → ℕ) (given : GivenInput) (port accepted
 said_input accepted_at given port accepted was is here there told =
     subst (λ p. Noticed (InputBegins p (accepted_at p) ∷ []) was is) here (subst (λ n. Noticed (InputBegins port n ∷ []) was is) there told)
 
--- of ports that stand so
+-- of ports that are so
 pub told_where : (stands at : ℕ → Standing) (taken had : ℕ → ℕ) (gs : List Given) (is : List GivenInput) (was now : Option (List Notice)) → stands ≡ at → taken ≡ had
     → Noticed (map (output_begins stands) gs ++ map (input_begins taken) is) was now → Noticed (map (output_begins at) gs ++ map (input_begins had) is) was now
 told_where stands at taken had gs is was now where_ accept told =
@@ -104,7 +104,7 @@ pub tells_once : (tells : Bool) (journal : JournalRoom) (f : Flushing) (made : �
 tells_once true journal f made outputs old new is told = told
 tells_once false journal f made outputs old new is told = absurd (true≢false is)
 
--- how far it has come, where that is told
+-- how far it has come, if that is told
 pub later_progress : (nodes : ℕ) (tells : Bool) (journal : JournalRoom) (f : Flushing) (made : ℕ) (outputs : List OutputValue) (old new : Option (List Notice))
     → TellsProgress tells journal f made outputs old new → ToldLater nodes old new
 later_progress nodes true journal f made outputs old new told = later_one nodes (HasCome told.progress) old new tt told.told

@@ -59,7 +59,7 @@ nothing_in : {A : Type 0} (xs : List A) → length xs ≡ 0 → xs ≡ []
 nothing_in [] e = refl
 nothing_in (x ∷ xs) e = absurd (omega (arith, e))
 
--- where a mark is above all of a book, the journal that the flusher knows is all of it
+-- if a mark is above all of a book, the journal that the flusher knows is all of it
 pub all_in_journal : (start : Network NodeState) (w : World NodeState) (b : BookValue) → (A : IsAheadOf start w b) → next_in_book b ≤ w.mark → (A.more ≡ []) × (length w.journal ≡ next_in_book b)
 all_in_journal start w b A stored =
     let many = A.many in
@@ -104,7 +104,7 @@ front_behind (suc k) zero xs = refl
 front_behind (suc k) (suc n) [] = refl
 front_behind (suc k) (suc n) (x ∷ xs) = front_behind k n xs
 
--- what a mark shows of what is left of a port is a front of what that had
+-- what a mark shows of what is left of a port is the first of what that had
 shown_is : (p q : Port) (n from : ℕ) → IsPartConfirmed p q → q.out_base ≤ from
     → drop (from - q.out_base) (take n q.outputs) ≡ take (length (drop (from - q.out_base) (take n q.outputs))) (drop (from - p.out_base) p.outputs)
 shown_is p q n from left up =

@@ -96,7 +96,7 @@ next_low whose nodes =
       | inr high ↦ rw (le-ltb whose nodes high) (omega arith)
     ]
 
--- One more turn. Where it isn't among those that had nothing to do, there are none.
+-- One more turn. If it isn't among those that had nothing to do, there are none.
 pub one_more : (start : Network NodeState) (whose idle new : ℕ) → HaveRested start whose idle → new ≤ idle + 1 → (0 < new → HadNothingToDo start whose)
     → HaveRested start (if nat_lt whose (length start.nodes) then whose + 1 else 0) new
 one_more start whose idle new H one here =
@@ -114,7 +114,7 @@ pub turn_more : (start : Network NodeState) (nodes whose idle next new : ℕ) �
 turn_more start nodes whose idle next new many H is one here =
     subst (λ w. HaveRested start w new) (sym (is ∙ ap (λ n. if nat_lt whose n then whose + 1 else 0) many)) (one_more start whose idle new H one here)
 
--- where there were more of them than nodes, each process had nothing to do in its last turn
+-- if there were more of them than nodes, each process had nothing to do in its last turn
 pub all_rested : (start : Network NodeState) (whose idle : ℕ) → HaveRested start whose idle → length start.nodes < idle → IsQuietNetwork start
 all_rested start whose idle H many p there =
     let low = H.whose_is in
@@ -151,7 +151,7 @@ pub all_left : (start : Network NodeState) (t : Topology) (task : Task) (r : Res
 all_left start t task (Ok ended) nodes ports wires is = left start t task ended.why nodes ports wires is
 all_left start t task (Err fault) nodes ports wires is = tt
 
--- where its turns are such
+-- if its turns are such
 pub ended_why : (start : Network NodeState) (task : Task) (turns : TurnsValue) (nodes : ℕ) (asked : Bool) (pumped : Pumped) (over : Bool) (why : Ending) → nodes ≡ length start.nodes
     → HaveRested start turns.whose turns.idle → (asked ≡ true → task.until_asked ≡ true) → IsEnding task turns nodes asked pumped over why → IsWhyEnded start task why
 ended_why start task turns nodes asked pumped over Quiet many H until is =
@@ -161,7 +161,7 @@ ended_why start task turns nodes asked pumped over Gone many H until is = tt
 ended_why start task turns nodes asked pumped over Halted many H until is = is.0
 ended_why start task turns nodes asked pumped over AskedTo many H until is = until is
 
--- where it is quiet nothing is left of each input
+-- if it is quiet, nothing is left of each input
 pub leaves_no_input : (task : Task) (turns : TurnsValue) (nodes : ℕ) (asked : Bool) (pumped : Pumped) (over all : Bool) (why : Ending) → over ≡ all → IsEnding task turns nodes asked pumped over why
     → LeavesNoInput all why
 leaves_no_input task turns nodes asked pumped over all Quiet same is = sym same ∙ is.1.over_is

@@ -56,7 +56,7 @@ pub unput : (start : Network NodeState) (fault : StreamFault) (was now : List Ou
     → StreamedInto start (Err fault) was now old new
 unput start fault was now old new L same = record { streamed = unwritten start fault old new L; outputs = inl same; ends = tt }
 
--- where nothing was begun, and nothing was put
+-- if nothing was begun, and nothing was put
 pub unserved : (start : Network NodeState) (least : ℕ) (fault : StreamFault) (outputs : List OutputValue) (old : State) → ServedInto start least (Err fault) outputs outputs old old
 unserved start least fault outputs old = record {
   streamed = record { journal = []; leaves = read_alone start [] old old (none_leaves old); stored = tt; last = tt };
@@ -92,7 +92,7 @@ got_set start journal least stands old read new up x y z I G =
       holds = subst (λ n. HasPut n (bytes_put G.pieces) x.held z.held) I.next (subst (λ h. HasPut y.next (bytes_put G.pieces) h z.held) held G.holds);
     }
 
--- a device was read, which left its bytes as they are, and was then written, with outputs set out where their ports stand
+-- a device was read, which left its bytes as they are, and was then written, with outputs set out at the positions of their ports
 pub into : (start : Network NodeState) (result : Result Ended StreamFault) (o : Opened) (was set now : List OutputValue) (old read new : State) → LeavesNothingNew old read
     → read.now.bytes ≡ old.now.bytes → verdict old.now.bytes ≡ Ok o → EachWith (IsSetOut (stands_opened o)) was set → ServedInto start (next_of o) result set now read new
     → StreamedInto start result was now old new

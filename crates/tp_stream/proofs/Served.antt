@@ -1,4 +1,4 @@
--- Laps, and flushes behind them, one behind the other.
+-- Laps, and flushes after them, one after the other.
 use Rattle.std.proofs.Common.{◌≡◌, Bool, false, List, Option, Result, Ok, Err, sym, subst, ◌∙◌}
 use Rattle.tp_model.specs.NodeState.{NodeState}
 use Rattle.tp_model.specs.Network.{Network}
@@ -17,7 +17,7 @@ use Rattle.tp_stream.specs.Streamed.{CameBegun}
 use Rattle.tp_stream.proofs.Failures.{failed_then}
 use Rattle.tp_stream.proofs.Stepping.{all_still, all_then}
 
--- one behind the other, where no call of the device failed in the first
+-- one after the other, if no call of the device failed in the first
 pub served_then : (keeps : Type 0) (start : Network NodeState) (before : World NodeState) (failed : Bool) (old mid new : Flushing) (xs ys zs : List OutputValue)
     → ServedOn keeps start before false old mid xs ys → ServedOn keeps start before failed mid new ys zs → ServedOn keeps start before failed old new xs zs
 served_then keeps start before failed old mid new xs ys zs S T =
@@ -39,7 +39,7 @@ pub served_still : (keeps : Type 0) (start : Network NodeState) (before : World 
 served_still keeps start before failed old new xs walks process failures =
     record { walks = walks; process = process; put = λ k began. all_still start old new xs; failures = failures }
 
--- such flushes behind laps
+-- such flushes after laps
 pub served_until : (keeps : Type 0) (start : Network NodeState) (before : World NodeState) (failed : Bool) (old mid new : Flushing) (xs ys : List OutputValue)
     → ServedOn keeps start before false old mid xs ys → (keeps → Began start before mid.opened → Walked mid new) → IsSameProcess mid new
     → (mid.world.at ≡ Resting → FailedWhere failed mid new) → ServedOn keeps start before failed old new xs ys

@@ -49,7 +49,7 @@ given_set xs i d y same =
 pub given_at : (xs : List OutputValue) (gs : List Given) (i : ℕ) (d : OutputValue) → map given_of xs ≡ gs → i < length xs → slice_get gs i ≡ Some (given_of (get_or xs i d))
 given_at xs gs i d same there = ap (λ l. slice_get l i) (sym same) ∙ slice_get-map given_of xs i ∙ ap (option_map given_of) (slice_get-get_or xs i d there)
 
--- none stands behind the last one
+-- none is after the last one
 pub all_may_begin : (stands : ℕ → Standing) (gs : List Given) (n : ℕ) → length gs ≤ n → MayBeginBelow n stands gs → AllMayBegin stands gs
 all_may_begin stands gs n all below k g is = below k (let within = slice_get_within gs k g is in omega (arith, within, all)) g is
 
@@ -73,7 +73,7 @@ all_shown mark [] p = refl
 all_shown mark (q ∷ qs) zero = zeros_shown mark (length q.outputs)
 all_shown mark (q ∷ qs) (suc p) = all_shown mark qs p
 
--- each port stands as it does in what was opened
+-- each port is as it does in what was opened
 pub opened_stands : (s : NetState) (room : Option ℕ) (o : Opened) (mark : ℕ) → now_of s ≡ o.now → port_standing (opened_book s room) mark ≡ stands_opened o
 opened_stands s room o mark now = fun_ext (λ p.
     ap (λ shown. record { confirmed = (get_or (now_of s).ports p fresh_value.port).out_base; shown = (get_or (now_of s).ports p fresh_value.port).out_base + shown; upto = put_out (get_or (now_of s).ports p fresh_value.port) }) (all_shown mark (now_of s).ports p)
@@ -294,7 +294,7 @@ have_accepted_more accepted_at gs i h below at here =
 pub opened_accepted : (s : NetState) (room : Option ℕ) (o : Opened) → now_of s ≡ o.now → accepted_at (opened_book s room) ≡ accepted_opened o
 opened_accepted s room o now = fun_ext (λ p. ap (λ net. accepted_of (get_or net.ports p fresh_value.port)) now)
 
--- why nothing is begun, of ports that stand so
+-- why nothing is begun, of ports that are so
 pub not_begun_as : (many few : ℕ) (stands at : ℕ → Standing) (taken had : ℕ → ℕ) (gs : List Given) (inputs : List GivenInput) (fault : StreamFault)
     → many ≡ few → stands ≡ at → taken ≡ had → IsNotBegun many stands taken gs inputs fault → IsNotBegun few at had gs inputs fault
 not_begun_as many few stands at taken had gs inputs fault ports where_ accept is =

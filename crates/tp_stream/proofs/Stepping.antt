@@ -1,4 +1,4 @@
--- Steps, one behind the other, and what they put as a device goes on.
+-- Steps, one after the other, and what they put as a device goes on.
 use Rattle.std.proofs.Common.{◌≡◌, ℕ, ◌+◌, ◌≤◌, inl, inr, List, [], ◌∷◌, ◌++◌, length, take, Option, Some, None, refl, sym, ap, subst, ◌∙◌, arith, append-nil, append_assoc, length-append}
 use Rattle.std.specs.Prelude.{map}
 use Rattle.std.proofs.lemmas.List.{take-take}
@@ -100,7 +100,7 @@ all_then start old mid new W V xs ys zs first then =
 pub all_since : (start : Network NodeState) (first old new : Flushing) → Walked first old → Walked old new → (xs ys : List OutputValue) → AllStepped start old new xs ys → AllStepped start first new xs ys
 all_since start first old new W V xs ys then = all_then start first old new W V xs xs ys (all_still start first old xs) then
 
--- what is put under the lock, where the flusher's journal leads to the book
+-- what is put under the lock, if the flusher's journal leads to the book
 one_step : (start : Network NodeState) (f : Flushing) (b : BookValue) (mark : ℕ) → Walked f f → PortsStand start f.world b → (x y : OutputValue) → PutsLeft b mark x y → Stepped start f f x y
 one_step start f b mark W S x y P = elim P.puts [
   | inl E ↦ record { port = E.port; steps = []; each = tt; next = E.next; holds = E.put }

@@ -1,4 +1,4 @@
--- When a stream is over, as its turns stand and what the steps of its streams came to behind them.
+-- When a stream is over, as its turns are and what the steps of its streams came to after them.
 use Rattle.std.specs.Prelude.{◌≡◌, ◌⊎◌, ◌<◌, ◌≤◌, ℕ, Bool, ◌&&◌, ◌||◌, true, false, nat_le, nat_lt, if◌then◌else◌, Option, None, Some, is_none}
 use Rattle.tp_stream.specs.declared.task.Task.{Task}
 use Rattle.tp_stream.specs.declared.turns.Turns.{Turns}
@@ -7,18 +7,18 @@ use Rattle.tp_stream.specs.declared.pumping.Pumped.TheVariants.{Nothing, Moved, 
 use Rattle.tp_stream_files.specs.declared.ending.Ending.{Ending}
 use Rattle.tp_stream_files.specs.declared.ending.Ending.TheVariants.{Quiet, Turns as BoundReached, Gone, Halted, Stopped}
 
--- Nothing is left to do: more of the last turns in a row than there are nodes had nothing to do, no stream has moved, and no input is
--- left that its port may take.
+-- Nothing is left to do: more of the last turns in a row than there are nodes had nothing to do, no stream has moved, and no input is left that its
+-- port may take.
 pub record IsNothingLeft (turns : Turns) (nodes : ℕ) (pumped : Pumped) (over : Bool) : Type 0 where
   pub turns_are : nodes < turns.idle
   pub pumped_is : pumped ≡ Nothing
   pub over_is : over ≡ true
 
--- The bound on turns, where there is one, was reached.
+-- The bound on turns, if there is one, was reached.
 abbrev pub IsBoundReached : Task → Turns → Type 0
 IsBoundReached task turns = (most : ℕ) × (task.turns ≡ Some most) × (most ≤ turns.made)
 
--- Why it is over, where it was `asked` to stop or wasn't.
+-- Why it is over, if it was `asked` to stop or wasn't.
 abbrev pub IsEnding : Task → Turns → ℕ → Bool → Pumped → Bool → Ending → Type 0
 IsEnding task turns nodes asked pumped over Quiet = (task.until_quiet ≡ true) × IsNothingLeft turns nodes pumped over
 IsEnding task turns nodes asked pumped over BoundReached = IsBoundReached task turns
@@ -28,7 +28,7 @@ IsEnding task turns nodes asked pumped over Stopped = asked ≡ true
 
 -- ## What comes first of these
 
--- as many turns were made as there may be, where there is a bound
+-- as many turns were made as there may be, if there is a bound
 abbrev pub reaches_bound : Option ℕ → ℕ → Bool
 reaches_bound None made = false
 reaches_bound (Some most) made = nat_le most made
@@ -56,7 +56,7 @@ is_taker_gone TakerGone = true
 abbrev pub is_nothing_left : Turns → ℕ → Pumped → Bool → Bool
 is_nothing_left turns nodes pumped over = nat_lt nodes turns.idle && is_nothing pumped && over
 
--- Why it is over, where it is: what comes first of these.
+-- Why it is over, if it is: what comes first of these.
 abbrev pub ending_of : Task → Turns → ℕ → Bool → Pumped → Bool → Option Ending
 ending_of task turns nodes asked pumped over =
     if asked then Some Stopped

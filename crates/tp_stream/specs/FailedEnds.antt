@@ -8,11 +8,11 @@ use Rattle.tp_stream.specs.declared.output.StepFault.{StepFault}
 use Rattle.tp_stream.specs.declared.output.StepFault.TheVariants.{Gone as TakerGone, Fault}
 use Rattle.tp_stream.specs.Fitting.{has_sink}
 
--- a source is for a port, where these are the ports of all sources
+-- a source is for a port, if these are the ports of all sources
 abbrev pub has_source : ℕ → List ℕ → Bool
 has_source port inputs = list_any (λ p. p == port) inputs
 
--- Where an input can't be read there is a source for its port, and where an output can't be put, a sink.
+-- If an input can't be read, there is a source for its port; if an output can't be put, there is a sink.
 abbrev pub NamesEnd : List OutputValue → List ℕ → StreamFault → Type 0
 NamesEnd outputs inputs (InputFailed port) = has_source port inputs ≡ true
 NamesEnd outputs inputs (OutputFailed port) = has_sink port outputs ≡ true
@@ -30,7 +30,7 @@ NamesInput port (InputFailed named) = named ≡ port
 NamesInput port (OutputFailed named) = ⊥
 NamesInput port _ = Unit {0}
 
--- Why a step of a port's output isn't done: whoever takes it has gone, or such a fault.
+-- Why a step of a port's output isn't done: whoever takes it has gone, or the fault names a sink.
 abbrev pub StepNames : ℕ → StepFault → Type 0
 StepNames port TakerGone = Unit {0}
 StepNames port (Fault fault) = NamesOutput port fault

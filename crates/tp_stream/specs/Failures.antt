@@ -17,8 +17,8 @@ use Rattle.tp_stream.specs.declared.fault.StreamFault.TheVariants.{Opening, Flus
 abbrev pub HasOpened : Result Opened OpenFault → Type 0
 HasOpened given = (opened : Opened) × (given ≡ Ok opened)
 
--- A fault of the opening is what that answers: the device's bytes give it, or a call of the device failed, or memory was wanting. All
--- else is answered of a device that opened.
+-- A fault of the opening is what that answers: the device's bytes give it, or a call of the device failed, or memory ran out. All other faults come
+-- from a device that opened.
 abbrev pub StreamAnswer : {A : Type 0} → Result Opened OpenFault → Result A StreamFault → Type 0
 StreamAnswer given (Err (Opening unopened)) = ReadAnswer (λ (opened : Opened). opened) given (Err unopened)
 StreamAnswer given _ = HasOpened given
@@ -48,11 +48,11 @@ abbrev pub answer_failed : {A : Type 0} → Result A StreamFault → Bool
 answer_failed (Ok x) = false
 answer_failed (Err fault) = fault_failed fault
 
--- as many calls as before have failed, and one more where that is said
+-- as many calls as before have failed, and one more if that is said
 abbrev pub calls_failed : Bool → ℕ → ℕ
 calls_failed failed before = before + (if failed then 1 else 0)
 
--- One more call of the flusher's device has failed than before where that is said, and the flusher is broken; else as many as before have, and it
+-- If `failed` holds, one more call of the flusher's device has failed than before, and the flusher is broken; else as many as before have, and it
 -- rests.
 pub record FailedWhere (failed : Bool) (old new : Flushing) : Type 0 where
   pub at : new.world.at ≡ position failed

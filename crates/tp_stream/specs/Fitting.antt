@@ -18,12 +18,12 @@ abbrev pub first_past : ℕ → List ℕ → Option ℕ
 first_past ports [] = None
 first_past ports (p ∷ ps) = if nat_le ports p then Some p else first_past ports ps
 
--- where there is none, the first of some others
+-- if there is none, the first of some others
 abbrev pub else_past : ℕ → List ℕ → Option ℕ → Option ℕ
 else_past ports others None = first_past ports others
 else_past ports others (Some p) = Some p
 
--- the first port of an output that isn't there; where each is, of an input
+-- the first port of an output that doesn't exist; if each does, of an input
 abbrev pub absent_of : Topology → List OutputValue → List ℕ → Option ℕ
 absent_of t outputs inputs = else_past t.ports inputs (first_past t.ports (map (λ (o : OutputValue). o.port) outputs))
 
@@ -35,7 +35,7 @@ has_sink port outputs = list_any (λ (o : OutputValue). o.port == port) outputs
 abbrev pub port_has_wire : Topology → ℕ → Bool
 port_has_wire t port = has_wire t.wires (4 * node_count t + port)
 
--- Where a port has a wire a sink is for it.
+-- If a port has a wire, a sink is for it.
 abbrev pub IsNamed : Topology → List OutputValue → ℕ → Type 0
 IsNamed t outputs port = port_has_wire t port ≡ true → has_sink port outputs ≡ true
 
@@ -49,7 +49,7 @@ pub record IsFirstUnnamed (t : Topology) (outputs : List OutputValue) (port : �
   pub nobody : has_sink port outputs ≡ false
   pub before : (other : ℕ) → other < port → IsNamed t outputs other
 
--- It may be run: each node has as many pages as it is to have spare frames, each port that is named is there, and each that has a wire is named.
+-- It may be run: each node has as many pages as it is to have spare frames, each named port exists, and each port with a wire is named.
 pub record Fits (task : Task) (t : Topology) (outputs : List OutputValue) (inputs : List ℕ) : Type 0 where
   pub pages : lacks_pages task.spare t ≡ false
   pub there : absent_of t outputs inputs ≡ None
@@ -92,7 +92,7 @@ SaysUnfit task t outputs inputs NotStored = Fits task t outputs inputs
 SaysUnfit task t outputs inputs JournalFull = Fits task t outputs inputs
 SaysUnfit task t outputs inputs Memory = Fits task t outputs inputs
 
--- A stream was run only where it may be, and what it answers says so.
+-- A stream was run only if it may be, and what it answers says so.
 abbrev pub SaysFit : Task → Topology → List OutputValue → List ℕ → Result Ended StreamFault → Type 0
 SaysFit task t outputs inputs (Ok ended) = Fits task t outputs inputs
 SaysFit task t outputs inputs (Err fault) = SaysUnfit task t outputs inputs fault

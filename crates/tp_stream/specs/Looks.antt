@@ -13,25 +13,25 @@ is_stopped (Some Gone) = false
 is_stopped (Some Halted) = false
 is_stopped (Some Stopped) = true
 
--- the answer of a look, which is made only where the task says so
+-- the answer of a check, which is made only if the task says so
 abbrev pub looked : Task → Bool → List Bool
 looked task answer = if task.until_asked then answer ∷ [] else []
 
--- the last answer, where it is over since it was asked to stop
+-- the last answer, if it is over since it was asked to stop
 abbrev pub last_yes : Option Ending → List Bool
 last_yes ended = if is_stopped ended then true ∷ [] else []
 
--- It was looked once, and that answered yes just where it is over since it was asked to stop; or it isn't over, it wasn't looked, and no
--- turn that counts was made: there were `made` before, and `later` behind.
+-- It checked once, and the answer was yes exactly if the stream is over since it was asked to stop. Or it isn't over, it didn't check, and no turn
+-- that counts was made: `made` before, and `later` after.
 abbrev pub LooksOnce : Task → ℕ → ℕ → List Bool → List Bool → Option Ending → Type 0
 LooksOnce task made later old new ended = (new ≡ old ++ looked task (is_stopped ended)) ⊎ ((ended ≡ None) × (new ≡ old) × (later ≡ made))
 
--- So it was, or not at all, whatever was made behind that.
+-- So it was, or not at all, whatever was made after that.
 abbrev pub LooksAtMostOnce : Task → List Bool → List Bool → Option Ending → Type 0
 LooksAtMostOnce task old new ended = (new ≡ old ++ looked task (is_stopped ended)) ⊎ ((ended ≡ None) × (new ≡ old))
 
--- Each look answered no, but for the last one where it is over since it was asked to stop: that one answered yes. None was made where the
--- task doesn't say so.
+-- Each check answered no, except for the last one if the stream is over since it was asked to stop: that one answered yes. No check was made if the
+-- task doesn't ask for it.
 pub record HaveLooked (task : Task) (old new : List Bool) (ended : Option Ending) : Type 0 where
   pub noes : List Bool
   pub each : All (λ answer. answer ≡ false) noes

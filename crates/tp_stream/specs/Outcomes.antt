@@ -24,7 +24,7 @@ use Rattle.tp_work.specs.declared.host_fault.ConfirmFault.TheVariants.{JournalFu
 use Rattle.tp_work.specs.declared.host_fault.OfferFault.{OfferFault}
 use Rattle.tp_work.specs.declared.host_fault.OfferFault.TheVariants as offer
 
--- Why a step of a port's output isn't done, where its sink answered so.
+-- Why a step of a port's output isn't done, if its sink answered so.
 abbrev pub step_fault_of : ℕ → SinkFault → StepFault
 step_fault_of port Failed = Fault (OutputFailed port)
 step_fault_of port Gone = TakerGone
@@ -53,7 +53,7 @@ confirm_fault_of NotShown = FullJournal
 confirm_fault_of StoreBroken = NothingStored
 confirm_fault_of Memory = NoMemory
 
--- What comes of an offer that was refused: where there is no room its bytes are left for later.
+-- What comes of an offer that was refused: for lack of room its bytes are left for later.
 abbrev pub offer_left : OfferFault → Result Bool StreamFault
 offer_left offer.Memory = Err NoMemory
 offer_left offer.StoreBroken = Err NothingStored
@@ -62,38 +62,38 @@ offer_left (offer.PortFull room) = Ok false
 offer_left (offer.Already accepted) = Ok false
 offer_left (offer.Gap accepted) = Ok false
 
--- Why no more turns are made behind one that the book refused; none where it was for want of room alone.
+-- Why no more turns are made after one that the book refused; `None` if only room was lacking.
 abbrev pub turn_fault_of : Refusal → Option StreamFault
 turn_fault_of refusal.JournalFull = None
 turn_fault_of refusal.StoreBroken = Some NothingStored
 turn_fault_of _ = Some NoMemory
 
--- The number by which a shift notes why a turn was refused: 0 where that is no fault. It keeps the greatest one.
+-- The number by which a shift notes why a turn was refused: 0 if that is no fault. It keeps the greatest one.
 abbrev pub refusal_number : TurnFault → ℕ
 refusal_number turn.Empty = 0
 refusal_number turn.JournalFull = 0
 refusal_number turn.Memory = 1
 refusal_number turn.StoreBroken = 2
 
--- what a shift keeps of a turn that was refused: all but that nobody was there end it
+-- what a shift keeps of a refused turn: each ends it, except one for which no process was there
 abbrev pub refused_of : TurnFault → Refused
 refused_of turn.Empty = record { ends = false; number = refusal_number turn.Empty }
 refused_of turn.JournalFull = record { ends = true; number = refusal_number turn.JournalFull }
 refused_of turn.Memory = record { ends = true; number = refusal_number turn.Memory }
 refused_of turn.StoreBroken = record { ends = true; number = refusal_number turn.StoreBroken }
 
--- Why turns were refused, where this is the greatest of their numbers: where the book is broken for one of them, that is told.
+-- Why turns were refused, if this is the greatest of their numbers: that the book is broken is told first.
 abbrev pub noted_outcome : ℕ → Result (Unit {0}) StreamFault
 noted_outcome number = if nat_eq number 0 then Ok tt else (if nat_eq number 1 then Err NoMemory else Err NothingStored)
 
--- What comes of a shift: the fault of its flush, where that failed; else the fault for which its turns were refused, where there is one; else nothing
--- that ends the stream.
+-- What comes of a shift: the fault of its flush, if that failed; else the fault for which turns were refused, if there is one; else nothing that ends
+-- the stream.
 abbrev pub shift_outcome : Result (Unit {0}) StreamFault → Result (Unit {0}) StreamFault → Result (Option Ending) StreamFault
 shift_outcome (Err fault) told = Err fault
 shift_outcome (Ok done) (Err fault) = Err fault
 shift_outcome (Ok done) (Ok none) = Ok None
 
--- An offer that is refused for this reason, where there is one, was answered so. One that isn't was taken, or may still want memory.
+-- An offer that is refused for a reason was answered by it. Any other was taken, or may still run out of memory.
 abbrev pub OfferAnswer : Option OfferFault → Result Bool StreamFault → Type 0
 OfferAnswer None answer = (answer ≡ Ok true) ⊎ (answer ≡ Err NoMemory)
 OfferAnswer (Some reason) answer = answer ≡ offer_left reason
@@ -104,7 +104,7 @@ AreTakersThere Nothing = Unit {0}
 AreTakersThere Moved = Unit {0}
 AreTakersThere GoneThere = ⊥
 
--- what some steps and those behind them come to together
+-- what some steps and those after them come to together
 abbrev pub pumped_then : Pumped → Pumped → Pumped
 pumped_then GoneThere more = GoneThere
 pumped_then Nothing more = more
@@ -112,7 +112,7 @@ pumped_then Moved GoneThere = GoneThere
 pumped_then Moved Nothing = Moved
 pumped_then Moved Moved = Moved
 
--- How a node has stopped that stands so: where it has halted; or where it waits and there is input that no node takes any more.
+-- How a node with this standing has stopped: it has halted, or it waits and there is input that no node takes any more.
 abbrev pub stopped_of : Standing → Bool → Option Stopped
 stopped_of (NodeHalted fault at) stuck = Some (Halted fault at)
 stopped_of NodeWaits true = Some Waits

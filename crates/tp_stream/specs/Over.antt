@@ -3,7 +3,7 @@ use Rattle.std.specs.Prelude.{◌≡◌, Bool, true}
 use Rattle.tp_stream_files.specs.declared.ending.Ending.{Ending}
 use Rattle.tp_stream_files.specs.declared.ending.Ending.TheVariants.{Quiet, Turns, Gone, Halted, Stopped}
 
--- Where it ended as quiet, and `over` says whether nothing is left of each input that its port may take: nothing is.
+-- If it ended as quiet, and `over` says whether nothing is left of each input that its port may take: nothing is.
 abbrev pub LeavesNoInput : Bool → Ending → Type 0
 LeavesNoInput over Quiet = over ≡ true
 LeavesNoInput over Turns = Unit {0}

@@ -23,18 +23,18 @@ pub record IsStill (start : Network NodeState) : Type 0 where
   pub ports : length seen.state.ports ≡ length start.ports
   pub still : has_recorded_in seen.state.snapshot (count_of_nodes seen) ≡ false
 
--- Why a run made no more steps: there is none. One for want of a frame has a step left.
+-- A run made no more steps since there is none. One that lacked a frame has a step left.
 abbrev pub HasNoStep : Why → Type 0
 HasNoStep Full = ⊥
 HasNoStep Idle = Unit {0}
 HasNoStep NoFrame = ⊥
 HasNoStep Stopped = Unit {0}
 
--- A turn of a worker's had nothing to do: it took no token, and where it is a node's made no step, since there is none.
+-- A worker's turn had nothing to do: it took no token and, if it is a node's, made no step, since there is none.
 abbrev pub HadNoWork : Turn → Type 0
 HadNoWork turn = (turn.takes ≡ 0) × IfSome turn.ran (λ ran. (ran.count ≡ 0) × HasNoStep ran.why)
 
--- A turn of a node took no token and made no step, and that since the node has no step: it wasn't for want of a frame.
+-- A turn of a node took no token and made no step, since the node has no step; it didn't lack a frame.
 pub record NodeRests (start : Network NodeState) (number : ℕ) : Type 0 where
   pub quantum : ℕ
   pub turn : NodeTurn
@@ -62,7 +62,7 @@ pub record HadNothingToDo (start : Network NodeState) (process : ℕ) : Type 0 w
   pub still : IsStill start
 
 -- In each of the last `idle` turns the process had nothing to do, while no snapshot ran. Turns go round over the nodes in order and the
--- host, which is the process behind them; the next one is that of `whose`.
+-- host, which is the process after them; the next one is that of `whose`.
 pub record HaveRested (start : Network NodeState) (whose idle : ℕ) : Type 0 where
   pub whose_is : whose ≤ length start.nodes
   pub this_round : (p : ℕ) → p < whose → whose ≤ p + idle → HadNothingToDo start p
@@ -82,7 +82,7 @@ pub record IsQuietOf (t : Topology) : Type 0 where
 
 -- ## Why a stream is over
 
--- Where it ended as quiet, nothing is left to do in the network of that topology.
+-- If it ended as quiet, nothing is left to do in the network of that topology.
 abbrev pub LeavesNothingToDo : Topology → Ending → Type 0
 LeavesNothingToDo t Quiet = IsQuietOf t
 LeavesNothingToDo t Turns = Unit {0}
@@ -90,7 +90,7 @@ LeavesNothingToDo t Gone = Unit {0}
 LeavesNothingToDo t Halted = Unit {0}
 LeavesNothingToDo t AskedTo = Unit {0}
 
--- It was asked to end so; and where it ended as quiet, nothing is left to do.
+-- It was asked to end for this reason; and if it ended as quiet, nothing is left to do.
 abbrev pub IsWhyEnded : Network NodeState → Task → Ending → Type 0
 IsWhyEnded start task Quiet = (task.until_quiet ≡ true) × IsQuietNetwork start
 IsWhyEnded start task Turns = IsSome task.turns
@@ -98,8 +98,8 @@ IsWhyEnded start task Gone = Unit {0}
 IsWhyEnded start task Halted = task.stop_on_halt ≡ true
 IsWhyEnded start task AskedTo = task.until_asked ≡ true
 
--- It was asked to end so: without a bound on turns it is over only by quiet where that was asked for, by a halt where that was asked
--- for, since its ends are gone, or since it was asked to stop where it was to end so.
+-- It was asked to end for this reason. Without a bound on turns it ends only by quiet, by a halt or by a request to stop, each if that was asked for;
+-- or since its ends are gone.
 abbrev pub IsAsked : Task → Ending → Type 0
 IsAsked task Quiet = task.until_quiet ≡ true
 IsAsked task Turns = IsSome task.turns

@@ -8,7 +8,7 @@ use Rattle.tp_area.specs.Capacity.{half_capacity, left_behind, takes}
 use Rattle.tp_area.specs.declared.journal.JournalRoom.{JournalRoom}
 use Rattle.tp_turn.specs.declared.take.TheConstants.{TAKES, TURN_ENTRIES}
 
--- A journal has room for `more` entries behind those that were made since the kept cut.
+-- A journal has room for `more` entries after those that were made since the kept cut.
 abbrev pub has_room_for : JournalRoom → BookValue → ℕ → Bool
 has_room_for journal b more = takes (next_in_book b - b.base + more) journal && nat_lt (next_in_book b + more) NUMBER_LIMIT
 
@@ -31,12 +31,12 @@ abbrev pub HavePlace : BookValue → Type 0
 HavePlace b = (p : ℕ) → p < length b.state.ports → IfSome (outputs_of b p) (λ outputs. length outputs < MAX_HELD)
 
 -- After how many entries since the kept cut a snapshot begins: as many as were asked for, at least one, and at most those that fill half of the
--- journal; where none were asked for, those.
+-- journal. If none were asked for, it is that half.
 abbrev pub every_of : JournalRoom → Option ℕ → ℕ
 every_of journal None = max (half_capacity journal) 1
 every_of journal (Some entries) = min (max (half_capacity journal) 1) (max entries 1)
 
--- How much room a turn and the confirms behind it need beside `ports` ports: a node's turn, or the host's with TAKES entries a port,
--- whichever is more, and a confirm a port.
+-- How much room a turn and the confirms after it need, with `ports` ports: a node's turn, or the host's with TAKES entries a port, whichever is more,
+-- and a confirm a port.
 abbrev pub need_of : ℕ → ℕ
 need_of ports = max TURN_ENTRIES (TAKES * ports) + ports

@@ -16,23 +16,23 @@ use Rattle.tp_stream.specs.Quiet.{IsWhyEnded}
 use Rattle.tp_stream.specs.Steps.{AllStepped}
 use Rattle.tp_stream.specs.Streamed.{CameBegun}
 
--- What was done between two moments of the flusher, `old` and `new`, to its device and to outputs, which were `was` and are `now`: over a
--- device that keeps the model, where `keeps` holds. `failed` says whether the answer says that a call of the device has failed.
+-- What was done between two moments of the flusher, `old` and `new`, to its device and to outputs, which were `was` and are `now`. If `keeps` holds,
+-- the device keeps the model. `failed` says whether the answer says that a call of the device has failed.
 pub record ServedOn (keeps : Type 0) (start : Network NodeState) (before : World NodeState) (failed : Bool) (old new : Flushing) (was now : List OutputValue) : Type 0 where
-  -- Where this process opened what a run had led to: each moment of the device since is that of a world on the way of one run.
+  -- If this process opened what a run had led to: each moment of the device since is that of a world on the way of one run.
   pub walks : keeps → Began start before old.opened → Walked old new
   -- The process and its device stayed what they were.
   pub process : IsSameProcess old new
   -- What was put of each output are outputs where the journal led at that moment: steps alone put them.
   pub put : keeps → Began start before old.opened → AllStepped start old new was now
-  -- One call of the device has failed just where the answer says so, and none was made since; else none has.
+  -- One call of the device has failed just if the answer says so, and none was made since; else none has.
   pub failures : old.world.at ≡ Resting → FailedWhere failed old new
 
--- What laps answer: why the stream is over, where it is, or a fault. `over` says whether nothing is left of each input that its port may take.
+-- What laps answer: why the stream is over, if it is, or a fault. `over` says whether nothing is left of each input that its port may take.
 pub record ServedAnswer (start : Network NodeState) (task : Task) (over : Bool) (result : Result (Option Ending) StreamFault) : Type 0 where
-  -- It was asked to end so; and where it ended as quiet, nothing is left to do in the network.
+  -- It was asked to end for this reason; and if it ended as quiet, nothing is left to do in the network.
   pub why : IfOk result (λ ended. IfSome ended (IsWhyEnded start task))
-  -- Where it ended as quiet, nothing is left of each input.
+  -- If it ended as quiet, nothing is left of each input.
   pub inputs : IfOk result (λ ended. IfSome ended (LeavesNoInput over))
   -- A fault is one of a stream that was begun.
   pub begun : IfErr result CameBegun

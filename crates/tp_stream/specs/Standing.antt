@@ -1,4 +1,4 @@
--- Where ports stand as a device is opened, and which outputs may begin there.
+-- If ports are as a device is opened, and which outputs may begin there.
 use Rattle.std.specs.Prelude.{◌≡◌, ◌⊎◌, ◌<◌, ◌≤◌, ℕ, ◌+◌, List, length, get_or, Some, slice_get}
 use Rattle.std.specs.Option.{unwrap_or}
 use Rattle.tp_model.specs.Network.{Port}
@@ -17,17 +17,17 @@ use Rattle.tp_stream_files.specs.Outputs.{Given}
 abbrev pub put_out : Port → ℕ
 put_out port = port.out_base + length port.outputs
 
--- where a port of a book stands, as a mark shows it
+-- where a port of a book is, as a mark shows it
 abbrev pub port_standing : BookValue → ℕ → ℕ → Standing
 port_standing b mark p = record { confirmed = (port_in b p).out_base; shown = shown_upto_of b p mark; upto = put_out (port_in b p) }
 
--- where a port stands of a device that opens: all that it has put out is shown
+-- where a port is of a device that opens: all that it has put out is shown
 abbrev pub stands_opened : Opened → ℕ → Standing
 stands_opened o p =
     let port = get_or o.now.ports p fresh_value.port in
     record { confirmed = port.out_base; shown = put_out port; upto = put_out port }
 
--- up to where the reader of an output has it: where it says nothing, up to where it is confirmed
+-- up to where the reader of an output has it: if it says nothing, up to where it is confirmed
 abbrev pub from_of : Standing → Given → ℕ
 from_of s g = unwrap_or g.have s.confirmed
 
@@ -60,7 +60,7 @@ Refuses s g NotStored = ⊥
 Refuses s g JournalFull = ⊥
 Refuses s g Memory = ⊥
 
--- Each of the first `n` outputs may begin where its port stands.
+-- Each of the first `n` outputs may begin where its port is.
 abbrev pub MayBeginBelow : ℕ → (ℕ → Standing) → List Given → Type 0
 MayBeginBelow n stands gs = (k : ℕ) → k < n → (g : Given) → slice_get gs k ≡ Some g → MayBegin (stands g.port) g
 
@@ -68,7 +68,7 @@ MayBeginBelow n stands gs = (k : ℕ) → k < n → (g : Given) → slice_get gs
 abbrev pub AllMayBegin : (ℕ → Standing) → List Given → Type 0
 AllMayBegin stands gs = (k : ℕ) (g : Given) → slice_get gs k ≡ Some g → MayBegin (stands g.port) g
 
--- The first output that may not begin, and why: as its port stands; or it is none of `ports` ports.
+-- The first output that may not begin, and why: as its port is; or it is none of `ports` ports.
 pub record IsFirstRefused (ports : ℕ) (stands : ℕ → Standing) (gs : List Given) (fault : StreamFault) : Type 0 where
   pub at : ℕ
   pub given : Given
@@ -111,7 +111,7 @@ HaveAcceptedBelow n accepted_at gs = (k : ℕ) → k < n → (g : GivenInput) �
 abbrev pub AllHaveAccepted : (ℕ → ℕ) → List GivenInput → Type 0
 AllHaveAccepted accepted_at gs = (k : ℕ) (g : GivenInput) → slice_get gs k ≡ Some g → HasAtLeast (accepted_at g.port) g.all
 
--- The first input that may not begin, and why: as its port stands; or it is none of `ports` ports.
+-- The first input that may not begin, and why: as its port is; or it is none of `ports` ports.
 pub record IsFirstShort (ports : ℕ) (accepted_at : ℕ → ℕ) (gs : List GivenInput) (fault : StreamFault) : Type 0 where
   pub at : ℕ
   pub given : GivenInput
@@ -119,7 +119,7 @@ pub record IsFirstShort (ports : ℕ) (accepted_at : ℕ → ℕ) (gs : List Giv
   pub before : HaveAcceptedBelow at accepted_at gs
   pub why : RefusesInput (accepted_at given.port) given fault ⊎ ((fault ≡ Absent given.port) × (ports ≤ given.port))
 
--- Why nothing is begun: an output that may not; or, where each output may, an input that may not.
+-- Why nothing is begun: an output that may not; or, if each output may, an input that may not.
 abbrev pub IsNotBegun : ℕ → (ℕ → Standing) → (ℕ → ℕ) → List Given → List GivenInput → StreamFault → Type 0
 IsNotBegun ports stands accepted_at gs inputs fault = IsFirstRefused ports stands gs fault ⊎ (AllMayBegin stands gs × IsFirstShort ports accepted_at inputs fault)
 

@@ -14,7 +14,7 @@ use Rattle.tp_stream.specs.declared.standing.Standing.{Standing}
 use Rattle.tp_stream.specs.Put.{EachWith, LeadsToBytes, port_or_fresh}
 use Rattle.tp_stream.specs.Standing.{from_of}
 
--- An output was set out where its port stands.
+-- An output was set out at the position of its port.
 pub record IsSetOut (stands : ℕ → Standing) (old new : OutputValue) : Type 0 where
   pub given : given_of new ≡ given_of old
   pub next : new.next ≡ from_of (stands old.port) (given_of old)
@@ -30,13 +30,13 @@ pub record IsPartConfirmed (old new : Port) : Type 0 where
 abbrev pub AreLeft : BookValue → BookValue → Type 0
 AreLeft old new = (p : ℕ) → IsPartConfirmed (port_in old p) (port_in new p)
 
--- Bytes were put behind those that there were, and these are as they were.
+-- Bytes were put after those that there were, and these are as they were.
 pub record Extends (bytes : List ℕ) (old new : OutputValue) : Type 0 where
   pub port : new.port ≡ old.port
   pub next : new.next ≡ old.next + length bytes
   pub put : HasPut old.next bytes old.held new.held
 
--- Nothing was put; or what a mark shows of a book's port behind what was put, none of it confirmed.
+-- Nothing was put; or what a mark shows of a book's port after what was put, none of it confirmed.
 abbrev pub PutsShown : BookValue → ℕ → OutputValue → OutputValue → Type 0
 PutsShown b mark old new =
     Extends [] old new ⊎ (((port_in b old.port).out_base ≤ old.next) × Extends (shown_from b old.port mark old.next) old new)
@@ -69,8 +69,8 @@ abbrev pub put_by : List PutStep → List ℕ
 put_by [] = []
 put_by (s ∷ ss) = s.bytes ++ put_by ss
 
--- A step put outputs of a port at a position, between two moments of the flusher: they are shown where the first entries of the journal
--- that it had by then lead, just those that were stored.
+-- A step put outputs of a port at a position, between two moments of the flusher. They are shown where the first entries of the journal at that time
+-- lead, exactly those that were stored.
 pub record IsPutStep (start : Network NodeState) (old new : Flushing) (port from : ℕ) (s : PutStep) : Type 0 where
   pub before : Walked old s.at
   pub behind : Walked s.at new
@@ -78,7 +78,7 @@ pub record IsPutStep (start : Network NodeState) (old new : Flushing) (port from
   pub all : s.at.world.mark ≤ s.number
   pub shows : LeadsToBytes start s.at.world.journal s.number port from s.bytes
 
--- So did each, one behind the other and none earlier than the one before.
+-- So did each, one after the other and none earlier than the one before.
 abbrev pub AreSteps : Network NodeState → Flushing → Flushing → ℕ → ℕ → List PutStep → Type 0
 AreSteps start old new port from [] = Unit {0}
 AreSteps start old new port from (s ∷ ss) = IsPutStep start old new port from s × AreSteps start s.at new port (from + length s.bytes) ss

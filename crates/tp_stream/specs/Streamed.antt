@@ -10,9 +10,9 @@ use Rattle.tp_stream_files.specs.declared.ending.Ended.{Ended}
 use Rattle.tp_stream.specs.declared.fault.StreamFault.{StreamFault}
 use Rattle.tp_stream.specs.declared.fault.StreamFault.TheVariants.{Opening, Spare, Port, Unnamed, Short, Long, Gone, NotShown, ShortInput, InputFailed, OutputFailed, FlushFailed, NotStored, JournalFull, Memory}
 
--- A crash at any moment of the stream leaves what one just before might have left, or what opens to where a prefix of the journal leads,
--- with all that the device had as it was opened: that is the journal's beginning, and the next number is no less than it was. After a
--- stream that was done, the answered number is the one behind the journal's last entry, and the prefix has each entry below it.
+-- A crash at any moment of the stream leaves what one just before might have left, or what opens to where a prefix of the journal leads. The prefix
+-- has all that the device had when it was opened: that is the journal's beginning, and the next number is no less than it was. After a stream that
+-- was done, the answered number is the one after the journal's last entry, and the prefix has each entry below it.
 pub record Streamed (start : Network NodeState) (result : Result Ended StreamFault) (old new : State) : Type 0 where
   pub journal : List Entry
   pub leaves : LeavesOnly old new (λ left. MayBe old.now left ⊎ Follows start journal 0 old.now.bytes left)

@@ -24,7 +24,7 @@ pub record IsProgress (journal : JournalRoom) (b : BookValue) (f : Flushing) (ma
   pub generation : progress.generation ≡ f.place.generation
   pub turns : progress.turns ≡ made
 
--- up to where a port's outputs were put, where a sink is for it
+-- up to where a port's outputs were put, if a sink is for it
 abbrev pub put_in : List OutputValue → ℕ → Option ℕ
 put_in [] port = None
 put_in (o ∷ outputs) port = if nat_eq o.port port then Some o.next else put_in outputs port
@@ -33,8 +33,8 @@ put_in (o ∷ outputs) port = if nat_eq o.port port then Some o.next else put_in
 abbrev pub SaysPut : List OutputValue → List (Option ℕ) → Type 0
 SaysPut outputs put = (port : ℕ) → port < MAX_PORTS → get_or put port None ≡ put_in outputs port
 
--- How far a stream has come was told once: its numbers are those of a book, of the flusher, and of the turns that were made, and up to where each
--- port's outputs were put is as these outputs say.
+-- How far a stream has come was told once. The numbers are those of a book, of the flusher, and of the turns that were made; up to where each port's
+-- outputs were put is as these outputs say.
 pub record HasTold (journal : JournalRoom) (f : Flushing) (made : ℕ) (outputs : List OutputValue) (old new : Option (List Notice)) : Type 0 where
   pub book : BookValue
   pub progress : Progress
@@ -42,7 +42,7 @@ pub record HasTold (journal : JournalRoom) (f : Flushing) (made : ℕ) (outputs 
   pub put : SaysPut outputs progress.put
   pub told : Noticed (HasCome progress ∷ []) old new
 
--- so it was where that is to be told; else nothing was
+-- how far it has come was told, if that is to be told; else nothing was
 abbrev pub TellsProgress : Bool → JournalRoom → Flushing → ℕ → List OutputValue → Option (List Notice) → Option (List Notice) → Type 0
 TellsProgress true journal f made outputs old new = HasTold journal f made outputs old new
 TellsProgress false journal f made outputs old new = Noticed [] old new
@@ -56,20 +56,20 @@ output_begins stands g = OutputBegins g.port (from_of (stands g.port) g)
 abbrev pub input_begins : (ℕ → ℕ) → GivenInput → Notice
 input_begins accepted_at g = InputBegins g.port (accepted_at g.port)
 
--- It is told behind where streams begin: how far they have come, or how one of `nodes` nodes has stopped.
+-- It is told after the beginnings of streams: how far they have come, or how one of `nodes` nodes has stopped.
 abbrev pub IsLater : ℕ → Notice → Type 0
 IsLater nodes (OutputBegins port position) = ⊥
 IsLater nodes (InputBegins port accepted) = ⊥
 IsLater nodes (HasCome progress) = Unit {0}
 IsLater nodes (NodeStopped node how) = node < nodes
 
--- Only notices were told that come behind where streams begin.
+-- Only notices were told that come after the beginnings of streams.
 pub record ToldLater (nodes : ℕ) (old new : Option (List Notice)) : Type 0 where
   pub notices : List Notice
   pub each : All (IsLater nodes) notices
   pub told : Noticed notices old new
 
--- `first` was told, and behind it only notices that come behind where streams begin.
+-- `first` was told, and then only notices that come after the beginnings of streams.
 pub record ToldFirst (first : List Notice) (nodes : ℕ) (old new : Option (List Notice)) : Type 0 where
   pub between : Option (List Notice)
   pub told : Noticed first old between

@@ -91,7 +91,7 @@ fn absent_input<I: Source>(ports: usize, inputs: &[Input<I>]) -> Option<u8>
     None
 }
 
-/// The first port that isn't there, for which there is a sink; or else a source.
+/// The first port that doesn't exist though a sink is for it; if there is none, the first of a source.
 fn absent<S: Sink, I: Source>(topology: &Topology, streams: &Streams<S, I>) -> Option<u8>
     ensures { result ≡ absent_of topology.now streams.now.outputs.items (map (λ i. i.port) streams.now.inputs.items) }
 {
@@ -102,7 +102,7 @@ fn absent<S: Sink, I: Source>(topology: &Topology, streams: &Streams<S, I>) -> O
     }
 }
 
-/// Why a network isn't run as `task` says on `streams`, where it isn't.
+/// Why a network isn't run as `task` says on `streams`, if it isn't.
 pub(crate) fn task_fault<S: Sink, I: Source>(
     task: Task,
     topology: &Topology,
@@ -125,8 +125,8 @@ pub(crate) fn task_fault<S: Sink, I: Source>(
     }
 }
 
-/// Sets out where each sink's port stands in the book of a device that opened, and tells where each output begins. The first one that
-/// may not begin ends that.
+/// Sets out each sink at the position of its port in the book of a device that opened, and tells where each output begins. It ends at the first one
+/// that may not begin.
 fn begin_outputs<S: Sink, L: Listener>(
     book: &Book,
     mark: u64,
@@ -180,7 +180,7 @@ fn begin_inputs<I: Source, L: Listener>(
     Ok(())
 }
 
-/// Sets out where each sink's port stands in the book of a device that opened, and tells where each stream begins.
+/// Sets out each sink at the position of its port in the book of a device that opened, and tells where each stream begins.
 pub(crate) fn begin_all<S: Sink, I: Source, L: Listener>(
     book: &Book,
     mark: u64,

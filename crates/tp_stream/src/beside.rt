@@ -28,8 +28,8 @@ use tp_shared::{Locked, Naming, NoGate, Shared};
 use tp_stream_files::Ending;
 use tp_work::{Net, Seat};
 
-/// How many turns a shift has at most for each of its workers: as many as a round has where nobody makes others, so that the ports wait for a
-/// shift about as long as for a round.
+/// How many turns a shift has at most for each of its workers: as many as a round has without workers, so that the ports wait for a shift about as
+/// long as for a round.
 const SHIFT: u64 = 1024;
 
 /// Makes a turn that was drawn in this shift.
@@ -73,8 +73,8 @@ fn stay<J: Naming, R: Wait>(rt: &R, net: &Net<J, NoGate>, shift: &Shift, seat: &
     }
 }
 
-/// Lets a worker at each seat make turns in each shift, until no more will be opened, each in a thread of its own where one can be made. One that has
-/// none comes only then, so no shift is opened.
+/// Lets a worker at each seat make turns in each shift, until no more are opened, each in a thread of its own if one can be made. A worker without a
+/// thread comes only then, so no shift is opened for it.
 fn work_all<J: Naming + Send + Sync, R: Threads + Wait + Sync>(
     rt: &R,
     net: &Net<J, NoGate>,
@@ -96,8 +96,8 @@ fn work_all<J: Naming + Send + Sync, R: Threads + Wait + Sync>(
     );
 }
 
-/// Does work in this thread while a worker at each seat stays, in threads of their own where some can be made; else they come behind it.
-/// The work has to say in the end that no more shifts will be opened.
+/// Does work in this thread while a worker at each seat stays, in threads of their own if some can be made; else they come after it. In the end the
+/// work has to say that no more shifts are opened.
 #[inline(never)]
 pub(crate) fn go_with_workers<
     J: Naming + Send + Sync,
@@ -144,7 +144,7 @@ fn help<J: Naming, R: Wait>(
     }
 }
 
-/// Makes such turns where there is a seat for them.
+/// Makes turns of this shift, if there is a seat for them.
 fn help_seated<J: Naming, R: Wait>(
     rt: &R,
     net: &Net<J, NoGate>,
@@ -160,8 +160,8 @@ fn help_seated<J: Naming, R: Wait>(
     }
 }
 
-/// Makes the flusher's turns while workers make theirs, each once something was journalled beyond the `before` entries, until the shift has
-/// ended or one is refused, which ends it; and between two of them turns, where there is a seat for that.
+/// Makes the flusher's turns while workers make theirs, each once something was journalled beyond the `before` entries, until the shift has ended; a
+/// refused one ends it. Between two of them it makes turns, if there is a seat for that.
 fn flush_beside<J: Naming, D: Disk, R: Wait>(
     rt: &R,
     alloc: Global,
@@ -194,7 +194,7 @@ fn flush_beside<J: Naming, D: Disk, R: Wait>(
     Ok(())
 }
 
-/// How many turns the journal has room for, and for a confirm a port behind them, under the book's lock: at most `most`.
+/// How many turns the journal has room for, and for a confirm a port after them, under the book's lock: at most `most`.
 fn turns_in<J: Naming>(held: &Locked<J>, pace: Pace, most: u64) -> u64
     ensures room { result * (pace.need - pace.confirms) ≤ free_of pace.rooms.journal held.now.book - pace.confirms }
     ensures most { result ≤ most }
@@ -204,8 +204,7 @@ fn turns_in<J: Naming>(held: &Locked<J>, pace: Pace, most: u64) -> u64
     (free.saturating_sub(u64::from(pace.confirms)) / turn).min(most)
 }
 
-/// How many turns may be made at most in the next shift of `workers`: [`SHIFT`] for each of them; or what is left of the bound that was asked for,
-/// where that is less.
+/// How many turns may be made at most in the next shift of `workers`: [`SHIFT`] for each of them, or what is left of the bound, if that is less.
 fn most_of(task: Task, turns: &Turns, workers: u64) -> u64
     ensures unbounded { task.turns ≡ None → result ≡ min (SHIFT * workers) (2 ^ 64 - 1) }
     ensures bounded { IfSome task.turns (λ bound. result ≡ min (bound - turns.now.made) (min (SHIFT * workers) (2 ^ 64 - 1))) }
@@ -225,7 +224,7 @@ fn turns_under<J: Naming, R: Wait>(rt: &R, shared: &Shared<J>, pace: Pace, most:
     turns_in(&held, pace, most)
 }
 
-/// What comes of a shift: the fault of a flush, or else why turns were refused, which it `told`.
+/// What comes of a shift: the fault of a flush, or else why turns were refused, which is in `told`.
 fn outcome_of(
     flushed: Result<(), StreamFault>,
     told: Result<(), StreamFault>,
@@ -246,8 +245,8 @@ fn outcome_of(
     }
 }
 
-/// Workers, who have all come, make turns until the journal may have no room for one more, they have made as many as they may, or nothing is left
-/// to do, and the flusher makes its own beside them.
+/// Workers, who have all come, make turns, and the flusher makes its own beside them. It ends when the journal may have no room for one more, all
+/// turns of the shift were made, or nothing is left to do.
 pub(crate) fn go_beside<J: Naming, D: Disk, R: Wait>(
     ground: Ground<'_, J, R>,
     shift: &Shift,

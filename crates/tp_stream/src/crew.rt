@@ -4,14 +4,14 @@ use std::sync::Wait;
 use std::sync::atomic::{AtomicBool, AtomicU64, Ordering};
 use std::time::Duration;
 
-/// How many milliseconds it sleeps, at most, between two looks whether all have come.
+/// How many milliseconds it sleeps, at most, between two checks whether all have come.
 const SLEEP: u64 = 10;
 
 /// How often it looks, at most, as it waits for them.
 const LOOKS: u32 = 100;
 
-/// The workers of a stream: how many have come, and whether these were waited for; how many are in the shift that is open, how many shifts were
-/// opened, on which they sleep, and whether no more will be.
+/// The workers of a stream: how many have come, and whether the stream has waited for them; how many are in the open shift; how many shifts were
+/// opened, on which they sleep; and whether no more will be.
 #[derive(Drop)]
 pub(crate) struct Crew {
     here: AtomicU64,
@@ -39,7 +39,7 @@ impl Crew {
         self.here.wake_all();
     }
 
-    /// Whether `count` workers have come. It waits for them the first time that it is asked, a second at most: where no more threads could be
+    /// Whether `count` workers have come. It waits for them the first time that it is asked, a second at most: if no more threads could be
     /// made, some never come.
     pub(crate) fn are_here<R: Wait>(&self, rt: &R, count: u64) -> bool {
         let looks = if self.was_awaited.swap(true, Ordering::SeqCst) {

@@ -30,7 +30,7 @@ pub(crate) fn may_wait(task: Task, turns: &Turns, nodes: u8) -> bool
     !task.rests() && !turns.are_out(task) && !turns.is_stopped(task) && turns.is_quiet(nodes)
 }
 
-/// Whether the stream is asked to stop, where it is to end so: it is looked once, and else not at all.
+/// Whether the stream is asked to stop: it checks once if that is to end it, and else not at all.
 pub(crate) fn is_asked<P: Stop>(task: Task, stop: &mut P) -> bool
     ensures looked { P.answers stop.new ≡ P.answers stop.old ++ looked task result }
     ensures asked { result ≡ true → task.until_asked ≡ true }
@@ -38,7 +38,7 @@ pub(crate) fn is_asked<P: Stop>(task: Task, stop: &mut P) -> bool
     task.until_asked && stop.is_asked()
 }
 
-/// Why the stream is over, where it is: as its turns stand, and what the steps of its streams came to behind them. `asked` says whether it
+/// Why the stream is over, if it is: as its turns are, and what the steps of its streams came to after them. `asked` says whether it
 /// is asked to stop, which comes first, and `over` whether no input is left that its port may take.
 pub(crate) fn ending(
     task: Task,

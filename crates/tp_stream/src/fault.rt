@@ -11,13 +11,13 @@ pub enum StreamFault {
     Opening(Unopened),
     /// A node has fewer pages than the spare frames that were asked for.
     Spare,
-    /// A sink or a source is for a port that isn't there.
+    /// A sink or a source is for a port that doesn't exist.
     Port(u8),
     /// This port has a wire, and no sink is for it.
     Unnamed(u8),
-    /// A sink has fewer bytes than are to stand before the next one.
+    /// A sink has fewer bytes than are to be before the next one.
     Short { port: u8, has: u64, from: u64 },
-    /// A sink has more bytes than the port has put out: those behind are another's.
+    /// A sink has more bytes than the port has put out: those after are another's.
     Long { port: u8, has: u64, upto: u64 },
     /// A reader has fewer outputs than were confirmed: those between are gone.
     Gone { port: u8, have: u64, confirmed: u64 },
@@ -31,13 +31,13 @@ pub enum StreamFault {
     OutputFailed(u8),
     /// A call of the device failed in a flush. None was made since.
     FlushFailed,
-    /// The book or the area takes no entries, or the book has some that a flush hasn't stored, though no call of the device failed in a
-    /// flush; or, behind the last flush, an output is left that was to be put. As a flush that fails is told first, and the last one comes
-    /// behind all turns and steps, none of that comes, which no clause says.
+    /// The book or the area takes no entries, or the book has some that a flush hasn't stored, though no call of the device failed in a flush; or,
+    /// after the last flush, an output is left that was to be put. A flush that fails is told first, and the last one comes after all turns and
+    /// steps. So none of that occurs; no clause says this.
     NotStored,
     /// There is no room on the device, and no checkpoint frees any.
     JournalFull,
-    /// Memory was refused, at whatever step.
+    /// Out of memory, at whatever step.
     Memory,
 }
 

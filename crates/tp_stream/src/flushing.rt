@@ -48,8 +48,8 @@ pub(crate) fn flush<J: Naming, D: Disk, R: Wait>(
     }
 }
 
-/// The number that the next entry gets, under the book's lock, where the flusher has stored all below, so that its journal has no more, and
-/// no output is left that a stream which ends so has to put.
+/// The number that the next entry gets, under the book's lock. It answers it if the flusher has stored all entries below, its journal has no more,
+/// and no output is left that a stream which ends for this reason has to put.
 fn last_under<J: Naming, D: Disk, S: Sink>(
     held: &mut Locked<J>,
     flusher: &mut Flusher<J, D>,
@@ -95,8 +95,8 @@ fn last_of<J: Naming, D: Disk, S: Sink, R: Wait>(
     last_under(&mut held, flusher, why, outputs)
 }
 
-/// The last flush. Answers the number that the next entry gets: all below is stored, and the journal has no more; and no output is left that a stream
-/// which ends so has to put.
+/// Makes the last flush. Answers the number that the next entry gets: all below is stored, the journal has no more, and no output is left that a
+/// stream which ends for this reason has to put.
 pub(crate) fn finish<J: Naming, D: Disk, S: Sink, R: Wait>(
     rt: &R,
     alloc: Global,

@@ -15,7 +15,7 @@ use tp_shared::{Locked, Naming, Seat};
 use tp_stream_files::{Input, Source};
 use tp_work::{OfferFault, offer};
 
-/// Hands a port bytes, under the book's lock, where it accepts those at this position. Whether it took them: it takes none that it, or
+/// Hands a port bytes, under the book's lock, if it accepts those at this position. Whether it took them: it takes none that it, or
 /// the journal, has no room for. `seat` gets the slips of their entries.
 #[tactic(auto, using(crate::proofs::Offers::offer_taken, crate::proofs::Offers::offer_refused))]
 fn offer_bytes<J: Naming>(
@@ -47,8 +47,8 @@ fn offer_bytes<J: Naming>(
     }
 }
 
-/// Hands a port the next bytes of its input, under the book's lock: at most `most`, as many as `piece` has, and as the port has room for.
-/// Whether it took some; `seat` gets the slips of their entries. Where `most` is 0 it is only looked whether the input has come to its end.
+/// Hands a port the next bytes of its input, under the book's lock: at most `most`, as many as `piece` has, and as the port has room for. Answers
+/// whether it took some; `seat` gets the slips of their entries. If `most` is 0, it only checks whether the input has come to its end.
 pub(crate) fn step<J: Naming, I: Source>(
     input: &mut Input<I>,
     held: &mut Locked<J>,

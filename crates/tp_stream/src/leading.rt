@@ -1,4 +1,4 @@
-//! The thread that calls, beside its workers.
+//! The calling thread, beside its workers.
 
 ghost use Rattle.std.specs.List.{list_all};
 ghost use Rattle.std.specs.Prelude.{◌≡◌, length, All, Some, IfOk, IfSome};
@@ -23,7 +23,7 @@ use tp_shared::Naming;
 use tp_stream_files::{Ending, Listener, Sink, Source, Stop, Streams};
 use tp_work::Seat;
 
-/// What the thread that calls does, with all that is lent to it.
+/// What the calling thread does, with all that is lent to it.
 #[derive(Drop)]
 struct Leading<'r, 's, 'u, 'v, 'w, J: Naming, D: Disk, S: Sink, I: Source, L, P, R> {
     ground: Ground<'r, J, R>,
@@ -90,7 +90,7 @@ impl<'r, 's, 'u, 'v, 'w, J: Naming, D: Disk, S: Sink, I: Source, L: Listener, P:
     }
 }
 
-/// All laps; beside them, where there is more than one, workers that stay until they end.
+/// All laps; beside them, if there is more than one, workers that stay until they end.
 #[inline(never)]
 pub(crate) fn lead<
     J: Naming + Send + Sync,

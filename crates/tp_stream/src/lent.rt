@@ -2,7 +2,7 @@
 
 ghost use Rattle.std.specs.Prelude.{◌≡◌};
 
-/// Work, and what it gives back behind it: a closure wouldn't say what it left in what it was lent.
+/// Work, and what it gives back after it: a closure wouldn't say what it left in what it was lent.
 pub(crate) trait Lent {
     type Back;
 

@@ -47,8 +47,8 @@ fn parts_with(
     Ok((parts, raiser, Runs::new(alloc)?))
 }
 
-/// The book and the nodes of what was opened, the raiser of their mark, and what the thread that calls keeps of instructions. Each stream is
-/// set out where its port stands, and told.
+/// The book and the nodes of what was opened, the raiser of their mark, and what the calling thread keeps of instructions. Each stream is set out at
+/// the position of its port, and told.
 #[inline(never)]
 pub(crate) fn parts_of<S: Sink, I: Source, L: Listener>(
     alloc: Global,

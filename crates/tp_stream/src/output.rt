@@ -30,7 +30,7 @@ pub(crate) enum StepFault {
     Fault(StreamFault),
 }
 
-/// Why the step of the output of `port` isn't done, where its sink answered `fault`.
+/// Why the step of the output of `port` isn't done, if its sink answered `fault`.
 fn step_fault(fault: SinkFault, port: u8) -> StepFault
     ensures value { result ≡ step_fault_of port fault }
     ensures names { StepNames port result }
@@ -55,7 +55,7 @@ fn fault_of(fault: ConfirmFault) -> StreamFault
     }
 }
 
-/// Sets out where its port stands, where it may begin there.
+/// Sets an output out at the position of its port, if it may begin there.
 #[tactic(auto, using(tp_stream_files::proofs::StreamEndsSinks::reaches_less))]
 fn set_out<S: Sink>(output: &mut Output<S>, stand: Standing) -> Result<(), StreamFault>
     ensures begun { OnOk result (MayBegin stand (given_of output.old)) }
@@ -96,7 +96,7 @@ fn set_out<S: Sink>(output: &mut Output<S>, stand: Standing) -> Result<(), Strea
     Ok(())
 }
 
-/// Sets out where its port stands in a book, as a device is opened whose mark is `mark`. Where it may not begin there, it says why.
+/// Sets it out at the position of its port in a book, as a device is opened whose mark is `mark`. If it may not begin there, the `Err` says why.
 pub(crate) fn begin<S: Sink>(
     output: &mut Output<S>,
     book: &Book,
@@ -116,7 +116,7 @@ pub(crate) fn begin<S: Sink>(
     set_out(output, stand)
 }
 
-/// Puts, at their positions, all outputs that the flusher's mark shows behind those that were put, and makes them safe.
+/// Puts, at their positions, all outputs that the flusher's mark shows after those that were put, and makes them safe.
 #[tactic(auto, using(tp_stream_files::proofs::StreamEndsSinks::front_stays))]
 fn put_shown<J: Naming, D: Disk, S: Sink>(
     output: &mut Output<S>,
@@ -147,8 +147,8 @@ fn put_shown<J: Naming, D: Disk, S: Sink>(
     }
 }
 
-/// Journals, under the book's lock, that the host has all outputs that were put. Where it is refused nothing is confirmed. `seat` gets the
-/// entry's slip, where there is one.
+/// Journals, under the book's lock, that the host has all outputs that were put. If that is refused, nothing is confirmed. `seat` gets the entry's
+/// slip, if there is one.
 fn confirm_put<J: Naming, D: Disk, S: Sink>(
     output: &mut Output<S>,
     held: &mut Locked<J>,
@@ -175,10 +175,9 @@ fn confirm_put<J: Naming, D: Disk, S: Sink>(
     }
 }
 
-/// A step, under the book's lock: puts what the flusher's mark shows and wasn't put, at its positions, makes it safe, and confirms up to
-/// there; `seat` gets the confirm's slip. So what is put and confirmed was put out by entries that the flusher has stored. Where putting it or
-/// making it safe fails, or whoever takes it has gone, nothing is confirmed. However it ends, what was put then is all of what the mark shows
-/// there, or nothing.
+/// A step, under the book's lock: puts what the flusher's mark shows and wasn't put, at its positions, makes it safe, and confirms up to there;
+/// `seat` gets the confirm's slip. So what is put and confirmed was put out by entries that the flusher has stored. If putting it or making it safe
+/// fails, or whoever takes it has gone, nothing is confirmed. However it ends, it put all that the mark shows there, or nothing.
 pub(crate) fn step<J: Naming, D: Disk, S: Sink>(
     output: &mut Output<S>,
     held: &mut Locked<J>,

@@ -6,8 +6,8 @@ ghost use Rattle.tp_model.specs.declared.limits.TheConstants.{MAX_STEPS};
 use crate::rooms::Rooms;
 use crate::task::Task;
 
-/// How a device's turns are made: as it was asked, after how many entries a snapshot begins, how much room a turn and the confirms
-/// behind it need, how many confirms there are, and how many workers.
+/// How a device's turns are made: as it was asked, after how many entries a snapshot begins, how much room a turn and its confirms need, how many
+/// confirms there are, and how many workers.
 #[derive(Clone, Copy)]
 pub(crate) struct Pace {
     pub(crate) task: Task,

@@ -25,8 +25,7 @@ use tp_model::limits::MAX_HELD;
 use tp_shared::{Locked, Naming, Seat, Shared};
 use tp_stream_files::{Input, Output, Sink, Source, Streams};
 
-/// How many milliseconds input is waited for until it is looked again whether the stream is asked to stop, or it is told how
-/// far it has come.
+/// How many milliseconds it waits for input before it checks again whether the stream is asked to stop, or tells how far it has come.
 const REST: u64 = 20;
 
 /// What steps of streams came to.
@@ -41,7 +40,7 @@ pub(crate) enum Pumped {
 }
 
 impl Pumped {
-    /// What these steps and the ones behind them come to together.
+    /// What these steps and the ones after them come to together.
     fn then(self, more: Pumped) -> Pumped
         ensures value { result ≡ pumped_then self more }
         ensures there { AreTakersThere self → AreTakersThere more → AreTakersThere result }
@@ -66,7 +65,7 @@ impl Pumped {
     }
 }
 
-/// Whether the journal has room for a confirm a port, under the book's lock. Where the book lies in that journal, and no run is reserved, none
+/// Whether the journal has room for a confirm a port, under the book's lock. If the book is in that journal, and no run is reserved, none
 /// of them is then refused as JournalFull.
 fn has_confirms<J: Naming>(held: &Locked<J>, pace: Pace) -> bool
     ensures value { result ≡ has_room_for pace.rooms.journal held.now.book pace.confirms }
@@ -106,8 +105,8 @@ fn step_output<J: Naming, D: Disk, S: Sink>(
     }
 }
 
-/// A step of each output, under one hold of the book's lock, also behind one whose taker has gone. What is put is shown by the flusher's
-/// mark of what confirms have left of the book. Where the journal has room for a confirm an output, none is refused for want of it.
+/// A step of each output, under one hold of the book's lock, also after one whose taker has gone. What is put is shown by the flusher's mark of what
+/// confirms have left of the book. If the journal has room for a confirm an output, none is refused for lack of it.
 fn step_all<J: Naming, D: Disk, S: Sink>(
     held: &mut Locked<J>,
     seat: &mut Seat<J>,
@@ -126,8 +125,8 @@ fn step_all<J: Naming, D: Disk, S: Sink>(
     Ok(pumped)
 }
 
-/// Steps each output where the flusher has stored all that the book has: what is put are outputs where its journal leads. Else
-/// nothing is put before its next turn. Right behind a turn it has, since nobody else makes entries.
+/// Steps each output if the flusher has stored all that the book has: what is put are outputs where its journal leads. Else nothing is put before its
+/// next turn. Right after a turn it has stored all, since no other thread makes entries.
 #[tactic(auto, using(crate::proofs::Stepping::all_still))]
 fn step_settled<J: Naming, D: Disk, S: Sink>(
     held: &mut Locked<J>,
@@ -170,7 +169,7 @@ fn step_outputs<J: Naming, D: Disk, S: Sink, R: Wait>(
 }
 
 /// A step of a port's input, under the book's lock. Whether the port took more: no more than leaves the journal the room that a turn and
-/// the confirms behind it need. Where it may not wait for bytes that haven't come yet, the port then takes none. Whether the port has room is
+/// the confirms after it need. If it may not wait for bytes that haven't come yet, the port then takes none. Whether the port has room is
 /// noted either way.
 fn step_held<J: Naming, I: Source>(
     held: &mut Locked<J>,
@@ -268,8 +267,8 @@ pub(crate) enum Rested {
     Came,
 }
 
-/// Waits for bytes of an input that haven't come yet, for [`REST`] milliseconds or less, where the journal and its port have room for them: they
-/// end the wait as they come. The book's lock is let go meanwhile.
+/// Waits for bytes of an input that haven't come yet, for [`REST`] milliseconds or less, if the journal and its port have room for them: they
+/// end the wait as they come. The book's lock is released meanwhile.
 pub(crate) fn rest<J: Naming, I: Source, R: Wait>(
     rt: &R,
     shared: &Shared<J>,
@@ -288,7 +287,7 @@ pub(crate) fn rest<J: Naming, I: Source, R: Wait>(
     rest
 }
 
-/// A step of each input. Where it may not wait, a port takes none whose bytes haven't come yet.
+/// A step of each input. If it may not wait, a port takes none whose bytes haven't come yet.
 pub(crate) fn step_inputs<J: Naming, I: Source, R: Wait>(
     rt: &R,
     shared: &Shared<J>,
@@ -310,7 +309,7 @@ pub(crate) fn step_inputs<J: Naming, I: Source, R: Wait>(
     Ok(Pumped::of(has_moved))
 }
 
-/// A step of each input, behind what steps of the outputs came to. Where none has moved, and it may wait, it waits for input that hasn't come
+/// A step of each input, after what steps of the outputs came to. If none has moved, and it may wait, it waits for input that hasn't come
 /// yet.
 fn pump_inputs<J: Naming, I: Source, R: Wait>(
     rt: &R,
@@ -331,9 +330,9 @@ fn pump_inputs<J: Naming, I: Source, R: Wait>(
     step_inputs(rt, shared, pace, seat, true, inputs)
 }
 
-/// A step of each stream. Outputs are put and confirmed up to the flusher's mark: what is put are outputs where its journal leads. Where
-/// none has moved, and it may wait, it waits for input that hasn't come yet. Where whoever takes an output has gone, no port takes more.
-/// `seat` gets the slips of what was confirmed and handed in.
+/// A step of each stream. Outputs are put and confirmed up to the flusher's mark: what is put are outputs where its journal leads. If none has moved,
+/// and it may wait, it waits for input that hasn't come yet. If whoever takes an output has gone, no port takes more. `seat` gets the slips of what
+/// was confirmed and handed in.
 pub(crate) fn pump<J: Naming, D: Disk, S: Sink, I: Source, R: Wait>(
     rt: &R,
     shared: &Shared<J>,

@@ -27,7 +27,7 @@ impl Rooms {
         }
     }
 
-    /// Whether there is room for `more` entries that anyone may make. Where the book lies in such a journal, and no run is reserved, none
+    /// Whether there is room for `more` entries that anyone may make. If the book is in such a journal, and no run is reserved, none
     /// of them is then refused as JournalFull.
     pub(crate) fn has_room(self, book: &Book, more: u32) -> bool
         ensures value { result ≡ has_room_for self.journal book.now more }
@@ -47,8 +47,8 @@ impl Rooms {
         self.journal.left(made)
     }
 
-    /// How many entries since the kept cut begin a snapshot, where `asked` were asked for: at most those that fill half of it, and at
-    /// least one, so that none begins where nothing has happened.
+    /// How many entries since the kept cut begin a snapshot, if `asked` were asked for: at most those that fill half of the journal, and at least
+    /// one, so that none begins if nothing has happened.
     pub(crate) fn every(self, asked: Option<u32>) -> u64
         ensures value { result ≡ every_of self.journal asked }
         ensures some { 0 < result }

@@ -1,4 +1,4 @@
-//! Rounds of turns of the network's processes, one behind the other.
+//! Rounds of turns of the network's processes, one after the other.
 
 ghost use Rattle.std.specs.Prelude.{◌≡◌, ◌↔◌, ◌<◌, ◌≤◌, length, true, false, Ok, IfOk, IfErr, OnOk};
 ghost use Rattle.tp_model.specs.declared.limits.TheConstants.{MAX_STEPS};
@@ -19,7 +19,7 @@ use tp_book::Refusal;
 use tp_node::{Runs, Why};
 use tp_shared::{Locked, Naming, NoGate, NodeTurn, Seat, Shared, Sights};
 
-/// How many turns are made at most between two flushes, where no workers make any.
+/// How many turns are made at most between two flushes, if no workers make any.
 const ROUND: u32 = 1024;
 
 /// Whether a run ended since there is no step, and whether that is since the node has halted. One that lacks a frame has a step left.
@@ -35,7 +35,7 @@ pub(crate) fn rests(why: Why) -> (bool, bool)
     }
 }
 
-/// What a node did in a turn. There was nothing to do only where it took no token and made no step, since it has none.
+/// What a node did in a turn. There was nothing to do only if it took no token and made no step, since it has none.
 fn did_of(turn: &NodeTurn) -> Did
     ensures taken { result.nothing ≡ true → turn.now.taken ≡ 0 }
     ensures count { result.nothing ≡ true → turn.now.ran.count ≡ 0 }
@@ -89,8 +89,8 @@ fn host_turn<J: Naming, R: Wait>(
     }
 }
 
-/// A turn of a process, of at most `quantum` steps; the host's where there is no such node. It says that there was nothing to do only
-/// where a node took no token and has no step, or the host took none.
+/// A turn of a process, of at most `quantum` steps; the host's if there is no such node. It says that there was nothing to do only if a node took no
+/// token and has no step, or the host took no token.
 pub(crate) fn make_turn<J: Naming, R: Wait>(
     rt: &R,
     shared: &Shared<J>,
@@ -109,8 +109,8 @@ pub(crate) fn make_turn<J: Naming, R: Wait>(
     }
 }
 
-/// Begins a snapshot, under the book's lock, where `every` entries have been made since the kept cut and each port has room for one
-/// more byte. That it is refused is passed over. Whether one was begun.
+/// Begins a snapshot, under the book's lock, if `every` entries have been made since the kept cut and each port has room for one more byte; ignores a
+/// refusal. Answers whether one was begun.
 pub(crate) fn begin_where_due<J: Naming>(held: &mut Locked<J>, alloc: Global, every: u64) -> bool
     ensures due { result ≡ true → is_due every held.old.book ≡ true }
     ensures place { result ≡ true → HavePlace held.old.book }
@@ -124,7 +124,7 @@ pub(crate) fn begin_where_due<J: Naming>(held: &mut Locked<J>, alloc: Global, ev
     held.begin_snapshot(alloc).is_ok()
 }
 
-/// What was seen of the book before a turn: whether the journal has room for it and the confirms behind it, and whether a snapshot runs.
+/// What was seen of the book before a turn: whether the journal has room for it and the confirms after it, and whether a snapshot runs.
 #[derive(Clone, Copy)]
 struct Seen {
     has_room: bool,
@@ -143,7 +143,7 @@ fn look_at<J: Naming>(held: &Locked<J>, pace: Pace) -> Seen
     }
 }
 
-/// Looks at the book before a turn. Before that a snapshot is begun where it is due; none ends before the flusher's next turn.
+/// Checks the book before a turn. First it begins a snapshot that is due; none ends before the flusher's next turn.
 fn look<J: Naming, R: Wait>(rt: &R, alloc: Global, shared: &Shared<J>, pace: Pace) -> Seen
     ensures { result.is_running ≡ false → IsStill J.start }
 {
@@ -152,7 +152,7 @@ fn look<J: Naming, R: Wait>(rt: &R, alloc: Global, shared: &Shared<J>, pace: Pac
     look_at(&held, pace)
 }
 
-/// Why no more turns are made behind one that was refused; none where that was for want of room alone.
+/// Why no more turns are made after one that was refused; `None` if only room was lacking.
 fn fault_of(refusal: Refusal) -> Option<StreamFault>
     ensures { result ≡ turn_fault_of refusal }
 {
@@ -163,7 +163,7 @@ fn fault_of(refusal: Refusal) -> Option<StreamFault>
     }
 }
 
-/// A turn of the process whose turn it is, behind what was seen of the book. One for which the journal has no room counts, and has
+/// A turn of the process whose turn it is, after what was seen of the book. One for which the journal has no room counts, and has
 /// something left to do.
 fn one_turn<J: Naming, R: Wait>(
     rt: &R,
@@ -196,7 +196,7 @@ fn one_turn<J: Naming, R: Wait>(
     }
 }
 
-/// How many turns a round has at most: one for each process where workers make others behind it.
+/// How many turns a round has at most: one for each process if workers make others after it.
 fn turns_of(turns: &Turns, nodes: u8) -> u32 {
     if turns.is_busy {
         u32::from(nodes) + 1
@@ -205,13 +205,13 @@ fn turns_of(turns: &Turns, nodes: u8) -> u32 {
     }
 }
 
-/// A round of turns, of all processes in order, until the journal has no room for one more, no turn may be made, or nothing is left to
-/// do. While a snapshot runs each process has one, and the flusher's turn comes next.
+/// A round of turns, of all processes in order, until the journal has no room for one more, no turn may be made, or nothing is left to do. While a
+/// snapshot runs each process has one turn, and the flusher's turn comes next.
 ///
-/// While one runs nothing counts as left undone, so rounds and flushes go on until it has ended. It does: each node records in its turn,
-/// also one that has halted; in front of a Marker stand at most a Data and an Ack, which its taker can take, since each port had room for
-/// one more byte, the reserve of the journal is for them, and the flusher's turn copies the frozen pages, so that no node lacks a frame
-/// for long; once all is copied and the cut is whole the flusher ends it. And the next one begins only where an entry has been made since.
+/// While a snapshot runs, rounds and flushes go on until it has ended. It does end. Each node records in its turn, also one that has halted. Before a
+/// Marker there are at most a Data and an Ack, which its taker can take, since each port had room for one more byte, and the reserve of the journal
+/// is for them. The flusher's turn copies the frozen pages, so that no node lacks a frame for long; once all is copied and the cut is whole, the
+/// flusher ends the snapshot. The next one begins only if an entry has been made since.
 pub(crate) fn round<J: Naming, R: Wait>(
     rt: &R,
     alloc: Global,

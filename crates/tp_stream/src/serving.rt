@@ -46,7 +46,7 @@ pub(crate) struct Going<J: Naming> {
 }
 
 impl<J: Naming> Going<J> {
-    /// No turn was made, and no step. Looks whether a node has halted before where that is to end the stream. `seat` gets the slips of turns,
+    /// No turn was made, and no step. If a halted node is to end the stream, it first checks whether one has halted. `seat` gets the slips of turns,
     /// `steps` those of steps.
     pub(crate) fn new<R: Wait>(
         ground: Ground<'_, J, R>,
@@ -67,13 +67,13 @@ impl<J: Naming> Going<J> {
     }
 }
 
-/// Whether nothing is left to do but an input, behind steps of the streams that came to `pumped`; `over` says whether none is left that its
+/// Whether nothing is left to do but an input, after steps of the streams that came to `pumped`; `over` says whether none is left that its
 /// port may take.
 fn lacks_input(turns: &Turns, nodes: u8, pumped: Pumped, over: bool) -> bool {
     pumped == Pumped::Nothing && turns.is_quiet(nodes) && !over
 }
 
-/// Ports take bytes that came behind their last steps. Answers what that came to; none where none was taken.
+/// Ports take bytes that came after their last steps. Answers what that came to; `None` if none was taken.
 fn take_awaited<J: Naming, I: Source, R: Wait>(
     ground: Ground<'_, J, R>,
     going: &mut Going<J>,
@@ -90,7 +90,7 @@ fn take_awaited<J: Naming, I: Source, R: Wait>(
     }
 }
 
-/// Ports take such bytes. Answers what that came to; `pumped` where none was taken, and none where ends of inputs came in place of bytes.
+/// Ports take such bytes. Answers what that came to; `pumped` if none was taken, and `None` if ends of inputs came in place of bytes.
 fn take_or<J: Naming, I: Source, R: Wait>(
     ground: Ground<'_, J, R>,
     going: &mut Going<J>,
@@ -107,9 +107,9 @@ fn take_or<J: Naming, I: Source, R: Wait>(
     }
 }
 
-/// Rests where something else is to be done meanwhile, and nothing is left to do but an input whose bytes haven't come yet: those that come
-/// end the rest, and ports take them at once, as they do those that came before it. Answers what steps of the streams have come to with that;
-/// none where it rested in vain.
+/// Rests if something else is to be done meanwhile, and nothing is left to do but an input whose bytes haven't come yet. Those that come end the
+/// rest, and ports take them at once, as they do those that came before it. Answers what steps of the streams have come to with that; `None` if it
+/// rested in vain.
 fn rest_where_late<J: Naming, I: Source, R: Wait>(
     ground: Ground<'_, J, R>,
     going: &mut Going<J>,
@@ -132,8 +132,7 @@ fn rest_where_late<J: Naming, I: Source, R: Wait>(
     }
 }
 
-/// Turns; or, where the journal has no room for one, or nothing is left to do but an input for which it has no room, a snapshot is brought
-/// to its end.
+/// Makes turns; or, if the journal has no room for one, or nothing is left to do but an input for which it has no room, brings a snapshot to its end.
 fn make_turns<J: Naming, R: Wait>(
     ground: Ground<'_, J, R>,
     going: &mut Going<J>,
@@ -167,7 +166,7 @@ fn make_turns<J: Naming, R: Wait>(
     round(rt, alloc, shared, pace, seat, runs, turns)
 }
 
-/// Turns, behind steps of the streams that came to `pumped`, once it has rested where an input is late; none where it rested in vain.
+/// Makes turns, after steps of the streams that came to `pumped`, once it has rested if an input is late; `None` if it rested in vain.
 fn rest_or_turn<J: Naming, I: Source, R: Wait>(
     ground: Ground<'_, J, R>,
     going: &mut Going<J>,
@@ -186,9 +185,8 @@ fn rest_or_turn<J: Naming, I: Source, R: Wait>(
     }
 }
 
-/// A step of each stream, a look whether it is asked to stop, and then turns. Where nothing else is left to do it waits for input. Where
-/// the journal has no room for the confirms, a snapshot is brought to its end before all that. Answers why it is over, where it is: then no
-/// turn was made.
+/// Makes a step of each stream, checks whether it is asked to stop, and then makes turns. If nothing else is left to do, it waits for input. If the
+/// journal has no room for the confirms, it first brings a snapshot to its end. Answers why the stream is over, if it is: then no turn was made.
 #[tactic(auto, using(crate::proofs::Stepping::all_still))]
 fn go_on<J: Naming, D: Disk, S: Sink, I: Source, P: Stop, R: Wait>(
     ground: Ground<'_, J, R>,
@@ -245,7 +243,7 @@ fn go_on<J: Naming, D: Disk, S: Sink, I: Source, P: Stop, R: Wait>(
     Ok(None)
 }
 
-/// A flush, how far it has come with that, and all that comes behind that before the next flush.
+/// Makes a flush, tells how far it has come with that, and does all that comes before the next flush.
 #[tactic(auto, using(crate::proofs::Stepping::all_still))]
 fn cycle<J: Naming, D: Disk, S: Sink, I: Source, L: Listener, P: Stop, R: Wait>(
     ground: Ground<'_, J, R>,
@@ -277,8 +275,8 @@ fn cycle<J: Naming, D: Disk, S: Sink, I: Source, L: Listener, P: Stop, R: Wait>(
     go_on(ground, going, flusher, streams, stop)
 }
 
-/// A cycle; and behind it, where it isn't over, there is more to do than a round did, and all workers have come, a shift, with the flusher's turns
-/// beside it.
+/// A cycle; and after it a shift, with the flusher's turns beside it, if it isn't over, there is more to do than a round did, and all workers have
+/// come.
 fn lap<J: Naming, D: Disk, S: Sink, I: Source, L: Listener, P: Stop, R: Wait>(
     ground: Ground<'_, J, R>,
     shift: &Shift,
@@ -313,7 +311,7 @@ fn lap<J: Naming, D: Disk, S: Sink, I: Source, L: Listener, P: Stop, R: Wait>(
     done
 }
 
-/// All laps, until nothing more is to be done or one is refused.
+/// All laps, until nothing more is to be done or one fails.
 #[inline(never)]
 pub(crate) fn laps<J: Naming, D: Disk, S: Sink, I: Source, L: Listener, P: Stop, R: Wait>(
     ground: Ground<'_, J, R>,

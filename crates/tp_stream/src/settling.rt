@@ -1,4 +1,4 @@
-//! Turns that bring a snapshot to its end where the journal has no room for others.
+//! Turns that bring a snapshot to its end if the journal has no room for others.
 
 ghost use Rattle.std.specs.Prelude.{◌≡◌, OnOk, IfErr};
 ghost use Rattle.tp_stream.specs.Streamed.{CameOfTurns};
@@ -12,10 +12,10 @@ use tp_book::Refusal;
 use tp_node::Runs;
 use tp_shared::{Naming, Seat, Shared};
 
-/// How many times each process settles: nothing runs, so a line has at most one Data and one Ack in front of its Marker.
+/// How many times each process settles: nothing runs, so a line has at most one Data and one Ack before its Marker.
 const SETTLES: u8 = 4;
 
-/// Begins a snapshot where none runs, under the book's lock.
+/// Begins a snapshot if none runs, under the book's lock.
 fn begin_now<J: Naming, R: Wait>(rt: &R, alloc: Global, shared: &Shared<J>) {
     let mut held = shared.book().lock(rt);
     held.known();
@@ -40,7 +40,7 @@ fn settle_once<J: Naming, R: Wait>(
     Ok(())
 }
 
-/// Brings a snapshot to its end without any run. It is refused once that was tried in vain too often.
+/// Brings a snapshot to its end without any run; refuses once that was tried in vain too often.
 pub(crate) fn settle<J: Naming, R: Wait>(
     rt: &R,
     alloc: Global,

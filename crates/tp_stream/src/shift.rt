@@ -15,19 +15,18 @@ use tp_model::limits::MAX_GROUP;
 use tp_node::Why;
 use tp_work::{Turn, TurnFault};
 
-/// How many microseconds the flusher sleeps where no turn is left and too little was made. No turn wakes it.
+/// How many microseconds the flusher sleeps if no turn is left and too little was made. No turn wakes it.
 const SLEEP: u64 = 500;
 
-/// The number of turns that were refused for want of memory.
+/// The number of turns that were refused for lack of memory.
 const MEMORY: u64 = 1;
 
-/// The number of turns that were refused since the book says that it is broken: the greater one, so it is told where both were.
+/// The number of turns that were refused since the book is broken: it is greater, so it is told if there were both.
 const BROKEN: u64 = 2;
 
-/// Shifts, one behind the other, of workers that stay. Of the one that was opened last: how many turns it may have, and how many of these are
-/// left; how many of the last ones in a row had nothing to do, and how many of these end it; and whether it is to end. Of all of them: entries
-/// made, or a greater number; whether a node has halted; and the greatest number of a turn that was refused (`refusal_number`). No lock is taken
-/// for it.
+/// Shifts, in order, of workers that stay. Of the last opened one: how many turns it may have, and how many are left; how many of the last turns in a
+/// row had nothing to do, and how many of these end it; and whether it is to end. Of all shifts: entries made, or a greater number; whether a node
+/// has halted; and the greatest number of a refused turn (`refusal_number`). It needs no lock.
 #[derive(Drop)]
 pub(crate) struct Shift {
     pub(crate) crew: Crew,
@@ -63,7 +62,7 @@ struct Refused {
     number: u64,
 }
 
-/// The number that says why a turn was refused: 0 where that is no fault, since there was no room, or no process.
+/// The number that says why a turn was refused: 0 if that is no fault, since room was lacking, or no process was there.
 fn refusal_number(fault: TurnFault) -> u64
     ensures { result ≡ refusal_number fault }
 {
@@ -74,7 +73,7 @@ fn refusal_number(fault: TurnFault) -> u64
     }
 }
 
-/// What it keeps of a turn that was refused so. One for which no process was there ends nothing.
+/// What a shift keeps of a refused turn, by its fault. If no process was there, that ends nothing.
 fn refused_of(fault: TurnFault) -> Refused
     ensures { result ≡ refused_of fault }
 {
@@ -84,7 +83,7 @@ fn refused_of(fault: TurnFault) -> Refused
     }
 }
 
-/// Why turns were refused, where they were for another reason than room, by the greatest of their numbers.
+/// Why turns were refused, by the greatest of their numbers, if it wasn't for room.
 fn outcome_of(number: u64) -> Result<(), StreamFault>
     ensures value { result ≡ noted_outcome number }
     ensures begun { IfErr result CameOfTurns }
@@ -97,8 +96,7 @@ fn outcome_of(number: u64) -> Result<(), StreamFault>
 }
 
 impl Shift {
-    /// None is open. One that is ends sooner than its turns where more of them in a row had nothing to do than two for each of `nodes` nodes, and
-    /// for the host.
+    /// No shift is open. One that is ends early once more turns in a row had nothing to do than two for each of `nodes` nodes, and for the host.
     pub(crate) fn new(nodes: u8) -> Shift
         ensures { result.idle_at_most ≡ 2 * (nodes + 1) }
     {
@@ -115,8 +113,8 @@ impl Shift {
         }
     }
 
-    /// Opens one of `turns` turns, where none is open, and wakes the workers. Answers how many entries were made before, or a greater number.
-    /// What the one before had left is taken away first, so a worker that wakes late draws no turn that isn't counted.
+    /// Opens a shift of `turns` turns, if none is open, and wakes the workers. Answers how many entries were made before, or a greater number. First
+    /// it takes away what the shift before had left, so a worker that wakes late draws no turn that isn't counted.
     pub(crate) fn open(&self, turns: u64) -> u64 {
         self.left.store(0, Ordering::SeqCst);
         self.idle.store(0, Ordering::SeqCst);
@@ -128,7 +126,7 @@ impl Shift {
         made
     }
 
-    /// Takes one of the turns that are left; false where none is, or where it is to end.
+    /// Takes one of the turns that are left; `false` if none is, or if the shift is to end.
     pub(crate) fn draw(&self) -> bool {
         !self.is_over.load(Ordering::SeqCst)
             && self
@@ -168,7 +166,7 @@ impl Shift {
         }
     }
 
-    /// Tells what a turn did, which made `count` entries. The flusher sees it where it is awake, and once it has slept.
+    /// Tells what a turn did, which made `count` entries. The flusher sees it while it is awake, and once it has slept.
     pub(crate) fn tell(&self, done: &Result<Turn, TurnFault>, count: u64) {
         self.made.fetch_add(count, Ordering::SeqCst);
         match done {
@@ -201,8 +199,8 @@ impl Shift {
         self.made.load(Ordering::SeqCst).saturating_sub(seen) >= MAX_GROUP as u64
     }
 
-    /// Waits until as many entries more than `seen` were made as fill a group, or some while it slept for [`SLEEP`] microseconds, and answers how
-    /// many there are; `None` once it has ended.
+    /// Waits until enough entries beyond `seen` were made to fill a group, or some while it slept for [`SLEEP`] microseconds, and answers how many
+    /// there are; `None` once the shift has ended.
     pub(crate) fn wait<R: Wait>(&self, rt: &R, seen: u64) -> Option<u64> {
         let mut has_slept = false;
         for _ in rt.forever() {
@@ -240,7 +238,7 @@ impl Shift {
         self.idle.load(Ordering::SeqCst) > self.idle_at_most
     }
 
-    /// Why turns were refused, where they were for another reason than room.
+    /// Why turns were refused, if it wasn't for room.
     pub(crate) fn outcome(&self) -> Result<(), StreamFault>
         ensures { IfErr result CameOfTurns }
     {

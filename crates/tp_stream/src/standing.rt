@@ -1,4 +1,4 @@
-//! Where a port stands as its device is opened.
+//! How far a port has come as its device is opened.
 
 ghost use Rattle.std.specs.Prelude.{◌≡◌, ◌<◌, ◌≤◌, length};
 ghost use Rattle.tp_book.specs.Host.{port_in};
@@ -15,7 +15,7 @@ pub(crate) struct Standing {
 }
 
 impl Standing {
-    /// Where a port stands in the book of a device that opened, whose mark is `mark`.
+    /// If a port is in the book of a device that opened, whose mark is `mark`.
     #[tactic(auto, using(crate::proofs::Standings::length_outputs))]
     pub(crate) fn of(book: &Book, port: u8, mark: u64) -> Standing
         requires there { port < length book.now.state.ports }

@@ -44,7 +44,7 @@ fn is_stuck<J: Naming, R: Wait>(rt: &R, shared: &Shared<J>, why: Ending, rests: 
     }
 }
 
-/// How a node has stopped, where it has: one that waits has where there is input that no node takes any more.
+/// How a node has stopped; `None` if it hasn't. One that waits has stopped if there is input that no node takes any more.
 fn stopped(standing: Standing, is_stuck: bool) -> Option<Stopped>
     ensures { result ≡ stopped_of standing is_stuck }
 {
@@ -55,7 +55,7 @@ fn stopped(standing: Standing, is_stuck: bool) -> Option<Stopped>
     }
 }
 
-/// Tells of each node that has stopped, in order, where a stream ended so, with nothing left to do where `rests`.
+/// Tells of each node that has stopped, in order, if a stream ended for this reason; with `rests` nothing was left to do.
 pub(crate) fn tell_stopped<J: Naming, L: Listener, R: Wait>(
     rt: &R,
     shared: &Shared<J>,

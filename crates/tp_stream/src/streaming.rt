@@ -92,7 +92,7 @@ fn pace_of(task: Task, topology: &Topology, area: u64) -> Pace
 }
 
 /// A device that opened, taken apart for a stream: what it opened to, its topology, the parts of its network, the raiser of its mark, what the
-/// thread that calls keeps of instructions, and its store.
+/// calling thread keeps of instructions, and its store.
 struct Device<D: Disk> {
     opened: Snapshot<Opened>,
     topology: Topology,
@@ -177,18 +177,17 @@ fn stream_parts<
     (flusher.into_disk(), done)
 }
 
-/// Opens a device, and lets its network run: flushes, steps of each stream, and turns of all processes in order, in this one thread; and
-/// between two cycles of these, where more than one worker is asked for and there is much to do, workers make turns in threads of their own,
-/// beside flushes and turns in this one.
-/// Answers the device, and the number that the next entry gets.
+/// Opens a device, and lets its network run: flushes, steps of each stream, and turns of all processes in order, in this one thread. Between two
+/// cycles of these, if more than one worker is asked for and there is much to do, workers make turns in threads of their own, beside flushes and
+/// turns in this one. Answers the device, and the number that the next entry gets.
 ///
-/// Whatever a crash leaves at any moment of the call is what one just before might have left, or opens to where a prefix of the journal
-/// leads, with all that the device had. After a stream that was done it has each entry below the number that is answered, which are all
-/// of the journal. What a sink got, however the stream ends, are outputs of its port where entries of that journal lead that whatever a
-/// crash leaves from then on has. Where it has ended as quiet, or since all turns were made, they are all that a port has put out, and
-/// confirmed. That all that was put is safe, and no more is confirmed, is said by `Output`, of each moment. It ends as
-/// stopped just where the last look whether it is asked to stop has answered yes, and no look before that has. A fault of the opening is
-/// what that answers, and that a call of the device failed, as it was opened or in a flush, is answered just where one has.
+/// Whatever a crash leaves at any moment of the call is what one just before might have left, or opens to where a prefix of the journal leads, with
+/// all that the device had. After a stream that was done it has each entry below the answered number, and these are all of the journal. What a sink
+/// got, however the stream ends, are outputs of its port where entries of that journal lead that whatever a crash leaves from then on has. If it has
+/// ended as quiet, or since all turns were made, they are all that a port has put out, and confirmed. `Output` says, of each moment, that all that
+/// was put is safe, and no more is confirmed. It ends as stopped exactly if the last check whether it is asked to stop has answered yes, and no check
+/// before that has. A fault of the opening is what that answers. That a call of the device failed, as it was opened or in a flush, is answered
+/// exactly if one has.
 #[inline(never)]
 pub fn stream<
     D: Disk + Send + Drop,

@@ -13,7 +13,7 @@ use tp_model::limits::MAX_PORTS;
 use tp_shared::{Naming, Shared};
 use tp_stream_files::{Listener, Output, Progress, Sink};
 
-/// Up to where the outputs of a port were put; none where no sink is for it.
+/// Up to where the outputs of a port were put; `None` if no sink is for it.
 fn put_at<S: Sink>(outputs: &[Output<S>], port: usize) -> Option<u64>
     ensures { result ≡ put_in outputs.now port }
 {
@@ -57,7 +57,7 @@ fn progress_of<J: Naming, D: Disk, S: Sink>(
     }
 }
 
-/// Tells how far it has come, where that is to be told.
+/// Tells how far it has come, if that is to be told.
 pub(crate) fn tell<J: Naming, D: Disk, S: Sink, L: Listener, R: Wait>(
     rt: &R,
     shared: &Shared<J>,

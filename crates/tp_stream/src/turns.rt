@@ -33,10 +33,10 @@ impl Did {
     }
 }
 
-/// How far turns have come: how many were made, whose turn is next, how many of the last ones in a row had nothing to do while no
-/// snapshot ran, how many of this round were made while one ran, how many it had, and with how many steps, whether a node has halted, whether the journal
-/// had no room for one more, whether there is more to do than the last round did, for which threads are worth it, and how often the journal was settled
-/// since a turn did something, or a stream moved.
+/// How far turns have come: how many were made, and whose turn is next; how many of the last ones in a row had nothing to do while no snapshot ran; how
+/// many of this round were made while one ran, how many it had, and with how many steps; whether a node has halted; whether the journal had no room for
+/// one more; whether there is more to do than the last round did, so that threads are worth it; and how often the journal was settled since a turn did
+/// something, or a stream moved.
 #[derive(Drop)]
 pub(crate) struct Turns {
     pub(crate) made: u64,
@@ -51,7 +51,7 @@ pub(crate) struct Turns {
     settled: u32,
 }
 
-/// Whose turn comes behind that of `whose`: the nodes in order, and then the host.
+/// Whose turn comes after that of `whose`: the nodes in order, and then the host.
 fn next_of(whose: u8, nodes: u8) -> u8
     ensures { result ≡ (if nat_lt whose nodes then whose + 1 else 0) }
 {
@@ -90,7 +90,7 @@ impl Turns {
         self.is_full = false;
     }
 
-    /// A round ends, in which all turns were made that it may have, or fewer. Where all were, and had [`HEAVY`] steps in the mean, there is more to
+    /// A round ends, in which all turns were made that it may have, or fewer. If all were, and had [`HEAVY`] steps in the mean, there is more to
     /// do that is worth threads, if `may_be` says that there may be any. One that ends since a snapshot runs says nothing of that.
     pub(crate) fn end(&mut self, task: Task, nodes: u8, were_all: bool, may_be: bool)
         ensures whose { self.new.whose ≡ self.old.whose }
@@ -123,7 +123,7 @@ impl Turns {
         self.settled = self.settled.saturating_add(1);
     }
 
-    /// A turn of `whose` was made, in a network of `nodes` nodes. It is one of those that had nothing to do only where there was
+    /// A turn of `whose` was made, in a network of `nodes` nodes. It is one of those that had nothing to do only if there was
     /// nothing that the process could do, and no snapshot ran. One that had nothing to do shows of no settling that it wasn't in vain.
     pub(crate) fn count(&mut self, did: Did, is_running: bool, nodes: u8)
         ensures whose { self.new.whose ≡ (if nat_lt self.old.whose nodes then self.old.whose + 1 else 0) }
@@ -165,7 +165,7 @@ impl Turns {
         self.is_busy = self.is_busy && !is_idle;
     }
 
-    /// There are no workers for what is to be done, or not yet: the next round has as many turns as where there are none.
+    /// There are no workers for what is to be done, or not yet: the next round has as many turns as without workers.
     pub(crate) fn stay_alone(&mut self)
         ensures whose { self.new.whose ≡ self.old.whose }
         ensures idle { self.new.idle ≡ self.old.idle }
@@ -196,7 +196,7 @@ impl Turns {
         self.idle > u32::from(nodes)
     }
 
-    /// Whether all turns were made that may be. Where there is no bound, never.
+    /// Whether all turns were made that may be. If there is no bound, never.
     pub(crate) fn are_out(&self, task: Task) -> bool
         ensures value { result ≡ is_bound_reached task self.now }
         ensures out { result ≡ true → IsBoundReached task self.now }
@@ -221,8 +221,8 @@ impl Turns {
         self.are_out(task) || self.is_stopped(task) || self.is_quiet(nodes)
     }
 
-    /// Whether the round is over: no turn may be made, nothing is left to do, or each process has had its turn beside a snapshot, which
-    /// goes on in the flusher's next turn.
+    /// Whether the round is over: no turn may be made, nothing is left to do, or each process has had its turn beside a snapshot, which goes on in
+    /// the flusher's next turn.
     pub(crate) fn is_round_over(&self, task: Task, nodes: u8) -> bool
         ensures { result ≡ (is_done task self.now nodes || nat_lt nodes self.now.beside) }
     {

@@ -1,4 +1,4 @@
--- What is known of a reader that is read again where a read was interrupted.
+-- What is known of a reader that is read again after an interrupted read.
 use Rattle.std.proofs.Common.{ℕ, List, Option, Some, None, Result, Ok, Err, refl, sym, ◌∙◌}
 use Rattle.std.specs.Io.KnownBytes.{Keeps, ReadConsumes}
 

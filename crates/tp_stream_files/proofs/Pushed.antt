@@ -8,7 +8,7 @@ map_more f xs i last ys now y low front is grew =
     grew ∙ ap (λ front. front ++ y ∷ []) front ∙ ap (λ z. map f (take i xs) ++ z ∷ []) is
     ∙ sym (map-append f (take i xs) (get_or xs i last ∷ [])) ∙ ap (map f) (sym (take_more xs i last low))
 
--- so it is behind what was there before
+-- so it is after what was there before
 pub map_more_behind : {X Y : Type 0} (f : X → Y) (xs : List X) (i : ℕ) (last : X) (front ys now : List Y) → i < length xs → ys ≡ front ++ map f (take i xs)
     → f last ≡ f (get_or xs i last) → now ≡ ys ++ f last ∷ [] → now ≡ front ++ map f (take (i + 1) xs)
 map_more_behind f xs i last front ys now low so is grew =

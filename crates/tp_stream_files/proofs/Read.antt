@@ -9,7 +9,7 @@ none_from (Some all) at out = refl
 
 -- ## The end of an input
 
--- where it was come to stays so as long as the input is what it was
+-- the position of an end stays the end as long as the input stays as it was
 pub ends_still : (ended : Option ℕ) (old new : Option (List ℕ)) → new ≡ old → EndsThere ended old → EndsThere ended new
 ends_still ended old new same end at all is known = end at all is (sym same ∙ known)
 

@@ -87,14 +87,14 @@ grew_more one one' one'' other other' other'' (calls, is, is') (more, then, then
 
 -- ## The bytes that are kept
 
--- behind all that came before stand those that came last
+-- the bytes after all that came before are those that came last
 pub behind_bytes : (calls : List EndTold) (bytes : List ℕ) (behind : ℕ) → behind ≡ length (bytes_given calls) → bytes ≡ drop behind (bytes_given (calls ++ Gave bytes ∷ []))
 behind_bytes calls bytes behind is = sym (rw (bytes_of_gave calls bytes) (rw is (drop-append_seam (bytes_given calls) bytes)))
 
 pub behind_length : (calls : List EndTold) (bytes : List ℕ) (behind : ℕ) → behind ≡ length (bytes_given calls) → behind + length bytes ≡ length (bytes_given (calls ++ Gave bytes ∷ []))
 behind_length calls bytes behind is = let all = ap length (bytes_of_gave calls bytes) ∙ length-append (bytes_given calls) bytes in omega (arith, is, all)
 
--- behind all that came before nothing is kept yet
+-- after all that came before nothing is kept yet
 pub none_behind : (calls : List EndTold) (kept : List ℕ) (behind : ℕ) → behind ≡ length (bytes_given calls) → take 0 kept ≡ drop behind (bytes_given calls)
 none_behind calls kept behind is = sym (rw is (drop_all (length (bytes_given calls)) (bytes_given calls) (omega arith)))
 

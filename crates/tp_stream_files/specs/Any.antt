@@ -10,25 +10,25 @@ use Rattle.tp_stream_files.specs.declared.sources.AnySource.{AnySource}
 use Rattle.tp_stream_files.specs.declared.sources.AnySource.TheVariants.{File as FromFile, In}
 use Rattle.tp_stream_files.specs.declared.pipes.Pipe.{Pipe}
 
--- up to where it can be put at
+-- up to where it can be put
 abbrev pub reach_of : {F O : Type 0} → AnySink F O → ℕ
 reach_of (File sink) = sink.size
 reach_of (Out out) = 2 ^ 64 - 1
 reach_of Nothing = 2 ^ 64 - 1
 
--- how many bytes it has, where it has positions
+-- how many bytes it has, if it has positions
 abbrev pub length_of : {F O : Type 0} → AnySink F O → Option ℕ
 length_of (File sink) = Some sink.size
 length_of (Out out) = None
 length_of Nothing = None
 
--- How many bytes a source has isn't known of what comes through a pipe.
+-- How many bytes come through a pipe isn't known.
 abbrev pub IsUnknownOfPipes : {F I : Type 0} → Option ℕ → AnySource F I → Type 0
 IsUnknownOfPipes n (FromFile file) = Unit {0}
 IsUnknownOfPipes n (In pipe) = n ≡ None
 
--- Bytes were to be put: a file was asked to write them at their offset, and has as many bytes as that says; standard output has them behind
--- what it had, or a front of them where that failed.
+-- Bytes were to be put. A file was asked to write them at their offset, and has as many bytes as that says. Standard output has them after what it
+-- had, or some of the first ones if that failed.
 abbrev pub WasPut : {F O : Type 0} → (calls : F → List EndTold) → (contents : O → Option (List ℕ)) → ℕ → List ℕ → Bool → AnySink F O → AnySink F O → Type 0
 WasPut calls contents at bytes ok (File old) (File new) = (calls new.file ≡ calls old.file ++ Wrote at bytes ok ∷ []) × (new.size ≡ size_after old.size (Wrote at bytes ok))
 WasPut calls contents at bytes ok (Out old) (Out new) =
@@ -53,12 +53,12 @@ WasSettled calls contents ok (Out old) Nothing = ⊥
 WasSettled calls contents ok Nothing (File new) = ⊥
 WasSettled calls contents ok Nothing (Out new) = ⊥
 
--- A pipe took of its feed just what that gave.
+-- A pipe took from its feed exactly what that gave.
 abbrev pub Took : {I : Type 0} → (given : I → List EndTold) → Pipe I → Pipe I → Type 0
 Took given old new = GrewAlike (given old.feed.now) (given new.feed.now) old.held.trace.told new.held.trace.told
 
--- A pipe was read from a position on: what it gave is what its feed gave there, however that was cut into pieces; it gave none only where
--- the feed has ended in front of the position; and it failed where the feed has failed.
+-- A pipe was read from a position on. What it gave is what its feed gave there, however that was cut into pieces. It gave nothing only if the feed
+-- ended before the position; it failed if the feed has failed.
 pub record WasPiped {I E : Type 0} (given : I → List EndTold) (at : ℕ) (result : Result ℕ E) (out : List ℕ) (old new : Pipe I) : Type 0 where
   pub took : Took given old new
   pub bytes : IfOk result (λ count. take count out ≡ take count (drop at (bytes_given new.held.trace.told)))

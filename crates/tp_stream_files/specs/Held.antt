@@ -1,4 +1,4 @@
--- What a sink holds, where that is known.
+-- What a sink holds, if that is known.
 use Rattle.std.specs.Prelude.{◌≡◌, ◌≤◌, ℕ, ◌+◌, List, ◌++◌, length, min, take, Option, Some, None}
 
 -- its bytes, and how many of the first ones a crash leaves as they are
@@ -11,7 +11,7 @@ abbrev pub Reaches : ℕ → Option HeldBytes → Type 0
 Reaches n None = Unit {0}
 Reaches n (Some h) = (n ≤ h.safe) × (n ≤ length h.bytes)
 
--- Just `n` bytes are there that are safe.
+-- Exactly `n` bytes are there that are safe.
 abbrev pub HasReach : ℕ → Option HeldBytes → Type 0
 HasReach n None = Unit {0}
 HasReach n (Some h) = n ≡ min h.safe (length h.bytes)
@@ -21,7 +21,7 @@ abbrev pub HasLength : Option ℕ → Option HeldBytes → Type 0
 HasLength n None = Unit {0}
 HasLength n (Some h) = n ≡ Some (length h.bytes)
 
--- No byte is there behind the first `n`.
+-- No byte is there after the first `n`.
 abbrev pub HasAtMost : ℕ → Option HeldBytes → Type 0
 HasAtMost n None = Unit {0}
 HasAtMost n (Some h) = length h.bytes ≤ n
@@ -33,7 +33,7 @@ KeepsFront n None (Some new) = ⊥
 KeepsFront n (Some old) None = ⊥
 KeepsFront n (Some old) (Some new) = (take n new.bytes ≡ take n old.bytes) × (n ≤ new.safe) × (n ≤ length new.bytes)
 
--- Bytes stand behind the first `n`, which are as they were.
+-- Bytes are after the first `n`, which are as they were.
 abbrev pub HasPut : ℕ → List ℕ → Option HeldBytes → Option HeldBytes → Type 0
 HasPut n bytes None None = Unit {0}
 HasPut n bytes None (Some new) = ⊥

@@ -7,13 +7,13 @@ use Rattle.tp_stream_files.specs.declared.lines.Line.{Line}
 use Rattle.tp_stream_files.specs.declared.lines.Meter.{Meter}
 use Rattle.tp_stream_files.specs.declared.lines.Since.{Since}
 
--- The line that is due where the last one was said at a moment: none where less than `every` milliseconds have gone by since; else what was
--- said then, what is now, and the milliseconds between them.
+-- The line that is due if the last one was said at a moment: `None` if less than `every` milliseconds have gone by since. Else it has what was said
+-- then, what is now, and the milliseconds between.
 abbrev pub line_behind : ℕ → Heard → ℕ → Progress → Option Line
 line_behind every last at progress =
     if nat_lt (at - last.at) every then None else Some (record { told = progress; before = last.progress; millis = at - last.at })
 
--- The line that is due. None is where none was said and nothing was heard yet.
+-- The line that is due; `None` if none was said and nothing was heard yet.
 abbrev pub due_behind : ℕ → Option Heard → ℕ → Progress → Option Line
 due_behind every None at progress = None
 due_behind every (Some last) at progress = line_behind every last at progress
@@ -21,7 +21,7 @@ due_behind every (Some last) at progress = line_behind every last at progress
 abbrev pub line_due : Meter → ℕ → Progress → Option Line
 line_due meter at progress = due_behind meter.every meter.last at progress
 
--- From where the next line counts: from this one, where one is due, and from where it is heard first; else from where it did.
+-- From where the next line counts: from this one, if one is due; from what is heard first; else from where it did.
 abbrev pub last_behind : ℕ → Option Heard → ℕ → Progress → Option Heard
 last_behind every None at progress = Some (record { at = at; progress = progress })
 last_behind every (Some last) at progress = if nat_lt (at - last.at) every then Some last else Some (record { at = at; progress = progress })
@@ -38,7 +38,7 @@ abbrev pub heard_then : Meter → Option ℕ → Progress → Meter
 heard_then meter None progress = meter
 heard_then meter (Some at) progress = heard meter at progress
 
--- by how much a number grew in a second, rounded down, where it was known before
+-- by how much a number grew in a second, rounded down, if it was known before
 abbrev pub growth_part : ℕ → Option Since → List ℕ
 growth_part now None = []
 growth_part now (Some since) =
@@ -52,7 +52,7 @@ abbrev pub standing_part : Progress → List ℕ
 standing_part told =
     codes " mark " ++ (decimal told.mark ++ (codes " area " ++ (decimal told.used ++ (codes "% generation " ++ decimal told.generation))))
 
--- how many entries were made, and how they stand
+-- how many entries were made, and how many of them are durable
 abbrev pub front_part : Line → List ℕ
 front_part line =
     (codes "next " ++ count_part line.told.next (Some (record { count = line.before.next; millis = line.millis }))) ++ standing_part line.told
@@ -61,7 +61,7 @@ front_part line =
 abbrev pub turns_part : Line → List ℕ
 turns_part line = codes " turns " ++ count_part line.told.turns (Some (record { count = line.before.turns; millis = line.millis }))
 
--- up to where the outputs of a port were put before, where a sink was for it
+-- up to where the outputs of a port were put before, if a sink was for it
 abbrev pub put_found : Option (Option ℕ) → Option ℕ
 put_found None = None
 put_found (Some position) = position
@@ -72,7 +72,7 @@ put_before put port = put_found (slice_get put port)
 abbrev pub since_put : ℕ → Option ℕ → Option Since
 since_put millis before = option_map (λ count. record { count = count; millis = millis }) before
 
--- up to where the outputs of a port were put, where a sink is for it
+-- up to where the outputs of a port were put, if a sink is for it
 abbrev pub out_part : ℕ → Option ℕ → Option Since → List ℕ
 out_part port None since = []
 out_part port (Some position) since = codes " out " ++ (decimal port ++ (codes " " ++ count_part position since))

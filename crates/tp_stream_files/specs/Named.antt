@@ -19,7 +19,7 @@ abbrev pub have_in : List PortNumber → ℕ → Option ℕ
 have_in [] port = None
 have_in (have ∷ haves) port = if nat_eq have.port port then Some have.number else have_in haves port
 
--- the output of a port before anything is put, where its reader has it up to `have`
+-- the output of a port before anything is put, if its reader has it up to `have`
 abbrev pub fresh_output : ℕ → Option ℕ → OutputValue
 fresh_output port have = record { port = port; have = have; confirmed = 0; next = 0; held = None }
 
@@ -27,7 +27,7 @@ fresh_output port have = record { port = port; have = have; confirmed = 0; next 
 abbrev pub output_to : List PortNumber → PortFile → OutputValue
 output_to haves end = fresh_output end.port (have_in haves end.port)
 
--- the output that is let go
+-- the output that is discarded
 abbrev pub output_away : ℕ → OutputValue
 output_away port = fresh_output port None
 

@@ -10,7 +10,7 @@ pub data Notice : Type 0 where
   HasCome : (progress : Progress) → Notice
   NodeStopped : (node : ℕ) → (how : Stopped) → Notice
 
--- Where it is known what a listener was told, it was told these then, one behind the other, and nothing else.
+-- If it is known what a listener was told: it was told these notices then, in this order, and nothing else.
 abbrev pub Noticed : List Notice → Option (List Notice) → Option (List Notice) → Type 0
 Noticed notices None None = Unit {0}
 Noticed notices None (Some new) = ⊥

@@ -10,8 +10,8 @@ use Rattle.tp_stream_files.specs.declared.sinks.AnySink.TheVariants.{File, Out, 
 use Rattle.tp_stream_files.specs.declared.sources.AnySource.{AnySource}
 use Rattle.tp_stream_files.specs.declared.sources.AnySource.TheVariants.{File as FromFile, In}
 
--- What takes an output that goes to an end: a file, which was opened at that path, measured and synced, its folder too where it is empty; or
--- standard output, for which nothing was asked.
+-- What takes an output that goes to an end. A file was opened at that path, measured and synced, and its folder was synced if it is empty. For
+-- standard output nothing was asked.
 abbrev pub IsSinkOf : {F O : Type 0} → (calls : F → List EndTold) → PortFile → List EndTold → List EndTold → AnySink F O → Type 0
 IsSinkOf calls end old new (File sink) =
     (is_standard end ≡ false) × (calls sink.file ≡ begin_calls sink.size)
@@ -19,12 +19,12 @@ IsSinkOf calls end old new (File sink) =
 IsSinkOf calls end old new (Out out) = (is_standard end ≡ true) × (new ≡ old)
 IsSinkOf calls end old new Nothing = ⊥
 
--- Standard input that nothing was read of.
+-- Standard input, with nothing read of it.
 abbrev pub IsUnread : {F I : Type 0} → AnySource F I → Type 0
 IsUnread (FromFile file) = ⊥
 IsUnread (In pipe) = pipe.held.trace.told ≡ []
 
--- Where an input of an end comes from: a file, which was opened at that path; or standard input that nothing was read of.
+-- What an input of an end comes from: a file, which was opened at that path; or standard input, with nothing read of it.
 abbrev pub IsSourceOf : {F I : Type 0} → (calls : F → List EndTold) → PortFile → List EndTold → List EndTold → AnySource F I → Type 0
 IsSourceOf calls end old new (FromFile file) =
     (is_standard end ≡ false) × (calls file ≡ []) × (new ≡ old ++ Opened to_read (string_bytes end.path) true ∷ [])

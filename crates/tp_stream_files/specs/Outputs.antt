@@ -2,8 +2,8 @@
 use Rattle.std.specs.Prelude.{◌≡◌, ℕ, ◌+◌, List, length, Option}
 use Rattle.tp_stream_files.specs.Held.{HeldBytes, HasPut}
 
--- The port; up to where its reader says that it has the outputs; up to where they are confirmed; up to where they were put and are
--- safe; and what the sink holds.
+-- The port; up to where its reader says that it has the outputs, up to where they are confirmed, up to where they were put and are safe; and what the
+-- sink holds.
 pub record OutputValue : Type 0 where
   pub port : ℕ
   pub have : Option ℕ
@@ -20,7 +20,7 @@ pub record Given : Type 0 where
 abbrev pub given_of : OutputValue → Given
 given_of o = record { port = o.port; have = o.have; held = o.held }
 
--- Bytes were put behind those that there were, and are safe. Nothing was confirmed.
+-- Bytes were put after the earlier ones, and are safe. Nothing was confirmed.
 pub record WasPutSafely (bytes : List ℕ) (old new : OutputValue) : Type 0 where
   pub port : new.port ≡ old.port
   pub confirmed : new.confirmed ≡ old.confirmed

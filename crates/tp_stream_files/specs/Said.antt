@@ -6,26 +6,26 @@ use Rattle.tp_stream_files.specs.Lines.{heard_then, line_text, line_then}
 use Rattle.tp_stream_files.specs.declared.lines.Line.{Line}
 use Rattle.tp_stream_files.specs.declared.lines.Meter.{Meter}
 
--- a front of the bytes was appended
+-- some of the first bytes were appended
 abbrev pub AppendsFront : Option (List ℕ) → Option (List ℕ) → List ℕ → Type 0
 AppendsFront was is bytes = (n : ℕ) × Appends was is (take n bytes)
 
--- Lines are written over each other on a terminal where no port puts its output on one.
+-- Lines are written over each other on a terminal if no port puts its output on one.
 abbrev pub are_over : Bool → Bool → Option ℕ → Bool
 are_over terminal output_terminal out = terminal && (is_none out || not output_terminal)
 
--- A line: written over the one before it, its rest is cleared, and it isn't ended. What is wider than the terminal isn't wrapped onto a
--- second row, over which no later line would be written: wrapping is turned off in front of it, and on behind it.
+-- A line. If it is written over the one before it, its rest is cleared, and it isn't ended. A line wider than the terminal isn't wrapped onto a
+-- second row, which no later line would overwrite: wrapping is turned off before it, and on after it.
 abbrev pub written : Bool → Line → List ℕ
 written is_over line = if is_over then 13 ∷ 27 ∷ 91 ∷ 63 ∷ 55 ∷ 108 ∷ (line_text line ++ 27 ∷ 91 ∷ 75 ∷ 27 ∷ 91 ∷ 63 ∷ 55 ∷ 104 ∷ []) else line_text line ++ 10 ∷ []
 
--- A line was written, as far as it was taken; nothing was where none is due.
+-- A line was written, as far as it was taken; nothing was if none is due.
 abbrev pub Said : Bool → Option Line → Option (List ℕ) → Option (List ℕ) → Type 0
 Said is_over None was is = is ≡ was
 Said is_over (Some line) was is = AppendsFront was is (written is_over line)
 
--- How far a stream has come was heard once, at the time that was answered then, and a line was said just where one was due by that. Where no
--- time was answered none was said, and nothing counts as heard.
+-- How far a stream has come was heard once, at the time that was answered then, and a line was said exactly if one was due by that. Without a time no
+-- line was said, and nothing counts as heard.
 pub record WasHeard (progress : Progress) (is_over : Bool) (times later : List (Option ℕ)) (old new : Meter) (was is : Option (List ℕ)) : Type 0 where
   pub now : Option ℕ
   pub asked : later ≡ times ++ now ∷ []

@@ -9,7 +9,7 @@ use Rattle.tp_stream_files.specs.Told.{EndTold, Measured, Synced}
 abbrev pub begin_calls : ℕ → List EndTold
 begin_calls size = Measured size ∷ Synced true ∷ []
 
--- The folder of a file that is opened was synced where the file is empty and may be new, and nothing else was asked.
+-- The folder of a file that is opened was synced if the file is empty, since it may be new. Nothing else was asked.
 abbrev pub SyncsFolder : ℕ → List ℕ → List EndTold → List EndTold → Type 0
 SyncsFolder size path old new = (size ≡ 0 → HasSynced path old new) × (0 < size → new ≡ old)
 

@@ -2,9 +2,9 @@
 use Rattle.std.specs.Prelude.{ℕ, Bool, List}
 use Rattle.std.specs.declared.fs.options.OpenOptions.{OpenOptions}
 
--- Of files: how one of a path was opened, and whether that was done; whether a folder was synced. Of an open file: its length, or that it
--- wasn't said; what was read from a place on, or that it wasn't; what was written there, and whether it was; whether it was synced. Of a
--- feed: the bytes that it gave, none at its end, or that it failed.
+-- Of files: how one of a path was opened, and whether that succeeded; whether a folder was synced. Of an open file: its length, or a failure; what
+-- was read from a place on, or a failure; what was written there, and whether that succeeded; whether it was synced. Of a feed: the bytes that it
+-- gave, none at its end, or a failure.
 pub data EndTold : Type 0 where
   Opened : (how : OpenOptions) → (path : List ℕ) → (ok : Bool) → EndTold
   SyncedFolder : (path : List ℕ) → (ok : Bool) → EndTold

@@ -2,7 +2,7 @@
 use Rattle.std.specs.Prelude.{◌≡◌, ℕ, ◌+◌, ◌-◌, ◌^◌, Bool, true, false, ◌||◌, List, [], ◌∷◌, ◌++◌, length, min, max, take, Result, Ok, Err}
 use Rattle.tp_stream_files.specs.Told.{EndTold, Opened, SyncedFolder, Measured, MeasureFailed, HasRead, ReadFailed, Wrote, Synced, Gave, GiveFailed}
 
--- how many bytes a file has after a call, where it had `size`
+-- how many bytes a file has after a call, if it had `size`
 abbrev pub size_after : ℕ → EndTold → ℕ
 size_after size (Measured now) = now
 size_after size (Wrote at bytes true) = max size (min (at + length bytes) (2 ^ 64 - 1))
@@ -21,7 +21,7 @@ abbrev pub measured : {E : Type 0} → Result ℕ E → EndTold
 measured (Ok size) = Measured size
 measured (Err e) = MeasureFailed
 
--- the answer to a read from a place on, where `out` is what the buffer holds then
+-- the answer to a read from a place on, if `out` is what the buffer holds then
 abbrev pub read : {E : Type 0} → ℕ → Result ℕ E → List ℕ → EndTold
 read at (Ok count) out = HasRead at (take count out)
 read at (Err e) out = ReadFailed at

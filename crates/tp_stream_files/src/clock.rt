@@ -1,30 +1,30 @@
-//! What is said by time stands beside: what time it is, and who looks at it.
+//! What lines depend on besides the stream: the time, and who reads them.
 
 ghost use Rattle.std.specs.Prelude.{◌≡◌, ℕ, Bool, List, [], ◌∷◌, ◌++◌, Option};
 ghost use Rattle.std.specs.Borrow.{ftrue};
 
 use std::marker::Model;
 
-/// Who looks at what is said of a stream: what time it is there, and what is a terminal.
+/// Who reads what is said of a stream: what time it is there, and what is a terminal.
 pub trait Onlooker {
-    /// The times that were answered, and where there was none, the oldest first.
+    /// The times that were answered, `None` for none, the oldest first.
     ghost times: { Self → List (Option ℕ) };
 
-    /// Whether what is said stands on a terminal, and whether standard output is one.
+    /// Whether what is said is on a terminal, and whether standard output is one.
     ghost terminal: { Self → Bool };
 
     ghost output_terminal: { Self → Bool };
 
-    /// How many milliseconds have gone by since some start. None while what was said before isn't taken yet: no line is said then that may
-    /// be left out. It is asked anew each time.
+    /// How many milliseconds have gone by since some start; `None` while what was said before isn't taken yet, so a line that may be left out isn't
+    /// said then. It is asked anew each time.
     fn now(&mut self) -> Option<u64>
         ensures { times self.new ≡ times self.old ++ result ∷ [] };
 
-    /// Whether what is said stands on a terminal, where a line may be written over.
+    /// Whether what is said goes to a terminal, so that a line may be written over.
     fn is_terminal(&self) -> bool
         ensures { result ≡ terminal self.now };
 
-    /// Whether standard output is a terminal: what a port puts there then stands between what is said.
+    /// Whether standard output is a terminal: then what a port puts there is between what is said.
     fn is_output_terminal(&self) -> bool
         ensures { result ≡ output_terminal self.now };
 }

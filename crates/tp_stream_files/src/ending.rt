@@ -5,15 +5,15 @@ use tp_model::Fault;
 /// Why a stream is over.
 #[derive(Clone, Copy, PartialEq, Eq)]
 pub enum Ending {
-    /// It was to end where nothing is left to do, and nothing is.
+    /// It was to end once nothing is left to do, and nothing is.
     Quiet,
-    /// All turns were made that it was given.
+    /// All turns that it was given were made.
     Turns,
     /// Its ends are gone: nothing is left to do and no input can come any more, or whoever takes an output has gone.
     Gone,
-    /// It was to end where a node halts, and one has halted.
+    /// It was to end once a node halts, and one has halted.
     Halted,
-    /// It was to end where it is asked to stop, and it was.
+    /// It was to end once it is asked to stop, and it was asked.
     Stopped,
 }
 
@@ -30,14 +30,14 @@ impl Ending {
     }
 }
 
-/// What a stream came to: the number that the next entry gets, all below being stored, and why it is over.
+/// What a stream came to: the number that the next entry gets, with all entries below stored; and why it is over.
 #[derive(Clone, Copy, PartialEq, Eq)]
 pub struct Ended {
     pub next: u64,
     pub why: Ending,
 }
 
-/// How a node stands that does nothing any more.
+/// Why a node does nothing any more.
 #[derive(Clone, Copy, PartialEq, Eq)]
 pub enum Stopped {
     /// It halted at the instruction at this address.

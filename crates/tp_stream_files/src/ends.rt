@@ -1,4 +1,4 @@
-//! What a stream's ports live on, by the names of files.
+//! What a stream's ports are attached to, by the names of files.
 
 ghost use Rattle.std.specs.Prelude.{◌≡◌};
 ghost use Rattle.tp_stream_files.specs.Named.{standard_port};
@@ -31,8 +31,7 @@ pub struct PortNumber {
     pub number: u64,
 }
 
-/// The ends of ports: where outputs go, up to where readers say that they have them, ports whose output is let go, and where inputs
-/// come from.
+/// The ends of ports: where outputs go, up to where readers say that they have them, ports whose output is discarded, and where inputs come from.
 #[derive(Drop)]
 pub struct Ends {
     pub outs: Vec<PortFile>,
@@ -89,7 +88,7 @@ pub enum EndFault {
     /// The file that a port's input comes from can't be read.
     #[error("ReadFailed")]
     ReadFailed(u8),
-    /// The file that takes a port's output can't be opened to be written, or not be made.
+    /// The file that takes a port's output can't be opened to be written, or can't be made.
     #[error("DeviceFailed")]
     DeviceFailed(u8),
     /// The file that takes a port's output is that of the device, of an input, of another port's output or of standard error.

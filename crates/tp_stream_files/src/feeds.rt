@@ -15,11 +15,11 @@ pub trait Feed {
     /// What it has given so far, the oldest first.
     ghost given: { Self → List EndTold };
 
-    /// Whether `next` would wait for bytes that haven't come yet. It waits for them itself, `millis` milliseconds or less.
+    /// Whether `next` would wait for bytes that haven't come yet. It waits for them first, for at most `millis` milliseconds.
     fn would_wait(&mut self, millis: u64) -> bool
         ensures { given self.new ≡ given self.old };
 
-    /// Puts the next bytes into `out`, as many as have come, and answers how many: none only at the end. It waits until there are some.
+    /// Puts the next bytes into `out`, as many as have come, and answers how many: 0 only at the end. It waits until there are some.
     fn next(&mut self, out: &mut [u8; MAX_HELD]) -> Result<usize, SourceFailed>
         ensures few { IfOk result (λ count. count ≤ length out.new) }
         ensures noted { given self.new ≡ given self.old ++ gave result out.new ∷ [] };
@@ -40,7 +40,7 @@ pub(crate) fn read_some<I: Read>(reader: &mut I, out: &mut [u8]) -> Result<usize
     Err(SourceFailed)
 }
 
-/// A reader whose bytes are there already, as those of a file.
+/// A reader that never waits for bytes, as that of a file.
 #[derive(Drop)]
 pub struct Plain<I: Drop> {
     reader: I,

@@ -6,7 +6,7 @@ ghost use Rattle.tp_stream_files.specs.Folders.{AsksFolder, IsFolder, before_sla
 use crate::system::EndFiles;
 use std::io;
 
-/// What is in front of a path's last slash, or the root where nothing is.
+/// What is before a path's last slash, or the root if nothing is.
 fn before_slash(front: &str) -> &str
     ensures { result.now ≡ before_slash front.now }
 {
@@ -23,8 +23,8 @@ fn folder_of(path: &str) -> &str
     }
 }
 
-/// Syncs the folder of a path, so that a name made in it lasts: what is in front of the path's last slash, the root where nothing is, and the
-/// folder that the process is in where the path has none.
+/// Syncs the folder of a path, so that a name made in it lasts. It is what is before the path's last slash (the root if nothing is), or the process's
+/// folder if the path has no slash.
 pub fn sync_folder_of<S: EndFiles>(files: &mut S, path: &str) -> io::Result<()>
     ensures { AsksFolder path.now (is_ok result) (S.calls files.old) (S.calls files.new) }
 {

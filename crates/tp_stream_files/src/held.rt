@@ -42,12 +42,12 @@ impl Held {
         }
     }
 
-    /// Whether a byte at a position is kept or in front of those, or none comes any more.
+    /// Whether the byte at a position, or one after it, has come, or no more bytes come.
     pub(crate) fn is_ready(&self, at: u64) -> bool {
         self.has_ended || self.has_failed || self.from.saturating_add(self.count as u64) > at
     }
 
-    /// The position behind all bytes that came. None where it is above the greatest number.
+    /// The position after all bytes that came; `None` if it is above the greatest number.
     pub(crate) fn behind(&self) -> Option<u64>
         ensures { IfSome result (λ behind. behind ≡ length (bytes_given self.now.trace.told)) }
     {
@@ -61,7 +61,7 @@ impl Held {
         self.has_failed = true;
     }
 
-    /// Takes what a feed gives next in place of the bytes that are kept; `behind` is the position behind them.
+    /// Takes what a feed gives next in place of the bytes that are kept; `behind` is the position after them.
     #[tactic(auto, using(crate::proofs::Traces::none_behind))]
     pub(crate) fn take_next<I: Feed>(&mut self, behind: u64, feed: &mut I)
         requires { behind ≡ length (bytes_given self.old.trace.told) }
@@ -75,7 +75,7 @@ impl Held {
         }
     }
 
-    /// Takes the bytes that a feed gave: the first ones of `kept`, while none counts yet; none came at the feed's end.
+    /// Takes the bytes that a feed gave: the first `count` of `kept`; 0 at the feed's end. No kept byte counts before.
     #[tactic(auto, using(crate::proofs::Traces::bytes_of_gave, crate::proofs::Traces::says_end_gave, crate::proofs::Traces::says_failed_gave))]
     fn take_bytes(&mut self, count: usize)
         requires few { count ≤ length self.old.kept }
@@ -96,8 +96,8 @@ impl Held {
         self.has_failed = true;
     }
 
-    /// Copies the bytes that came from a position on, as many as are kept and `out` has room for; none at the end. Bytes in front of those
-    /// that are kept, and bytes that haven't come, can't be given.
+    /// Copies the bytes from a position on, as many as are kept and `out` has room for; none at the end. It fails for bytes before those that are
+    /// kept, and for bytes that haven't come.
     pub(crate) fn copy(&self, at: u64, out: &mut [u8]) -> Result<usize, SourceFailed>
         ensures few { IfOk result (λ count. count ≤ length out.new) }
         ensures bytes { IfOk result (λ count. take count out.new ≡ take count (drop at (bytes_given self.now.trace.told))) }

@@ -6,7 +6,7 @@ ghost use Rattle.tp_stream_files.specs.Inputs.{AreFrom, EndsThere, HasAtLeast, I
 use crate::source::{Source, SourceFailed};
 use std::marker::Model;
 
-/// A port's whole input and where it comes from, the position at which its end was come to, and whether the port had no room for more.
+/// A port's whole input and where it comes from, the position of its end once that was found, and whether the port had no room for more.
 #[derive(Drop)]
 pub struct Input<I: Source> {
     port: u8,
@@ -38,7 +38,7 @@ impl<I: Source> Input<I> {
         self.port
     }
 
-    /// How many bytes the input has, where those are fewer than the `accepted` that its port has accepted.
+    /// How many bytes the input has, if that is fewer than the `accepted` ones that its port has accepted; else `None`.
     pub fn shortage(&self, accepted: u64) -> Option<u64>
         ensures some { IfSome result (λ has. IsLength (Some has) (I.input self.now.source) × (has < accepted)) }
         ensures none { IfNone result (HasAtLeast accepted (I.input self.now.source)) }
@@ -49,15 +49,15 @@ impl<I: Source> Input<I> {
         }
     }
 
-    /// Whether nothing is left that its port may take. Where its end was come to, none of its bytes is at that position or behind it.
+    /// Whether nothing is left that its port may take. If its end was found, none of its bytes is at that position or after it.
     pub fn is_over(&self) -> bool
         ensures { result ≡ is_over self.now.ended self.now.is_blocked }
     {
         self.ended.is_some() || self.is_blocked
     }
 
-    /// Whether a read would wait for bytes that haven't come yet, where the port has accepted those up to `at`. It waits for them itself,
-    /// `millis` milliseconds or less. None does behind the end.
+    /// Whether a read would wait for bytes that haven't come yet, if the port has accepted those up to `at`. It waits for them first, for at most
+    /// `millis` milliseconds. After the end no read waits.
     #[tactic(auto, using(crate::proofs::Read::ends_still))]
     pub fn would_wait(&mut self, at: u64, millis: u64) -> bool
         ensures same { (self.new.port ≡ self.old.port) × (I.input self.new.source ≡ I.input self.old.source) }
@@ -75,8 +75,7 @@ impl<I: Source> Input<I> {
         self.is_blocked = is_blocked;
     }
 
-    /// Reads bytes from a position on into `out`, and answers how many. None where `out` has no place, or the end was come to, which is
-    /// kept.
+    /// Reads bytes from a position on into `out`, and answers how many: 0 if `out` is empty, or at the end, whose position it keeps.
     #[tactic(auto, using(crate::proofs::Read::none_from, crate::proofs::Read::ends_still, crate::proofs::Read::ends_here))]
     pub fn read(&mut self, at: u64, out: &mut [u8]) -> Result<usize, SourceFailed>
         ensures few { IfOk result (λ count. count ≤ length out.new) }

@@ -32,7 +32,7 @@ struct Since {
     millis: u64,
 }
 
-/// Says when lines are due: `every` milliseconds behind the last one, or behind where lines begin.
+/// Says when lines are due: `every` milliseconds after the last one, or after where lines begin.
 #[derive(Clone, Copy)]
 pub struct Meter {
     every: u64,
@@ -72,7 +72,7 @@ impl Meter {
         })
     }
 
-    /// Hears how far a stream has come, where there is a time. Else no line is due: the next one says what it would have said, too.
+    /// Hears how far a stream has come, if there is a time. Else no line is due: the next one says what this one would have said, too.
     pub fn hear_then(&mut self, at: Option<u64>, progress: Progress) -> Option<Line>
         ensures due { result ≡ line_then self.old at progress }
         ensures left { self.new ≡ heard_then self.old at progress }
@@ -84,7 +84,7 @@ impl Meter {
     }
 }
 
-/// Appends by how much a number grew in a second, where it was known before.
+/// Appends by how much a number grew in a second, if it was known before.
 fn push_growth(text: &mut String, now: u64, since: Option<Since>) -> Result<(), AllocError>
     ensures { OnOk result (string_bytes text.new ≡ string_bytes text.old ++ growth_part now since) }
 {
@@ -149,7 +149,7 @@ fn push_turns(text: &mut String, line: &Line) -> Result<(), AllocError>
     push_named(text, " turns ", line.told.turns, Some(since))
 }
 
-/// Up to where the outputs of a port were put, where a sink is for it.
+/// Up to where the outputs of a port were put, if a sink is for it.
 fn put_before(put: &[Option<u64>], port: usize) -> Option<u64>
     ensures { result ≡ put_before put.now port }
 {
@@ -169,7 +169,7 @@ fn since_put(millis: u64, before: Option<u64>) -> Option<Since>
     }
 }
 
-/// Appends up to where the outputs of a port were put, where a sink is for it.
+/// Appends up to where the outputs of a port were put, if a sink is for it.
 fn push_out(
     text: &mut String,
     port: usize,

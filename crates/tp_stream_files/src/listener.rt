@@ -17,15 +17,15 @@ pub struct Progress {
     pub used: u64,
     /// The generation of the open area.
     pub generation: u64,
-    /// How many turns were made, those that were refused, too.
+    /// How many turns were made, including refused ones.
     pub turns: u64,
-    /// Up to where each port's outputs were put; none where no sink is for it.
+    /// Up to where each port's outputs were put; `None` if no sink is for it.
     pub put: [Option<u64>; MAX_PORTS],
 }
 
 /// Who is told.
 pub trait Listener {
-    /// What it was told, the oldest first, where that is known.
+    /// What it was told, the oldest first, if that is known.
     ghost told: { Self → Option (List Notice) } = { λ _. None };
 
     /// The first byte that is put of a port's output has this position.
@@ -36,12 +36,11 @@ pub trait Listener {
     fn input(&mut self, port: u8, accepted: u64)
         ensures { Noticed (InputBegins port accepted ∷ []) (told self.old) (told self.new) };
 
-    /// How far it has come. Where that is to be told at all, it is told behind the flush of each cycle, also while input is waited for.
+    /// How far it has come. If that is to be told at all, it is told after the flush of each cycle, also while input is awaited.
     fn progress(&mut self, progress: Progress)
         ensures told { Noticed (HasCome progress ∷ []) (told self.old) (told self.new) };
 
-    /// How a node stands at the end, where it has halted or waits though a port has input that no node has taken. Nodes are told in
-    /// order.
+    /// Why a node does nothing at the end, if it has halted, or waits though a port has input that no node has taken. Nodes are told in order.
     fn stopped(&mut self, node: u8, how: Stopped)
         ensures { Noticed (NodeStopped node how ∷ []) (told self.old) (told self.new) };
 }

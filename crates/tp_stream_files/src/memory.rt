@@ -7,12 +7,12 @@ ghost use Rattle.tp_stream_files.specs.Held.{HasLength, HasPut, HasReach, IsSafe
 use crate::sink::{Sink, SinkFault};
 use std::alloc::Global;
 
-/// Bytes in memory. What is put lets those behind go.
+/// Bytes in memory. Putting bytes drops those after them.
 #[derive(Drop)]
 pub struct MemSink {
     bytes: Vec<u8>,
     safe: u64,
-    /// How many calls are made before one fails; none: no call fails.
+    /// How many calls are made before one fails; `None`: no call fails.
     calls: Option<u32>,
 }
 
@@ -71,7 +71,7 @@ impl MemSink {
         }
     }
 
-    // Puts bytes behind the first `at`. Those behind go.
+    // Puts bytes after the first `at`, and drops those after them.
     fn put_behind(&mut self, at: u64, bytes: &[u8]) -> Result<(), SinkFault>
         requires safe { at ≤ self.old.safe }
         requires there { at ≤ length self.old.bytes.items }

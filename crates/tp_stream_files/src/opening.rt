@@ -22,8 +22,7 @@ use std::fs::{Files, OpenFile, OpenOptions};
 use std::io::Write;
 use std::os::unix::fs::FileExt;
 
-/// Gives a file its part, which is open and takes the output of `port`. One that has a part already, or is what standard error goes to, is
-/// refused.
+/// Notes an open file as the one that takes the output of `port`. Refuses a file that is noted already, and the one that standard error goes to.
 fn take_sink<S: Looks, F: EndFile>(
     looks: &S,
     port: u8,
@@ -73,8 +72,8 @@ fn sink_over<S: EndFiles<File = F>, F: EndFile + Drop>(
     }
 }
 
-/// Opens a file that takes an output, or makes it. One that has a part already, or is what standard error goes to, is refused as it is, and so
-/// is what is no regular file: of a disk the system says no length, so nothing would tell what is in it.
+/// Opens a file that takes an output, or makes it. Refuses a file that is noted already or that standard error goes to, and leaves it as it is.
+/// Refuses what is no regular file, too: the system tells no length of a disk, so nothing would tell what is in it.
 fn file_sink<S: EndFiles<File = F> + Looks, F: EndFile + Drop>(
     files: &mut S,
     end: &PortFile,
@@ -93,7 +92,7 @@ fn file_sink<S: EndFiles<File = F> + Looks, F: EndFile + Drop>(
     sink_over(files, end, file)
 }
 
-/// What takes the output of a port: standard output, which only one may have, or a file.
+/// What takes the output of a port: standard output, which only one port may have, or a file.
 #[tactic(auto, using(crate::proofs::Keeping::keeps_none))]
 fn sink_at<'a, S: EndFiles<File = F> + Looks, F: EndFile + Drop, O: Write>(
     files: &mut S,
@@ -118,7 +117,7 @@ fn sink_at<'a, S: EndFiles<File = F> + Looks, F: EndFile + Drop, O: Write>(
     }
 }
 
-/// Gives a file its part, which is open and has the input of `port`.
+/// Notes an open file as the one that has the input of `port`.
 fn take_source<F: EndFile>(port: u8, file: &F, taken: &mut Taken) -> Result<(), EndFault>
     ensures { IfErr result (NamesPort port) }
 {
@@ -160,7 +159,7 @@ fn file_source<S: EndFiles<File = F>, F: EndFile + Drop>(
     Ok(file)
 }
 
-/// Standard input as a source, which only one may have.
+/// Standard input as a source, which only one port may have.
 fn standard_source<'a, F: EndFile + Drop, I: Feed>(
     port: u8,
     feed: &mut Option<&'a mut I>,
@@ -174,7 +173,7 @@ fn standard_source<'a, F: EndFile + Drop, I: Feed>(
     }
 }
 
-/// Where the input of a port comes from: standard input, which only one may have, or a file.
+/// Where the input of a port comes from: standard input, which only one port may have, or a file.
 #[tactic(auto, using(crate::proofs::Keeping::keeps_none))]
 fn source_at<'a, S: EndFiles<File = F> + Looks, F: EndFile + Drop, I: Feed>(
     files: &mut S,
@@ -247,7 +246,7 @@ fn push_outputs<'a, S: EndFiles<File = F> + Looks, F: EndFile + Drop, O: Write>(
     Ok(())
 }
 
-/// Adds those whose output is let go.
+/// Adds those whose output is discarded.
 fn add_discards<'a, F: EndFile + Drop, O: Write>(
     ends: &Ends,
     outputs: &mut Vec<Output<AnySink<'a, F, O>>>,
@@ -264,8 +263,7 @@ fn add_discards<'a, F: EndFile + Drop, O: Write>(
     Ok(())
 }
 
-/// Adds what takes the outputs of ports, and those behind it whose output is let go. What standard output goes to is looked at once all
-/// files are open.
+/// Adds what takes the outputs of ports, then those whose output is discarded. What standard output goes to is checked once all files are open.
 fn push_all<'a, S: EndFiles<File = F> + Looks, F: EndFile + Drop, O: Write>(
     files: &mut S,
     ends: &Ends,
@@ -285,7 +283,7 @@ fn push_all<'a, S: EndFiles<File = F> + Looks, F: EndFile + Drop, O: Write>(
     }
 }
 
-/// Opens what takes the outputs of ports, with those behind it whose output is let go.
+/// Opens what takes the outputs of ports, then those whose output is discarded.
 fn outputs_of<'a, S: EndFiles<File = F> + Looks, F: EndFile + Drop, O: Write>(
     files: &mut S,
     alloc: Global,
@@ -371,7 +369,7 @@ fn inputs_of<'a, S: EndFiles<File = F> + Looks, F: EndFile + Drop, I: Feed>(
     }
 }
 
-/// Opens all ends beside the files that have a part already.
+/// Opens all ends beside the files that are noted already.
 fn open_beside<'a, S: EndFiles<File = F> + Looks, F: EndFile + Drop, I: Feed, O: Write>(
     files: &mut S,
     alloc: Global,
@@ -389,9 +387,9 @@ fn open_beside<'a, S: EndFiles<File = F> + Looks, F: EndFile + Drop, I: Feed, O:
     Ok(Streams { outputs, inputs })
 }
 
-/// Opens all ends; `device` is the path of the device's file. A file that takes an output is made where it isn't there. No output goes
-/// into the file of the device, of an input, of another output or of standard error: where that can be told before, no file is made, and
-/// else each file is told from those that were opened before, and left as it is.
+/// Opens all ends; `device` is the path of the device's file. A file that takes an output is made if it doesn't exist. No output goes into the file
+/// of the device, of an input, of another output or of standard error. If that can be told before, no file is made; else each file is compared with
+/// those opened before, and left as it is.
 #[tactic(auto, using(crate::proofs::Keeping::keeps_none))]
 pub fn open_ends_over<'a, S: EndFiles<File = F> + Looks, F: EndFile + Drop, I: Feed, O: Write>(
     files: &mut S,

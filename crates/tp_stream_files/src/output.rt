@@ -29,7 +29,7 @@ impl<S: Sink> Model for Output<S> {
     ghost invariant = { λ o. (o.confirmed ≤ o.next) × Reaches o.next (S.held o.sink) };
 }
 
-/// Puts bytes and makes them safe. Where there are none, no call is made.
+/// Puts bytes and makes them safe. If there are none, no call is made.
 #[tactic(auto, using(crate::proofs::StreamEndsSinks::none_put, crate::proofs::StreamEndsSinks::none_reaches, crate::proofs::StreamEndsSinks::front_stays))]
 fn put_safe<S: Sink>(sink: &mut S, at: u64, bytes: &[u8]) -> Result<(), SinkFault>
     requires { Reaches at (S.held sink.old) }
@@ -47,7 +47,7 @@ fn put_safe<S: Sink>(sink: &mut S, at: u64, bytes: &[u8]) -> Result<(), SinkFaul
     }
 }
 
-/// How many bytes a sink has, where those are more than `upto`.
+/// How many bytes a sink has, if that is more than `upto`; else `None`.
 #[tactic(auto, using(crate::proofs::StreamEndsSinks::has_at_most, crate::proofs::StreamEndsSinks::has_no_length))]
 fn excess<S: Sink>(sink: &S, upto: u64) -> Option<u64>
     ensures some { IfSome result (λ has. HasLength (Some has) (S.held sink.now) × (upto < has)) }
@@ -60,8 +60,8 @@ fn excess<S: Sink>(sink: &S, upto: u64) -> Option<u64>
 }
 
 impl<S: Sink> Output<S> {
-    /// The output of the port `port` into a sink. `have` is up to where the sink's reader says that it has it already; `None`: up to
-    /// where it is confirmed.
+    /// The output of the port `port` into a sink. `have` is up to where the sink's reader says that it has it already; `None`: up to where it is
+    /// confirmed.
     pub fn new(port: u8, have: Option<u64>, sink: S) -> Output<S>
         ensures { result ≡ record { port = port; have = have; confirmed = 0; next = 0; held = S.held sink } }
     {
@@ -103,7 +103,7 @@ impl<S: Sink> Output<S> {
         self.confirmed
     }
 
-    /// What it keeps: confirmed is at most what was put, and all that is safe. It does nothing.
+    /// What always holds: confirmed is at most what was put, and all that was put is safe. It does nothing.
     pub fn known(&self)
         ensures confirmed { self.now.confirmed ≤ self.now.next }
         ensures safe { Reaches self.now.next self.now.held }
@@ -119,7 +119,7 @@ impl<S: Sink> Output<S> {
         sink
     }
 
-    /// Up to which position its sink can be put at.
+    /// Up to which position its sink can be put.
     pub fn reach(&self) -> u64
         ensures there { Reaches result self.now.held }
         ensures exactly { HasReach result self.now.held }
@@ -127,7 +127,7 @@ impl<S: Sink> Output<S> {
         self.sink.reach()
     }
 
-    /// How many bytes its sink has, where those are more than `upto`.
+    /// How many bytes its sink has, if that is more than `upto`; else `None`.
     pub fn excess(&self, upto: u64) -> Option<u64>
         ensures some { IfSome result (λ has. HasLength (Some has) self.now.held × (upto < has)) }
         ensures none { IfNone result (HasAtMost upto self.now.held) }
@@ -145,7 +145,7 @@ impl<S: Sink> Output<S> {
         self.next = next;
     }
 
-    /// Puts `bytes` behind those that were put, up to `upto`, and makes them safe.
+    /// Puts `bytes` after those that were put, up to `upto`, and makes them safe.
     pub fn put_upto(&mut self, upto: u64, bytes: &[u8]) -> Result<(), SinkFault>
         requires { upto ≡ self.old.next + length bytes.now }
         ensures put { OnOk result (WasPutSafely bytes.now self.old self.new) }

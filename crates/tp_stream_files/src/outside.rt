@@ -1,7 +1,7 @@
 //! The files of the system. Each call is noted.
 //!
-//! That each method here makes the one call that it notes, a read that is interrupted again, is held by reading alone: no contract can say what a
-//! file takes.
+//! Only reading shows that each method here makes the one call that it notes, and makes an interrupted read again: no contract can say what a file
+//! takes.
 
 ghost use Rattle.std.specs.Prelude.{◌≡◌, ◌≢◌, ◌≤◌, [], ◌∷◌, ◌++◌, length, IfErr, IfOk};
 ghost use Rattle.std.specs.IoError.{error_kind};

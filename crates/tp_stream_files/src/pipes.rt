@@ -36,7 +36,7 @@ impl<'a, I: Feed> Pipe<'a, I> {
         self.held.take_next(behind, self.feed);
     }
 
-    /// Takes bytes until one at a position is kept, or none comes any more.
+    /// Takes bytes until the byte at a position is kept, or no more come.
     fn reach(&mut self, at: u64)
         ensures { GrewAlike (I.given self.old.feed.now) (I.given self.new.feed.now) self.old.held.trace.told self.new.held.trace.told }
     {
@@ -48,8 +48,8 @@ impl<'a, I: Feed> Pipe<'a, I> {
         }
     }
 
-    /// Whether it would wait for the byte at a position, once it has waited `millis` milliseconds for the next piece, or less. Bytes in front
-    /// of it are passed over: behind the first piece of these no other is waited for.
+    /// Whether it would wait for the byte at a position, once it has waited at most `millis` milliseconds for the next piece. It skips earlier bytes:
+    /// after the first piece of these it waits for no other.
     pub(crate) fn would_wait_at(&mut self, at: u64, millis: u64) -> bool
         ensures { GrewAlike (I.given self.old.feed.now) (I.given self.new.feed.now) self.old.held.trace.told self.new.held.trace.told }
     {
@@ -67,9 +67,8 @@ impl<'a, I: Feed> Pipe<'a, I> {
         false
     }
 
-    /// Reads bytes from a position on. Bytes in front of it are passed over. What it gives is what the feed gave at that position, however
-    /// that was cut into pieces; it gives none only where the feed has come to its end in front of the position; and it fails once the feed
-    /// has failed.
+    /// Reads bytes from a position on, and skips earlier ones. What it gives is what the feed gave at that position, however that was cut into
+    /// pieces. It gives none only if the feed has ended before the position; it fails once the feed has failed.
     pub(crate) fn read_from(&mut self, at: u64, out: &mut [u8]) -> Result<usize, SourceFailed>
         ensures grew { GrewAlike (I.given self.old.feed.now) (I.given self.new.feed.now) self.old.held.trace.told self.new.held.trace.told }
         ensures few { IfOk result (λ count. count ≤ length out.new) }

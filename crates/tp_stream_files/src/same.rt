@@ -1,4 +1,4 @@
-//! Whether two names stand for one file.
+//! Whether two names are of one file.
 
 ghost use Rattle.std.specs.Prelude.{◌≡◌, ◌↔◌, [], ◌++◌, false, true, Some, Contains, IfErr, IfNone, IfSome, OnOk, option_to_list};
 
@@ -17,7 +17,7 @@ pub struct FileNumbers {
     pub number: u64,
 }
 
-/// The numbers of a file. None where the system says none.
+/// The numbers of a file; `None` if the system tells none.
 pub fn numbers_in(kept: &Metadata) -> Option<FileNumbers> {
     if kept.ino() == 0 {
         return None;
@@ -39,7 +39,7 @@ pub(crate) fn are_one(one: Option<FileNumbers>, other: Option<FileNumbers>) -> b
     }
 }
 
-/// The numbers of the file that a path names. None where none is there, or the system says none.
+/// The numbers of the file that a path names; `None` if there is no file, or the system tells none.
 pub(crate) fn numbers_at_path<R: Files>(rt: &R, path: &str) -> Option<FileNumbers> {
     match fs::metadata(rt, path) {
         Ok(kept) => numbers_in(&kept),
@@ -47,7 +47,7 @@ pub(crate) fn numbers_at_path<R: Files>(rt: &R, path: &str) -> Option<FileNumber
     }
 }
 
-/// Whether two paths name one file, as far as the system says: whatever their spelling, and whatever links lie between.
+/// Whether two paths name one file, as far as the system says: whatever their spelling, and whatever links are between.
 pub fn is_one_file<R: Files>(rt: &R, one: &str, other: &str) -> bool
     ensures { one.now ≡ other.now → result ≡ true }
 {
@@ -63,7 +63,7 @@ pub fn is_standard_file<R: Files + StandardStreams>(
     are_one(numbers_at_path(rt, path), rt.behind(stream).numbers)
 }
 
-/// Whether standard output and standard error go into one regular file: what is said on one may be written over what was put on the other.
+/// Whether standard output and standard error go into one regular file, so that what is said on one may overwrite what was put on the other.
 pub fn is_output_said_over<R: StandardStreams>(rt: &R) -> bool {
     are_one(
         regular_behind(rt, StandardStream::Out),
@@ -71,14 +71,14 @@ pub fn is_output_said_over<R: StandardStreams>(rt: &R) -> bool {
     )
 }
 
-/// The files that have a part in a stream already.
+/// The files that are noted: an end of the stream has them.
 #[derive(Drop)]
 pub(crate) struct Taken {
     files: Vec<FileNumbers>,
 }
 
 impl Taken {
-    /// None has.
+    /// None is noted.
     pub(crate) fn new(alloc: Global) -> Taken
         ensures { result.files.items ≡ [] }
     {
@@ -87,7 +87,7 @@ impl Taken {
         }
     }
 
-    /// Whether a file has a part.
+    /// Whether a file is noted.
     pub(crate) fn has(&self, file: Option<FileNumbers>) -> bool
         ensures some { IfSome file (λ file. (result ≡ true) ↔ Contains self.now.files.items file) }
         ensures none { IfNone file (result ≡ false) }
@@ -98,7 +98,7 @@ impl Taken {
         }
     }
 
-    /// Gives a file a part.
+    /// Notes a file.
     pub(crate) fn add(&mut self, file: Option<FileNumbers>) -> Result<(), EndFault>
         ensures added { OnOk result (self.new.files.items ≡ self.old.files.items ++ option_to_list file) }
         ensures fault { IfErr result (λ fault. fault ≡ EndFault.Memory) }
@@ -113,7 +113,7 @@ impl Taken {
     }
 }
 
-/// The numbers of the file of an end, where it is there; one that is standard is that of `stream`.
+/// The numbers of the file of an end, if it exists; a standard end's file is that of `stream`.
 fn numbers_of<L: Looks>(looks: &L, end: &PortFile, stream: StandardStream) -> Option<FileNumbers> {
     if end.is_standard() {
         looks.numbers_behind(stream)
@@ -127,8 +127,8 @@ fn have_one_path(one: &PortFile, other: &PortFile) -> bool {
     !one.is_standard() && one.path.as_str() == other.path.as_str()
 }
 
-/// Whether an output goes into the file of one of these ends, whose standard one is that of `stream`. Where they are outputs, two that are
-/// standard output are told elsewhere.
+/// Whether an output goes into the file of one of these ends; a standard end's file is that of `stream`. Two outputs that are both standard output
+/// are found elsewhere.
 fn goes_into<L: Looks>(
     looks: &L,
     end: &PortFile,
@@ -157,8 +157,8 @@ fn goes_elsewhere<L: Looks>(looks: &L, end: &PortFile, device: &str) -> bool {
     is_device || is_path || is_error
 }
 
-/// A port whose output goes into the file of the device, of an input, of another port's output or of standard error, as far as can be
-/// told before any file is made.
+/// A port whose output goes into the file of the device, of an input, of another port's output or of standard error, as far as that can be told
+/// before any file is made.
 pub(crate) fn same_file<L: Looks>(looks: &L, device: &str, ends: &Ends) -> Option<u8> {
     for (number, end) in ends.outs.iter().enumerate() {
         let before = match ends.outs.get(..number) {

@@ -8,7 +8,7 @@ use crate::writing::write_front;
 use std::alloc::{AllocError, Global};
 use std::io::Write;
 
-/// What is written of a line: over the one before it, in one row of the terminal, however narrow that is; or behind what stands there.
+/// What is written of a line: over the one before it, in one row of the terminal, however narrow that is; or after the text that is there.
 fn written(alloc: Global, is_over: bool, line: &Line) -> Result<String, AllocError>
     ensures { IfOk result (λ text. string_bytes text ≡ written is_over line.now) }
 {
@@ -20,7 +20,7 @@ fn written(alloc: Global, is_over: bool, line: &Line) -> Result<String, AllocErr
     }
 }
 
-/// Writes a line. Where there is no memory for it, or it isn't taken, it is let go.
+/// Writes a line. If there is no memory for it, or it isn't taken, the line is dropped.
 pub(crate) fn say_line<E: Write>(alloc: Global, err: &mut E, is_over: bool, line: &Line)
     ensures { AppendsFront (E.contents err.old) (E.contents err.new) (written is_over line.now) }
 {

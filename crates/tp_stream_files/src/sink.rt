@@ -3,7 +3,7 @@
 ghost use Rattle.std.specs.Prelude.{Option, None, OnOk};
 ghost use Rattle.tp_stream_files.specs.Held.{HeldBytes, HasLength, HasPut, HasReach, IsSafe, KeepsBytes, KeepsFront, Reaches};
 
-/// Why bytes couldn't be put, or not be made safe.
+/// Why bytes couldn't be put, or couldn't be made safe.
 #[derive(Clone, Copy, PartialEq, Eq)]
 pub enum SinkFault {
     /// It failed.
@@ -14,19 +14,19 @@ pub enum SinkFault {
 
 /// What takes a port's output: byte number q of the port at position q.
 pub trait Sink {
-    /// What it holds, where that is known.
+    /// What it holds, if that is known.
     ghost held: { Self → Option HeldBytes } = { λ _. None };
 
-    /// Up to which position it can be put at: its bytes up to there are there, and safe.
+    /// Up to which position it can be put: its bytes before that exist, and are safe.
     fn reach(&self) -> u64
         ensures there { Reaches result (held self.now) }
         ensures exactly { HasReach result (held self.now) };
 
-    /// How many bytes it has; none where it has no positions, so that nothing is put over what stands there.
+    /// How many bytes it has; `None` if it has no positions, so that nothing is overwritten.
     fn length(&self) -> Option<u64>
         ensures { HasLength result (held self.now) };
 
-    /// Puts bytes at a position, over what stands there. Whatever is answered, those before them are as they were.
+    /// Puts bytes at a position, over what is there. Whatever it answers, the bytes before them are as they were.
     fn put(&mut self, at: u64, bytes: &[u8]) -> Result<(), SinkFault>
         requires { Reaches at (held self.old) }
         ensures put { OnOk result (HasPut at bytes.now (held self.old) (held self.new)) }

@@ -29,9 +29,9 @@ pub struct FileSink<F: Drop> {
 #[derive(Drop)]
 pub enum AnySink<'a, F: Drop, O> {
     File(FileSink<F>),
-    /// Standard output, which has no positions: what is put goes behind what was put.
+    /// Standard output, which has no positions: what is put goes after what was put before.
     Out(&'a mut O),
-    /// Each byte is let go.
+    /// Each byte is discarded.
     Nothing,
 }
 
@@ -64,8 +64,8 @@ pub(crate) fn file_at<S: EndFiles>(files: &mut S, path: &str) -> io::Result<S::F
     files.open(how.read(true).write(true).create(true), path)
 }
 
-/// Why a call on standard output wasn't done: whoever takes the bytes has gone just where nobody reads a pipe any more, or the connection of a
-/// socket has ended. One that was never made, or that doesn't answer, is a failure.
+/// Why a call on standard output failed. Whoever takes the bytes has gone exactly if nobody reads a pipe any more, or a socket's connection has
+/// ended. A connection that was never made, or that doesn't answer, is a failure.
 fn fault_of(kind: ErrorKind) -> SinkFault
     ensures { (result ≡ SinkFault.Gone) ↔ SaysGone kind }
 {
@@ -109,8 +109,8 @@ impl<F: FileExt + OpenFile + Drop> FileSink<OutsideFile<F>> {
 }
 
 impl<F: EndFile + Drop> FileSink<F> {
-    /// The file of that path, which is open, as it is. What is in it is synced: it counts as safe. So is the folder of one that is empty,
-    /// since it may be new.
+    /// The open file of that path, as it is. What is in it is synced: it counts as safe. If it is empty, its folder is synced, since the file may be
+    /// new.
     #[tactic(auto, using(crate::proofs::Keeping::keeps_none))]
     pub fn over<S: EndFiles<File = F>>(
         files: &mut S,
@@ -143,7 +143,7 @@ impl<F: EndFile + Drop> FileSink<F> {
         self.size
     }
 
-    /// Writes over what stands at a position. Where that fails it has as many bytes as before.
+    /// Writes over what is at a position. If that fails, the file has as many bytes as before.
     pub fn put(&mut self, at: u64, bytes: &[u8]) -> Result<(), SinkFault>
         ensures calls { F.calls self.new.file ≡ F.calls self.old.file ++ Wrote at bytes.now (is_ok result) ∷ [] }
         ensures size { self.new.size ≡ size_after self.old.size (Wrote at bytes.now (is_ok result)) }

@@ -9,19 +9,19 @@ pub struct SourceFailed;
 
 /// A port's whole input, from position 0.
 pub trait Source {
-    /// All of its bytes, where they are known.
+    /// All of its bytes, if they are known.
     ghost input: { Self → Option (List ℕ) } = { λ _. None };
 
-    /// How many bytes the whole input has, where that is known, as of a regular file; none: it isn't known.
+    /// How many bytes the whole input has, as of a regular file; `None` if that isn't known.
     fn length(&self) -> Option<u64>
         ensures { IsLength result (input self.now) };
 
-    /// Whether a read from this position would wait for bytes that haven't come yet. It waits for them itself, `millis` milliseconds or less.
+    /// Whether a read from this position would wait for bytes that haven't come yet. It waits for them first, for at most `millis` milliseconds.
     fn would_wait(&mut self, at: u64, millis: u64) -> bool
         ensures { input self.new ≡ input self.old };
 
-    /// Reads bytes from a position on into `out`, and answers how many: fewer than `out` has where fewer have come, and none only at
-    /// the end. The position is that of the last read, or one behind it.
+    /// Reads bytes from a position on into `out`, and answers how many: fewer than `out` has if fewer have come, and 0 only at the end. The position
+    /// is that of the last read, or one after it.
     fn read(&mut self, at: u64, out: &mut [u8]) -> Result<usize, SourceFailed>
         ensures few { IfOk result (λ count. count ≤ length out.new) }
         ensures same { input self.new ≡ input self.old }

@@ -1,4 +1,4 @@
-//! Which files the standard streams are: whoever knows says it, since no path does where a system has no `/dev/stdout`.
+//! Which files the standard streams are. Whoever knows says it: on a system without `/dev/stdout` no path does.
 
 use crate::same::FileNumbers;
 
@@ -13,9 +13,9 @@ pub enum StandardStream {
 /// What a standard stream comes from or goes to.
 #[derive(Clone, Copy)]
 pub struct StandardFile {
-    /// The numbers by which the system tells it from all other files. None where it says none.
+    /// The numbers by which the system tells it from all other files; `None` if it tells none.
     pub numbers: Option<FileNumbers>,
-    /// Whether it is a regular file, and no terminal, pipe or disk.
+    /// Whether it is a regular file, rather than a terminal, a pipe or a disk.
     pub is_regular: bool,
 }
 
@@ -25,7 +25,7 @@ pub trait StandardStreams {
     fn behind(&self, stream: StandardStream) -> StandardFile;
 }
 
-/// The numbers of the regular file that a standard stream comes from or goes to. None where it is none, but a terminal or a pipe.
+/// The numbers of the regular file that a standard stream comes from or goes to; `None` for a terminal or a pipe.
 pub(crate) fn regular_behind<R: StandardStreams>(
     rt: &R,
     stream: StandardStream,

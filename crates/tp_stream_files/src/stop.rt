@@ -10,7 +10,7 @@ pub trait Stop {
     /// What it has answered, the oldest first.
     ghost answers: { Self → List Bool };
 
-    /// Whether the stream is asked to stop. It is looked anew each time.
+    /// Whether the stream is asked to stop. It checks anew each time.
     fn is_asked(&mut self) -> bool
         ensures { answers self.new ≡ answers self.old ++ result ∷ [] };
 }

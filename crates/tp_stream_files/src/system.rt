@@ -11,7 +11,7 @@ use std::fs::OpenOptions;
 use std::io;
 use std::io::ErrorKind;
 
-/// An open file, as an end uses it. No call of it cuts the file.
+/// An open file, as an end uses it. No call of it truncates the file.
 pub trait EndFile {
     /// The calls that were made on it, the oldest first.
     ghost calls: { Self → List EndTold };
@@ -20,14 +20,14 @@ pub trait EndFile {
     fn measure(&mut self) -> io::Result<u64>
         ensures { calls self.new ≡ calls self.old ++ measured result ∷ [] };
 
-    /// Reads bytes from a place on into `out`, and answers how many: fewer than `out` has where fewer are given, none at the end. A read that
-    /// was interrupted is made again.
+    /// Reads bytes from a place on into `out`, and answers how many: fewer than `out` has if fewer are given, 0 at the end. A read that was
+    /// interrupted is made again.
     fn read_at(&mut self, at: u64, out: &mut [u8]) -> io::Result<usize>
         ensures few { IfOk result (λ count. count ≤ length out.new) }
         ensures again { IfErr result (λ error. error_kind error ≢ ErrorKind.Interrupted) }
         ensures noted { calls self.new ≡ calls self.old ++ read at result out.new ∷ [] };
 
-    /// Writes over what is there. Ok only where all bytes went.
+    /// Writes over what is there. Ok only if all bytes went.
     fn write_all(&mut self, at: u64, bytes: &[u8]) -> io::Result<()>
         ensures { calls self.new ≡ calls self.old ++ Wrote at bytes.now (is_ok result) ∷ [] };
 
@@ -35,10 +35,10 @@ pub trait EndFile {
     fn sync(&mut self) -> io::Result<()>
         ensures { calls self.new ≡ calls self.old ++ Synced (is_ok result) ∷ [] };
 
-    /// How many bytes it has, where it is a regular file and the system says so. It is asked anew each time.
+    /// How many bytes it has; `None` if it isn't a regular file, or the system doesn't tell. It is asked anew each time.
     fn regular_length(&self) -> Option<u64>;
 
-    /// The numbers by which the system tells it from all others. None where it says none.
+    /// The numbers by which the system tells it from all others; `None` if it tells none.
     fn numbers(&self) -> io::Result<Option<FileNumbers>>;
 }
 
@@ -59,11 +59,11 @@ pub trait EndFiles {
         ensures { calls self.new ≡ calls self.old ++ SyncedFolder folder.now (is_ok result) ∷ [] };
 }
 
-/// What says which file a path names, and a standard stream is. It is asked anew each time.
+/// What tells which file a path names, and which file a standard stream is. It is asked anew each time.
 pub trait Looks {
-    /// The numbers of the file that a path names. None where none is there, or the system says none.
+    /// The numbers of the file that a path names; `None` if there is no file, or the system tells none.
     fn numbers_at(&self, path: &str) -> Option<FileNumbers>;
 
-    /// The numbers of the regular file that a standard stream comes from or goes to. None where that is none, but a terminal or a pipe.
+    /// The numbers of the regular file that a standard stream comes from or goes to; `None` for a terminal or a pipe.
     fn numbers_behind(&self, stream: StandardStream) -> Option<FileNumbers>;
 }

@@ -11,8 +11,8 @@ use crate::{Ended, Listener, Output, Progress, Sink, Stopped};
 use std::alloc::Global;
 use std::io::Write;
 
-/// Who says it, which ports live on standard output and standard input, and when it is said how far the stream has come. A failed write is
-/// let go.
+/// Who says it, which ports are attached to standard output and standard input, and when it says how far the stream has come. Failed writes are
+/// ignored.
 #[derive(Drop)]
 pub struct Teller<'a, E, W> {
     alloc: Global,
@@ -23,13 +23,13 @@ pub struct Teller<'a, E, W> {
     meter: Meter,
     /// Whether each line is written over the one before it.
     is_over: bool,
-    /// Whether a line stands there that isn't ended.
+    /// Whether the last line isn't ended.
     is_open: bool,
 }
 
 impl<'a, E: Write, W: Onlooker> Teller<'a, E, W> {
-    /// Says it on a writer, and every `seconds` seconds how far the stream has come: on a terminal each line over the one before it, but
-    /// where a port puts its output on one.
+    /// Says it on a writer, and every `seconds` seconds how far the stream has come. On a terminal each line is written over the one before it,
+    /// unless a port puts its output on a terminal.
     pub fn new(
         alloc: Global,
         err: &'a mut E,
@@ -63,7 +63,7 @@ impl<'a, E: Write, W: Onlooker> Teller<'a, E, W> {
     }
 }
 
-/// Says where a stream begins, behind a word for it, where its port is `mine`. A failed write is let go.
+/// Says where a stream begins, after a word for it, if its port is `mine`. A failed write is ignored.
 fn say_begin<E: Write>(err: &mut E, word: &str, mine: Option<u8>, port: u8, begin: u64) {
     if mine == Some(port) {
         let _ = write!(err, "{word} {port} {begin}\n");
@@ -97,7 +97,7 @@ impl<'a, E: Write, W: Onlooker> Listener for Teller<'a, E, W> {
     }
 }
 
-/// Says how a node stands that does nothing any more. A failed write is let go.
+/// Says why a node does nothing any more. A failed write is ignored.
 pub fn say_stopped<E: Write>(err: &mut E, node: u8, how: Stopped) {
     let _ = match how {
         Stopped::Halted { fault, at } => write!(err, "halted {node} {fault} at {at:08X}\n"),
@@ -105,7 +105,7 @@ pub fn say_stopped<E: Write>(err: &mut E, node: u8, how: Stopped) {
     };
 }
 
-/// Says up to where standard output was given an output and that is confirmed, where `out` says that it is this one.
+/// Says up to where standard output was given an output and that is confirmed, if `out` says that it is this one.
 fn say_output<S: Sink, E: Write>(err: &mut E, out: Option<u8>, output: &Output<S>) {
     let (written, confirmed) = (output.put(), output.confirmed());
     if out == Some(output.port()) {

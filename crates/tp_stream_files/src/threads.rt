@@ -17,11 +17,10 @@ use std::thread::Threads;
 use std::time::{Clock, Duration};
 use tp_model::limits::MAX_HELD;
 
-/// How many pieces wait to be taken, at most. The thread has read one more, and waits with it.
+/// At most this many pieces wait to be taken. The thread has read one more, and waits with it.
 const PIECES: usize = 4;
 
-/// What one read gave: how many bytes, none at the end, or that it failed; and the bytes, which lie in memory of their own, so that nobody
-/// who hands a piece on copies them.
+/// What one read gave: how many bytes, 0 at the end, or a failure; and the bytes, in memory of their own, so that handing a piece on copies none.
 #[derive(Drop)]
 struct Piece {
     came: Result<usize, SourceFailed>,
@@ -30,7 +29,7 @@ struct Piece {
     ghost fit: { length bytes.items ≤ MAX_HELD },
 }
 
-/// Reads the next piece. It fails where there is no memory for one: then nothing is read.
+/// Reads the next piece. It fails if there is no memory for one: then nothing is read.
 fn read_piece<I: Read>(alloc: Global, reader: &mut I) -> Piece
     ensures bytes { ReadConsumes (I.remaining reader.old) (I.remaining reader.new) result.came result.bytes.items }
     ensures room { IfOk result.came (λ count. 0 < length result.bytes.items) }
@@ -45,14 +44,14 @@ fn read_piece<I: Read>(alloc: Global, reader: &mut I) -> Piece
     Piece { came, bytes }
 }
 
-/// Whether a piece is the last one that its reader is asked for: no byte came, at the end or since the read failed.
+/// Whether a piece is the last one that its reader is asked for: it has no byte, at the end or since the read failed.
 fn is_last(piece: &Piece) -> bool
     ensures { (result ≡ false) ↔ (0 < count_answered piece.now.came) }
 {
     matches!(piece.came, Ok(0) | Err(_))
 }
 
-/// Sends the next piece of a reader. Whether there may be another one that somebody takes.
+/// Sends the next piece of a reader. Answers whether somebody may take another one.
 fn send_piece<R: Wait + AllocGlobal, I: Read>(
     rt: &R,
     reader: &mut I,
@@ -87,7 +86,7 @@ fn give(piece: Option<Piece>, out: &mut [u8; MAX_HELD]) -> Result<usize, SourceF
     Ok(count)
 }
 
-/// The next piece, where it comes within `millis` milliseconds; else whether one may come later.
+/// The next piece, if it comes within `millis` milliseconds; else whether one may come later.
 fn receive<R: Wait + Clock>(rt: &R, pieces: &Receiver<Piece>, millis: u64) -> Result<Piece, bool> {
     if millis == 0 {
         return match pieces.try_recv(rt) {
@@ -112,7 +111,7 @@ pub struct Threaded<R: Drop> {
     trace: Trace,
 }
 
-/// Begins a thread that reads all of a reader. None where there is no memory for it, or no thread.
+/// Begins a thread that reads all of a reader; `None` if there is no memory for it, or no thread.
 fn begin<R: Threads + Wait + AllocGlobal + Copy + Send + 'static, I: Read + Drop + Send + 'static>(
     rt: R,
     reader: I,
@@ -126,7 +125,7 @@ fn begin<R: Threads + Wait + AllocGlobal + Copy + Send + 'static, I: Read + Drop
 }
 
 impl<R: Threads + Wait + AllocGlobal + Copy + Drop + Send + 'static> Threaded<R> {
-    /// The bytes of a reader, whose thread is begun; a read fails where there is none.
+    /// The bytes of a reader, whose thread is begun; a read fails if there is no reader or no thread.
     pub fn new<I: Read + Drop + Send + 'static>(rt: R, reader: Option<I>) -> Threaded<R> {
         let pieces = match reader {
             Some(reader) => begin(rt, reader),
@@ -156,7 +155,7 @@ impl<R: Wait + Drop> Threaded<R> {
         pieces.recv(&self.rt).ok()
     }
 
-    /// Keeps a piece that came until it is taken. Whether one may come later, where none came.
+    /// Keeps a piece that came until it is taken. Answers whether one may come later, if none came.
     fn keep(&mut self, came: Result<Piece, bool>) -> bool
         ensures piece { IfOk came (λ piece. (result ≡ false) × (self.new ≡ record self.old { ready = Some piece })) }
         ensures none { IfErr came (λ may_come. (result ≡ may_come) × (self.new ≡ self.old)) }
@@ -170,7 +169,7 @@ impl<R: Wait + Drop> Threaded<R> {
         }
     }
 
-    /// Gives the next piece, for which it waits. Behind the end there are no bytes.
+    /// Gives the next piece, for which it waits. After the end it gives no bytes.
     fn next_piece(&mut self, out: &mut [u8; MAX_HELD]) -> Result<usize, SourceFailed>
         ensures few { IfOk result (λ count. count ≤ length out.new) }
         ensures same { self.new.trace.told ≡ self.old.trace.told }

@@ -3,7 +3,7 @@
 use crate::{SIZE, place, turned};
 use std::alloc::{AllocError, Global};
 
-/// Bytes at their places, piece behind piece: a place, how many bytes stand there, and these. All others are 00. It is one table of numbers:
+/// Bytes at their places, piece after piece: a place, how many bytes are there, and these. All others are 00. It is one table of numbers:
 /// who names a table pays for each reference within it.
 pub(crate) type Pieces = &'static [u16];
 
@@ -29,13 +29,13 @@ const TURNED: Pieces = &[ //
     13_097, 9, 1, 0, 16, 0, 0, 0, 0, 0, 3, //
 ];
 
-/// The group behind it: the letter is confirmed.
+/// The group after it: the letter is confirmed.
 const CONFIRMED: Pieces = &[ //
     13_113, 9, 0xA5, 0, 1, 0, 0, 0, 0, 0, 4, //
     13_129, 9, 4, 0, 0, 0, 1, 0, 0, 0, 4, //
 ];
 
-/// The second area behind a checkpoint, but for its gate: all five entries are in its cut.
+/// The second area after a checkpoint, but for its gate: all five entries are in its cut.
 const CHECKPOINT: Pieces = &[ //
     16_897, 13, 2, 0, 0, 0, 0, 0, 0, 0, 0xDC, 0x30, 0, 0, 5, //
     16_917, 12, 1, 0, 4, 0, 0x0B, 1, 0, 0x80, 0, 2, 0, 0x80, //
@@ -50,15 +50,15 @@ const SWITCHED: Pieces = &[ //
     16_896, 1, 0xA5, //
 ];
 
-/// The group behind that: two runs of 16 steps.
+/// The group after that: two runs of 16 steps.
 const GOES_ROUND: Pieces = &[ //
     29_417, 9, 0xA5, 0, 2, 0, 0, 0, 0, 0, 5, //
     29_433, 9, 1, 0, 16, 0, 0, 0, 0, 0, 5, //
     29_449, 9, 1, 0, 16, 0, 0, 0, 0, 0, 6, //
 ];
 
-/// A device of the network of one node, whose pieces have a letter each, and what it opens to: whether the second area is open, its
-/// generation, how many entries its cut holds, and the number of the next entry.
+/// A device of the network of one node, whose pieces have a letter each, and what it opens to: whether the second area is open, its generation, how
+/// many entries its cut holds, and the number of the next entry.
 #[derive(Clone, Copy)]
 pub struct Kept {
     pub(crate) pieces: [u8; 7],
@@ -68,8 +68,8 @@ pub struct Kept {
     pub next: u64,
 }
 
-/// Freshly formatted; behind the first turns; with the letter confirmed; that while a checkpoint isn't done; behind the
-/// checkpoint; and with two runs behind that.
+/// Freshly formatted; after the first turns; with the letter confirmed; also while a checkpoint isn't done; after the checkpoint; and with two
+/// runs after that.
 pub const KEPT: [Kept; 6] = [
     Kept {
         pieces: *b"f      ",
@@ -115,7 +115,7 @@ pub const KEPT: [Kept; 6] = [
     },
 ];
 
-/// The pieces of a letter; none where it has none.
+/// The pieces of a letter; none if it has none.
 fn pieces_of(letter: u8) -> Pieces {
     match letter {
         b'f' => FORMATTED,

@@ -21,7 +21,7 @@ pub const GROUPS: usize = 13_033;
 
 pub const SECOND: usize = 16_896;
 
-/// Bytes of an image in front of its memory, and of an image of four pages.
+/// Bytes of an image before its memory, and of an image of four pages.
 pub const HEAD: usize = 172;
 
 pub const IMAGE: usize = HEAD + 4096;
@@ -47,7 +47,7 @@ const RUNS: &[(usize, &[u8])] = &[
     (HEAD + 0x100, SENDS_A),
 ];
 
-/// Puts `piece` into `bytes` at a place. What would go past the end is left out.
+/// Puts `piece` into `bytes` at a place, and leaves out what would go past the end.
 pub fn place(bytes: &mut [u8], at: usize, piece: &[u8]) {
     for (old, new) in bytes.iter_mut().skip(at).zip(piece) {
         *old = *new;

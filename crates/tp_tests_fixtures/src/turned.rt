@@ -12,7 +12,7 @@ const TURNED: Pieces = &[ //
     13_081, 15, 5, 0, 16, 0, 0, 0, 0, 0, 2, 0, 0, 0, 0, 0, 2, //
 ];
 
-/// The group behind it: the letter is confirmed.
+/// The group after it: the letter is confirmed.
 const CONFIRMED: Pieces = &[ //
     13_097, 9, 0xA5, 0, 1, 0, 0, 0, 0, 0, 3, //
     13_113, 9, 4, 0, 0, 0, 1, 0, 0, 0, 3, //
@@ -31,7 +31,7 @@ const HANDED: Pieces = &[ //
     29_449, 15, 5, 0, 16, 0, 0x42, 0, 0, 0, 5, 0, 0, 0, 0, 0, 1, //
 ];
 
-/// Behind the first turns; and behind a checkpoint, with a turn more.
+/// After the first turns; and after a checkpoint, with a turn more.
 pub const WITH_TURNS: [Kept; 2] = [
     Kept {
         pieces: *b"fT     ",
@@ -49,7 +49,7 @@ pub const WITH_TURNS: [Kept; 2] = [
     },
 ];
 
-/// The pieces of a letter; none where it has none.
+/// The pieces of a letter; none if it has none.
 pub(crate) fn pieces_of(letter: u8) -> Pieces {
     match letter {
         b'T' => TURNED,

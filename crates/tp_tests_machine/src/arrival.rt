@@ -58,7 +58,7 @@ fn input_at(end: &[u8]) -> InEnd
     }
 }
 
-/// Whether an address lies inside a memory.
+/// Whether an address is inside a memory.
 fn is_inside(memory: &[u8], address: u32) -> bool
     ensures { IsTrue result → offset address < length memory.now }
 {

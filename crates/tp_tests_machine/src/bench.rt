@@ -34,7 +34,7 @@ fn image_of(node: &mut Node, alloc: Global) -> Result<Vec<u8>, AllocError> {
 }
 
 impl Bench {
-    /// A node that is about to run `code`, but for the facts `given`. None without memory, or where that is no image.
+    /// A node that is about to run `code`, except for the facts `given`; `None` without memory, or if that is no image.
     pub fn new(alloc: Global, code: &[u8], given: &[Fact<'_>]) -> Option<Bench> {
         let Ok(mut wanted) = Image::new(alloc) else {
             return None;

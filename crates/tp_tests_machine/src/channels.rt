@@ -226,8 +226,8 @@ const MESSAGES: &[Story<'static>] = &[
     },
 ];
 
-/// An input's pointer in word -3 is no state of an alternative just in front of these states, and just behind them; and the first word
-/// behind the links' is a channel.
+/// An input's pointer in word -3 is no state of an alternative just before these states, and just after them; and the first word
+/// after the links' is a channel.
 const NEXT_TO_OTHERS: &[Row<'static>] = &[
     (
         &[0xFB],
@@ -273,8 +273,8 @@ const NEXT_TO_OTHERS: &[Row<'static>] = &[
     ),
 ];
 
-/// What lies outside halts the node: the channel; the range of the first to come, and of the second; the first's word -3;
-/// the pointer that the first left; the workspace of an output out of a register.
+/// What is outside halts the node: the channel; the range of the first to come, and of the second; the first's word -3; the pointer that the first
+/// left; the workspace of an output out of a register.
 const OUTSIDE: &[Row<'static>] = &[
     (&[0xF7], &[Stack(1, 0x8000_1000, 0x8000_0310)], &[Halt(1)]),
     (&[0xF7], &[Stack(1, 0x7FFF_FFFC, 0x8000_0310)], &[Halt(1)]),

@@ -147,7 +147,7 @@ const DISABLING: &[Row<'static>] = &[
     ),
 ];
 
-/// A link of the wrong direction, also where the guard is false, and an end that others use.
+/// A link of the wrong direction, also if the guard is false, and an end that others use.
 const WRONG_AND_BUSY_ENDS: &[Row<'static>] = &[
     (&[0x24, 0xF8], &[Stack(0, 0x8000_0004, 0)], &[Halt(1)]),
     (&[0x22, 0xFF], &[Stack(5, 0, 0x8000_000C)], &[Halt(1)]),

@@ -10,7 +10,7 @@ pub const START: u32 = 0x8000_0100;
 
 pub const WORKSPACE: u32 = 0x8000_0200;
 
-/// Bytes in front of the memory, and where the output ends of links stand in these, and the input ends.
+/// Bytes before the memory, and the places in them of the output ends of links, and of the input ends.
 const HEAD: usize = 172;
 
 const OUTPUTS: u8 = 44;
@@ -76,7 +76,7 @@ impl Image {
         Ok(image)
     }
 
-    /// Puts bytes at a place. Those that would go past the end are left out.
+    /// Puts bytes at a place, and leaves out those that would go past the end.
     pub fn put(&mut self, at: usize, bytes: &[u8]) {
         for (slot, byte) in self.bytes.iter_mut().skip(at).zip(bytes) {
             *slot = *byte;
@@ -145,7 +145,7 @@ impl Image {
     }
 }
 
-/// Where the byte of an address stands in an image.
+/// Where the byte of an address is in an image.
 fn place_of(address: u32) -> usize {
     HEAD + address.wrapping_sub(FIRST) as usize
 }

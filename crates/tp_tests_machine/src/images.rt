@@ -61,7 +61,7 @@ const BYTES: &[(usize, u8, bool)] = &[
     (171, 1, false),
 ];
 
-/// Messages under way, by pointer and count. All that is left lies inside memory, and something is left.
+/// Messages under way, by pointer and count. All that is left is inside memory, and something is left.
 const MESSAGES: &[(u32, u32, bool)] = &[
     (0x8000_0FFE, 2, true),
     (0x8000_0FFF, 2, false),
@@ -105,7 +105,7 @@ fn is_with(alloc: Global, at: usize, bytes: &[u8], len: usize) -> Option<bool> {
     seen
 }
 
-/// Whether an image is one still where this is so; none without memory.
+/// Whether an image stays one with this fact; `None` without memory.
 fn is_where(alloc: Global, fact: &Fact<'_>) -> Option<bool> {
     let Ok(mut image) = Image::new(alloc) else {
         return None;

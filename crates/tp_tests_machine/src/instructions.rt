@@ -90,7 +90,7 @@ const JUMPS: &[Row<'static>] = &[
     ),
 ];
 
-/// A block is read whole before it is written, and one of no bytes may lie anywhere.
+/// A block is read whole before it is written, and one of no bytes may be anywhere.
 const MOVES: &[Row<'static>] = &[
     (
         &[0x24, 0xFA],
@@ -111,7 +111,7 @@ const MOVES: &[Row<'static>] = &[
     (&[0x24, 0xFA], &[Stack(0, 0x1234, 0xFFFF_FFFF)], &[]),
 ];
 
-/// A loop ends where its count is 1 or less, signed, and its index may then lie outside memory.
+/// A loop ends if its count is 1 or less, signed, and its index may then be outside memory.
 const LAST_TURNS: &[Row<'static>] = &[
     (
         &[0x22, 0xF1],
@@ -255,7 +255,7 @@ const ENDINGS: &[Story<'static>] = &[
     },
 ];
 
-/// Bytes that are no instruction: ldtimer, a prefix byte too many, and instructions that lie outside memory.
+/// Bytes that are no instruction: ldtimer, a prefix byte too many, and instructions that are outside memory.
 const NO_INSTRUCTIONS: &[Row<'static>] = &[
     (&[0x22, 0xF2], &[], &[Halt(2)]),
     (&[0x20; 17], &[], &[Halt(3)]),
@@ -268,7 +268,7 @@ const NO_INSTRUCTIONS: &[Row<'static>] = &[
     (&[], &[Iptr(0x7FFF_FFFF)], &[Halt(1)]),
 ];
 
-/// Words that lie outside: of ldl 1, stl 1, ldnl 0, stnl 0, lb, sb, call, ret; and the blocks of move
+/// Words that are outside: of ldl 1, stl 1, ldnl 0, stnl 0, lb, sb, call, ret; and the blocks of move
 const ACCESSES_OUTSIDE: &[Row<'static>] = &[
     (&[0x71], &[Wptr(0x8000_0FFC)], &[Halt(1)]),
     (&[0xD1], &[Wptr(0x8000_0FFC)], &[Halt(1)]),
@@ -295,7 +295,7 @@ const ACCESSES_OUTSIDE: &[Row<'static>] = &[
     ),
 ];
 
-/// lend: the count, the index; endp: the count, the place to go on; stopp, startp; and alt, whose word -3 alone lies outside
+/// lend: the count, the index; endp: the count, the place to go on; stopp, startp; and alt, whose word -3 alone is outside
 const PROCESSES_OUTSIDE: &[Row<'static>] = &[
     (&[0x22, 0xF1], &[B(0x8000_0FFC)], &[Halt(1)]),
     (

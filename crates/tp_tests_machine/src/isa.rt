@@ -114,7 +114,7 @@ fn every_function(rt: HostRuntime) {
     }
 }
 
-/// What two bytes are read as that spell an operation, where there is one.
+/// What two bytes are read as that spell an operation, if there is one.
 fn spelled(number: u8) -> Result<Instr, DecodeFault> {
     let instr = Instr {
         fun: Fun::Opr,
@@ -151,7 +151,7 @@ const READ: &[(&[u8], Fun, i32, u8)] = &[
     (&[0x61, 0x6D, 0x43], Fun::Ldc, 0x123, 3),
     (&[0x24, 0xF2], Fun::Opr, 0x42, 2),
     (&[0x60, 0x0E], Fun::J, -2, 2),
-    // What comes behind an instruction doesn't matter, nor do prefixes that change nothing.
+    // What comes after an instruction doesn't matter, nor do prefixes that change nothing.
     (&[0x45, 0xFF, 0x20], Fun::Ldc, 5, 1),
     (&[0x20, 0x20, 0x20, 0x45], Fun::Ldc, 5, 4),
     (&[0x60, 0x60, 0x4F], Fun::Ldc, 0xFF, 3),

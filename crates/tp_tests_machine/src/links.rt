@@ -292,7 +292,7 @@ const WRONG_AND_BUSY_ENDS: &[Row<'static>] = &[
         ],
         &[Halt(4)],
     ),
-    // An end is in use also where the own process enabled it.
+    // An end is in use also if the own process enabled it.
     (
         &[0xF7],
         &[Stack(1, 0x8000_0010, 0x8000_0320), Enabled(0, 0x8000_0201)],

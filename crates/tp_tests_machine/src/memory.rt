@@ -18,11 +18,11 @@ enum Write<'a> {
     ByteAndWords(u32, u8, &'a [(u32, u32)]),
     /// To, from, count, words.
     Block(u32, u32, u32, &'a [(u32, u32)]),
-    /// The word in front of such a block.
+    /// The word before such a block.
     BlockAfter(u32, u32, u32, &'a [(u32, u32)]),
 }
 
-/// The word in front of blocks.
+/// The word before blocks.
 const FIRST: (u32, u32) = (0x8000_0330, 0x1122_3344);
 
 fn make(mem: &mut FlatMemory, call: &Write<'_>) -> Result<(), WriteFault> {
@@ -38,7 +38,7 @@ fn make(mem: &mut FlatMemory, call: &Write<'_>) -> Result<(), WriteFault> {
     }
 }
 
-/// Whether a call wrote, or refused since something lies outside.
+/// Whether a call wrote, or refused since something is outside.
 fn writes(mem: &mut FlatMemory, call: &Write<'_>) -> Option<bool> {
     match make(mem, call) {
         Ok(()) => Some(true),
@@ -47,8 +47,8 @@ fn writes(mem: &mut FlatMemory, call: &Write<'_>) -> Option<bool> {
     }
 }
 
-/// Calls one after another, whether each writes, and a word that is then in memory: a call writes all or nothing, a block
-/// behind the first word and in front of the others, which are written in order.
+/// Calls one after another, whether each writes, and a word that is then in memory. A call writes all or nothing; a block is written after the first
+/// word and before the others, which are written in order.
 const WRITES: &[(Write<'static>, bool, u32, u32)] = &[
     (
         Write::Word(0x8000_0102, 0x4433_2211),
@@ -130,7 +130,7 @@ fn writing(rt: HostRuntime) -> Result<(), Fail> {
     Ok(())
 }
 
-/// Ranges, and whether they lie inside.
+/// Ranges, and whether they are inside.
 const RANGES: &[(u32, u32, bool)] = &[
     (0x8000_0000, 4096, true),
     (0x8000_0000, 4097, false),
@@ -144,7 +144,7 @@ const RANGES: &[(u32, u32, bool)] = &[
     (0x8000_0001, 0xFFFF_FFFF, false),
 ];
 
-/// Whether a range lies inside, and its byte can be read, where it is one byte.
+/// Whether a range is inside, and its byte can be read, if it is one byte.
 fn is_range(mem: &FlatMemory, row: &(u32, u32, bool)) -> bool {
     let (address, count, inside) = *row;
     let reads = mem.read_byte(address).is_some();
@@ -169,7 +169,7 @@ fn is_clear(mem: &FlatMemory) -> bool {
     page == [0; 1024]
 }
 
-/// Whether frozen bytes stay as they were until they are let go.
+/// Whether frozen bytes stay as they were until they are released.
 fn keeps(mem: &mut FlatMemory) -> bool {
     mem.drop_frozen();
     mem.freeze();

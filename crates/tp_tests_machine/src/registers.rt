@@ -37,7 +37,7 @@ fn after(instr: Instr, before: Regs) -> Option<Regs> {
     registers(&instr, &mut seen).then_some(seen)
 }
 
-/// Error comes where a row sets it, and it stays where it was set before.
+/// Error is set if a row sets it, and stays if it was set before.
 fn is_row(row: &Row) -> bool {
     let (op, before, wanted, error) = *row;
     after(operation(op), regs(before, false)) == Some(regs(wanted, error))

@@ -10,8 +10,8 @@ use tp_model::Token::{Ack, Data};
 use tp_node::Why;
 use tp_tests_fixtures::SENDS_A;
 
-/// It has printed, and its byte is acknowledged. Then it runs for 16 steps; or for 4,096, which are three slices of a
-/// dispatch and 1,024 jumps, then a dispatch and 1,020 jumps.
+/// It has printed, and its byte is acknowledged. Then it runs for 16 steps; or for 4,096, which are three slices of a dispatch and 1,024 jumps, then
+/// a dispatch and 1,020 jumps.
 const PRINTING: &[Story<'static>] = &[
     Story {
         name: "prints a byte",

@@ -7,7 +7,7 @@ use std::process::Abort;
 use tp_model::Token;
 use tp_node::Why;
 
-/// One thing that happens to a node, or is looked at.
+/// One thing that happens to a node, or is checked.
 pub enum Event<'a> {
     /// It makes all the steps that it is to run for, and sends the tokens.
     Run(u16, &'a [(u8, Token)]),
@@ -31,7 +31,7 @@ pub struct Story<'a> {
     pub events: &'a [Event<'a>],
 }
 
-/// Ends the test where a row of a table isn't as told.
+/// Ends the test if a row of a table isn't as told.
 pub fn check(rt: &impl Abort, name: &str, row: usize, told: bool) {
     assert!(rt; told, "{name}, row {row}");
 }
@@ -75,11 +75,11 @@ pub fn play_all(rt: &impl Abort, alloc: Global, stories: &[Story<'_>]) {
     }
 }
 
-/// An instruction's bytes, what is given, and what then has changed. Where that is the halt code, nothing else has; else so have the
+/// An instruction's bytes, what is given, and what then has changed. If that is the halt code, nothing else has; else so have the
 /// place of the next instruction and the slice count.
 pub type Row<'a> = (&'a [u8], &'a [Fact<'a>], &'a [Fact<'a>]);
 
-/// Whether one step of a low process, behind which the next instruction is at `next`, changes what it is to.
+/// Whether one step of a low process, after which the next instruction is at `next`, changes what it is to.
 fn is_step(bench: &mut Bench, next: u32, then: &[Fact<'_>]) -> bool {
     let ran = bench.runs(1, &[]);
     if let [Fact::Halt(_)] = then {

@@ -12,7 +12,7 @@ struct Twins {
     flat: FlatMemory,
 }
 
-/// Whether a write goes one way in both, where a frame is not wanted.
+/// Whether a write goes one way in both, if a frame is not wanted.
 fn write(twins: &mut Twins, address: u32, word: u32) -> bool {
     let first = if word % 2 == 0 {
         twins.cow.write_word(address, word)

@@ -57,7 +57,7 @@ no_images : (images : List (Vec ℕ Global)) → map (λ image. node_at image.it
 no_images [] none = refl
 no_images (image ∷ images) none = cc
 
--- a device leaves it, with a cut of two entries and none behind it
+-- a device leaves it, with a cut of two entries and none after it
 pub lone_opened : (s : NetState) → network_made s.net ≡ lone_network → cut_of s ≡ lone_network → s.kept.items ≡ [] → s.base ≡ 2 → s.next ≡ 2 → s.generation ≡ 1
     → All (λ port. vec_len port.pending ≤ MAX_HELD) s.net.ports.items → All (λ port. vec_len port.outputs ≤ MAX_HELD) s.net.ports.items → IsWellOpen s
 unfolding after

@@ -13,7 +13,7 @@ use Rattle.tp_tests_opening.specs.Member.{member_piece, member_network}
 use Rattle.tp_tests_opening.specs.Pair.{pair_whole, whole_pieces}
 use Rattle.tp_tests_opening.proofs.PairWhole.{pair_is_whole}
 
--- the first of them, where any is asked for
+-- the first of them, if any is asked for
 abbrev pub any : Member
 any = Node (record { side = First; out = Some 65; held = None })
 

@@ -45,7 +45,7 @@ next_in-run side out held i count = elim (cases_eq i (number_of side)) [
   | inr apart ↦ runs_elsewhere side out held i count (ne_eqb i (number_of side) apart) ∙ sym (ap (λ b. became side (cond b None (Some (out, held)))) (ne_eqb i (number_of side) apart))
 ]
 
--- a line that isn't there: each test of its number fails
+-- a line that doesn't exist: each test of its number fails
 abbrev past : ℕ → ℕ
 past line = suc (suc (suc (suc (suc (suc (suc (suc line)))))))
 

@@ -39,13 +39,13 @@ line_behind (suc (suc zero)) = refl
 line_behind (suc (suc (suc zero))) = refl
 line_behind (suc (suc (suc (suc n)))) = refl
 
--- to a node behind the first one
+-- to a node after the first one
 comes_later : (i k : ℕ) → incoming pair_wires 2 (suc i) k ≡ 0
 comes_later i k =
     let e : 4 * suc i + k ≡ suc (suc (suc (suc (4 * i + k)))) = omega arith in
     ap (λ l. line_from 2 (receiver pair_wires l)) e ∙ line_behind (4 * i + k)
 
--- to the first node, behind its first link
+-- to the first node, after its first link
 comes_first_on : (k : ℕ) → incoming pair_wires 2 0 (suc k) ≡ 0
 comes_first_on k =
     let e : 4 * 0 + suc k ≡ suc k = omega arith in
@@ -69,7 +69,7 @@ from_both piece N (x ∷ xs) ys = go _ (from_both piece N xs ys)
     go true h = ap (λ zs. x ∷ zs) h
     go false h = h
 
--- what a turn takes on one link and on those behind it
+-- what a turn takes on one link and on those after it
 apart : (piece : Piece) (i k : ℕ) (one : Received) (more : List Received)
     → from_piece piece 2 (by_line pair_wires 2 i (by_link k (one ∷ more))) ≡ from_piece piece 2 (by_line pair_wires 2 i (map (λ t. (k, t)) (received one))) ++ from_piece piece 2 (by_line pair_wires 2 i (by_link (k + 1) more))
 apart piece i k one more =
@@ -140,7 +140,7 @@ left_second (Some byte) held (t ∷ ts) = elim (cases_Bool (same_token (Data byt
 
 -- ## The turn of another node
 
--- a part behind what others do
+-- a part after what others do
 others : (piece : Piece) (s : Network NodeState) (i : ℕ) (links : List Received) (count : ℕ) (ms : List (ℕ × Token)) → piece i ≡ false → from_piece piece (length s.nodes) (by_line s.wires (length s.nodes) i (by_link 0 links)) ≡ ms
     → next_in t414 piece s (Turn i links count) ≡ (taken s.lines ms >>= λ lines. Some (record s { lines = lines }))
 unfolding next_in process takes
@@ -183,7 +183,7 @@ third_second out held i links count =
 
 -- ## The turn of its own node
 
--- the byte of the first link, where it is the only token
+-- the byte of the first link, if it is the only token
 abbrev single : List (ℕ × Token) → Option ℕ
 single [] = None
 single (m ∷ n ∷ ms) = None
@@ -294,7 +294,7 @@ own_not side None ((zero, Data byte) ∷ (zero, t) ∷ ms) count h = did_none (n
 own_not First None ((zero, Data byte) ∷ (suc k, t) ∷ ms) count h = no_entry 0 None ((zero, Data byte) ∷ (suc k, t) ∷ ms) count (later_out First k t ms)
 own_not Second None ((zero, Data byte) ∷ (suc k, t) ∷ ms) count h = no_entry 1 None ((zero, Data byte) ∷ (suc k, t) ∷ ms) count (later_out Second k t ms)
 
--- its part behind the turn
+-- its part after the turn
 abbrev turn_in : Side → Option ℕ → Option ℕ → List (ℕ × Token) → ℕ → Option (Network NodeState)
 turn_in side out held ms count =
     taken (pair_network side out held).lines (from_piece (node_piece side) 2 (by_line pair_wires 2 (number_of side) ms))

@@ -20,8 +20,8 @@ use Rattle.tp_law_network.specs.Piece.{Piece}
 use Rattle.tp_tests_opening.specs.declared.halted.Side.{Side}
 use Rattle.tp_tests_opening.specs.declared.halted.Side.TheVariants.{First, Second}
 
--- A node that has halted. Its first link holds a byte that came in, or none, and waits for the acknowledge of a byte that it sent,
--- behind which another one would have to go out, from an address where no memory is; so it can't take the acknowledge.
+-- A node that has halted. Its first link holds a byte that came in, or none, and waits for the acknowledge of a byte that it sent. After that it
+-- would have to send another one, from an address outside memory; so it can't take the acknowledge.
 abbrev pub halted_node : Option ℕ → NodeState
 halted_node held = record {
   cpu = record resting { halt = Some UnknownOp };
@@ -33,7 +33,7 @@ halted_node held = record {
 abbrev pub pair_wires : List (Option WireEnd)
 pair_wires = Some (Link 1 0) ∷ None ∷ None ∷ None ∷ Some (Link 0 0) ∷ None ∷ None ∷ None ∷ []
 
--- what stands on a line: a byte, or nothing
+-- what is on a line: a byte, or nothing
 abbrev pub byte_on : Option ℕ → List Token
 byte_on None = []
 byte_on (Some byte) = Data byte ∷ []
@@ -54,8 +54,8 @@ pair_network Second out held = record {
   lines = [] ∷ [] ∷ [] ∷ [] ∷ byte_on out ∷ [] ∷ [] ∷ [] ∷ [];
 }
 
--- The whole pair, with the byte 65 on the first node's line, and 66 on the second one's: each node waits for the acknowledge of its
--- byte, so the network is sound. And once each node has taken the other's byte.
+-- The whole pair, with the byte 65 on the first node's line, and 66 on the second one's: each node waits for the acknowledge of its byte, so the
+-- network is sound. And once each node has taken the other's byte.
 abbrev pub pair_whole : Network NodeState
 pair_whole = record {
   wires = pair_wires;
@@ -137,13 +137,13 @@ abbrev pub first_received : List Received → List Token
 first_received [] = []
 first_received (one ∷ more) = received one
 
--- The tokens that the turn of another node takes of a node's line. Where a link has no wire, it counts as if line 0 came in on it.
+-- The tokens that the turn of another node takes of a node's line. If a link has no wire, it counts as if line 0 came in on it.
 abbrev pub from_line_of : Side → ℕ → List Received → List Token
 from_line_of First i links = all_received links
 from_line_of Second zero links = first_received links
 from_line_of Second (suc i) links = []
 
--- the byte that a turn takes on the first link, where it takes nothing else
+-- the byte that a turn takes on the first link, if it takes nothing else
 abbrev pub is_nothing : Received → Bool
 is_nothing Nothing = true
 is_nothing (JustData byte) = false
@@ -172,7 +172,7 @@ after_turn out held None count = None
 after_turn out held (Some byte) zero = hold out held (Data byte)
 after_turn out held (Some byte) (suc count) = None
 
--- What is out and what is held in a node's part after an entry; none where the part stops.
+-- What is out and what is held in a node's part after an entry; none if the part stops.
 abbrev pub node_after : Side → Option ℕ → Option ℕ → Entry → Option (Option ℕ × Option ℕ)
 node_after side out held (Run i count) = if i == number_of side then None else Some (out, held)
 node_after side out held (Take line token) =

@@ -1,4 +1,4 @@
--- Entries that may stand behind a cut.
+-- Entries that may be after a cut.
 use Rattle.std.specs.Prelude.{◌≤◌, ℕ, ◌+◌, ◌-◌, List, map, length}
 use Rattle.std.specs.List.{AllByRecursion}
 use Rattle.tp_model.specs.declared.entry.Entry.{Entry}
@@ -6,7 +6,7 @@ use Rattle.tp_model.specs.declared.limits.TheConstants.{NUMBER_LIMIT}
 use Rattle.tp_model.specs.EntryBytes.{IsSpelt}
 use Rattle.tp_model.specs.Numbers.{AreNumbered}
 
--- they are spelt, and numbered behind a cut of `base` entries
+-- they are spelt, and numbered after a cut of `base` entries
 pub record AreTailOf (base : ℕ) (tail : List (Entry × ℕ)) : Type 0 where
   pub spelt : AllByRecursion (λ e. IsSpelt e.0 e.1) tail
   pub numbers : AreNumbered 0 base (map (λ e. e.1) tail)

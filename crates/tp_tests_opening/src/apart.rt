@@ -14,18 +14,18 @@ use tp_model::limits::NARROW_HEAD_BYTES;
 use tp_recover::{Opened, Unopened, open, open_parallel};
 use tp_tests_fixtures::place;
 
-/// How many workers open each device: one; two; more than there are nodes; and as many as there may be.
+/// How many workers open each device: one; two; more than there are nodes; and the most there may be.
 const WORKERS: [u8; 4] = [1, 2, 16, 64];
 
-/// Places of a device, and the bytes that stand there in place of its own; and the next number that it then has, or why it doesn't open.
-/// A row has arrays of numbers alone: each reference within a table costs a check time.
+/// Places of a device, and the bytes that are there in place of its own; and the next number that it then has, or why it doesn't open. A row has only
+/// arrays of numbers: each reference within a table costs check time.
 pub(crate) type Content = ([usize; 6], [u8; 6], Result<u64, OpenFault>);
 
 /// What is no place.
 pub(crate) const NO: usize = usize::MAX;
 
-/// The device of one node, whose group has four entries, of 16 bytes each from 13,049 on: a run of 3 steps, the letter, its
-/// acknowledge, and a run of 16 steps.
+/// The device of one node, whose group has four entries, of 16 bytes each from 13,049 on: a run of 3 steps, the letter, its acknowledge, and a run of
+/// 16 steps.
 const ONE: &[Content] = &[
     ([NO, NO, NO, NO, NO, NO], [0, 0, 0, 0, 0, 0], Ok(4)),
     // No group.
@@ -48,25 +48,25 @@ const ONE: &[Content] = &[
         [4, 0, 0, 0, 0, 0],
         Err(Damaged(13_049)),
     ),
-    // Another letter, and behind it what is no entry.
+    // Another letter, and after it what is no entry.
     (
         [13_069, 13_097, NO, NO, NO, NO],
         [0x42, 9, 0, 0, 0, 0],
         Err(Damaged(13_065)),
     ),
-    // What is no entry, and behind it another letter.
+    // What is no entry, and after it another letter.
     (
         [13_049, 13_069, NO, NO, NO, NO],
         [9, 0x42, 0, 0, 0, 0],
         Err(Damaged(13_049)),
     ),
-    // What is no entry, behind entries that are all possible.
+    // What is no entry, after entries that are all possible.
     (
         [13_097, NO, NO, NO, NO, NO],
         [9, 0, 0, 0, 0, 0],
         Err(Damaged(13_097)),
     ),
-    // A number out of order, and another letter in front of it.
+    // A number out of order, and another letter before it.
     (
         [13_105, NO, NO, NO, NO, NO],
         [4, 0, 0, 0, 0, 0],
@@ -77,7 +77,7 @@ const ONE: &[Content] = &[
         [4, 0x42, 0, 0, 0, 0],
         Err(Damaged(13_065)),
     ),
-    // An open gate without a group behind it, and another letter in front of it.
+    // An open gate without a group after it, and another letter before it.
     (
         [13_113, NO, NO, NO, NO, NO],
         [0xA5, 0, 0, 0, 0, 0],
@@ -156,7 +156,7 @@ const TWO: &[Content] = &[
         [2, 0, 0, 0, 0, 0],
         Err(Damaged(17_381)),
     ),
-    // The second node takes another letter than the first one sent, and what is no entry stands behind that.
+    // The second node takes another letter than the first one sent, and what is no entry is after that.
     (
         [17_369, 17_381, NO, NO, NO, NO],
         [0x42, 9, 0, 0, 0, 0],

@@ -19,15 +19,15 @@ pub(crate) enum Step {
     Switch(Cut),
 }
 
-/// What opening says: whether the second area is open, its generation, how many entries its cut holds and how many stand
-/// behind it, the next number, and the area's form.
+/// What opening says: whether the second area is open, its generation, how many entries its cut holds and how many are
+/// after it, the next number, and the area's form.
 pub(crate) type Look = (bool, u64, u64, usize, u64, Form);
 
 /// A call of the device: the bytes that it writes or syncs, as their place and length, and whether it is a sync. A read has none.
 pub(crate) type Put = (usize, usize, bool);
 
-/// The calls of a device by which a step goes on: how many there are, all of them, how many behind the first are left out of that list,
-/// and where the closed gate behind a checkpoint's tail stands.
+/// The calls of a device by which a step goes on: how many there are, all of them, how many after the first that list leaves out, and where the
+/// closed gate after a checkpoint's tail is.
 #[derive(Clone, Copy)]
 pub(crate) struct Calls {
     pub(crate) each: usize,
@@ -36,9 +36,9 @@ pub(crate) struct Calls {
     pub(crate) behind: usize,
 }
 
-/// The device that it begins with, by its number where it was kept, else formatted; and the steps before those whose calls have faults.
-/// These steps, and their calls. What there is before each of them and behind the last: all entries in the order in which they were
-/// made, what opening says, and the port's outputs. Bytes of the device behind the last.
+/// The device that it begins with, by its number if it was kept, else formatted; and the steps before those whose calls have faults. These steps, and
+/// their calls. What there is before each of them and after the last: all entries in the order in which they were made, what opening says, and the
+/// port's outputs. Bytes of the device after the last.
 pub(crate) struct Story {
     pub(crate) first: Option<usize>,
     pub(crate) before: &'static [Step],
@@ -54,7 +54,7 @@ pub(crate) struct Stage {
     pub(crate) outputs: &'static [u8],
 }
 
-/// What stands in the list of calls for the closed gate behind the tail.
+/// What is in the list of calls for the closed gate after the tail.
 const BEHIND: usize = usize::MAX;
 
 /// Two groups: each one's body is written, a sync, its gate is written, a sync.
@@ -69,9 +69,9 @@ pub(crate) const WRITES: &[Put] = &[
     (GROUPS + 80, 1, true),
 ];
 
-/// The calls of a checkpoint: the other area's gate is read, and where it is open, closed, and synced. Behind these, from that gate on:
-/// the node's head and its pages; the fields, the records of lines and of the port, the group and the closed gate; a sync of what stands
-/// behind the gate; the gate, and a sync of it.
+/// The calls of a checkpoint. The other area's gate is read and, if it is open, closed and synced. After these, from that gate on: the node's head
+/// and its pages; the fields, the records of lines and of the port, the group and the closed gate; a sync of what is after the gate; the gate, and a
+/// sync of it.
 pub(crate) const PUTS: &[Put] = &[
     (0, 0, false),
     (SECOND, 1, false),

@@ -25,8 +25,8 @@ use tp_tests_fixtures::ONE_NODE;
 /// The pages of the node.
 const PAGES: usize = 4;
 
-/// What is put for a cut: the network's topology, what a plain replay gives of the entries in it, its lines, and the entries outside it; each
-/// as it was made, or why it wasn't.
+/// What is put for a cut: the network's topology, what a plain replay gives of the entries in it, its lines, and the entries outside it; each as it
+/// was made, or why it wasn't.
 #[derive(Drop)]
 struct Made {
     topology: Result<Topology, NetFault>,
@@ -101,7 +101,7 @@ fn is_port(base: u64, port: &PortParts) -> bool
         && port.outputs.len() as u64 <= base - port.out_base
 }
 
-/// Whether entries may stand behind a cut of `base` entries, in groups.
+/// Whether entries may be after a cut of `base` entries, in groups.
 fn are_behind(base: u64, tail: &[Numbered]) -> bool
     ensures { result ≡ true → AreTailOf base tail.now }
 {
@@ -183,7 +183,7 @@ fn switch<D: Disk>(
     store.open_other()
 }
 
-/// Makes a checkpoint of what was made for it. Where that wasn't, it is refused as by a full area, which no test wants.
+/// Makes a checkpoint of what was made for it. If that wasn't made, it refuses as for a full area, which no test wants.
 fn switch_to(store: &mut Store<MemDisk>, made: &Made) -> Result<(), StoreFault> {
     match (&made.topology, &made.held, &made.lines, &made.tail) {
         (Ok(topology), Some(held), Ok(lines), Ok(tail)) => {

@@ -3,7 +3,7 @@
 use std::sync::atomic::{AtomicU32, Ordering};
 use std::thread::yield_now;
 
-/// How often a thread looks for the others, at most. Where one comes no more that is a second or two, and the test fails by what was counted.
+/// How often a thread looks for the others, at most. If one comes no more that is a second or two, and the test fails by what was counted.
 const LOOKS: u32 = 1_000_000;
 
 /// How many have come of a crowd, and how many of these saw that all had.
@@ -23,7 +23,7 @@ impl Crowd {
         }
     }
 
-    /// Comes, and looks until all have come, `LOOKS` times at most; yields between two looks.
+    /// Comes, and checks until all have come, `LOOKS` times at most; yields between two checks.
     pub fn meet(&self) {
         self.come.fetch_add(1, Ordering::SeqCst);
         for _ in 0..LOOKS {

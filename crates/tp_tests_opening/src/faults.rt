@@ -1,8 +1,8 @@
-//! How a call of a device ends, and what then stands in the range of a write that isn't synced.
+//! How a call of a device ends, and what then is in the range of a write that isn't synced.
 
 use tp_disk::PlannedFault;
 
-/// What stands in that range: one byte everywhere, what stood there, or what was written.
+/// What is in that range: one byte everywhere, what was there, or what was written.
 #[derive(Clone, Copy)]
 pub(crate) enum Torn {
     Filled(u8),
@@ -18,7 +18,7 @@ pub(crate) enum Ending {
     Fails,
 }
 
-/// Each ending, with what is torn: where the run stops before a call, what was written last stands.
+/// Each ending, with what is torn: if the run stops before a call, what was written last is.
 pub(crate) const ENDINGS: &[(Ending, Torn)] = &[
     (Ending::Before, Torn::New),
     (Ending::Within, Torn::Filled(0x00)),
@@ -44,7 +44,7 @@ pub(crate) struct Case {
 }
 
 impl Ending {
-    /// The fault of the call, where `torn` is what a write leaves.
+    /// The fault of the call, if `torn` is what a write leaves.
     pub(crate) fn fault(self, torn: Vec<u8>) -> PlannedFault {
         match self {
             Ending::Before => PlannedFault::StopsBefore,

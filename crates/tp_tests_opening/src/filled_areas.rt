@@ -11,8 +11,8 @@ use tp_recover::open_store;
 /// Entries that are always possible here.
 const INPUTS: [u8; 238] = [b'x'; 238];
 
-/// The bytes of an area; groups that fill it, each with how many entries it has and the place where it ends; the next number and the end
-/// then; and how many entries a group has that doesn't fit behind them.
+/// The bytes of an area; groups that fill it, each with how many entries it has and the place where it ends; the next number and the end then; and
+/// how many entries a group has that doesn't fit after them.
 struct Filling<'a> {
     area: u64,
     groups: &'a [(usize, u64)],
@@ -22,8 +22,8 @@ struct Filling<'a> {
 }
 
 /// The first area's groups have the bytes from 13,033 to 16,896, and the last is a gate. A group of n entries takes 16
-/// and 16 n bytes: three of 64 leave 743, which is room for 45 entries and the gate behind them. Where 752 bytes are left, 46
-/// entries fill them, and no gate fits behind; where 753 are, it does.
+/// and 16 n bytes: three of 64 leave 743, which is room for 45 entries and the gate after them. If 752 bytes are left, 46
+/// entries fill them, and no gate fits after; if 753 are, it does.
 const FILLINGS: &[Filling<'static>] = &[
     Filling {
         area: 16_384,

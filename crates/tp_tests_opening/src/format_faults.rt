@@ -11,8 +11,8 @@ use tp_disk::{MemDisk, PlannedFault};
 use tp_model::OpenFault;
 use tp_tests_fixtures::{AREA, ONE_NODE, SIZE, place};
 
-/// What is formatted: its network, the bytes of its head, of its device and of an area; how many calls that makes; what the device says
-/// once all but the head is written and a few bytes of the head, which was zeros; and up to where it isn't zeros.
+/// What is formatted: its network, the bytes of its head, of its device and of an area; how many calls that makes; what the device says once it has
+/// all but the head and a few bytes of the head, which was zeros; and up to where it isn't zeros.
 struct Made {
     text: &'static [u8],
     nodes: usize,
@@ -89,7 +89,7 @@ impl Made {
         formatted(alloc, self.text, self.nodes, self.head, self.area)
     }
 
-    /// Whether formatting a device ends well; none where its network can't be made.
+    /// Whether formatting a device ends well; none if its network can't be made.
     fn formats(&self, alloc: Global, disk: &mut MemDisk) -> Option<bool> {
         match Letter::of(alloc, self.text, self.nodes) {
             Some(network) => Some(network.format(alloc, disk, self.area).is_ok()),
@@ -107,8 +107,8 @@ impl Made {
         left(disk, is_stopped)
     }
 
-    /// Whether what a format leaves that ends in this call isn't formatted: where that is the last, once its head, which is whole, is torn
-    /// to `byte`; and also where the front of each area is `byte`.
+    /// Whether a format that ends in this call leaves a device that isn't formatted. If the call is the last, its head, which is whole, is torn to
+    /// `byte`; so it is if the front of each area is `byte`.
     fn says_none(
         &self,
         alloc: Global,
@@ -130,7 +130,7 @@ impl Made {
         is_none && opens_as(alloc, bytes, NONE)
     }
 
-    /// Whether a format isn't done, and the device isn't formatted, where a call ends so and what is torn there is `byte`.
+    /// Whether a format isn't done, and the device isn't formatted, if a call ends so and what is torn there is `byte`.
     fn is_none(&self, alloc: Global, call: u64, way: (Ending, u8), whole: &[u8]) -> bool {
         let Ok(torn) = Vec::from_elem(alloc, way.1, 4268) else {
             return false;
@@ -215,9 +215,9 @@ impl Made {
     }
 }
 
-/// Whatever stands in the areas, the device isn't formatted before its head is written. Where the run stops within the head's write, what
-/// of it is written says what the device is. Written whole, it is formatted; the format isn't done either way. Where the last sync fails
-/// or isn't reached the format isn't done, and the head may be torn.
+/// Whatever is in the areas, the device isn't formatted before its head is written. If the run stops within the head's write, what of it is written
+/// says what the device is. Written whole, it is formatted; the format isn't done either way. If the last sync fails or isn't reached, the format
+/// isn't done, and the head may be torn.
 #[test]
 fn a_format_that_stops(rt: HostRuntime) {
     assert!(rt; ONE.stops(rt.alloc()) && ONE.stops_in_its_head(rt.alloc()));
@@ -253,7 +253,7 @@ fn is_like(alloc: Global, bytes: &[u8], first: &[u8]) -> bool {
     }
 }
 
-/// What stood on the device before: a device with a group, opened gates, or ones.
+/// What was on the device before: a device with a group, opened gates, or ones.
 fn before(alloc: Global, first: &[u8], byte: u8) -> Option<Vec<u8>> {
     if byte == 0 {
         return grown_by(alloc, first, LETTER);
@@ -278,7 +278,7 @@ fn is_like_over(alloc: Global, byte: u8) -> bool {
     }
 }
 
-/// What stood on the device before makes no difference to what it then holds, nor to a group that is appended.
+/// What was on the device before makes no difference to what it then holds, nor to a group that is appended.
 #[test]
 fn a_format_over_other_bytes(rt: HostRuntime) {
     for byte in [0, 0xA5, 0xFF] {

@@ -11,8 +11,8 @@ use tp_model::OpenFault;
 use tp_model::OpenFault::Damaged;
 use tp_tests_fixtures::AREA;
 
-/// The device of one node with a group of four entries. The base of its first area's cut stands at 525, in six bytes, and the area's form
-/// behind it.
+/// The device of one node with a group of four entries. The base of its first area's cut is at 525, in six bytes, and the area's form
+/// after it.
 const FIRST: &[Content] = &[
     ([531, 532, NO, NO, NO, NO], [0, 0, 0, 0, 0, 0], Ok(4)),
     (
@@ -90,7 +90,7 @@ const FIRST: &[Content] = &[
     ),
 ];
 
-/// A device that was kept, with two runs behind a checkpoint: its second area counts.
+/// A device that was kept, with two runs after a checkpoint: its second area counts.
 const SECOND: &[Content] = &[
     (
         [16_915, NO, NO, NO, NO, NO],
@@ -121,7 +121,7 @@ const SECOND: &[Content] = &[
         [2, 5, 2, 0, 0, 0],
         Err(Damaged(29_449)),
     ),
-    // The host hands in a byte, which the node takes in a turn: where the area has turns, and not where it has none.
+    // The host hands in a byte, which the node takes in a turn if the area has turns; else it isn't possible.
     (
         [16_915, 29_433, 29_435, 29_449, 29_453, 29_463],
         [2, 3, 0x42, 5, 0x42, 1],
@@ -143,7 +143,7 @@ fn an_area_has_a_form(rt: HostRuntime) {
 /// A turn: the node takes the acknowledge and makes 16 steps.
 const TURN: &[u8] = &[5, 0, 16, 0, 0, 0, 0, 0, 2, 0, 0, 0, 0, 0, 2, 0];
 
-/// What makes of the four entries three, the last of them; what puts it in front of the run; and what puts one without steps there.
+/// What makes of the four entries three, the last of them; what puts it before the run; and what puts one without steps there.
 const A_TURN: &[(usize, &[u8])] = &[(13_035, &[3]), (13_081, TURN), (13_097, &[0])];
 
 const A_TURN_AND_A_RUN: &[(usize, &[u8])] = &[(13_081, TURN)];
@@ -155,7 +155,7 @@ const AN_IDLE_TURN_AND_A_RUN: &[(usize, &[u8])] = &[(
 
 const NONE: Result<u64, OpenFault> = Err(Damaged(13_081));
 
-/// What stands in place of the turn, and what an area with turns says then. One without any says each time that it is damaged there.
+/// What is in place of the turn, and what an area with turns says then. One without any says each time that it is damaged there.
 const TURNS: &[([u8; 16], Result<u64, OpenFault>)] = &[
     ([5, 0, 16, 0, 0, 0, 0, 0, 2, 0, 0, 0, 0, 0, 2, 0], Ok(3)),
     // no step, the most that there may be, and one more
@@ -180,7 +180,7 @@ const TURNS: &[([u8; 16], Result<u64, OpenFault>)] = &[
     // a data byte of a link that gave no data
     ([5, 0, 16, 0, 1, 0, 0, 0, 2, 0, 0, 0, 0, 0, 2, 0], NONE),
     ([5, 0, 16, 0, 0, 0, 0, 1, 2, 0, 0, 0, 0, 0, 2, 0], NONE),
-    // data in place of the acknowledge, beside it, and what another link, another node and one that isn't there take
+    // data in place of the acknowledge, beside it, and what another link, another node and one that doesn't exist take
     ([5, 0, 16, 0, 0x41, 0, 0, 0, 2, 0, 0, 0, 0, 0, 1, 0], NONE),
     ([5, 0, 16, 0, 0x41, 0, 0, 0, 2, 0, 0, 0, 0, 0, 4, 0], NONE),
     ([5, 0, 16, 0, 0, 0, 0, 0, 2, 0, 0, 0, 0, 0, 16, 0], NONE),
@@ -196,7 +196,7 @@ fn turned(alloc: Global, device: Option<Vec<u8>>) -> Option<Vec<u8>> {
     }
 }
 
-/// Whether a device says this where these bytes stand in place of the turn.
+/// Whether a device says this if these bytes are in place of the turn.
 fn is_row<R: Threads + Sync>(
     rt: &R,
     alloc: Global,
@@ -233,8 +233,8 @@ fn one_form_has_turns(rt: HostRuntime) {
     play_rows(&rt, rt.alloc(), &turns, &plain);
 }
 
-/// Pieces over the device of one node, the next number then, and the entries that lead there: the turn leads where its take and its run
-/// lead; with a run behind it; and without steps, with that run.
+/// Pieces over the device of one node, the next number then, and the entries that lead there: the turn leads where its take and its run lead; with a
+/// run after it; and without steps, with that run.
 type Row = (&'static [(usize, &'static [u8])], u64, &'static [u8]);
 
 const ROWS: &[Row] = &[

@@ -12,7 +12,7 @@ const ONE_ENTRY: [u8; 33] = [
     0,
 ];
 
-/// How many entries are read, where a group stands there.
+/// How many entries are read, if a group is there.
 fn count_in(bytes: &[u8]) -> Result<Option<usize>, BadGroup> {
     match read_group(bytes) {
         Ok(Some(group)) => Ok(Some(group.entries().len())),
@@ -65,7 +65,7 @@ fn parts_of_a_group_are_none(rt: HostRuntime) {
 /// A byte of a group: its place, what is there instead, and how many entries are then read.
 type Change = (usize, u8, Result<Option<usize>, BadGroup>);
 
-/// What stands there, and after one byte was changed.
+/// What is there, and after one byte was changed.
 const CHANGES: &[Change] = &[
     (0, 0xA5, Ok(Some(1))),
     (0, 0xA4, Ok(None)),
@@ -96,7 +96,7 @@ fn one_byte_is_changed(rt: HostRuntime) {
     }
 }
 
-/// Two entries behind the gate, with the next gate, closed.
+/// Two entries after the gate, with the next gate, closed.
 const TWO_ENTRIES: [u8; 48] = [
     0, 2, 0, 0, 0, 0, 0, 7, 0, 0, 0, 0, 0, 0, 0, // the header
     1, 0, 5, 0, 0, 0, 0, 0, 7, 0, 0, 0, 0, 0, 0, 0, //

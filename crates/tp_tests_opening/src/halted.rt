@@ -1,4 +1,4 @@
-//! Two halted nodes and a host, as values: what they are proved to be stands in the tests, with their calls.
+//! Two halted nodes and a host, as values: what they are proved to be is in the tests, with their calls.
 
 /// Which of two nodes.
 #[derive(Clone, Copy)]

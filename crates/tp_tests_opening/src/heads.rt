@@ -14,11 +14,11 @@ use tp_model::limits::{IMAGE_HEAD_BYTES, NARROW_HEAD_BYTES, PAGE_BYTES, WIDE_HEA
 use tp_net::Topology;
 use tp_tests_fixtures::{idle, place};
 
-/// How many nodes a network has, each of four pages but the last; the pages of that; its least area; and whether its head is a wide one,
-/// since a narrow one can't say it. It has one port, and no wire.
+/// How many nodes a network has, each of four pages except the last; the pages of that; its least area; and whether its head is a wide one, since a
+/// narrow one can't say it. It has one port, and no wire.
 type Row = (u16, u16, u64, bool);
 
-/// A node of four pages has 4,268 bytes, each line 4, a port 8,212. Beside them stand 22, and there is room for 96 a line and 32 more.
+/// A node of four pages has 4,268 bytes, each line 4, a port 8,212. Beside them are 22, and there is room for 96 a line and 32 more.
 const ROWS: &[Row] = &[
     (1, 4, 13_034, false),
     (1, 256, 271_082, false),
@@ -84,7 +84,7 @@ fn network(alloc: Global, row: &Row) -> Option<Letter> {
     }
 }
 
-/// Whether a device of that size is refused for its areas.
+/// Whether a device of that size is too small for its areas.
 fn is_full(alloc: Global, letter: &Letter, size: usize, area: u64) -> bool {
     match MemDisk::zeroed(alloc, size) {
         Ok(mut disk) => letter.format(alloc, &mut disk, area) == Err(FormatFault::AreaFull),
@@ -92,14 +92,14 @@ fn is_full(alloc: Global, letter: &Letter, size: usize, area: u64) -> bool {
     }
 }
 
-/// Whether devices are refused so: one whose areas are smaller than the least by a byte, and one that is too small by a byte.
+/// Whether two devices are refused: one whose areas are smaller than the least by a byte, and one that is too small by a byte.
 fn are_full(alloc: Global, letter: &Letter, head: usize, least: u64) -> bool {
     let size = head.saturating_add(2 * least.min(2_000_000) as usize);
     is_full(alloc, letter, size, least.saturating_sub(1))
         && is_full(alloc, letter, size.saturating_sub(1), least)
 }
 
-/// The device of a row; none where smaller ones aren't refused.
+/// The device of a row; none if smaller ones aren't refused.
 fn device_of(alloc: Global, row: &Row, head: usize) -> Option<Vec<u8>> {
     let Some(letter) = network(alloc, row) else {
         return None;
@@ -111,7 +111,7 @@ fn device_of(alloc: Global, row: &Row, head: usize) -> Option<Vec<u8>> {
     }
 }
 
-/// Whether a device has a head of this version, and behind it an open area with turns.
+/// Whether a device has a head of this version, and after it an open area with turns.
 fn is_of_version(device: &[u8], head: usize, version: u8) -> bool {
     let area = device.get(head..).unwrap_or(&[]);
     device.get(7) == Some(&version)
@@ -143,7 +143,7 @@ const fn says_with_other(is_wide: bool) -> Result<u64, OpenFault> {
     if is_wide { Err(Damaged(0)) } else { Ok(0) }
 }
 
-/// Whether a device opens, and with a head of the other version, where that can say it.
+/// Whether a device opens, and with a head of the other version, if that can say it.
 fn opens_with<R: Threads + Sync>(rt: &R, alloc: Global, device: &[u8], is_wide: bool) -> bool {
     let Some(other) = other_head(alloc, device, is_wide) else {
         return false;
@@ -151,7 +151,7 @@ fn opens_with<R: Threads + Sync>(rt: &R, alloc: Global, device: &[u8], is_wide: 
     is_said(rt, alloc, device, Ok(0)) && is_said(rt, alloc, &other, says_with_other(is_wide))
 }
 
-/// Whether a network is formatted with its head, and opens with it; and with one of the other version, where that can say it.
+/// Whether a network is formatted with its head, and opens with it; and with one of the other version, if that can say it.
 fn has_its_head<R: Threads + Sync>(rt: &R, alloc: Global, row: &Row) -> bool {
     let is_wide = row.3;
     let (head, version) = if is_wide {
@@ -192,7 +192,7 @@ const NARROW: &[Content] = &[
         [1, 1, 0, 0, 0, 0],
         Err(Damaged(0)),
     ),
-    // The link leads to a port that isn't there, to a node that isn't, and nowhere.
+    // The link leads to a port that doesn't exist, to a node that doesn't, and nowhere.
     (
         [56, NO, NO, NO, NO, NO],
         [0x81, 0, 0, 0, 0, 0],

@@ -22,8 +22,8 @@ enum Call {
     Break,
 }
 
-/// A call; its answer, the receipt's number or the refusal, and none where it may not be made; and then the next number, how many
-/// bytes were accepted, and how many outputs were confirmed.
+/// A call; its answer, the receipt's number or the refusal, and `None` if it may not be made; and then the next number, how many bytes were accepted,
+/// and how many outputs were confirmed.
 type Row = (Call, Option<Result<u64, Refusal>>, (u64, u64, u64));
 
 /// The bytes that groups may fill, and calls one after another.
@@ -41,7 +41,7 @@ const STORIES: &[Story<'static>] = &[
             (Call::HandIn(1), Some(Err(PortFull)), (4098, 4096, 0)),
         ],
     ),
-    // A port where nothing is pending has room for 4,096 bytes in one offer.
+    // A port with nothing pending has room for 4,096 bytes in one offer.
     (
         None,
         &[
@@ -88,7 +88,7 @@ const STORIES: &[Story<'static>] = &[
     ),
 ];
 
-/// Confirms the outputs up to a position, and gives the receipt's number; none where there are no such outputs.
+/// Confirms the outputs up to a position, and gives the receipt's number; none if there are no such outputs.
 fn confirm(book: &mut Book, upto: u64) -> Option<Result<u64, Refusal>>
     requires { IsUsable book.old }
     ensures { IsUsable book.new }
@@ -162,7 +162,7 @@ fn is_row(book: &mut Book, row: &Row) -> bool
     make(book, call) == answer && is_so(book, next, accepted, confirmed)
 }
 
-/// Whether the book is as it ought to be at first, and behind each of `rows`, one made after another.
+/// Whether the book is as it ought to be at first, and after each of `rows`, one made after another.
 fn are_rows(book: &mut Book, rows: &[Row]) -> bool
     requires { IsUsable book.old }
 {
@@ -177,7 +177,7 @@ fn are_rows(book: &mut Book, rows: &[Row]) -> bool
     true
 }
 
-/// Whether that is so of a story's book.
+/// Whether a story's book answers like that.
 fn is_story(alloc: Global, story: &Story<'_>) -> bool {
     let (room, rows) = *story;
     match book(alloc, room) {

@@ -13,7 +13,7 @@ use tp_tests_fixtures::{KEPT, Kept, WITH_TURNS};
 /// The entries that lead to a device, each turn said apart, from the one that was just formatted; and these with one more.
 type Row = (&'static [u8], &'static [u8]);
 
-/// Behind the first turns the letter is confirmed, and the node goes round twice.
+/// After the first turns the letter is confirmed, and the node goes round twice.
 const KEPT_ROWS: [Row; 6] = [
     (b"", b"x"),
     (b"rako", b"rakox"),
@@ -23,10 +23,10 @@ const KEPT_ROWS: [Row; 6] = [
     (b"rakocoo", b"rakocoox"),
 ];
 
-/// The node takes the acknowledge and makes steps. Behind the checkpoint it takes what the port was handed.
+/// The node takes the acknowledge and makes steps. After the checkpoint it takes what the port was handed.
 const TURN_ROWS: [Row; 2] = [(b"rako", b"rakox"), (b"rakocblo", b"rakocblox")];
 
-/// The kept device with a number, the last where there is none. Others ask `kept_bytes`: a function that names a table pays for all of it.
+/// The kept device with a number, or the last if there is none. Others ask `kept_bytes`: a function that names a table pays for all of it.
 fn kept_of(number: usize) -> Kept {
     KEPT[number.min(5)]
 }
@@ -39,14 +39,14 @@ pub(crate) fn kept_bytes(alloc: Global, number: usize) -> Option<Vec<u8>> {
     }
 }
 
-/// What opening says of a device, by what is written beside it, where its area is of this form, and `more` entries were appended.
+/// What opening says of a device, by what is written beside it, if its area is of this form, and `more` entries were appended.
 fn look_of(kept: &Kept, form: Form, more: u64) -> Look {
     let next = kept.next.saturating_add(more);
     let count = next.saturating_sub(kept.base) as usize;
     (kept.second, kept.generation, kept.base, count, next, form)
 }
 
-/// Whether a device opens so, to where entries lead from the device that was just formatted.
+/// Whether a device opens to where entries lead from the device that was just formatted.
 fn opens<R: Threads + Sync>(
     rt: &R,
     alloc: Global,

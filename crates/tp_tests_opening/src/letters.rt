@@ -1,4 +1,4 @@
-//! Entries as letters, so that what tests do, and what they want then, stands in constants.
+//! Entries as letters, so that what tests do, and what they want then, is in constants.
 
 use tp_model::Received::{JustAck, JustData, Nothing};
 use tp_model::{Entry, Token};
@@ -19,7 +19,7 @@ const HANDED: Entry = Entry::Turn {
 /// The entry that a letter stands for. No letter else stands for one that may be made.
 pub(crate) fn entry_of(letter: u8) -> Entry {
     let (node, count) = match letter {
-        // The node sends the letter A; it goes round; it goes on.
+        // The node sends the letter A; it loops; it goes on.
         b'r' => (0, 3),
         b'o' => (0, 16),
         b'g' => (0, 5),

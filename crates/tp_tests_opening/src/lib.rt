@@ -1,6 +1,6 @@
-//! Tests of what is stored: topology texts, entries and groups as bytes, a book's calls for the host, parts of a network; and devices in
-//! memory that are formatted, written and opened. They are worked examples and values computed by hand, and say what no proof can: that the
-//! definitions mean what was meant.
+//! Tests of what is stored: topology texts, entries and groups as bytes, a book's calls for the host, parts of a network; and devices in memory that
+//! are formatted, written and opened. They are worked examples and values computed by hand. They say what no proof can: that the definitions mean
+//! what was meant.
 #![tactic(auto)]
 
 #[cfg(test)]

@@ -24,7 +24,7 @@ fn is_nothing(one: Received) -> bool
     }
 }
 
-/// The byte that is taken, where nothing else is.
+/// The byte that is taken, if nothing else is.
 fn byte_of(one: Received) -> Option<u8>
     ensures { result ≡ byte_of one }
 {
@@ -35,7 +35,7 @@ fn byte_of(one: Received) -> Option<u8>
     }
 }
 
-/// The byte that a turn takes on the first link, where it takes nothing else.
+/// The byte that a turn takes on the first link, if it takes nothing else.
 fn only_byte(takes: &[Received; 4]) -> Option<u8>
     ensures { result ≡ only_byte takes.now }
 {

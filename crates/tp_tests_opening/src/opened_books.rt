@@ -50,7 +50,7 @@ fn state_of(alloc: Global, bytes: Vec<u8>) -> Option<NetState>
     }
 }
 
-/// The book of an opened device, where groups may fill `room` bytes.
+/// The book of an opened device, if groups may fill `room` bytes.
 fn book_in(alloc: Global, state: &NetState, room: u64) -> Option<Book>
     requires { IsWellOpen state.now }
     ensures { IfSome result (λ book. IsUsable book) }
@@ -64,7 +64,7 @@ fn book_in(alloc: Global, state: &NetState, room: u64) -> Option<Book>
     Some(book)
 }
 
-/// The book of a device of `bytes`, where groups may fill `room` bytes.
+/// The book of a device of `bytes`, if groups may fill `room` bytes.
 pub(crate) fn book_of(alloc: Global, bytes: Vec<u8>, room: u64) -> Option<Book>
     ensures { IfSome result (λ book. IsUsable book) }
 {
@@ -200,7 +200,7 @@ fn are_shown(book: &Book) -> bool
     true
 }
 
-/// Whether the outputs of the kept entries are shown whatever the mark is, and the book goes on behind those entries.
+/// Whether the outputs of the kept entries are shown whatever the mark is, and the book goes on after those entries.
 fn goes_on(book: &mut Book) -> bool
     requires { IsUsable book.old }
 {

@@ -1,4 +1,4 @@
-//! What is kept of a device for finishing a snapshot: the takes that a running one needs go on behind the last entry that anyone
+//! What is kept of a device for finishing a snapshot: the takes that a running one needs go on after the last entry that anyone
 //! may make.
 
 ghost use Rattle.std.specs.Prelude.{◌≡◌, ◌<◌, length, true};
@@ -32,7 +32,7 @@ enum Call {
     Break,
 }
 
-/// A call; its answer, and none where it may not be made; and then the next number.
+/// A call; its answer, and `None` if it may not be made; and then the next number.
 type Row = (Call, Option<Result<(), Refusal>>, u64);
 
 /// How many entries the device has, whether the node took the host's first byte, and calls one after another.
@@ -150,7 +150,7 @@ const STORIES: &[Story<'static>] = &[
     ),
 ];
 
-/// No generation is left behind the last one: no snapshot begins, all else goes on. That the store is broken is said first.
+/// No generation is left after the last one: no snapshot begins, all else goes on. That the store is broken is said first.
 const LAST: &[Row] = &[
     (Call::Begin, FULL, 104),
     (Call::HostTake(0), DONE, 105),
@@ -171,7 +171,7 @@ fn entry_bytes(number: u8, took: bool) -> [u8; 16] {
     bytes
 }
 
-/// The bytes of a device with `entries` entries, in groups of up to 64. The node took the first byte where `took` says so.
+/// The bytes of a device with `entries` entries, in groups of up to 64. The node took the first byte if `took` says so.
 fn device(alloc: Global, entries: u8, took: bool) -> Option<Vec<u8>> {
     let Some(mut bytes) = fresh(alloc, AREA) else {
         return None;

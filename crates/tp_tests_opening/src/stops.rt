@@ -8,7 +8,7 @@ use tp_model::Received::{JustAck, JustData, Nothing};
 use tp_model::{Entry, Token};
 use tp_pieces::Played;
 
-/// The letters of entries, where the parts of the two nodes and of the host stop, where that is said, and what is answered.
+/// The letters of entries, where the parts of the two nodes and of the host stop, if that is said, and what is answered.
 type Row = ([u8; 3], Option<[usize; 3]>, Option<usize>);
 
 /// At first the byte 65 is on the first node's line, and 66 on the second one's.
@@ -52,7 +52,7 @@ fn entry_of(letter: u8) -> Entry {
         // Other tokens than the line has.
         b'b' => (0, Token::Data(66)),
         b'k' => (0, Token::Ack),
-        // A line without a wire, and one that isn't there.
+        // A line without a wire, and one that doesn't exist.
         b'u' => (5, Token::Data(65)),
         b'n' => (263, Token::Data(65)),
         _ => return run_of(letter),
@@ -78,7 +78,7 @@ fn turn_of(letter: u8) -> Entry {
         // The turns of both nodes that take these bytes and make no steps.
         b'S' => (1, JustData(65), Nothing, 0),
         b'F' => (0, JustData(66), Nothing, 0),
-        // Another byte, an acknowledge, a step behind the byte, a node that isn't there, and no tokens.
+        // Another byte, an acknowledge, a step after the byte, a node that doesn't exist, and no tokens.
         b'B' => (1, JustData(66), Nothing, 0),
         b'K' => (1, JustAck, Nothing, 0),
         b'L' => (1, JustData(65), Nothing, 1),
@@ -103,7 +103,7 @@ fn entries_of(alloc: Global, letters: &[u8]) -> Result<Vec<Entry>, AllocError> {
     Ok(entries)
 }
 
-/// Whether the parts stop at `stops`, where these are said.
+/// Whether the parts stop at `stops`, if these are said.
 fn are_stops(played: &[Played<Member>], stops: Option<[usize; 3]>) -> bool {
     let Some(stops) = stops else {
         return true;

@@ -1,4 +1,4 @@
-//! What is done with a device, step by step, and what opening says before each of the last steps and behind them.
+//! What is done with a device, step by step, and what opening says before each of the last steps and after them.
 
 use crate::checkpoints::{Calls, Cut, PUTS, Stage, Step, Story, WRITES};
 use crate::devices::{LETTER, MORE};
@@ -36,7 +36,7 @@ pub(crate) const TWO_GROUPS: &Story = &Story {
     bytes: &[],
 };
 
-/// The tail has the entry that was made after the node recorded, which stood in the open area.
+/// The tail has the entry that was made after the node recorded, which was in the open area.
 pub(crate) const AFTER_A_GROUP: &Story = &Story {
     first: None,
     before: &[Step::Group(LETTER), Step::Group(b"o")],
@@ -106,8 +106,8 @@ const CUT: &[u8] = b"rakogggggggggggggggggggggggggggggggggggggggg";
 /// And once more.
 const MADE: &[u8] = b"rakoggggggggggggggggggggggggggggggggggggggggg";
 
-/// The second area has forty groups of its own when the first one is opened again, and then the second one once more: the
-/// tail's only group is written over the first of them, and the others stand behind its closed gate.
+/// The second area has forty groups of its own. Then the first one is opened again, and then the second one once more: the tail's only group is
+/// written over the first of the forty, and the others are after its closed gate.
 pub(crate) const OVER_OLD_GROUPS: &Story = &Story {
     first: None,
     before: &[
@@ -151,7 +151,7 @@ pub(crate) const OVER_OLD_GROUPS: &Story = &Story {
     bytes: &[(29_417, 0xA5), (29_449, 0x00), (29_481, 0xA5)],
 };
 
-/// A device that was kept from before areas had forms, behind the node's first turns. A group more is appended, and stands outside
+/// A device that was kept from before areas had forms, after the node's first turns. A group more is appended, and is outside
 /// the cut. What the checkpoint leaves has turns.
 pub(crate) const BEHIND_KEPT: &Story = &Story {
     first: Some(1),
@@ -182,7 +182,7 @@ pub(crate) const BEHIND_KEPT: &Story = &Story {
     bytes: &[(512, 0xA5), (531, 0), (16_896, 0xA5), (16_915, 2)],
 };
 
-/// A device that was kept in the middle of its first checkpoint, and a group more: that is made anew over the second area's bytes.
+/// A device that was kept in the middle of its first checkpoint, and a group more: the checkpoint is made anew over the second area's bytes.
 pub(crate) const BEHIND_A_STOP: &Story = &Story {
     first: Some(3),
     before: &[Step::Group(b"o")],
@@ -212,8 +212,8 @@ pub(crate) const BEHIND_A_STOP: &Story = &Story {
     bytes: &[(512, 0xA5), (531, 0), (16_896, 0xA5), (16_915, 2)],
 };
 
-/// What the node takes and the steps that it then makes are one entry, in the first area and outside the cut: when the next number is 8
-/// the node records, and then it takes the letter that is on its line in the cut.
+/// What the node takes and the steps that it then makes are one entry, in the first area and outside the cut: when the next number is 8 the node
+/// records, and then it takes the letter that is on its line in the cut.
 pub(crate) const WITH_TURNS: &Story = &Story {
     first: None,
     before: &[Step::Group(b"raT"), Step::Group(b"hhghg")],

@@ -20,7 +20,7 @@ use tp_disk::{Disk, MemDisk};
 use tp_recover::{Opened, open_store};
 use tp_tests_fixtures::{AREA, SECOND, place};
 
-/// A story's device at first; and before each step whose calls have faults, and behind the last, with what a plain replay of the entries
+/// A story's device at first; and before each step whose calls have faults, and after the last, with what a plain replay of the entries
 /// gives.
 #[derive(Drop)]
 struct Known {
@@ -65,7 +65,7 @@ impl Known {
         true
     }
 
-    /// Takes all steps of a story. Answers whether the bytes stand there then that ought to.
+    /// Takes all steps of a story. Answers whether the bytes are there then that ought to.
     fn learn(&mut self, alloc: Global, story: &Story) -> bool {
         match store_of(alloc, &self.first) {
             Some(mut store) => self.grow(alloc, &mut store, story),
@@ -81,7 +81,7 @@ impl Known {
             && has_bytes(store.disk.bytes(), story.bytes)
     }
 
-    /// Takes steps, and copies the bytes of the device behind each where it is to. Answers whether all were taken.
+    /// Takes steps, and copies the bytes of the device after each one that asks for it. Answers whether all were taken.
     fn take(
         &mut self,
         alloc: Global,
@@ -106,7 +106,7 @@ impl Known {
         }
     }
 
-    /// The bytes of the device at a stage; none where there is no such stage.
+    /// The bytes of the device at a stage; none if there is no such stage.
     fn device(&self, stage: usize) -> &[u8] {
         match self.devices.get(stage) {
             Some(device) => device.as_slice(),
@@ -114,7 +114,7 @@ impl Known {
         }
     }
 
-    /// What stands where a call writes. The gate of the other area was closed before it is opened.
+    /// What is at the place that a call writes. The gate of the other area was closed before it is opened.
     fn torn(
         &self,
         alloc: Global,
@@ -134,7 +134,7 @@ impl Known {
     }
 }
 
-/// Whether the bytes of a device are those that ought to stand there.
+/// Whether the bytes of a device are those that ought to be there.
 fn has_bytes(device: &[u8], bytes: &[(usize, u8)]) -> bool {
     for (at, byte) in bytes {
         if device.get(*at) != Some(byte) {
@@ -226,7 +226,7 @@ fn stays_broken(alloc: Global, store: &mut Store<MemDisk>) -> bool {
     }
 }
 
-/// Takes the steps of a story as long as the device doesn't fail. Answers how many were taken; none where one answers another fault
+/// Takes the steps of a story as long as the device doesn't fail. Answers how many were taken; none if one answers another fault
 /// than that.
 fn taken(alloc: Global, known: &Known, story: &Story, store: &mut Store<MemDisk>) -> Option<usize> {
     for (i, step) in story.steps.iter().enumerate() {
@@ -239,7 +239,7 @@ fn taken(alloc: Global, known: &Known, story: &Story, store: &mut Store<MemDisk>
     Some(story.steps.len())
 }
 
-/// Whether the steps go on up to that in which the case's call is, and the store is broken then. Behind the last call no fault is met.
+/// Whether the steps go on up to that in which the case's call is, and the store is broken then. After the last call no fault is met.
 fn is_told(
     alloc: Global,
     known: &Known,
@@ -251,7 +251,7 @@ fn is_told(
         && (stage == story.steps.len() || stays_broken(alloc, store))
 }
 
-/// A store in front of the steps, with the fault of a case behind the calls of opening.
+/// A store before the steps, with the fault of a case after the calls of opening.
 fn store_for(alloc: Global, known: &Known, story: &Story, case: Case) -> Option<Store<MemDisk>> {
     let stage = story.calls.stage(case.call);
     let call = CALLS_OF_OPEN.saturating_add(case.call as u64);
@@ -261,7 +261,7 @@ fn store_for(alloc: Global, known: &Known, story: &Story, case: Case) -> Option<
     }
 }
 
-/// Takes the steps with the fault of a case. Answers what a crash leaves where they end as they ought to.
+/// Takes the steps with the fault of a case. Answers what a crash leaves, if they end as they ought to; else `None`.
 fn swept(alloc: Global, known: &Known, story: &Story, case: Case) -> Option<Vec<u8>> {
     let Some(mut store) = store_for(alloc, known, story, case) else {
         return None;
@@ -286,8 +286,8 @@ fn tear(alloc: Global, known: &Known, story: &Story, case: Case, bytes: &mut [u8
     }
 }
 
-/// Tears what a crash leaves where the call is a sync. Answers whether the device opens as it was before the step of that call, or as the
-/// step leaves it, where its gate is open.
+/// Tears what a crash leaves if the call is a sync. Answers whether the device opens as it was before the step of that call, or as the step leaves
+/// it, if its gate is open.
 fn opens(alloc: Global, known: &Known, story: &Story, case: Case, bytes: &mut [u8]) -> bool {
     let stage = story.calls.stage(case.call);
     let is_open = case.opens(story.calls.gate(stage));
@@ -303,7 +303,7 @@ fn is_whole(alloc: Global, known: &Known, story: &Story, case: Case) -> bool {
     }
 }
 
-/// Whether that is so however a call ends.
+/// Whether that holds however a call ends.
 fn is_whole_at(alloc: Global, known: &Known, story: &Story, call: usize) -> bool {
     for (ending, torn) in ENDINGS {
         let (ending, torn) = (*ending, *torn);
@@ -314,7 +314,7 @@ fn is_whole_at(alloc: Global, known: &Known, story: &Story, call: usize) -> bool
     true
 }
 
-/// Whether that is so at each call, and behind the last.
+/// Whether that holds at each call, and after the last.
 fn is_whole_at_each(alloc: Global, known: &Known, story: &Story) -> bool {
     let calls = story.calls.each.saturating_mul(story.steps.len());
     for call in 0..calls.saturating_add(1) {
@@ -336,7 +336,7 @@ fn is_known<R: Threads + Sync>(rt: &R, alloc: Global, known: &Known, story: &Sto
     true
 }
 
-/// Whether a story is so: what its steps leave, and what they leave with a fault in each of their calls.
+/// Whether a story comes true: what its steps leave, and what they leave with a fault in each of their calls.
 fn is_so<R: Threads + Sync>(rt: &R, alloc: Global, story: &Story) -> bool {
     match known_of(alloc, story) {
         Some(known) => {
@@ -404,7 +404,7 @@ fn goes_on_behind(alloc: Global, known: &Known, story: &Story, disk: MemDisk) ->
     }
 }
 
-/// Whether a store goes on once its device is opened again, where a call has failed and the device then works again.
+/// Whether a store goes on once its device is opened again, if a call has failed and the device then works again.
 fn is_mended(alloc: Global, known: &Known, story: &Story, case: Case) -> bool {
     match store_for(alloc, known, story, case) {
         Some(mut store) => {
@@ -415,7 +415,7 @@ fn is_mended(alloc: Global, known: &Known, story: &Story, case: Case) -> bool {
     }
 }
 
-/// Whether that is so however a call fails.
+/// Whether that holds however a call fails.
 fn is_mended_at(alloc: Global, known: &Known, story: &Story, call: usize) -> bool {
     for (ending, torn) in ENDINGS {
         let (ending, torn) = (*ending, *torn);
@@ -427,7 +427,7 @@ fn is_mended_at(alloc: Global, known: &Known, story: &Story, call: usize) -> boo
     true
 }
 
-/// Whether that is so at each of the first step's calls.
+/// Whether that holds at each of the first step's calls.
 fn is_mended_at_each(alloc: Global, story: &Story) -> bool {
     let Some(known) = known_of(alloc, story) else {
         return false;

@@ -23,9 +23,9 @@ const ENTRIES: [Numbered; 2] = [
     },
 ];
 
-/// How many parts there are of the first node and the second one in turn, or the host's alone; how many entries; how many parts meet at
-/// the gate, which isn't watched where none do, and at their first entries. And then the watch's counts, how many parts were played, and
-/// where the first of them stops.
+/// How many parts there are of the first node and the second one in turn, or the host's alone; how many entries; how many parts meet at the gate,
+/// which isn't watched if none do, and at their first entries. And then the watch's counts, how many parts were played, and where the first of them
+/// stops.
 struct Row {
     nodes: usize,
     entries: usize,
@@ -125,7 +125,7 @@ fn parts_of<'a>(
     Ok(parts)
 }
 
-/// Whether as many parts were played as a row says, and the first of them stops where it does.
+/// Whether as many parts were played as a row says, and the first of them stops if it does.
 fn is_played(played: &[Played<Watched<'_>>], row: &Row) -> bool {
     match played.first() {
         Some(first) => played.len() == row.played && first.stop == row.stop,

@@ -5,8 +5,8 @@ use tp_model::WireEnd;
 use tp_model::WireEnd::{Link, Port};
 use tp_net::Topology;
 
-/// What a text says: the names of the nodes, with a blank between two; the pages of each; how many ports there are; and what is wired,
-/// each line with the end that receives it.
+/// What a text says: the names of the nodes, with a blank between two; the pages of each; how many ports there are; and what is wired, each line with
+/// the end that receives it.
 struct Row {
     text: &'static [u8],
     names: &'static str,
@@ -106,7 +106,7 @@ fn receiver(line: usize, wired: &[(usize, WireEnd)]) -> Option<WireEnd> {
     None
 }
 
-/// Whether texts are those that stand in `want`, with a blank between two.
+/// Whether texts are those that are in `want`, with a blank between two.
 fn are_texts(found: &[&str], want: &str) -> bool {
     let mut count = 0usize;
     for text in want.split(' ') {

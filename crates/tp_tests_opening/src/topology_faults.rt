@@ -25,7 +25,7 @@ enum Front {
     Ports,
 }
 
-/// What texts begin with, their fault, and what follows in each, one behind another with a stroke between two: each reference within a table
+/// What texts begin with, their fault, and what follows in each, one after another with a stroke between two: each reference within a table
 /// costs a check time.
 type Row = (Front, NetFault, &'static str);
 
@@ -148,7 +148,7 @@ fn texts_have_their_faults(rt: HostRuntime) {
     }
 }
 
-/// How many nodes a text has, each of four pages but the last, and the pages of that; how many ports; and the text's fault, if it has one.
+/// How many nodes a text has, each of four pages except the last, and the pages of that; how many ports; and the text's fault, if it has one.
 type Limit = (u16, u16, u16, Option<NetFault>);
 
 const LIMITS: &[Limit] = &[

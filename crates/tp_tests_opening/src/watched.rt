@@ -15,9 +15,9 @@ use tp_gate::{Gate, PIECE_BEGUN};
 use tp_model::Entry;
 use tp_pieces::Part;
 
-/// Holds each part at the gate until a number of them has come there, and at its first entry until a number has come to theirs. Counts
-/// which have come and which met all, the entries that parts were given, and how many those were when the gate was called last. Where none
-/// are to meet at the gate, its calls leave no trace.
+/// Holds each part at the gate until a number of them has come there, and at its first entry until a number has come to theirs. Counts which have
+/// come and which met all, the entries that parts were given, and how many those were when the gate was called last. If none are to meet at the gate,
+/// its calls leave no trace.
 #[derive(Drop)]
 pub struct Watch {
     at_gate: Crowd,
@@ -41,8 +41,8 @@ impl Watch {
         }
     }
 
-    /// How many calls of the gate there were, how many of them met all, and how many said that a part of node 0, and of node 1, begins; how
-    /// many parts have come to an entry, and how many of them met all; how many entries there were, and how many before the gate's last call.
+    /// How many calls of the gate there were, how many of them met all, and how many said that a part of node 0, and of node 1, begins; how many
+    /// parts have come to an entry, and how many of them met all; how many entries there were, and how many before the gate's last call.
     pub fn counts(&self) -> [u32; 8] {
         let (come, met) = self.at_gate.counts();
         let (begun, together) = self.at_entries.counts();
@@ -58,7 +58,7 @@ impl Watch {
         ]
     }
 
-    /// A part is given an entry, the first one where `is_first` says so.
+    /// A part is given an entry, the first one if `is_first` says so.
     fn given(&self, is_first: bool) {
         if is_first {
             self.at_entries.meet();

@@ -36,7 +36,7 @@ const BYTES: &[(usize, &[u8])] = &[
     (1_043, &[2]),
 ];
 
-/// How long their device is, and where the images stand on it.
+/// How long their device is, and where the images are on it.
 const SIZE: usize = 176_468;
 
 const IMAGES: [usize; 17] = [
@@ -93,7 +93,7 @@ const WIDE: &[Content] = &[
     ),
     // The first link is wired to itself.
     ([152, 286, NO, NO, NO, NO], [1, 0, 0, 0, 0, 0], Ok(0)),
-    // Bytes that are 00: behind the last node's pages, its ends, and the ends of all.
+    // Bytes that are 00: after the last node's pages, its ends, and the ends of all.
     (
         [58, NO, NO, NO, NO, NO],
         [4, 0, 0, 0, 0, 0],
@@ -176,7 +176,7 @@ const A_TURN: &[(usize, &[u8])] = &[
 /// The last node's turn, as another node's.
 const ANOTHER_NODE: &[(usize, &[u8])] = &[(82_138, &[15])];
 
-/// That group's entries, where the turn is said as a take and a run.
+/// That group's entries, if the turn is said as a take and a run.
 const APART: &[u8] = b"RAKO";
 
 /// How many bytes of it are left, and what it then says.
@@ -219,7 +219,7 @@ fn by_hand(alloc: Global) -> Option<Vec<u8>> {
     with_pieces(alloc, &bytes, BYTES)
 }
 
-/// Whether a device has these bytes, and each front of them says what it ought to.
+/// Whether a device has these bytes, and each of its fronts says what it ought to.
 fn are_fronts<R: Threads + Sync>(rt: &R, alloc: Global, device: &[u8], bytes: &[u8]) -> bool {
     for (len, says) in LENGTHS {
         if !is_said(rt, alloc, device.get(..*len).unwrap_or(&[]), *says) {

@@ -9,8 +9,7 @@ use tp_tests_fixtures::{KEPT, SIZE};
 /// No call has that number.
 const NEVER: u64 = u64::MAX;
 
-/// What is said of a copy, where calls of the device fail from that number on, and those of the copy from the other one on. Nothing is where
-/// it is made.
+/// What is said of a copy, if calls of the device fail from that number on, and those of the copy from the other one on; nothing if the copy is made.
 fn said_of(alloc: Global, device: u64, copy: u64) -> Result<Vec<u8>, AllocError> {
     let bytes = KEPT[1].bytes(alloc)?;
     let mut source = MemDisk::of_bytes(bytes).with_fault(device, PlannedFault::StopsBefore);

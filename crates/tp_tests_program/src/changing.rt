@@ -8,7 +8,7 @@ ghost use Rattle.tp_tests_program.specs.Changing.{changing_keeps, no_changing};
 use std::alloc::{AllocError, Global};
 use tp_disk::{DeviceFailed, RawDisk};
 
-/// Puts a piece into bytes at a place, in one call. What would go past the end is left out.
+/// Puts a piece into bytes at a place, in one call, and leaves out what would go past the end.
 fn put(bytes: &mut [u8], at: usize, piece: &[u8]) {
     let start = at.min(bytes.len());
     let count = piece.len().min(bytes.len() - start);
@@ -66,7 +66,7 @@ impl Changing {
         self.writes.len()
     }
 
-    /// Goes back to where the first `done` writes had come to pass. The others come to pass at `pace`, where there is one.
+    /// Goes back to where the first `done` writes had come to pass. The others come to pass at `pace`, if there is one.
     pub(crate) fn rewind(&mut self, done: usize, pace: Option<Pace>) {
         put(&mut self.bytes, 0, &self.zeros);
         self.done = 0;
@@ -113,7 +113,7 @@ impl Changing {
         Ok(())
     }
 
-    /// Reads what it holds from a place on, behind the writes that come to pass before this call.
+    /// Reads what it holds from a place on, after the writes that come to pass before this call.
     fn read(&mut self, at: u64, out: &mut [u8]) {
         self.begin();
         let start = (at as usize).min(self.bytes.len());

@@ -9,7 +9,7 @@ use tp_model::limits::{GATE_CLOSED, GATE_OPEN, MAX_GROUP};
 use tp_program::compact_on;
 use tp_tests_fixtures::{AREA, SIZE};
 
-/// What stands behind the gate of a group of the node's first turns and the host's: a run of 3 steps, the letter, its acknowledge, and a
+/// What is after the gate of a group of the node's first turns and the host's: a run of 3 steps, the letter, its acknowledge, and a
 /// run of 16 steps.
 const TURNS: &[u8] = &[
     0, 4, 0, 0, 0, 0, 0, 0, 0, 0, 0, 0, 0, 0, 0, // the header
@@ -27,7 +27,7 @@ const FURTHER: &[u8] = &[
     0,
 ];
 
-/// And of one that confirms the letter, behind the runs of `LONG_GROUPS`.
+/// And of one that confirms the letter, after the runs of `LONG_GROUPS`.
 const CONFIRMED: &[u8] = &[
     0, 1, 0, 0, 0, 0, 0, 4, 0x10, 0, 0, 0, 0, 0, 0, // the header
     4, 0, 0, 0, 1, 0, 0, 0, 4, 0x10, 0, 0, 0, 0, 0, 0, //
@@ -37,7 +37,7 @@ const CONFIRMED: &[u8] = &[
 /// Groups that are appended at once.
 #[derive(Clone, Copy)]
 enum Groups {
-    /// One, by what stands behind its gate.
+    /// One, by what is after its gate.
     One(&'static [u8]),
     /// Full ones, `count` of them, of runs of one step each, the first with that number.
     Runs { number: u64, count: u64 },
@@ -48,10 +48,10 @@ enum Groups {
 pub(crate) struct Growth {
     pub(crate) size: usize,
     pub(crate) area: u64,
-    /// Groups, each time with the place of their first gate. A checkpoint comes behind each time.
+    /// Groups, each time with the place of their first gate. A checkpoint comes after each time.
     groups: &'static [(u64, Groups)],
     /// The mark that the writes have come to when the device is read, and how many come to pass before each call. Mark 0 is a device of bytes
-    /// 00, mark 1 is behind its format; then there is one each time that groups are appended, and one behind each checkpoint.
+    /// 00, mark 1 is after its format; then there is one each time that groups are appended, and one after each checkpoint.
     pub(crate) paces: &'static [(usize, usize)],
 }
 
@@ -86,7 +86,7 @@ const LONG_GROUPS: &[(u64, Groups)] = &[
     ),
 ];
 
-/// A device whose areas hold these groups. It is read when the second area has its 64 groups, and when the first one counts behind that: this
+/// A device whose areas hold these groups. It is read when the second area has its 64 groups, and when the first one counts after that: this
 /// one is written anew, too, with the letter confirmed.
 pub(crate) const LONG: Growth = Growth {
     size: 164_352,
@@ -102,7 +102,7 @@ fn format_over(alloc: Global, changing: &mut Changing, area: u64) -> u8 {
     format_one(alloc, &mut disk, 1, area, &mut out, &mut err)
 }
 
-/// A device of `size` bytes with areas of `area` bytes, as it is formatted; none where there is no memory.
+/// A device of `size` bytes with areas of `area` bytes, as it is formatted; none if there is no memory.
 pub(crate) fn formatted(alloc: Global, size: usize, area: u64) -> Option<Changing> {
     let Ok(mut changing) = Changing::new(alloc, size) else {
         return None;
@@ -113,7 +113,7 @@ pub(crate) fn formatted(alloc: Global, size: usize, area: u64) -> Option<Changin
     }
 }
 
-/// Adds a full group of runs from that number on to what stands behind its gate, and the next gate, which is open.
+/// Adds a full group of runs from that number on to what is after its gate, and the next gate, which is open.
 fn push_runs(bytes: &mut Vec<u8>, number: u64) -> Result<(), AllocError> {
     bytes.extend_from_slice(&[0, MAX_GROUP as u8, 0, 0, 0, 0, 0])?;
     bytes.extend_from_slice(&number.to_le_bytes())?;
@@ -125,7 +125,7 @@ fn push_runs(bytes: &mut Vec<u8>, number: u64) -> Result<(), AllocError> {
     Ok(())
 }
 
-/// What stands behind the first gate of full groups, `count` of them, of runs from that number on, up to a closed gate.
+/// What is after the first gate of full groups, `count` of them, of runs from that number on, up to a closed gate.
 fn runs(alloc: Global, number: u64, count: u64) -> Result<Vec<u8>, AllocError> {
     let mut bytes = Vec::new(alloc);
     for group in 0..count {
@@ -137,7 +137,7 @@ fn runs(alloc: Global, number: u64, count: u64) -> Result<Vec<u8>, AllocError> {
     Ok(bytes)
 }
 
-/// What stands behind the first gate of groups.
+/// What is after the first gate of groups.
 fn bytes_of(alloc: Global, groups: Groups) -> Result<Vec<u8>, AllocError> {
     match groups {
         Groups::One(bytes) => Vec::from_slice(alloc, bytes),
@@ -166,7 +166,7 @@ fn checkpointed<R: AllocGlobal + Wait>(rt: &R, changing: &mut Changing) -> u8 {
     status
 }
 
-/// Lets a formatted device grow as `growth` says. Answers how many writes there were at each mark; none where a checkpoint isn't taken.
+/// Lets a formatted device grow as `growth` says. Answers how many writes there were at each mark; none if a checkpoint isn't taken.
 pub(crate) fn grow<R: AllocGlobal + Wait>(
     rt: &R,
     changing: &mut Changing,

@@ -1,4 +1,4 @@
-//! What the program's commands answer, on devices in memory, where a call fails or no command line asks for it.
+//! What the program's commands answer, on devices in memory, if a call fails or no command line asks for it.
 #![tactic(auto)]
 
 #[cfg(test)]

@@ -4,7 +4,7 @@ use std::alloc::Global;
 use std::test::Fail;
 use tp_words::CommandLine;
 
-/// A command line that asks for nothing, behind another name.
+/// A command line that asks for nothing, after another name.
 fn other_line(alloc: Global) -> Result<Vec<String>, Fail> {
     let mut line = Vec::new(alloc);
     for word in ["/opt/other", "run"] {

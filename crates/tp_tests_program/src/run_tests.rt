@@ -108,7 +108,7 @@ fn prints_again<R: AllocGlobal + Threads + Wait + Sync>(
     Ok(is_said && again.status == 0 && again.out.as_slice() == b"abc".as_slice())
 }
 
-/// Where the output can't be written nothing is confirmed: the next run prints it again.
+/// If the output can't be written, nothing is confirmed: the next run prints it again.
 #[test]
 fn an_output_that_fails(rt: HostRuntime) -> Result<(), Fail> {
     for room in 0..3usize {

@@ -52,7 +52,7 @@ fn asked<R: AllocGlobal + Threads + Sync>(rt: &R, changing: &mut Changing, reade
     Said { status, out, err }
 }
 
-/// Answers what is asked of a still device where `reader` is tested. What several threads recover is recovered by one; of a copy that is
+/// Answers what is asked of a still device if `reader` is tested. What several threads recover is recovered by one; of a copy that is
 /// shown, the device is shown.
 fn asked_of_still(reader: Reader) -> Reader {
     match reader {
@@ -62,7 +62,7 @@ fn asked_of_still(reader: Reader) -> Reader {
     }
 }
 
-/// What `reader` has to say behind each of the writes, where the device then stays as it is.
+/// What `reader` has to say after each of the writes, if the device then stays as it is.
 fn said_of_each<R: AllocGlobal + Threads + Sync>(
     rt: &R,
     changing: &mut Changing,
@@ -91,7 +91,7 @@ fn is_of_a_moment(said: &[Said], from: usize, upto: usize, answer: &Said) -> boo
     false
 }
 
-/// Asks a command while writes come to pass, `count` of them before each call from one on, for each call that it makes where none come to
+/// Asks a command while writes come to pass, `count` of them before each call from one on, for each call that it makes if none come to
 /// pass. Answers whether there are such calls, and each time what was said is of a moment in between.
 fn asked_meanwhile<R: AllocGlobal + Threads + Sync>(
     rt: &R,
@@ -193,8 +193,8 @@ fn a_recovery_of_a_long_area_by_two_threads_is_of_one_moment(rt: HostRuntime) ->
 /// A write that writes nothing.
 const NOTHING: (usize, &[u8]) = (0, &[]);
 
-/// Two switches, three writes before each call: the first area's gate is closed where a look reads it, and the second one's where the look
-/// reads that, though one of the two is open at each moment. While the first area is read it is written anew.
+/// Two switches, three writes before each call: the first area's gate is closed when a look reads it, and the second one's when the look reads that,
+/// though one of the two is open at each moment. While the first area is read it is written anew.
 const SWITCHES: &[[(usize, &[u8]); 3]] = &[
     [
         (16_896, &[0xA5, 2, 0, 0, 0, 0, 0, 0, 0]),
@@ -231,7 +231,7 @@ fn switch(changing: &mut Changing) -> Result<(), AllocError> {
     Ok(())
 }
 
-/// Whether `show` says of a device to which that was written what is so behind the switches, where they come while it reads.
+/// Whether `show` says of a device to which that was written what holds after the switches, if they come while it reads.
 fn sees_switches<R: AllocGlobal + Threads + Sync>(rt: &R, changing: &mut Changing) -> bool {
     let still = asked(rt, changing, Reader::Show);
     let count = changing.count();
@@ -277,7 +277,7 @@ const WHOLE: JournalPart = JournalPart {
     json: false,
 };
 
-/// A command, in how many of its tries the device is written, and whether it says what is so in the end; else it says `Busy`.
+/// A command, in how many of its tries the device is written, and whether it says what holds in the end; else it says `Busy`.
 const TRIES: &[(Reader, u8, bool)] = &[
     (Reader::Recover(1), 19, true),
     (Reader::Recover(1), 20, false),
@@ -295,8 +295,8 @@ const TRIES: &[(Reader, u8, bool)] = &[
     (Reader::Backup, 20, false),
 ];
 
-/// Before which call of a try the device is written, where one makes that many: behind the first look, or before the last one, which is the
-/// only one of a backup.
+/// Before which call of a try the device is written, if the try makes that many: after the first look, or before the last one, which is the only one
+/// of a backup.
 fn call_of(reader: Reader, calls: u64) -> u64 {
     match reader {
         Reader::Backup => calls.saturating_sub(1),
@@ -330,7 +330,7 @@ fn is_tried<R: AllocGlobal + Threads + Sync>(
     }
 }
 
-/// Whether it does so where a device is written that many times.
+/// Whether it does so if a device is written that many times.
 fn says_so<R: AllocGlobal + Threads + Sync>(
     rt: &R,
     reader: Reader,

@@ -1,4 +1,4 @@
-//! How the image that sends one letter stands behind turns of `tpnet try`, and one that halts.
+//! How the image that sends one letter is after turns of `tpnet try`, and one that halts.
 
 use std::alloc::Global;
 use std::test::Fail;
@@ -8,7 +8,7 @@ use tp_program::TRY_QUANTUM;
 use tp_tests_fixtures::{HEAD, letter, place};
 use tp_turn::try_standing;
 
-/// The first instructions, where they are others than the letter's, the turns, and then the output and how the node stands.
+/// The first instructions, if they aren't the letter's, the turns, and then the output and the node's standing.
 type Case = (&'static [u8], u32, &'static [u8], Standing);
 
 const CASES: &[Case] = &[

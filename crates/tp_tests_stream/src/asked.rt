@@ -21,7 +21,7 @@ const ASKED: Asked = Asked {
     ..NO_INPUT
 };
 
-/// How many turns are made between two looks.
+/// How many turns are made between two checks.
 const ROUND: u32 = 1024;
 
 /// A stream that was asked to stop, and has put nothing.
@@ -76,7 +76,7 @@ where
     seen
 }
 
-/// Where something is there at the first look, no turn is made.
+/// If something is there at the first check, no turn is made.
 #[test]
 fn a_stream_that_is_asked_at_once_makes_no_turn(rt: HostRuntime) -> Result<(), Fail> {
     let step = Step {
@@ -87,7 +87,7 @@ fn a_stream_that_is_asked_at_once_makes_no_turn(rt: HostRuntime) -> Result<(), F
     Ok(())
 }
 
-/// Whether a stream that is asked behind `looks` looks leaves what one leaves that makes as many rounds of turns.
+/// Whether a stream that is asked after `looks` looks leaves what one leaves that makes as many rounds of turns.
 fn is_stopped_behind<R: Threads + Wait + Abort + Sync>(rt: &R, looks: u32) -> Result<bool, Fail>
 where
     R: AllocGlobal,
@@ -115,7 +115,7 @@ where
     Ok(asked.put > 100 && is_same && is_stored && is_told)
 }
 
-/// Behind a look that answers yes no turn is made, and all that was made is stored, put and confirmed, as behind the last turn of a bound.
+/// After a check that answers yes no turn is made, and all that was made is stored, put and confirmed, as after the last turn of a bound.
 #[test]
 fn no_turn_is_made_behind_a_yes(rt: HostRuntime) -> Result<(), Fail> {
     for looks in [1u32, 2, 3] {

@@ -20,7 +20,7 @@ const OFTEN: Job = Job {
     ..FOUR
 };
 
-/// The number that a run reached, where it is above the one before.
+/// The number that a run reached, if it is above the one before.
 fn further(before: Option<u64>, done: Result<u64, RunFault>) -> Option<u64> {
     match (before, done) {
         (Some(before), Ok(reached)) if reached > before => Some(reached),
@@ -28,7 +28,7 @@ fn further(before: Option<u64>, done: Result<u64, RunFault>) -> Option<u64> {
     }
 }
 
-/// Eight runs one behind the other. Answers the number that the last one reached, where each reached more than the one before.
+/// Eight runs one after the other. Answers the number that the last one reached, if each reached more than the one before.
 fn reach<R: Threads + Wait + Abort + Sync>(
     rt: &R,
     alloc: Global,
@@ -82,7 +82,7 @@ fn a_short_journal_never_stays_full(rt: HostRuntime) -> Result<(), Fail> {
     Ok(())
 }
 
-/// What runs of each kept device print: the letter, where it wasn't confirmed yet.
+/// What runs of each kept device print: the letter, if it wasn't confirmed yet.
 const PRINTED: [&[u8]; 6] = [b"A", b"A", b"", b"", b"", b""];
 
 /// Devices that were kept from before areas had forms go on, and their checkpoints leave areas with turns.
@@ -111,7 +111,7 @@ const SOON: Job = Job {
     ..FOUR
 };
 
-/// Whether the journal is full behind the first run, which prints nothing; it isn't behind the second; and a third one prints the letter.
+/// Whether the journal is full after the first run, which prints nothing, and isn't after the second; and a third one prints the letter.
 fn is_ended<R: Threads + Wait + Abort + Sync>(
     rt: &R,
     alloc: Global,
@@ -127,7 +127,7 @@ fn is_ended<R: Threads + Wait + Abort + Sync>(
     Ok(is_full && full.printed == 0 && is_freed && is_printed)
 }
 
-/// Whether half of the journal begins a snapshot where nothing else is asked for: forty turns leave less, and two hundred more.
+/// Whether half of the journal begins a snapshot if nothing else is asked for: forty turns leave less, and two hundred more.
 fn is_half<R: Threads + Wait + Abort + Sync>(
     rt: &R,
     alloc: Global,
@@ -141,8 +141,8 @@ fn is_half<R: Threads + Wait + Abort + Sync>(
     Ok(is_early && late.done.is_ok() && late.is_switched(1))
 }
 
-/// A run of 105 bytes of input leaves a full journal, which stays full as long as no snapshot begins. One that begins then takes what it
-/// needs from what is kept for it, so that it ends, at the latest with the run's last flush; and the network goes on.
+/// A run of 105 bytes of input leaves a full journal, which stays full as long as no snapshot begins. One that begins then takes what it needs from
+/// what is kept for it, so that it ends, at the latest with the run's last flush; and the network goes on.
 #[test]
 fn a_full_journal_is_ended_by_a_snapshot(rt: HostRuntime) -> Result<(), Fail> {
     let alloc = rt.alloc();
@@ -153,7 +153,7 @@ fn a_full_journal_is_ended_by_a_snapshot(rt: HostRuntime) -> Result<(), Fail> {
     Ok(())
 }
 
-/// Half of the journal begins a snapshot where nothing else is asked for.
+/// Half of the journal begins a snapshot if nothing else is asked for.
 #[test]
 fn half_of_the_journal_begins_a_snapshot(rt: HostRuntime) -> Result<(), Fail> {
     let alloc = rt.alloc();
@@ -168,7 +168,7 @@ fn half_of_the_journal_begins_a_snapshot(rt: HostRuntime) -> Result<(), Fail> {
 /// turns are made.
 const RUNS: u32 = 500;
 
-/// Runs of a job one behind the other until the areas were switched more often than `times`. Answers what the last run left, where they
+/// Runs of a job one after the other until the areas were switched more often than `times`. Answers what the last run left, if they
 /// were switched, each run ended well and each led further than `next` and the ones before.
 fn switched<R: Threads + Wait + Abort + Sync>(
     rt: &R,

@@ -55,8 +55,8 @@ pub(crate) const ECHO_WRITES: &[u8] = &[
     0xF2, 0x41, 0xFB, 0x62, 0x0B,
 ];
 
-/// A process counts down from 32,768, takes a byte from link 1, sends it on link 0, and again; and behind it, from [`NUMBERS`] on, one
-/// counts down from 32,768, sends the next number, from 0 on, on link 0, and again, until it has sent 2, and stops. A count takes 6 steps.
+/// A process counts down from 32,768, takes a byte from link 1, sends it on link 0, and starts again. After it, from [`NUMBERS`] on, another one
+/// counts down from 32,768, sends the next number, from 0 on, on link 0, and starts again, until it has sent 2, and stops. A count takes 6 steps.
 pub(crate) const COUNTS: &[u8] = &[
     0x28, 0x20, 0x20, 0x40, 0xD2, 0x72, 0x60, 0x8F, 0xD2, 0x72, 0xA2, 0x60, 0x08, 0x13, 0x27, 0x2F,
     0x2F, 0x2F, 0x2F, 0x2F, 0x6E, 0x44, 0x41, 0xF7, 0x27, 0x2F, 0x2F, 0x2F, 0x2F, 0x2F, 0x6F, 0x40,
@@ -84,7 +84,7 @@ const BYTES: &[(usize, &[u8])] = &[
     (172 + 0x2C, &[0, 0, 0, 0x80]),
 ];
 
-/// An image of this many pages with this code, whose process begins `begin` bytes behind its first.
+/// An image of this many pages with this code, whose process begins `begin` bytes after its first.
 fn image(alloc: Global, pages: u16, code: &[u8], begin: u8) -> Result<Vec<u8>, AllocError> {
     let mut image = Vec::from_elem(alloc, 0u8, 172 + 1024 * usize::from(pages))?;
     place(&mut image, 2, &pages.to_le_bytes());
@@ -96,7 +96,7 @@ fn image(alloc: Global, pages: u16, code: &[u8], begin: u8) -> Result<Vec<u8>, A
     Ok(image)
 }
 
-/// An image for each node, with its pages and this code. The first begins `begin` bytes behind the others.
+/// An image for each node, with its pages and this code. The first begins `begin` bytes after the others.
 fn images_of(
     alloc: Global,
     all: &[u16],
@@ -131,7 +131,7 @@ fn formatted_with(
     Ok(bytes)
 }
 
-/// The bytes of a device whose nodes all have this code, where the first begins `begin` bytes behind the others.
+/// The bytes of a device whose nodes all have this code, which in the first begins `begin` bytes after the others.
 fn formatted_by(
     alloc: Global,
     topology: &Topology,
@@ -144,7 +144,7 @@ fn formatted_by(
     device
 }
 
-/// The bytes of a device of a topology, with areas of `area` bytes. All nodes have one code, where the first begins `begin` bytes behind
+/// The bytes of a device of a topology, with areas of `area` bytes. All nodes have one code, which in the first begins `begin` bytes after
 /// the others.
 pub(crate) fn formatted_from(
     alloc: Global,

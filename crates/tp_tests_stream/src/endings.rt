@@ -174,7 +174,7 @@ const HALTS_AT_ONCE: Row = Row {
     ..GOES_ON
 };
 
-/// One that is to end where nothing is left to do, too.
+/// One that is to end if nothing is left to do, too.
 const HALTS_OR_RESTS: Row = Row {
     until_quiet: true,
     ..HALTS_AT_ONCE
@@ -192,7 +192,7 @@ fn a_node_that_halted_before_ends_a_stream(rt: HostRuntime) -> Result<(), Fail> 
     Ok(())
 }
 
-/// An input of `has` bytes, behind which nothing comes and nothing ends. A read there, which would wait for ever, fails.
+/// An input of `has` bytes, after which nothing comes and nothing ends. A read there, which would wait for ever, fails.
 #[derive(Drop)]
 struct Silent {
     has: u64,
@@ -227,7 +227,7 @@ fn silent_streams(alloc: Global, has: u64) -> Result<Streams<MemSink, Silent>, A
     Ok(Streams { outputs, inputs })
 }
 
-/// Whether a stream of a node that takes nothing ends for this reason, where its input falls silent and it is asked to stop in the end.
+/// Whether a stream of a node that takes nothing ends for this reason, if its input falls silent and it is asked to stop in the end.
 fn ends_silently<R: Threads + Wait + Abort + Sync>(
     rt: &R,
     has: u64,
@@ -259,10 +259,10 @@ where
     Ok(matches!(done, Ok(ended) if ended.why == why))
 }
 
-/// Behind how many looks it is asked to stop: more than a stream makes before it rests.
+/// After how many looks it is asked to stop: more than a stream makes before it rests.
 const LOOKS: u32 = 200;
 
-/// How many bytes an input has before it falls silent, whether the stream ends where all is quiet, and why it does.
+/// How many bytes an input has before it falls silent, whether the stream ends if all is quiet, and why it does.
 const SILENT: &[(u64, bool, Ending)] = &[
     (4_095, true, Ending::Stopped),
     (4_096, true, Ending::Quiet),
@@ -270,7 +270,7 @@ const SILENT: &[(u64, bool, Ending)] = &[
     (4_097, true, Ending::Quiet),
 ];
 
-/// A port that is full has nothing left to wait for, also where nothing says whether its input goes on.
+/// A full port has nothing left to wait for, even if nothing says whether its input goes on.
 #[test]
 fn a_full_port_waits_for_no_input(rt: HostRuntime) -> Result<(), Fail> {
     for (has, until_quiet, why) in SILENT {

@@ -91,8 +91,8 @@ fn ends_of<S: Sink, I: Source>(streams: &Streams<S, I>, port: u8) -> Option<(u64
     Some((output.put(), output.confirmed()))
 }
 
-/// Up to where the outputs of two ports whose nodes send letters were put, where the stream ended as a taker has gone, and all that
-/// was put is confirmed. The first port's sink takes `pieces` pieces, and the second one's stays.
+/// Up to where the outputs of two ports whose nodes send letters were put, if the stream ended since a taker has gone, and all that was put is
+/// confirmed. The first port's sink takes `pieces` pieces, and the second one's stays.
 fn leaves<R: Threads + Wait + Abort + Sync>(
     rt: &R,
     device: &mut Vec<u8>,
@@ -126,7 +126,7 @@ where
     })
 }
 
-/// Whether the next stream puts more behind what was put in front of the sink that had gone.
+/// Whether the next stream puts more after what was put before the sink that had gone.
 fn goes_on<R: Threads + Wait + Abort + Sync>(
     rt: &R,
     device: &mut Vec<u8>,
@@ -155,8 +155,8 @@ where
     Ok(done.is_ok() && is_more)
 }
 
-/// Whether a stream ends once the taker of one of its sinks has gone with `pieces` pieces: all of them are confirmed and none more, and
-/// the other sink's outputs are put and confirmed. What wasn't put comes in the next stream.
+/// Whether a stream ends once the taker of one of its sinks has gone with `pieces` pieces: all of them are confirmed and none more, and the other
+/// sink's outputs are put and confirmed. What wasn't put comes in the next stream.
 fn is_gone<R: Threads + Wait + Abort + Sync>(
     rt: &R,
     device: &mut Vec<u8>,

@@ -22,8 +22,8 @@ struct Row {
     second: Option<u64>,
 }
 
-/// Lines begin with the first row. They are due a second, two, one and a half, and a second and a millisecond later, and not a millisecond
-/// before, nor where the clock went back or stands. The second output is there in the last rows alone.
+/// Lines begin with the first row. They are due a second, two, one and a half, and a second and a millisecond later. They aren't due a millisecond
+/// before, nor if the clock went back or stands still. Only the last rows have the second output.
 const ROWS: &[Row] = &[
     Row {
         at: 1000,
@@ -140,9 +140,8 @@ impl Write for Taker {
     }
 }
 
-/// What looks at the lines: whether there is a terminal, whether standard output is one, too, and whether a port's output goes there; how
-/// the first writes fail, and how many bytes each other one takes. And from which line on they are said, and whether each is written over
-/// the one before it.
+/// Who reads the lines: whether there is a terminal, whether standard output is one, too, and whether a port's output goes there; how the first
+/// writes fail, and how many bytes each other one takes. And from which line on they are said, and whether each is written over the one before it.
 struct Case {
     is_terminal: bool,
     is_output_terminal: bool,
@@ -166,8 +165,8 @@ const PLAIN: Case = Case {
     is_over: false,
 };
 
-/// Lines are written over each other on a terminal, but where a port's output stands between them. One that isn't taken counts as said, and
-/// one that is taken byte by byte, behind interrupts, is whole.
+/// Lines are written over each other on a terminal, but if a port's output is between them. One that isn't taken counts as said, and
+/// one that is taken byte by byte, after interrupts, is whole.
 const CASES: &[Case] = &[
     PLAIN,
     Case {
@@ -223,7 +222,7 @@ const CASES: &[Case] = &[
     },
 ];
 
-/// Who looks, at the times of the rows, one behind the other; at one of them what was said before isn't taken, where there is such a one.
+/// Who asks, at the times of the rows, in order; at one of them, if there is one, what was said before isn't taken.
 #[derive(Drop)]
 struct Script {
     asked: usize,
@@ -273,7 +272,7 @@ fn progress_of(row: &Row) -> Progress {
     }
 }
 
-/// What is said each second of the rows, and of a node behind them. At row `untaken` what was said before isn't taken.
+/// What is said each second of the rows, and of a node after them. At row `untaken` what was said before isn't taken.
 fn said(alloc: Global, case: &Case, untaken: Option<usize>) -> Vec<u8> {
     let mut err = Taker {
         bytes: Vec::new(alloc),
@@ -342,10 +341,10 @@ fn lines_are_left_out_where_nothing_is_taken(rt: HostRuntime) {
     assert!(rt; said(rt.alloc(), &PLAIN, Some(2)).as_slice() == LINES_LEFT);
 }
 
-/// A port's output that is let go.
+/// A port's output that is dropped.
 type Away<'a> = Output<AnySink<'a, Lent<'a>, Taker>>;
 
-/// Of two outputs that which is on standard output is told: up to where it was put, and up to where that is confirmed.
+/// Of two outputs the one on standard output is told: up to where it was put, and up to where that is confirmed.
 #[test]
 fn an_end_says_what_is_written_and_what_confirmed(rt: HostRuntime) -> Result<(), Fail> {
     let alloc = rt.alloc();
@@ -368,7 +367,7 @@ fn an_end_says_what_is_written_and_what_confirmed(rt: HostRuntime) -> Result<(),
     Ok(())
 }
 
-/// Standard output that takes nothing, and says no fault, has failed. Its reader has gone where it says that.
+/// Standard output that takes nothing, and tells no fault, has failed. Its reader has gone if it says that.
 #[test]
 fn an_output_that_takes_nothing_has_failed(rt: HostRuntime) {
     for (failed, most, wanted) in [

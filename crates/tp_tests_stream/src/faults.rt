@@ -11,7 +11,7 @@ use tp_stream::StreamFault;
 /// How many bytes go through.
 const COUNT: usize = 40;
 
-/// They are handed in, five at a time, and one call of the sink fails behind `calls`.
+/// They are handed in, five at a time, and one call of the sink fails after `calls`.
 fn handed(calls: u32) -> Asked {
     Asked {
         fails: Some(calls),
@@ -21,7 +21,7 @@ fn handed(calls: u32) -> Asked {
     }
 }
 
-/// Plays a stream with a sink whose call fails. None where it ends otherwise than it may, or nothing is journalled.
+/// Plays a stream with a sink whose call fails. None if it ends otherwise than it may, or nothing is journalled.
 fn play_fault<R: Threads + Wait + Abort + Sync>(
     rt: &R,
     desk: &mut Desk,
@@ -40,7 +40,7 @@ where
     })
 }
 
-/// Whether the next stream, with that sink, puts all the rest, where the first `safe` bytes were put and were safe: no more than those
+/// Whether the next stream, with that sink, puts all the rest, if the first `safe` bytes were put and were safe: no more than those
 /// were confirmed.
 fn goes_on<R: Threads + Wait + Abort + Sync>(
     rt: &R,
@@ -56,8 +56,8 @@ where
     Ok(played.done.is_ok() && is_safe && bytes.len() == COUNT && are_numbered(bytes))
 }
 
-/// Whether no more is confirmed than was put before a call fails and was safe, and the next stream puts all the rest: none where that isn't
-/// so, and else whether a call failed.
+/// Whether no more is confirmed than was put before a call fails and was safe, and the next stream puts all the rest: `None` if that is false, and
+/// else whether a call failed.
 fn is_failed<R: Threads + Wait + Abort + Sync>(
     rt: &R,
     desk: &mut Desk,
@@ -87,7 +87,7 @@ where
     told
 }
 
-/// Of how many numbers of calls one fails. None where something doesn't go on as it should.
+/// Of how many numbers of calls one fails. None if something doesn't go on as it should.
 fn count_failed<R: Threads + Wait + Abort + Sync>(rt: &R) -> Result<Option<u32>, Fail>
 where
     R: AllocGlobal,

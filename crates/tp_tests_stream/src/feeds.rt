@@ -20,7 +20,7 @@ const TOTAL: u32 = 10_000;
 pub(crate) struct Numbered {
     at: u32,
     piece: usize,
-    /// Whether a read fails behind the bytes, in place of the end.
+    /// Whether a read fails after the bytes, in place of the end.
     fails: bool,
     /// Whether the next read is interrupted, once before each other.
     is_interrupted: bool,
@@ -108,7 +108,7 @@ fn piped<'a, I: Feed>(feed: &'a mut I) -> AnySource<'a, Lent<'a>, I> {
     AnySource::In(Pipe::new(feed))
 }
 
-/// Pieces, whether a read fails behind the bytes, and what comes; a piece of no bytes is the end.
+/// Pieces, whether a read fails after the bytes, and what comes; a piece of no bytes is the end.
 const CASES: &[(usize, bool, Drained)] = &[
     (0, false, NOTHING),
     (1, false, ENDED),
@@ -179,7 +179,7 @@ fn bytes_that_are_gone_are_not_given(rt: HostRuntime) {
     assert!(rt; matches!(source.read(TOTAL as u64, &mut out), Ok(0)));
 }
 
-/// A feed of such a reader: its pieces come while they are waited for, and not before. It adds up for how many milliseconds they were.
+/// A feed of such a reader: its pieces come only while somebody waits for them. It adds up the milliseconds of waiting.
 #[derive(Drop)]
 struct Slow {
     below: Plain<Numbered>,
@@ -241,10 +241,10 @@ impl<R: Wait + Drop> Read for Gated<R> {
     }
 }
 
-/// How many milliseconds a piece is waited for at most that is sure to come.
+/// How many milliseconds to wait at most for a piece that is sure to come.
 const LONG: u64 = 60_000;
 
-/// Whether each piece of a feed comes in its place, though each is waited for twice, and nothing is waited for behind the end.
+/// Whether each piece of a feed comes in its place, though it waits for each twice, and for nothing after the end.
 fn comes_whole<F: Feed>(feed: &mut F) -> bool {
     let mut at = 0;
     for _ in 0..TOTAL {
@@ -261,7 +261,7 @@ fn comes_whole<F: Feed>(feed: &mut F) -> bool {
     false
 }
 
-/// Pieces that a thread hasn't read yet are waited for, as long as is said in milliseconds, and none is lost to the wait.
+/// It waits for pieces that a thread hasn't read yet, as many milliseconds as is said, and the wait loses none.
 #[test]
 fn a_thread_is_waited_for(rt: HostRuntime) -> Result<(), Fail> {
     let (to_tell, told) = bounded(rt.alloc(), 1)?;
@@ -301,7 +301,7 @@ impl Read for FailsOnce {
     }
 }
 
-/// A thread reads nothing behind a read that failed: no byte from there is given, and none is waited for.
+/// A thread reads nothing after a read that failed: it gives no byte from there, and waits for none.
 #[test]
 fn a_thread_reads_nothing_behind_a_failure(rt: HostRuntime) {
     let mut feed = Threaded::new(rt, Some(FailsOnce { reads: 0 }));
@@ -312,7 +312,7 @@ fn a_thread_reads_nothing_behind_a_failure(rt: HostRuntime) {
     assert!(rt; !feed.would_wait(LONG) && !feed.would_wait(0));
 }
 
-/// A source without bytes, which is waited for at one position and for one time alone.
+/// A source without bytes. It waits at one position, and for one time.
 #[derive(Drop)]
 struct Awaited;
 
@@ -332,7 +332,7 @@ impl Source for Awaited {
     }
 }
 
-/// An input is waited for where its port has accepted it, and for as long as is asked; behind its end it isn't.
+/// A stream waits for an input if its port has accepted it, and for as long as is asked; after its end it doesn't.
 #[test]
 fn an_input_is_waited_for_where_it_goes_on(rt: HostRuntime) {
     let mut input = Input::new(0, Awaited);

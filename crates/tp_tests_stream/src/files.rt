@@ -39,7 +39,7 @@ pub(crate) struct FakeFile {
     pub(crate) is_regular: bool,
     /// Whether the system says which file it is.
     pub(crate) is_known: bool,
-    /// By which numbers, where it says them.
+    /// By which numbers, if it says them.
     pub(crate) numbers: Option<FileNumbers>,
 }
 
@@ -58,7 +58,7 @@ impl FakeFile {
         }
     }
 
-    /// Puts a byte at a place, which is at most one behind the last one.
+    /// Puts a byte at a place, which is at most one after the last one.
     fn put(&mut self, at: usize, byte: u8) -> io::Result<()> {
         match self.bytes.get_mut(at) {
             Some(place) => *place = byte,

@@ -26,7 +26,7 @@ const FILLS: Job = Job {
     port: 0,
 };
 
-/// What a run leaves that fills a journal, where it does and no snapshot is there.
+/// What a run leaves that fills a journal; `None` if it doesn't fill it, or a snapshot is there.
 fn filled<R: Threads + Wait + Abort + Sync>(
     rt: &R,
     device: &mut Vec<u8>,
@@ -75,7 +75,7 @@ fn a_journal_that_a_run_filled_lets_a_stream_go_on(rt: HostRuntime) -> Result<()
     Ok(())
 }
 
-/// A device whose empty journal has room for just what a turn and the confirms behind it need.
+/// A device whose empty journal has room for just what a turn and the confirms after it need.
 const FULL: Fresh = Fresh {
     text: NARROW,
     code: DEAF,
@@ -98,7 +98,7 @@ const REFUSED: Step = Step {
     ..PLAIN
 };
 
-/// Where no byte of an input finds any room the stream is refused, and doesn't go on for ever. Without a byte it ends.
+/// If no byte of an input finds any room, the stream is refused, so it doesn't go on for ever. Without a byte it ends.
 #[test]
 fn input_that_finds_no_room_is_refused(rt: HostRuntime) -> Result<(), Fail> {
     for step in [PLAIN, REFUSED] {

@@ -45,7 +45,7 @@ fn refusal_of(alloc: Global, file: &mut FakeFile) -> Result<Option<EndFault>, Al
     Ok(refusal_over(alloc, &ends, None, file))
 }
 
-/// Why ends aren't opened where one is this file, beside a device of these numbers.
+/// Why ends aren't opened if one is this file, beside a device of these numbers.
 fn refusal_over(
     alloc: Global,
     ends: &Ends,
@@ -77,7 +77,7 @@ fn a_disk_takes_no_output(rt: HostRuntime) -> Result<(), Fail> {
     Ok(())
 }
 
-/// A file has no part where the system doesn't say which one it is: nothing would tell it from another end.
+/// A file has no part if the system doesn't tell which one it is: nothing would tell it from another end.
 #[test]
 fn a_file_whose_numbers_fail_has_no_part(rt: HostRuntime) -> Result<(), Fail> {
     let alloc = rt.alloc();
@@ -109,7 +109,7 @@ fn a_device_that_comes_to_stand_at_a_path_takes_no_output(rt: HostRuntime) -> Re
     Ok(())
 }
 
-/// Nor is it the file that standard input comes from, where a port takes that.
+/// Nor is it the file that standard input comes from, if a port takes that.
 #[test]
 fn a_file_that_is_read_takes_no_output(rt: HostRuntime) -> Result<(), Fail> {
     let alloc = rt.alloc();
@@ -128,7 +128,7 @@ fn a_file_that_is_read_takes_no_output(rt: HostRuntime) -> Result<(), Fail> {
     Ok(())
 }
 
-/// Why standard output doesn't take the output of port 2 where it and standard error are files of these numbers, if they are files; none: it
+/// Why standard output doesn't take the output of port 2 if it and standard error are files of these numbers, if they are files; none: it
 /// takes it.
 fn refusal_of_standard(
     alloc: Global,
@@ -142,7 +142,7 @@ fn refusal_of_standard(
     Ok(refusal_by(alloc, &ends, &mut files))
 }
 
-/// Nor does standard output take one where it and standard error are one file: what is said would stand between the bytes, or over them. Two
+/// Nor does standard output take one if it and standard error are one file: what is said would be between the bytes, or over them. Two
 /// files are no fault, nor is a terminal or a pipe.
 #[test]
 fn a_standard_output_that_is_said_over_takes_no_output(rt: HostRuntime) -> Result<(), Fail> {
@@ -156,7 +156,7 @@ fn a_standard_output_that_is_said_over_takes_no_output(rt: HostRuntime) -> Resul
     Ok(())
 }
 
-/// Where the system says no numbers one path is one file: an output's that is the device's, or another output's, isn't opened.
+/// If the system says no numbers one path is one file: an output's that is the device's, or another output's, isn't opened.
 #[test]
 fn one_path_takes_no_output_twice(rt: HostRuntime) -> Result<(), Fail> {
     let alloc = rt.alloc();

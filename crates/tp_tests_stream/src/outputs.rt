@@ -7,8 +7,8 @@ use std::io::{ErrorKind, Write};
 use std::test::Fail;
 use tp_stream_files::{AnySink, EndFile, FileSink, Sink, SinkFault};
 
-/// What came of an output: how many bytes the sink counts, or `None` where the file wasn't opened; how the last call went; and how many
-/// times a folder was synced.
+/// What came of an output: how many bytes the sink counts, or `None` if the file wasn't opened; how the last call went; and how many times a folder
+/// was synced.
 #[derive(Clone, Copy, PartialEq, Eq)]
 struct Came {
     size: Option<u64>,
@@ -16,7 +16,7 @@ struct Came {
     folders: u32,
 }
 
-/// Puts bytes one by one behind `at`, and makes each safe.
+/// Puts bytes one by one after `at`, and makes each safe.
 fn put_each<F: EndFile + Drop>(
     sink: &mut FileSink<F>,
     at: u64,
@@ -29,7 +29,7 @@ fn put_each<F: EndFile + Drop>(
     Ok(())
 }
 
-/// Opens a file as an output's, and puts bytes one by one behind `at`.
+/// Opens a file as an output's, and puts bytes one by one after `at`.
 fn come_of(file: &mut FakeFile, folder: Left, at: u64, bytes: &[u8]) -> Came {
     let mut files = FakeFiles::new(file, folder);
     match FileSink::open_in(&mut files, "folder/out") {
@@ -49,7 +49,7 @@ fn come_of(file: &mut FakeFile, folder: Left, at: u64, bytes: &[u8]) -> Came {
     }
 }
 
-/// A file, how its calls fail, how folders' syncs fail, and where three bytes are put; and what comes of it.
+/// A file, how its calls fail, how folders' syncs fail, and the position at which three bytes are put; and what comes of it.
 struct Case {
     bytes: &'static [u8],
     writes: Left,
@@ -150,7 +150,7 @@ const FOLDER_FAILS: Case = Case {
     ..EMPTY
 };
 
-/// The sync of a folder would fail, and isn't asked for where the file has bytes.
+/// The sync of a folder would fail, and isn't asked for if the file has bytes.
 const NO_FOLDER: Case = Case {
     folder: Left(Some(0)),
     ..LONG
@@ -179,7 +179,7 @@ fn comes_out(alloc: Global, case: &Case) -> Result<bool, Fail> {
     Ok(came == case.came && file.bytes.as_slice() == case.then && file.synced == case.synced)
 }
 
-/// A failed call is told and never counted, and no byte goes that isn't put over.
+/// A failed call is told and never counted, and no byte is lost that isn't put over.
 #[test]
 fn a_file_that_fails_is_told(rt: HostRuntime) -> Result<(), Fail> {
     for (number, case) in CASES.iter().enumerate() {
@@ -252,8 +252,8 @@ fn put_out(out: &mut Buffered) -> Result<(), SinkFault> {
     sink.settle()
 }
 
-/// Standard output is flushed behind what is put, and is handed each byte once; and who reads it has gone just where the system says so, of a
-/// write or of the flush.
+/// Standard output is flushed after what is put, and is handed each byte once. Its reader has gone exactly if the system says so, of a write or of
+/// the flush.
 #[test]
 fn standard_output_is_flushed(rt: HostRuntime) -> Result<(), Fail> {
     let mut out = Buffered::new(rt.alloc());
@@ -266,7 +266,7 @@ fn standard_output_is_flushed(rt: HostRuntime) -> Result<(), Fail> {
     Ok(())
 }
 
-/// Where a write fails a front of the bytes is there, each once.
+/// If a write fails, some of the first bytes are there, each once.
 #[test]
 fn standard_output_that_fails_has_a_front(rt: HostRuntime) -> Result<(), Fail> {
     for (kind, fault) in [

@@ -39,7 +39,7 @@ pub(crate) struct Pieces {
     pub(crate) late: u32,
 }
 
-/// What stands from a position on.
+/// What is from a position on.
 fn rest_from(bytes: &[u8], at: u64) -> &[u8] {
     if at < bytes.len() as u64 {
         &bytes[at as usize..]
@@ -68,8 +68,8 @@ impl Source for Pieces {
     }
 }
 
-/// Who is told: it counts, and keeps how far the stream had come at last, how many turns were made at most since the time before, and how the
-/// first nodes have stopped.
+/// Who is told: it counts, and keeps how far the stream had come at last, how many turns were made at most since the time before, and how the first
+/// nodes have stopped.
 #[derive(Clone, Copy)]
 pub(crate) struct Told {
     pub(crate) output: Option<u64>,
@@ -122,7 +122,7 @@ pub(crate) fn nobody() -> Told {
     }
 }
 
-/// Who asks a stream to stop: behind that many looks that found nothing, and from then on; `None`: nobody does.
+/// Who asks a stream to stop: after that many looks that found nothing, and from then on; `None`: nobody does.
 #[derive(Drop)]
 pub(crate) struct Asks {
     behind: Option<u32>,
@@ -151,7 +151,7 @@ impl Stop for Asks {
     }
 }
 
-/// The byte behind another, where each differs from its neighbours.
+/// The byte after another, if each differs from its neighbours.
 fn number_after(number: u8) -> u8 {
     if number == 250 {
         0
@@ -203,7 +203,7 @@ fn streams(
     Ok(Streams { outputs, inputs })
 }
 
-// A stream, where as many steps are asked for as may be.
+// A stream, if as many steps are asked for as may be.
 fn play_within<D: Disk + Send + Drop, S: Sink, I: Source, L: Listener, R: Threads + Wait + Sync>(
     rt: &R,
     alloc: Global,
@@ -218,7 +218,7 @@ fn play_within<D: Disk + Send + Drop, S: Sink, I: Source, L: Listener, R: Thread
     stream(rt, alloc, task, disk, streams, told, asks)
 }
 
-/// A stream on a device; with how it ended stands what a crash leaves then.
+/// A stream on a device: how it ended, and what a crash leaves then.
 pub(crate) fn play_on<S: Sink, I: Source, L: Listener, R: Threads + Wait + Abort + Sync>(
     rt: &R,
     alloc: Global,
@@ -294,8 +294,8 @@ impl Desk {
     }
 }
 
-/// What a stream on a desk is asked: its task, behind how many calls of the sink one fails, how many numbered bytes its source has, how many
-/// come at a time, and how many reads come before they do; and behind how many looks it is asked to stop.
+/// What a stream on a desk is asked: its task, after how many calls of the sink one fails, how many numbered bytes its source has, how many come at a
+/// time, and how many reads come before they do; and after how many checks it is asked to stop.
 #[derive(Clone, Copy)]
 pub(crate) struct Asked {
     pub(crate) task: Task,
@@ -325,7 +325,7 @@ pub(crate) struct Played {
 }
 
 impl Played {
-    /// Why it ended, where it was done.
+    /// Why it ended, if it was done.
     pub(crate) fn why(self) -> Option<Ending> {
         match self.done {
             Ok(ended) => Some(ended.why),
@@ -333,7 +333,7 @@ impl Played {
         }
     }
 
-    /// The number that the next entry gets, where it was done.
+    /// The number that the next entry gets, if it was done.
     pub(crate) fn next(self) -> Option<u64> {
         match self.done {
             Ok(ended) => Some(ended.next),
@@ -352,7 +352,7 @@ pub(crate) fn sink_of(alloc: Global, streams: Streams<MemSink, Pieces>) -> (u64,
     }
 }
 
-/// This sink, where one of its calls fails behind that many.
+/// This sink, if one of its calls fails after that many.
 fn failing(sink: MemSink, fails: Option<u32>) -> MemSink {
     match fails {
         Some(calls) => sink.failing(calls),

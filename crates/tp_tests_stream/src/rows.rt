@@ -96,7 +96,7 @@ where
     Ok(desk.sink.bytes().len() == FEW)
 }
 
-/// Turn by turn, each in a process of its own: what was put before is passed over, and so is what was accepted.
+/// Turn by turn, each in a process of its own: what was put before is skipped, and so is what was accepted.
 #[test]
 fn few_turns_at_a_time_come_to_the_same(rt: HostRuntime) -> Result<(), Fail> {
     let mut desk = Desk::fresh(rt.alloc(), ONE, ECHO, 16_384)?;

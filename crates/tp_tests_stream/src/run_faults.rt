@@ -39,7 +39,7 @@ fn fault_of(alloc: Global, kind: u8) -> Result<PlannedFault, AllocError> {
     })
 }
 
-/// Whether a run that answers so printed its letter; none where it printed something else, or answers another fault.
+/// Whether a run that answers so printed its letter; none if it printed something else, or answers another fault.
 fn was_printed(done: Result<u64, RunFault>, out: &[u8]) -> Option<bool> {
     let (is_letter, wanted) = match done {
         Ok(next) => (true, next == 5),
@@ -55,7 +55,7 @@ fn was_printed(done: Result<u64, RunFault>, out: &[u8]) -> Option<bool> {
     }
 }
 
-/// Whether a run behind one that ended so is done: the letter is printed again, or was confirmed.
+/// Whether a run after one that ended so is done: the letter is printed again, or was confirmed.
 fn goes_on<R: Threads + Wait + Abort + Sync>(
     rt: &R,
     alloc: Global,
@@ -73,8 +73,8 @@ fn goes_on<R: Threads + Wait + Abort + Sync>(
     Ok(is_kept && is_told && later.is_ok() && then.as_slice() == printed)
 }
 
-/// A run over a device with one call that fails, and one behind it. Answers whether the first one failed; none where what was printed
-/// isn't there: it is printed again, or was confirmed.
+/// A run over a device with one call that fails, and one after it. Answers whether the first one failed; `None` if what was printed isn't right: each
+/// output was printed again, or was confirmed.
 fn play_fault<R: Threads + Wait + Abort + Sync>(
     rt: &R,
     alloc: Global,
@@ -102,7 +102,7 @@ fn play_call<R: Threads + Wait + Abort + Sync>(
     failed
 }
 
-/// In how many calls a run failed that fails in this way. None where something doesn't go on as it should.
+/// In how many calls a run failed that fails in this way. None if something doesn't go on as it should.
 fn count_failed<R: Threads + Wait + Abort + Sync>(
     rt: &R,
     alloc: Global,
@@ -151,8 +151,8 @@ fn ends_broken<R: Threads + Wait + Abort + Sync>(
     Ok(done == Err(RunFault::FlushFailed) && out.is_empty())
 }
 
-/// A run ends once a call of its device has failed, however many turns are left, early or behind checkpoints: by one worker, by two, where
-/// one rests, and by more than there are processes.
+/// A run ends once a call of its device has failed, however many turns are left, early or after checkpoints: by one worker, by two, of which one
+/// rests, and by more than there are processes.
 #[test]
 fn a_run_ends_where_its_device_fails(rt: HostRuntime) -> Result<(), Fail> {
     for workers in [1u8, 2, 16] {
@@ -184,7 +184,7 @@ impl Slow {
         }
     }
 
-    /// Whether it took these bytes, by calls for so many.
+    /// Whether it took these bytes, by calls for these numbers.
     fn has(&self, taken: &[u8], asked: &[usize]) -> bool {
         self.taken.as_slice() == taken && self.asked.as_slice() == asked
     }
@@ -239,8 +239,8 @@ fn faults_are_printed_by_their_names(rt: HostRuntime) {
     }
 }
 
-/// Whether a run on the device of a node that echoes ends with that fault, or with none, once its outlet, which has room for `room` bytes,
-/// took these bytes, by calls for these numbers.
+/// Whether a run on the device of a node that echoes ends with that fault, or with none, once its outlet, which has room for `room` bytes, took these
+/// bytes, by calls for these numbers.
 fn ends_so<R: Threads + Wait + Abort + Sync>(
     rt: &R,
     alloc: Global,
@@ -255,7 +255,7 @@ fn ends_so<R: Threads + Wait + Abort + Sync>(
     done.err() == fault && slow.has(taken, asked)
 }
 
-/// The calls for three bytes, where each other call takes one.
+/// The calls for three bytes, if each other call takes one.
 const ALL: &[usize] = &[3, 3, 2, 2, 1, 1];
 
 #[test]
@@ -278,8 +278,8 @@ fn an_outlet_that_failed_is_not_called_again(rt: HostRuntime) -> Result<(), Fail
     Ok(())
 }
 
-/// Whether a run on the device of a node that echoes ends with that fault, or with none, once a writer whose first `failed` writes failed so,
-/// and which takes a byte of each other one, took these bytes.
+/// Whether a run on the device of a node that echoes ends with that fault, or with none, once a writer took these bytes. Its first `failed` writes
+/// fail with this error, and each other one takes a byte.
 fn writes_so<R: Threads + Wait + Abort + Sync>(
     rt: &R,
     alloc: Global,

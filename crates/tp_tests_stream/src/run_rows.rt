@@ -62,7 +62,7 @@ fn are_rows<R: Threads + Wait + Abort + Sync>(
     true
 }
 
-/// The steps in front of the letter, the letter as the host takes it, and that it was printed.
+/// The steps before the letter, the letter as the host takes it, and that it was printed.
 const RUN_3: Entry = Entry::Run { node: 0, count: 3 };
 
 const LETTER: Entry = Entry::Take {
@@ -133,7 +133,7 @@ fn runs_keep_what_was_worked_out(rt: HostRuntime) -> Result<(), Fail> {
     let printed = [RUN_3, LETTER, turn(Received::JustAck, 16), CONFIRMED];
     // Input is handed in once.
     let offered = [INPUT_A, INPUT_B, INPUT_C];
-    // Input stands before what is done with it.
+    // Input is before what is done with it.
     let taken = [
         INPUT_A,
         INPUT_B,

@@ -31,7 +31,7 @@ pub(crate) fn letter(alloc: Global) -> Result<MemDisk, Fail> {
     Ok(MemDisk::of_bytes(formatted(alloc, ONE, SENDS_A, 16_384)?))
 }
 
-// A run, where as many workers and steps are asked for as may be.
+// A run, if as many workers and steps are asked for as may be.
 fn run_within<D: Disk + Send + Drop, R: Threads + Wait + Sync, O: Outlet>(
     rt: &R,
     alloc: Global,
@@ -78,7 +78,7 @@ pub(crate) fn left(alloc: Global, disk: &mut MemDisk) -> Result<Left, Fail> {
     look_at(alloc, disk)
 }
 
-/// What a run answers, how many bytes were printed up to its end, and what a crash leaves of the device behind it.
+/// What a run answers, how many bytes were printed up to its end, and what a crash leaves of the device after it.
 #[derive(Clone, Copy)]
 pub(crate) struct Look {
     pub(crate) done: Result<u64, RunFault>,
@@ -117,7 +117,7 @@ pub(crate) fn run_and_look<R: Threads + Wait + Abort + Sync>(
     })
 }
 
-/// Two runs one behind the other, with a crash between them.
+/// Two runs one after the other, with a crash between them.
 pub(crate) fn run_twice<R: Threads + Wait + Abort + Sync>(
     rt: &R,
     alloc: Global,

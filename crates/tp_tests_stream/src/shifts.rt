@@ -6,7 +6,7 @@ use crate::steps::{Bytes, Fresh, PLAIN, Step, are_steps_on};
 use std::test::Fail;
 use tp_stream::{Ending, Task};
 
-/// How many turns are made at most between two times that it is told how far the stream has come, where no workers make any.
+/// How many turns are made at most between two times that it is told how far the stream has come, if no workers make any.
 const ROUND: u64 = 1024;
 
 /// A stream: the network, how many workers there are, how many steps a turn may run, and whether shifts come.
@@ -58,8 +58,8 @@ const ROWS: &[Row] = &[
     },
 ];
 
-/// The first node sends two numbers, and both are put. The stream is told, so it reads no input that hasn't come: that there is none is
-/// there to be read from the start.
+/// The first node sends two numbers, and both are put. The stream is told, so it reads no input that hasn't come: that there is none can be read from
+/// the start.
 const COUNTED: Step = Step {
     asked: Asked {
         late: 0,
@@ -74,7 +74,7 @@ const COUNTED: Step = Step {
     ..PLAIN
 };
 
-/// The stream of a row: more turns are made between two of its cycles than a round has just where shifts are to come.
+/// The stream of a row: more turns are made between two of its cycles than a round has just if shifts are to come.
 fn step_of(row: &Row) -> Step {
     let task = Task {
         workers: row.workers,
@@ -96,8 +96,8 @@ fn step_of(row: &Row) -> Step {
     }
 }
 
-/// Where turns have 160 steps in the mean of a round, and more than one worker is asked for, workers make turns between two cycles; what comes
-/// out is what comes out by one.
+/// If turns have 160 steps on average in a round, and more than one worker is asked for, workers make turns between two cycles; the output is that of
+/// one worker.
 #[test]
 fn workers_make_the_turns_that_are_worth_it(rt: HostRuntime) -> Result<(), Fail> {
     for row in ROWS {
@@ -117,12 +117,12 @@ fn workers_make_the_turns_that_are_worth_it(rt: HostRuntime) -> Result<(), Fail>
     Ok(())
 }
 
-/// How many turns are made at most in the next test: those of a round, and fewer in the shift behind it than it has room for. There is more to do
+/// How many turns are made at most in the next test: those of a round, and fewer in the shift after it than it has room for. There is more to do
 /// than that: each of three nodes counts for 768 turns at first.
 const BOUND: u64 = 2124;
 
 /// How many entries these make at least: one for each turn of a node, which are three of four in the round, and in the shift every second turn or
-/// more, since the host waits behind a node that waits.
+/// more, since the host waits after a node that waits.
 const ENTRIES: u64 = 1300;
 
 /// A round and one shift make just the turns that were asked for: no more entries than one for each turn, and no fewer than nodes make.
@@ -151,8 +151,8 @@ fn a_shift_keeps_the_bound_of_turns(rt: HostRuntime) -> Result<(), Fail> {
     Ok(())
 }
 
-/// A node that computes, and the host, where a round leaves some hundred turns of the node's: 512 of its turns have 328,704 of the 393,276 steps
-/// that it needs for its two numbers.
+/// A node that computes, and the host, if a round leaves some hundred turns of the node's: 512 of its turns have 328,704 of the 393,276 steps that it
+/// needs for its two numbers.
 const NEARLY: Row = Row {
     text: ONE,
     workers: 3,
@@ -160,13 +160,13 @@ const NEARLY: Row = Row {
     has_shifts: true,
 };
 
-/// More turns than are made until nothing is left to do, and no more than a round and a shift of its two workers have. In a shift at most four turns
-/// in a row have nothing to do, else it ends: so behind the first round fewer than a thousand are made, in whatever order threads come, and no
-/// more than a thousand in the last one.
+/// More turns than are made until nothing is left to do, and no more than a round and a shift of its two workers have. A shift ends unless at most
+/// four turns in a row have nothing to do. So after the first round fewer than a thousand are made, in whatever order threads come, and no more than
+/// a thousand in the last one.
 const AMPLE: u32 = 3000;
 
-/// A shift that ends since nothing is left to do counts the turns that were made, and not those that it had: the bound isn't reached, and the
-/// stream ends as quiet.
+/// A shift that ends since nothing is left to do counts the turns that were made, and not those that it had: the bound isn't reached, and the stream
+/// ends as quiet.
 #[test]
 fn turns_that_nobody_made_are_none(rt: HostRuntime) -> Result<(), Fail> {
     let step = step_of(&NEARLY);

@@ -21,7 +21,7 @@ fn are_all(bytes: &[u8], wanted: u8) -> bool {
     true
 }
 
-/// The bytes of a sink: `least` at least, and `most` at most. All are `all`; or, where that is none, they are the first numbered ones.
+/// The bytes of a sink: `least` at least, and `most` at most. All are `all`; or, if that is none, they are the first numbered ones.
 #[derive(Clone, Copy)]
 pub(crate) struct Bytes {
     pub(crate) all: Option<u8>,
@@ -62,15 +62,15 @@ impl Bytes {
 pub(crate) struct Step {
     /// What is asked of it.
     pub(crate) asked: Asked,
-    /// The sink's bytes before it, where they aren't those that were there.
+    /// The sink's bytes before it, if they aren't those that were there.
     pub(crate) front: Option<Bytes>,
-    /// Why it ends, where that is looked at.
+    /// Why it ends, if that is checked.
     pub(crate) why: Option<Ending>,
     /// How it is refused.
     pub(crate) fault: Option<StreamFault>,
-    /// What the sink has then, where that is looked at.
+    /// What the sink has then, if that is checked.
     pub(crate) then: Option<Bytes>,
-    /// From where on its output is put, and its input is handed in, where that is looked at.
+    /// From where on its output is put, and its input is handed in, if that is checked.
     pub(crate) begins: Option<u64>,
     /// How the only node has stopped that has.
     pub(crate) stopped: Option<Stopped>,
@@ -82,7 +82,7 @@ pub(crate) struct Step {
     pub(crate) next: [u64; 2],
 }
 
-/// An empty sink, and no input, until nothing is left to do; nothing is looked at but that it is done, and stops no node.
+/// An empty sink, and no input, until nothing is left to do; it checks only that the step is done, and stops no node.
 pub(crate) const PLAIN: Step = Step {
     asked: NO_INPUT,
     front: Some(EMPTY),
@@ -105,7 +105,7 @@ impl Step {
         is_why && played.done.err() == self.fault && first == self.stopped && second.is_none()
     }
 
-    /// Whether it was told so where the streams of its port begin, and how far it has come.
+    /// Whether it was told so if the streams of its port begin, and how far it has come.
     fn is_told(&self, played: &Played) -> bool {
         let told = played.told;
         let is_begun = told.output == self.begins && told.input == self.begins;
@@ -114,7 +114,7 @@ impl Step {
         are_turns && told.progress >= self.told && (is_begun || self.begins.is_none())
     }
 
-    /// Whether it left a device that opens so: where the stream ended, if it was done.
+    /// Whether it left a device that opens so: if the stream ended, if it was done.
     fn is_left(&self, played: &Played, left: &Left) -> bool {
         let is_next = match played.next() {
             Some(next) => next == left.next,
@@ -170,7 +170,7 @@ where
     Ok(true)
 }
 
-/// A device that is freshly formatted: its network, the code of each node, how many bytes behind the others the first one begins, and how
+/// A device that is freshly formatted: its network, the code of each node, how many bytes after the others the first one begins, and how
 /// many bytes an area has.
 #[derive(Clone, Copy)]
 pub(crate) struct Fresh {

@@ -85,8 +85,8 @@ where
     Ok((done, told))
 }
 
-/// Whether a stream that is told waits in no read, is told each time that it looks for input, and at last what the device then opens to,
-/// which no checkpoint was needed for; and one that isn't told is told nothing, and waits in a read.
+/// Whether a stream that is told waits in no read, and is told each time that it checks for input, and at last what the device then opens to, without
+/// a checkpoint. One that isn't told is told nothing, and waits in a read.
 fn is_told<R: Threads + Wait + Abort + Sync>(rt: &R, device: &mut Vec<u8>) -> Result<bool, Fail>
 where
     R: AllocGlobal,

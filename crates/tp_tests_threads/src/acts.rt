@@ -24,11 +24,11 @@ use tp_work::{ConfirmFault, OfferFault, ShownFault, TurnFault};
 /// In how many rounds a snapshot has to end.
 const ROUNDS: u8 = 4;
 
-/// What is done, and what comes of it. Each number of an entry is one behind the bytes that the story offers first.
+/// What is done, and what comes of it. Each number of an entry is one after the bytes that the story offers first.
 #[derive(Clone, Copy)]
 pub(crate) enum Act {
-    /// The process of that number, which waits longest, makes a turn: it takes that many tokens, and a node makes that many steps, and no
-    /// more for that reason.
+    /// The process of that number, which waits longest, makes a turn: it takes that many tokens, and a node makes that many steps, and no more for
+    /// that reason.
     Turn(u8, u64, Option<(u16, Why)>),
     /// The turn of the process that waits longest is refused.
     Refused(TurnFault),
@@ -46,8 +46,8 @@ pub(crate) enum Act {
     Next(u64),
     /// The book's next number is that, and its cut is whole or isn't.
     Book(u64, bool),
-    /// The cut is whole: it has that many entries of the node, and of the host beside those that the story offers first; the token is in
-    /// front of the line to the node; and the last number is that of the entries outside it.
+    /// The cut is whole: it has that many entries of the node, and of the host beside those that the story offers first. The token is the first of
+    /// the line to the node. The last number is that of the entries outside it.
     Whole(u64, u64, Option<Token>, usize),
     /// A turn of the flusher brings all to the device, and switches its areas or doesn't.
     Flush(bool),
@@ -72,7 +72,7 @@ pub(crate) enum Act {
 }
 
 impl Act {
-    /// What is done in its place where no snapshot begins.
+    /// What is done instead if no snapshot begins.
     fn plain(self) -> Act {
         match self {
             Act::Begin | Act::Runs | Act::Flush(_) | Act::Fails => Act::Flush(false),
@@ -83,8 +83,8 @@ impl Act {
     }
 }
 
-/// What is done on a network, whose nodes have `spare` spare frames and make `quantum` steps a turn: the bytes `offered` are offered, and
-/// then come the acts. Without snapshots where it `is_plain`.
+/// What is done on a network, whose nodes have `spare` spare frames and make `quantum` steps a turn: the bytes `offered` are offered, and then come
+/// the acts; without snapshots if it `is_plain`.
 #[derive(Clone, Copy)]
 pub(crate) struct Story<'a> {
     pub(crate) network: Network,
@@ -133,7 +133,7 @@ fn are_turned<J: Naming, R: Wait>(rt: &R, desk: &mut Desk<J>, count: u32) -> boo
     true
 }
 
-/// Whether a turn of the flusher switches the areas; none where it doesn't bring all to the device. Tells whether the device failed.
+/// Whether a turn of the flusher switches the areas; `None` if it doesn't bring all to the device. Tells whether the device failed.
 fn flushed<J: Naming, R: Wait>(rt: &R, alloc: Global, desk: &mut Desk<J>) -> Option<bool> {
     let next = desk.next(rt);
     match desk.flush(rt, alloc) {
@@ -194,7 +194,7 @@ fn switches<J: Naming, R: Wait>(rt: &R, alloc: Global, desk: &mut Desk<J>) -> bo
     false
 }
 
-/// How many entries stand outside a whole cut, as a copy of them has; none where the cut isn't whole.
+/// How many entries are outside a whole cut, as a copy of them has; none if the cut isn't whole.
 fn outside(alloc: Global, book: &Book) -> Option<usize> {
     let Some(_cut) = book.whole() else {
         return None;
@@ -208,7 +208,7 @@ fn outside(alloc: Global, book: &Book) -> Option<usize> {
     }
 }
 
-/// Whether the cut is whole, with `counts` entries of the node and of the host, `token` in front of the line to the node, and `count`
+/// Whether the cut is whole, with `counts` entries of the node and of the host, `token` before the line to the node, and `count`
 /// entries outside it.
 fn is_cut(
     alloc: Global,
@@ -227,7 +227,7 @@ fn is_cut(
         && outside(alloc, book) == Some(count)
 }
 
-/// Where the port's next byte has to be offered: an offer far behind it is refused with that position.
+/// The position at which the port's next byte has to be offered: an offer far past it is refused with that position.
 fn accepted<J: Naming, R: Wait>(rt: &R, desk: &mut Desk<J>) -> u64 {
     match desk.offer(rt, u64::MAX, b"") {
         Some(Err(OfferFault::Gap(accepted))) => accepted,
@@ -263,7 +263,7 @@ fn hosts<J: Naming, R: Wait>(
     }
 }
 
-/// Whether what an act says of the book is so, or a host's act comes as it was told.
+/// Whether what an act says of the book is true, or a host's act goes as told.
 fn is_book<J: Naming, R: Wait>(
     rt: &R,
     alloc: Global,
@@ -339,7 +339,7 @@ fn is_still<J: Naming, R: Wait>(rt: &R, desk: &mut Desk<J>) -> bool {
     }
 }
 
-/// Whether all that would be journalled is refused, once the device has failed, and nothing is journalled.
+/// Whether all that would be journalled is refused once the device has failed, and nothing is journalled.
 fn refuses_all<J: Naming, R: Wait>(rt: &R, alloc: Global, desk: &mut Desk<J>) -> bool {
     let is_looked = desk.look(rt);
     let count = desk.told.journal.len();
@@ -356,7 +356,7 @@ fn refuses_all<J: Naming, R: Wait>(rt: &R, alloc: Global, desk: &mut Desk<J>) ->
         && desk.told.journal.len() == count
 }
 
-/// The acts as far as they go. Where the device failed, all that would be journalled then is refused.
+/// The acts as far as they go. If the device failed, all that would be journalled then is refused.
 fn play_all<J: Naming, R: Wait>(
     rt: &R,
     alloc: Global,
@@ -377,7 +377,7 @@ fn play_all<J: Naming, R: Wait>(
     }
 }
 
-/// What a story leaves of a device that opened; none where memory is refused before the network is there.
+/// What a story leaves of a device that opened; `None` if memory runs out before the network is there.
 fn play<J: Naming, R: Wait>(
     rt: &R,
     alloc: Global,
@@ -412,7 +412,7 @@ fn play_in<R: Wait>(
     play::<Brand, R>(rt, alloc, opening, quantum, story, told)
 }
 
-/// What a story leaves of a device with `bytes`, where a call of it may end badly. `told` is what was told of it before. A turn has
+/// What a story leaves of a device with `bytes`, if a call of it may end badly. `told` is what was told of it before. A turn has
 /// 1 to 4,096 steps.
 pub(crate) fn run<R: Wait>(
     rt: &R,

@@ -29,7 +29,7 @@ const FREE: u8 = 0;
 /// How many turns the other worker makes meanwhile: one of each other process, and one more.
 const TURNS: u32 = NODES as u32 + 1;
 
-/// Holds a process behind its run, until it is let go or its number is taken again; and how often its number was taken.
+/// Holds a process after its run, until it is released or its number is taken again; and how often its number was taken.
 #[derive(Drop)]
 struct Alone {
     hold: Hold,
@@ -52,7 +52,7 @@ impl<'a> Gate for Lent<'a> {
     }
 }
 
-/// Turns of all others, once a process is held, which is let go then. Answers whether it was there, and all of them were made.
+/// Turns of all others, once a process is held, which is released then. Answers whether it was there, and all of them were made.
 fn turn_others<J: Naming, R: Wait>(
     rt: &R,
     net: &Net<J, Lent<'_>>,

@@ -16,15 +16,15 @@ use tp_shared::{Naming, NoGate, Seat, Shared};
 /// Who is held, until the other one made its turn.
 #[derive(Clone, Copy)]
 pub(crate) enum Held {
-    /// A node behind its run, beside a turn of the flusher.
+    /// A node after its run, beside a turn of the flusher.
     Node,
-    /// The flusher behind its copy, beside a run, which isn't stored by that turn, but by the next one: the mark is then at most the run's
-    /// number, and above it.
+    /// The flusher after its copy, beside a run, which that turn doesn't store, but the next one: the mark is then at most the run's number, and
+    /// later above it.
     Copy,
-    /// The flusher behind the first page of a node that has recorded, beside a run of that node, which writes its second page. That turn of
+    /// The flusher after the first page of a node that has recorded, beside a run of that node, which writes its second page. That turn of
     /// the flusher stores only what was journalled before the run.
     Page,
-    /// The node that sends a letter behind its run, beside a turn of the flusher that switches the areas.
+    /// The node that sends a letter after its run, beside a turn of the flusher that switches the areas.
     Switch,
 }
 
@@ -56,7 +56,7 @@ fn is_recorded<J: Naming, D: Disk, R: Wait>(
 }
 
 /// The node `number` sends its letter, and a snapshot begins, in which all nodes record. The flusher copies their images, and doesn't
-/// switch, since the letter is on its line, and a Marker behind it. Then the host takes both, and nothing is wanting any more.
+/// switch, since the letter is on its line, and a Marker after it. Then the host takes both, and nothing is wanting any more.
 fn comes_whole<J: Naming, D: Disk, R: Wait>(
     rt: &R,
     alloc: Global,
@@ -92,7 +92,7 @@ fn is_ready<J: Naming, D: Disk, R: Wait>(
     }
 }
 
-/// A turn of the node `number`: how many steps it made, and the number of the next entry then; none where the other one didn't come.
+/// A turn of the node `number`: how many steps it made, and the number of the next entry then; none if the other one didn't come.
 fn turn_beside<J: Naming, R: Wait>(
     rt: &R,
     shared: &Shared<J>,
@@ -111,7 +111,7 @@ fn turn_beside<J: Naming, R: Wait>(
     }
 }
 
-/// A turn of the flusher: the mark, and whether it switched the areas; none where the other one didn't come.
+/// A turn of the flusher: the mark, and whether it switched the areas; none if the other one didn't come.
 fn flush_beside<J: Naming, D: Disk, R: Wait>(
     rt: &R,
     alloc: Global,

@@ -1,4 +1,4 @@
-//! Calls of a book: where memory is refused it is as it was, and the call can be made again.
+//! Calls of a book: if memory runs out, it is as it was, and the call can be made again.
 
 ghost use Rattle.std.specs.Prelude.{IfOk, IfSome};
 ghost use Rattle.tp_book.specs.Opened.{IsWellOpen};
@@ -14,7 +14,7 @@ use tp_model::Token;
 use tp_recover::open;
 use tp_tests_fixtures::idle;
 
-/// The book of the network, though memory may be refused once.
+/// The book of the network, though memory may run out once.
 fn started(alloc: Global, net: &NetParts) -> Result<Book, AllocError>
     requires { IsLone (network_made net.now) }
     ensures { IfOk result (λ book. IsUsable book) }
@@ -25,7 +25,7 @@ fn started(alloc: Global, net: &NetParts) -> Result<Book, AllocError>
     }
 }
 
-/// The book of a network of one node; none where memory is refused.
+/// The book of a network of one node; `None` if memory runs out.
 fn book(alloc: Global) -> Option<Book>
     ensures { IfSome result (λ book. IsUsable book) }
 {
@@ -118,7 +118,7 @@ fn a_call_of_a_book_is_made_again(rt: HostRuntime) {
     }
 }
 
-/// What a device leaves; none where memory is refused.
+/// What a device leaves; `None` if memory runs out.
 fn state(alloc: Global, disk: &mut MemDisk) -> Option<NetState>
     ensures { IfSome result IsWellOpen }
 {
@@ -131,7 +131,7 @@ fn state(alloc: Global, disk: &mut MemDisk) -> Option<NetState>
     Some(state)
 }
 
-/// The book of what it leaves, though memory may be refused once.
+/// The book of what it leaves, though memory may run out once.
 fn book_of(alloc: Global, state: &NetState) -> Result<Book, AllocError>
     requires { IsWellOpen state.now }
 {

@@ -42,7 +42,7 @@ fn parts(alloc: Global, image: &[u8]) -> Result<NetParts, AllocError>
     })
 }
 
-/// The network of the node of an image that can be tried; none of another image, or where memory is refused.
+/// The network of the node of an image that can be tried; `None` for another image, or if memory runs out.
 pub(crate) fn lone_net(alloc: Global, image: &[u8]) -> Option<NetParts>
     ensures { IfSome result (λ net. IsLone (network_made net)) }
 {
@@ -80,7 +80,7 @@ pub(crate) fn reserve(book: &mut Book) -> Result<(), Refusal>
     book.reserve_run(0)
 }
 
-/// Makes the front of the line that goes to the node ready to be taken.
+/// Makes the first token of the line to the node ready to be taken.
 pub(crate) fn make_ready(book: &mut Book) -> Result<Token, Refusal>
     requires { IsUsable book.old }
     ensures { OnErr result (IsUsable book.new) }

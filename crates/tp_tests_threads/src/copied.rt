@@ -12,7 +12,7 @@ use tp_tests_fixtures::{GROUPS, SECOND, place};
 /// Where the first area begins, and where the second area's groups do.
 pub(crate) const FIRST: usize = 512;
 
-/// A group of the node's first turns and the host's: a run of 3 steps, the letter, its acknowledge, and a run of 16 steps. Behind it stands
+/// A group of the node's first turns and the host's: a run of 3 steps, the letter, its acknowledge, and a run of 16 steps. After it is
 /// a closed gate.
 pub(crate) const TURNS: &[u8] = &[
     0xA5, 0, 4, 0, 0, 0, 0, 0, 0, 0, 0, 0, 0, 0, 0, 0, // the header
@@ -30,7 +30,7 @@ pub(crate) const FURTHER: &[u8] = &[
     0,
 ];
 
-/// Where the further group's gate stands.
+/// Where the further group's gate is.
 pub(crate) const BEHIND: usize = GROUPS + 80;
 
 /// The bytes of the device of the node that sends a letter, freshly formatted.
@@ -38,7 +38,7 @@ pub(crate) fn fresh(alloc: Global) -> Result<Vec<u8>, Fail> {
     Ok(formatted(alloc, &ONE)?)
 }
 
-/// A device that has the first turns in its first area. What stood in the other one and behind the groups is left from before.
+/// A device that has the first turns in its first area. What was in the other one and after the groups is left from before.
 pub(crate) fn turned(alloc: Global) -> Result<Vec<u8>, Fail> {
     let mut bytes = fresh(alloc)?;
     place(&mut bytes, GROUPS, TURNS);
@@ -55,7 +55,7 @@ pub(crate) fn turned_second(alloc: Global) -> Result<Vec<u8>, Fail> {
     Ok(bytes)
 }
 
-/// The device of the first turns with a wide head: the area begins 512 bytes later. Where link 0 of the node leads stands at 152.
+/// The device of the first turns with a wide head: the area begins 512 bytes later. The end of the node's link 0 is at 152.
 pub(crate) fn turned_behind_a_wide_head(alloc: Global) -> Result<Vec<u8>, Fail> {
     let narrow = turned(alloc)?;
     let (head, areas) = narrow.split_at(FIRST.min(narrow.len()));

@@ -11,7 +11,7 @@ use tp_model::limits::WIDE_HEAD_BYTES;
 use tp_recover::{CopyFault, copy_opened};
 use tp_tests_fixtures::{GROUPS, KEPT, SECOND, SIZE};
 
-/// What stands in a copy before it is made.
+/// What is in a copy before it is made.
 const OLD: u8 = 0xA5;
 
 /// How many reads copying makes of this device: four pieces of its area, its head, and its area's front.
@@ -113,8 +113,8 @@ fn look(alloc: Global, bytes: &[u8]) -> Result<(u64, Form, usize), Fail> {
     Ok((opened.next(), opened.form(), opened.kept().len()))
 }
 
-/// Whether a copy of the device is made, and what is left of it opens to what the device opens to, in an area of its form, and has its
-/// bytes from `start` up to the closed gate, and its head; the device has the bytes that it had.
+/// Whether a copy of the device is made, and what is left of it opens to what the device opens to, in an area of its form, and has its bytes from
+/// `start` up to the closed gate, and its head. The device has the bytes that it had.
 fn is_copied(alloc: Global, bytes: &[u8], start: usize) -> Result<bool, Fail> {
     let end = BEHIND.wrapping_add(start).wrapping_sub(FIRST);
     let sizes = (bytes.len(), bytes.len());
@@ -131,8 +131,7 @@ fn is_copied(alloc: Global, bytes: &[u8], start: usize) -> Result<bool, Fail> {
     )
 }
 
-/// Whether the device of a number is copied: that with its open area in front, or behind the other one; as it was kept; and with a wide
-/// head.
+/// Whether the device of a number is copied: with its open area before the other one, or after it; as it was kept; and with a wide head.
 fn is_copied_of(alloc: Global, number: u8) -> Result<bool, Fail> {
     let (bytes, start) = match number {
         0 => (turned(alloc)?, FIRST),
@@ -152,7 +151,7 @@ fn the_open_area_is_copied(rt: HostRuntime) -> Result<(), Fail> {
     Ok(())
 }
 
-/// What comes of copying the device of the first turns. What is left of the copy opens just where the copy was made.
+/// What comes of copying the device of the first turns. What is left of the copy opens just if the copy was made.
 fn turned_came(alloc: Global, case: Case) -> Result<(Answer, u64), Fail> {
     let came = copied_as(alloc, &turned(alloc)?, case)?;
     let is_made = came.answer == Ok(Some(4));
@@ -162,7 +161,7 @@ fn turned_came(alloc: Global, case: Case) -> Result<(Answer, u64), Fail> {
     Ok((came.answer, came.calls))
 }
 
-/// How many calls fail, each alone, until none does, and whether each of them is answered so.
+/// How many calls fail, each alone, until none does, and whether each of them gives this fault.
 fn fails(alloc: Global, of_source: bool, fault: CopyFault) -> Result<(u64, bool), Fail> {
     for call in 0..MOST {
         let failing = Some(failing(call));
@@ -195,8 +194,8 @@ fn a_call_that_fails_is_said(rt: HostRuntime) -> Result<(), Fail> {
     Ok(())
 }
 
-/// What is written meanwhile, and whether what was copied is a moment's then: the other area is opened; it is, and this area's gate is
-/// closed; this area is written anew, with a generation that is higher by 2; and a group is appended, which is left out.
+/// What is written meanwhile, and whether what was copied is one moment's then: the other area is opened; it is, and this area's gate is closed; this
+/// area is written anew, with a generation that is higher by 2; and a group is appended, which the copy leaves out.
 const CHANGES: &[(Pieces, bool)] = &[
     (&[(SECOND + 1, &[2]), (SECOND, &[0xA5])], true),
     (
@@ -210,7 +209,7 @@ const CHANGES: &[(Pieces, bool)] = &[
     (&[(BEHIND, FURTHER)], true),
 ];
 
-/// Whether a change is found, before whichever read of the device it comes, and not where it comes behind the last one.
+/// Whether a change is found, before whichever read of the device it comes, and isn't if it comes after the last one.
 fn is_found(alloc: Global, writes: Pieces, is_whole: bool) -> Result<bool, Fail> {
     for at in 0..=READS {
         let wanted = if is_whole || at == READS {

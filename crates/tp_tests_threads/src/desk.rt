@@ -1,4 +1,4 @@
-//! A network in threads, in one hand. A call that is refused memory is made again, once it is seen that nothing else came of it.
+//! A network in threads, in one hand. A call that ran out of memory is made again, once it is seen that nothing else came of it.
 
 ghost use Rattle.std.specs.Prelude.{◌≡◌, ◌<◌, ◌≤◌, [], All, IfSome, Some};
 ghost use Rattle.tp_model.specs.declared.limits.TheConstants.{MAX_STEPS};
@@ -19,7 +19,7 @@ use tp_ready::Pass;
 use tp_shared::{Naming, NoGate, Seat as Slips, Shared, Sights};
 use tp_work::{ConfirmFault, Net, OfferFault, Seat, Session, ShownFault, TurnFault};
 
-/// What a turn did: whose it was, how many tokens it took, and how many steps it ran and why no more, where it runs.
+/// What a turn did: whose it was, how many tokens it took, and how many steps it ran and why no more, if it runs.
 #[derive(Clone, Copy)]
 pub(crate) struct Did {
     pub(crate) process: u8,
@@ -27,8 +27,8 @@ pub(crate) struct Did {
     pub(crate) ran: Option<(u16, Why)>,
 }
 
-/// What was read of the mark at most, all that was journalled since the device was formatted, what the book said last of the entries in its
-/// cut and of its form, and whether the flusher said that the device failed where it was told that it doesn't.
+/// What was read of the mark at most, all that was journalled since the device was formatted, what the book said last of the entries in its cut and
+/// of its form, and whether the flusher said that the device failed though it was told that it doesn't.
 #[derive(Drop)]
 pub(crate) struct Told {
     pub(crate) mark: u64,
@@ -78,7 +78,7 @@ fn seat_of<J: Naming>(net: &Net<J, NoGate>, seats: Vec<Seat<J>>) -> Option<Seat<
     seats.pop()
 }
 
-/// Puts what was opened under locks, where a node's turn has `quantum` steps; none where memory is refused.
+/// Puts what was opened under locks, if a node's turn has `quantum` steps; `None` if memory runs out.
 pub(crate) fn begin<J: Naming, R: Wait>(
     rt: &R,
     alloc: Global,
@@ -143,7 +143,7 @@ impl<J: Naming> Desk<J> {
         self.net.shared().mark().load(&mut self.pass)
     }
 
-    /// Looks at the book, where the mark was read.
+    /// Looks at the book, if the mark was read.
     fn look_at_book<R: Wait>(&mut self, rt: &R, mark: u64) -> Result<(), AllocError> {
         look_at(rt, self.net.shared(), mark, &mut self.told)
     }
@@ -182,8 +182,8 @@ impl<J: Naming> Desk<J> {
         }
     }
 
-    /// A turn. Where memory was refused in it, nothing ran, and the process waits behind the other one: which finds nothing to do, and then
-    /// it goes on behind the tokens that it took.
+    /// A turn. If memory ran out in it, nothing ran, and the process waits after the other one. That one finds nothing to do; then the first one goes
+    /// on after the tokens that it took.
     pub(crate) fn turn<R: Wait>(&mut self, rt: &R) -> Result<Did, TurnFault> {
         let before = self.next(rt);
         let first = self.turn_once(rt);
@@ -207,7 +207,7 @@ impl<J: Naming> Desk<J> {
         flushing::flush(rt, alloc, self.net.shared(), &mut self.flusher)
     }
 
-    /// A turn of the flusher: the mark, and whether it switched the areas. Where memory was refused in it, the mark didn't fall.
+    /// A turn of the flusher: the mark, and whether it switched the areas. If memory ran out in it, the mark didn't fall.
     pub(crate) fn flush<R: Wait>(
         &mut self,
         rt: &R,
@@ -221,7 +221,7 @@ impl<J: Naming> Desk<J> {
         self.flush_once(rt, alloc)
     }
 
-    /// A snapshot begins. Where memory was refused, none runs.
+    /// A snapshot begins. If memory ran out, none runs.
     pub(crate) fn begin<R: Wait>(&self, rt: &R, alloc: Global) -> Result<(), Refusal> {
         let first = self.flusher.snapshot(rt, alloc, self.net.shared()).answer();
         if !matches!(first, Err(Refusal::Memory))
@@ -232,7 +232,7 @@ impl<J: Naming> Desk<J> {
         self.flusher.snapshot(rt, alloc, self.net.shared()).answer()
     }
 
-    /// What the host does at a port; none where there is no such port.
+    /// What the host does at a port; none if there is no such port.
     pub(crate) fn session(&self, port: u8) -> Option<Session<'_, J>> {
         Session::new(self.net.shared(), port)
     }
@@ -250,7 +250,7 @@ impl<J: Naming> Desk<J> {
         }
     }
 
-    /// Offers bytes to the port: the receipt's number. Where memory was refused, there is no entry of them.
+    /// Offers bytes to the port: the receipt's number. If memory ran out, there is no entry of them.
     pub(crate) fn offer<R: Wait>(
         &mut self,
         rt: &R,
@@ -265,7 +265,7 @@ impl<J: Naming> Desk<J> {
         first
     }
 
-    /// What the port shows from a position on; none where there is no such port.
+    /// What the port shows from a position on; none if there is no such port.
     fn shown_from<R: Wait>(
         &mut self,
         rt: &R,
@@ -292,7 +292,7 @@ impl<J: Naming> Desk<J> {
         }
     }
 
-    /// Whether it does, also where memory was refused first.
+    /// Whether it does, also if memory ran out first.
     pub(crate) fn shows<R: Wait>(
         &mut self,
         rt: &R,
@@ -320,7 +320,7 @@ impl<J: Naming> Desk<J> {
         }
     }
 
-    /// Whether the pass says of a receipt of confirmed outputs that it is stored behind a turn of the flusher, and not before it.
+    /// Whether the pass says of a receipt of confirmed outputs that it is stored after a turn of the flusher, and not before it.
     pub(crate) fn stores<R: Wait>(&mut self, rt: &R, alloc: Global, upto: u64) -> bool {
         let Some(Ok(receipt)) = self.receipt_of(rt, upto) else {
             return false;
@@ -350,7 +350,7 @@ impl<J: Naming> Desk<J> {
         }
     }
 
-    /// Confirms outputs. Where memory was refused, there is no entry of that.
+    /// Confirms outputs. If memory ran out, there is no entry of that.
     pub(crate) fn confirm<R: Wait>(
         &mut self,
         rt: &R,

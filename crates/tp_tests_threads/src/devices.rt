@@ -6,8 +6,8 @@ use tp_disk::{Disk, MemDisk};
 use tp_net::Topology;
 use tp_tests_fixtures::{AREA, GROUPS, ONE_NODE, SIZE, idle, place};
 
-/// The bytes of the device that aren't 00, with their places: the head, the first area's front, the image's head and the word of the
-/// interrupted process, and a group of two entries, by which the host hands in the letters x and y.
+/// The bytes of the device that aren't 00, with their places: the head, the first area's front, the image's head and the word of the interrupted
+/// process, and a group of two entries, by which the host hands in the letters x and y.
 const BYTES: [(usize, &[u8]); 9] = [
     (0, b"TPNET\0\0\x01\x01\x01"),
     (16, &[0, 0x40, 0, 0, 0, 0, 0, 0, 4]),
@@ -46,7 +46,7 @@ struct Given {
 }
 
 impl Given {
-    /// A device of zeros; none where memory is refused.
+    /// A device of zeros; `None` if memory runs out.
     fn new(alloc: Global) -> Option<Given> {
         let images = Vec::from_array(alloc, [idle(alloc).ok()?]).ok()?;
         let disk = MemDisk::zeroed(alloc, SIZE).ok()?;
@@ -74,7 +74,7 @@ impl Given {
         self.disk.failures() == 0
     }
 
-    /// Formats. Where memory is refused, nothing is written, and it is done again.
+    /// Formats. If memory runs out, nothing is written, and it is done again.
     fn format_again(&mut self, alloc: Global) -> Result<(), FormatFault> {
         let first = self.format(alloc);
         if first == Err(FormatFault::Memory) && self.is_blank() {
@@ -84,7 +84,7 @@ impl Given {
     }
 }
 
-/// Where the form of the first area stands, and that of one with turns.
+/// Where the form of the first area is, and that of one with turns.
 const FORM: usize = 531;
 
 const WITH_TURNS: &[u8] = &[2];
@@ -114,7 +114,7 @@ fn is_bad(alloc: Global) -> Option<bool> {
     Some(given.format_again(alloc) == Err(FormatFault::BadImage) && given.is_blank())
 }
 
-/// Nothing is written where memory is refused, and the next format is as the first would have been. What makes it ready is made again, too.
+/// Nothing is written if memory runs out, and the next format is as the first would have been. What makes it ready is made again, too.
 #[test]
 fn a_device_is_formatted_again(rt: HostRuntime) {
     let told = match formats(rt.alloc()) {
@@ -124,7 +124,7 @@ fn a_device_is_formatted_again(rt: HostRuntime) {
     assert!(rt; told);
 }
 
-/// Bad images are refused as such, also where memory was refused first.
+/// Bad images are refused as such, also if memory ran out first.
 #[test]
 fn a_bad_image_stays_bad(rt: HostRuntime) {
     let told = match is_bad(rt.alloc()) {

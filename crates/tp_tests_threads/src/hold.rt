@@ -7,7 +7,7 @@ use tp_shared::Gate;
 /// How often a thread looks for another, at most: so often that what ends a test that hangs comes first.
 pub const LOOKS: u32 = 1_000_000_000;
 
-/// Looks until the flag is set, and yields between two looks. Answers whether it was.
+/// Checks until the flag is set, and yields between two checks. Answers whether it was.
 pub fn comes(flag: &AtomicBool) -> bool {
     for _ in 0..LOOKS {
         if flag.load(Ordering::SeqCst) {
@@ -18,7 +18,7 @@ pub fn comes(flag: &AtomicBool) -> bool {
     false
 }
 
-/// Holds a process at a point, the first time it comes there, until it is let go or has looked for that too often.
+/// Holds a process at a point, the first time it comes there, until it is released or has looked for that too often.
 #[derive(Drop)]
 pub struct Hold {
     process: u8,
@@ -44,19 +44,19 @@ impl Hold {
         comes(&self.is_there)
     }
 
-    /// Waits until the process is there, where it is another one than `process`. Answers whether it came.
+    /// Waits until the process is there, if it is another one than `process`. Answers whether it came.
     pub fn wait_as(&self, process: u8) -> bool {
         process == self.process || self.wait()
     }
 
-    /// Lets the process go, where it is another one than `process`.
+    /// Lets the process go, if it is another one than `process`.
     pub fn open_as(&self, process: u8) {
         if process != self.process {
             self.is_open.store(true, Ordering::SeqCst);
         }
     }
 
-    /// Whether the process was held until it was let go.
+    /// Whether the process was held until it was released.
     pub fn was_let_go(&self) -> bool {
         self.was_let_go.load(Ordering::SeqCst)
     }

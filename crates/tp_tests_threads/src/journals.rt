@@ -36,8 +36,8 @@ fn is_journalled<R: Wait>(
     Ok(is_so && is_last(alloc, &left.bytes, next)? && recovered(alloc, first, &left)? == Some(next))
 }
 
-/// Over a device whose areas have turns the node takes a byte, which it holds, and makes three steps; it sends a letter, which the host
-/// takes; it takes the acknowledge, and goes round, in its next turns too. Over one whose first area has none, each take is an entry.
+/// Over a device whose areas have turns, the node takes a byte, which it holds, and makes three steps. It sends a letter, which the host takes; it
+/// takes the acknowledge, and loops, in its next turns too. Over one whose first area has none, each take is an entry.
 #[test]
 fn a_script_journals_what_it_does(rt: HostRuntime) -> Result<(), Fail> {
     let alloc = rt.alloc();

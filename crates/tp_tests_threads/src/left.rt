@@ -28,7 +28,7 @@ fn is_journalled<J: Naming, R: Wait>(rt: &R, shared: &Shared<J>, opened: &Opened
     is_journal(held.book(), opened)
 }
 
-/// Whether one thing is so and the other, which a call tells that may fail.
+/// Whether one thing holds and the other, which comes from a call that may fail.
 pub(crate) fn both(is_so: bool, other: Result<bool, Fail>) -> Result<bool, Fail> {
     Ok(other? && is_so)
 }

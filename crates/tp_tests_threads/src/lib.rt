@@ -1,6 +1,6 @@
-//! Networks in threads, of devices that opened: calls one by one, those that are refused memory and made again, those of a worker and a
-//! host, and copies of devices; threads that a gate holds at a point of a turn, beside others that go on; and scripts, act by act in one
-//! thread, over devices that are stopped or fail at each of their calls.
+//! Networks in threads, of devices that opened: calls one by one, those that run out of memory and are made again, those of a worker and a host, and
+//! copies of devices; threads that a gate holds at a point of a turn, beside others that go on; and scripts, act by act in one thread, over devices
+//! that are stopped or fail at each of their calls.
 #![tactic(auto)]
 
 #[cfg(test)]

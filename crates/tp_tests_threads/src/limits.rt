@@ -19,8 +19,8 @@ use tp_work::{Net, Seat, Turn};
 /// How many steps a turn has, and how many seats there are.
 const STARTS: &[(u16, u8)] = &[(1, 1), (4096, 1), (1, 32)];
 
-/// Whether it is the turn of the process `number`: the host's without a run; that of the first node, which sends a letter; and that of
-/// another, which goes round, of a whole quantum.
+/// Whether it is the turn of the process `number`: the host's without a run; that of the first node, which sends a letter; and that of another, which
+/// loops, of a whole quantum.
 fn is_whole(turn: &Turn, number: u8, quantum: u16) -> bool {
     let steps = match &turn.ran {
         Some(ran) => Some(ran.count()),

@@ -8,12 +8,12 @@ use tp_mem::{CowMemory, FlatMemory, Freeze, Mem};
 use tp_node::{ImageFault, Node};
 use tp_tests_fixtures::{idle, place};
 
-/// Where memory begins, and its second page.
+/// If memory begins, and its second page.
 const FIRST: u32 = 0x8000_0000;
 
 const SECOND: u32 = 0x8000_0400;
 
-/// Instructions, and what they are spelt one behind the other.
+/// Instructions, and what they are spelt one after the other.
 const INSTRUCTIONS: [(Fun, i32); 4] = [
     (Fun::Ldc, 0x754),
     (Fun::Ldc, i32::MIN),
@@ -26,7 +26,7 @@ const SPELT: &[u8] = &[
     0x2F, 0x6F, 0x40, 0x60, 0x8F,
 ];
 
-/// Whether the instruction is spelt behind the others. Where memory was refused, just they are there.
+/// Whether the instruction is spelt after the others. If memory ran out, only the others are there.
 fn is_spelt(fun: Fun, operand: i32, bytes: &mut Vec<u8>) -> bool {
     let before = bytes.len();
     if encode(fun, operand, bytes).is_ok() {
@@ -96,7 +96,7 @@ fn a_memory_with_a_spare_frame_is_made_again(rt: HostRuntime) -> Result<(), Fail
     Ok(())
 }
 
-/// The node of an image. It is refused memory once at most.
+/// The node of an image. Memory runs out once at most.
 fn node(alloc: Global, image: &[u8]) -> Result<Node, ImageFault> {
     match Node::from_image(alloc, image, 4) {
         Err(ImageFault::Memory) => Node::from_image(alloc, image, 4),

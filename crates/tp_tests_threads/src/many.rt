@@ -1,4 +1,4 @@
-//! Many entries at once: in one turn of the flusher, around the most that 16 bits count, and behind a cut.
+//! Many entries at once: in one turn of the flusher, around the most that 16 bits count, and after a cut.
 
 use crate::acts::Act::{Begin, Book, Flush, Turns};
 use crate::acts::Story;
@@ -38,7 +38,7 @@ const ABOVE: Story<'static> = Story {
     ..BELOW
 };
 
-/// The node records in the first turn behind `Begin`, so all entries of the 200,000 turns are outside the cut.
+/// The node records in the first turn after `Begin`, so all entries of the 200,000 turns are outside the cut.
 const TAIL: Story<'static> = Story {
     acts: &[
         Turns(2),
@@ -51,7 +51,7 @@ const TAIL: Story<'static> = Story {
     ..BELOW
 };
 
-/// Whether a crash behind a story opens with entries from `base` to `next`, as many as these.
+/// Whether a crash after a story opens with entries from `base` to `next`, as many as these.
 fn keeps<R: Wait>(
     rt: &R,
     alloc: Global,

@@ -126,8 +126,8 @@ fn is_early<J: Naming, R: Wait>(
     }
 }
 
-/// Whether a pass says of each pair of bytes first that it isn't stored while nobody flushes, and then, once it says that one is stored,
-/// goes on saying so while the flusher makes its turns in a thread of its own.
+/// Whether a pass says of each pair of bytes first that it isn't stored while nobody flushes. Once it says that one is stored, it goes on saying so
+/// while the flusher makes its turns in a thread of its own.
 pub fn stays_stored<J: Naming + Send + Sync, D: Disk + Drop, R: Threads + Wait + Sync>(
     rt: &R,
     alloc: Global,

@@ -12,7 +12,7 @@ use tp_tests_fixtures::idle;
 
 const WIRES: [Option<WireEnd>; 5] = [Some(Port(0)), None, None, None, Some(Link(0, 0))];
 
-/// The network of the device; none where memory is refused.
+/// The network of the device; `None` if memory runs out.
 fn network(alloc: Global) -> Option<FlatNetwork> {
     let mut disk = MemDisk::of_bytes(grown(alloc).ok()?);
     let (_, network, _) = open(alloc, &mut disk).ok()?.into_parts();
@@ -50,7 +50,7 @@ fn is_read_out(net: &NetParts, image: &[u8]) -> bool {
     is_node && is_host && net.wires.as_slice() == WIRES.as_slice() && are_lines(&net.lines)
 }
 
-/// The parts of a network, though memory may be refused once.
+/// The parts of a network, though memory may run out once.
 fn parts(alloc: Global, network: &mut FlatNetwork) -> Result<NetParts, AllocError> {
     match network.parts(alloc) {
         Ok(net) => Ok(net),
@@ -58,8 +58,7 @@ fn parts(alloc: Global, network: &mut FlatNetwork) -> Result<NetParts, AllocErro
     }
 }
 
-/// Whether the network of the device is read out as it should be. Where memory is refused, the network stays as it is, and its parts can be
-/// had again.
+/// Whether the network of the device is read out as it should be. If memory runs out, the network stays as it is, and its parts can be had again.
 fn reads_out(alloc: Global) -> Option<bool> {
     let image = idle(alloc).ok()?;
     let mut network = network(alloc)?;

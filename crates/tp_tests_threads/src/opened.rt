@@ -43,7 +43,7 @@ fn is_grown(opened: &Opened) -> bool {
         && is_pending
 }
 
-/// Whether the device opens so, with a store where that is asked for.
+/// Whether the device opens like that, with a store if that is asked for.
 fn opens(alloc: Global, disk: &mut MemDisk, with_store: bool) -> Result<bool, Unopened> {
     if !with_store {
         return Ok(is_grown(&open(alloc, disk)?));
@@ -52,7 +52,7 @@ fn opens(alloc: Global, disk: &mut MemDisk, with_store: bool) -> Result<bool, Un
     Ok(is_grown(&opened) && store.place == opened.place())
 }
 
-/// Whether the device with the group opens as what it holds, and nothing is written; where memory was refused, it opens so then.
+/// Whether the device with the group opens as what it holds, and nothing is written; if memory ran out, it does so the next time.
 fn opens_again(alloc: Global, with_store: bool) -> Result<bool, AllocError> {
     let bytes = grown(alloc)?;
     let mut disk = MemDisk::of_bytes(grown(alloc)?);
@@ -63,7 +63,7 @@ fn opens_again(alloc: Global, with_store: bool) -> Result<bool, AllocError> {
     Ok(told == Ok(true) && disk.failures() == 0 && disk.bytes() == bytes.as_slice())
 }
 
-/// Opening writes nothing, and what it answers doesn't depend on what was refused before.
+/// Opening writes nothing, and what it answers doesn't depend on what failed before.
 #[test]
 fn a_device_is_opened_again(rt: HostRuntime) -> Result<(), Fail> {
     for with_store in [false, true] {

@@ -24,10 +24,10 @@ use tp_recover::{Opened, Unopened, open};
 use tp_shared::{Gate, Naming, Parts};
 use tp_work::{Net, Seat, nodes_of};
 
-/// How many steps a node's turn has, where nothing else is asked for.
+/// How many steps a node's turn has, if nothing else is asked for.
 const QUANTUM: u16 = 9;
 
-/// How many spare frames a node has, where nothing else is asked for.
+/// How many spare frames a node has, if nothing else is asked for.
 const SPARE: usize = 4;
 
 /// A device that opened: what it held, its topology, the parts of its network, the number of their first entry, the raiser of their mark,
@@ -52,7 +52,7 @@ pub struct Opening<D: Disk> {
 }
 
 impl<D: Disk + Drop> Opening<D> {
-    /// The parts of its network, and the raiser of their mark, where no flusher is wanted.
+    /// The parts of its network, and the raiser of their mark, if no flusher is wanted.
     pub fn into_parts(self) -> (Parts, Raiser)
         ensures { result.1.mark ≡ result.0.mark }
     {
@@ -85,7 +85,7 @@ pub fn opening_of<D: Disk + Drop>(alloc: Global, disk: D) -> Result<Opening<D>, 
     opening_with(alloc, disk, SPARE)
 }
 
-/// Opens a device, where each node has `spare` spare frames.
+/// Opens a device, if each node has `spare` spare frames.
 pub fn opening_with<D: Disk + Drop>(
     alloc: Global,
     disk: D,
@@ -131,7 +131,7 @@ pub fn begin<J: Naming, D: Disk + Drop, G: Gate + Drop, R: Wait>(
     begin_with(rt, alloc, opening, QUANTUM, workers, gate)
 }
 
-/// Puts it under locks, where a node's turn has `quantum` steps.
+/// Puts it under locks, if a node's turn has `quantum` steps.
 pub fn begin_with<J: Naming, D: Disk + Drop, G: Gate + Drop, R: Wait>(
     rt: &R,
     alloc: Global,

@@ -52,7 +52,7 @@ fn is_turned<J: Naming, R: Wait>(rt: &R, shared: &Shared<J>, other: Other<J>) ->
     .is_some()
 }
 
-/// Turns of other nodes, each in a thread of its own, while one is held, which is let go then. Answers whether it was there, and all
+/// Turns of other nodes, each in a thread of its own, while one is held, which is released then. Answers whether it was there, and all
 /// of them were made.
 fn turn_others<J: Naming + Send + Sync, R: Threads + Wait + Sync>(
     rt: &R,

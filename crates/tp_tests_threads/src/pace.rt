@@ -10,8 +10,8 @@ use tp_shared::gate::{BACKLOG_COPIED, NUMBER_TAKEN};
 /// Of how many turns the last one waits.
 pub const EVERY: u32 = 20;
 
-/// Keeps a team and a flusher beside each other: of each [`EVERY`] turns the last one begins once the flusher has copied again, or was
-/// looked for too often.
+/// Keeps a team and a flusher beside each other: of each [`EVERY`] turns the last one begins once the flusher has copied again, or after too many
+/// checks for that.
 #[derive(Drop)]
 pub struct Pace {
     taken: AtomicU32,

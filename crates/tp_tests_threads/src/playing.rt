@@ -1,4 +1,4 @@
-//! Stories are played, on a device of their own each, where memory is refused once at most.
+//! Stories are played, on a device of their own each, while memory runs out once at most.
 
 use crate::acts::{Story, turn};
 use crate::stories::{CALLS, FULL, NO_FRAME, NOTHING_WRITTEN, ONE_FRAME};
@@ -8,8 +8,8 @@ use std::alloc::Global;
 use std::sync::Wait;
 use tp_model::{Entry, Received, Token};
 
-/// Whether a story goes as it should, and a crash leaves the second area, with `base` entries in its cut beside those that are offered
-/// first, and just the entries of `kept` behind it.
+/// Whether a story goes as it should, and a crash leaves the second area, with `base` entries in its cut beside those that are offered first, and
+/// exactly the entries of `kept` after it.
 fn plays<R: Wait>(rt: &R, alloc: Global, story: &Story<'_>, base: u64, kept: &[Entry]) -> bool {
     let base = base.wrapping_add(story.offered.len() as u64);
     let device = Device {
@@ -51,7 +51,7 @@ fn small_pools_and_a_full_journal(rt: HostRuntime) {
     }
 }
 
-/// With one byte the node's second turn wants memory for its entry; with two the confirm; with three the host's take; with four the node's
+/// With one byte the node's second turn runs out of memory for its entry; with two the confirm; with three the host's take; with four the node's
 /// first turn.
 const OFFERED: &[&[u8]] = &[b"1", b"12", b"123", b"1234"];
 

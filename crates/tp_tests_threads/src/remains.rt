@@ -41,7 +41,7 @@ pub(crate) fn known(alloc: Global, told: &Told, next: u64) -> Result<Told, Alloc
     })
 }
 
-/// The next number of a device and its network, where it opens.
+/// The next number of a device and its network, if it opens.
 fn opened_as(alloc: Global, bytes: &[u8]) -> Result<Option<(u64, NetParts)>, AllocError> {
     let mut disk = MemDisk::of_bytes(Vec::from_slice(alloc, bytes)?);
     let Ok(opened) = open(alloc, &mut disk) else {
@@ -62,7 +62,7 @@ fn is_replay(
     Ok(is_network(network, &wanted))
 }
 
-/// The next number of what a run left, where it opens to a plain replay of the journal up to there, with all below the greatest mark that
+/// The next number of what a run left, if it opens to a plain replay of the journal up to there, with all below the greatest mark that
 /// was read; `None` otherwise.
 pub(crate) fn recovered(alloc: Global, first: &[u8], left: &Left) -> Result<Option<u64>, Fail> {
     let Some((next, network)) = opened_as(alloc, &left.bytes)? else {
@@ -75,7 +75,7 @@ pub(crate) fn recovered(alloc: Global, first: &[u8], left: &Left) -> Result<Opti
     Ok(if is_so? { Some(next) } else { None })
 }
 
-/// What a story leaves where a call ends badly, if the device then was called no more, and opens as it ought to: with its next number.
+/// What a story leaves if a call ends badly, the device then was called no more, and it opens as it ought to: with its next number.
 pub(crate) fn ended<R: Wait>(
     rt: &R,
     alloc: Global,

@@ -47,11 +47,11 @@ pub(crate) enum Scene<'a> {
     Team(u32),
     /// A node's turn is open while the areas are switched and the book is trimmed, and the journal ends with these entries.
     Trim(&'a [Entry]),
-    /// A node is held behind its run, and each worker makes a turn of another.
+    /// A node is held after its run, and each worker makes a turn of another.
     Overlap,
 }
 
-/// A team makes its turns, once someone is held where a gate is told. Answers whether someone was, and no turn was refused.
+/// A team makes its turns, once someone is held if a gate is told. Answers whether someone was, and no turn was refused.
 fn work_all<J: Naming + Send + Sync, R: Threads + Wait + Sync>(
     rt: &R,
     net: &Net<J, Paced<'_>>,
@@ -198,7 +198,7 @@ fn act<J: Naming + Send + Sync, D: Disk + Drop, R: Threads + Wait + Sync>(
     }
 }
 
-/// The network of what a crash leaves, where it has the areas of one switch and the next number of a journal.
+/// The network of what a crash leaves, if it has the areas of one switch and the next number of a journal.
 fn network_left(alloc: Global, disk: MemDisk, next: u64) -> Result<Option<FlatNetwork>, Fail> {
     let opened = opened(alloc, MemDisk::of_bytes(disk.crash()))?;
     let is_second = opened.second() && opened.generation() == 2 && opened.base() > 0;
@@ -257,7 +257,7 @@ fn is_switched<J: Naming, R: Wait>(
     told
 }
 
-/// Whether what the flusher leaves behind a scene is the book's journal. Where an image was copied meanwhile, the area with it is gone over
+/// Whether what the flusher leaves after a scene is the book's journal. If an image was copied meanwhile, the area with it is gone over
 /// to.
 fn leaves<J: Naming, R: Wait>(
     rt: &R,

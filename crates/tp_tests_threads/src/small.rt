@@ -8,8 +8,8 @@ use tp_net::Topology;
 use tp_recover::Unopened;
 use tp_tests_fixtures::{HEAD, ONE_NODE, SENDS_A, idle, place};
 
-/// The instructions of a node's only process, from 80000100 on, and where its workspace is, from 80000000 on. It is of low priority, and
-/// runs; without instructions there is none.
+/// The instructions of a node's only process, from 80000100 on, and where its workspace is, from 80000000 on. It is of low priority, and runs;
+/// without instructions there is none.
 #[derive(Clone, Copy)]
 pub(crate) struct Program {
     pub(crate) code: &'static [u8],
@@ -27,8 +27,8 @@ pub(crate) enum Made {
     WithoutTurns,
 }
 
-/// The topology of a network, the programs of its nodes, where the last one is that of all further nodes, the bytes of an area of its
-/// device, and how it is made.
+/// The topology of a network, the programs of its nodes (the last one is that of all further nodes), the bytes of an area of its device, and how it
+/// is made.
 #[derive(Clone, Copy)]
 pub(crate) struct Network {
     pub(crate) text: &'static [u8],
@@ -94,7 +94,7 @@ pub(crate) const MARKED: Network = Network {
 /// Where a page has its mark.
 const MARK: usize = 0x300;
 
-/// Where the form of the first area stands.
+/// Where the form of the first area is.
 const FORM: usize = 531;
 
 /// Puts the process of a node into its image.
@@ -145,7 +145,7 @@ fn images(alloc: Global, network: &Network, pages: &[u16]) -> Result<Vec<Vec<u8>
     Ok(images)
 }
 
-/// A device of a topology and images, freshly formatted; none where memory is refused.
+/// A device of a topology and images, freshly formatted; `None` if memory runs out.
 fn formatted_with(
     alloc: Global,
     topology: &Topology,
@@ -164,7 +164,7 @@ fn formatted_with(
     Some(disk)
 }
 
-/// The bytes of the device of a network, freshly formatted; none where memory is refused.
+/// The bytes of the device of a network, freshly formatted; `None` if memory runs out.
 fn formatted_once(alloc: Global, network: &Network) -> Option<Vec<u8>> {
     let topology = Topology::read(alloc, network.text).ok()?;
     let images = images(alloc, network, topology.pages()).ok()?;

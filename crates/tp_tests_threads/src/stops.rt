@@ -16,7 +16,7 @@ use std::test::Fail;
 use tp_model::Form;
 use tp_recover::{Unopened, open};
 
-/// How many of the script's acts are in front of it, in front of and behind the first checkpoint, and in front of and behind the second.
+/// How many of the script's acts are before it, before and after the first checkpoint, and before and after the second.
 const ENDS: [usize; 5] = [0, 3, 4, 6, 7];
 
 /// The script up to an act.
@@ -27,7 +27,7 @@ fn script_up_to(count: usize) -> Story<'static> {
     }
 }
 
-/// Nothing is done behind the opening.
+/// Nothing is done after the opening.
 const NOTHING: Story<'static> = Story {
     acts: &[],
     ..SCRIPT
@@ -48,7 +48,7 @@ fn goes_on<R: Wait>(
     Ok(is_on && recovered(alloc, first, &later)? == Some(count))
 }
 
-/// How many calls of the device a story makes behind what a run left, with those that open it.
+/// How many calls of the device a story makes after what a run left, with those that open it.
 fn calls_behind<R: Wait>(
     rt: &R,
     alloc: Global,
@@ -60,7 +60,7 @@ fn calls_behind<R: Wait>(
     calls_of(rt, alloc, story, &left.bytes, told)
 }
 
-/// Whether a checkpoint behind what a run left that stops within a call, where all that isn't synced is then A5, leaves a device that opens
+/// Whether a checkpoint after what a run left that stops within a call, if all that isn't synced is then A5, leaves a device that opens
 /// as it ought to.
 fn is_stopped_well<R: Wait>(
     rt: &R,
@@ -76,8 +76,8 @@ fn is_stopped_well<R: Wait>(
     Ok(ended(rt, alloc, &CHECKPOINT, first, &left.bytes, told, fault)?.is_some())
 }
 
-/// Opens what a run left, and begins a checkpoint that stops within each of its calls. Answers how many calls there are, where there are some
-/// and each time the device opens as it ought to.
+/// Opens what a run left, and begins a checkpoint that stops within each of its calls. Answers how many calls there are, if there are some and each
+/// time the device opens as it ought to.
 fn checkpoints_behind<R: Wait>(
     rt: &R,
     alloc: Global,
@@ -98,7 +98,7 @@ fn checkpoints_behind<R: Wait>(
     Ok(Some(to - from))
 }
 
-/// The script's device, and the numbers of its calls: those of the first step and behind the last, and those of both checkpoints.
+/// The script's device, and the numbers of its calls: those of the first step and after the last, and those of both checkpoints.
 #[derive(Drop)]
 struct Script {
     first: Vec<u8>,
@@ -129,8 +129,8 @@ impl Script {
         (first <= call && call < second) || (third <= call && call < fourth)
     }
 
-    /// Goes on with what the script left as it ended at a call, and where that was in a checkpoint begins another, which stops at each of its
-    /// calls. Answers how many calls it had; `None` where something wasn't as it ought to be.
+    /// Goes on with what the script left as it ended at a call. If that was in a checkpoint, begins another, which stops at each of its calls.
+    /// Answers how many calls it had; `None` if something wasn't as it ought to be.
     fn go_on<R: Wait>(
         &self,
         rt: &R,
@@ -214,7 +214,7 @@ fn an_opening_whose_device_fails_changes_nothing(rt: HostRuntime) -> Result<(), 
 const ALL: &str = "each-stop";
 
 /// Ends the script over a device at each of its calls, in each way. Answers how often it was ended and how many calls the checkpoints
-/// behind them had, or the call at which something wasn't as it ought to be.
+/// after them had, or the call at which something wasn't as it ought to be.
 fn end_each<R: Wait>(
     rt: &R,
     alloc: Global,
@@ -237,7 +237,7 @@ fn end_each<R: Wait>(
     Ok(Ok((cases, behind)))
 }
 
-/// Ends the script over a device at each of its calls, and writes how often: there are some, and some of a checkpoint behind one.
+/// Ends the script over a device at each of its calls, and writes how often: there are some, and some of a checkpoint after one.
 fn tell_each<R: AllocGlobal + Wait + Abort, O: Write>(
     rt: &R,
     first: Vec<u8>,

@@ -114,8 +114,8 @@ pub(crate) const FULL: Story<'static> = Story {
     ..NOTHING_WRITTEN
 };
 
-/// A byte comes in, the letter goes out and is confirmed, and a snapshot comes to its end. Behind a number of bytes, so that each of these
-/// calls wants memory for its entry in one of the stories.
+/// A byte comes in, the letter goes out and is confirmed, and a snapshot comes to its end. This is after a number of bytes, so that each of these
+/// calls runs out of memory for its entry in one of the stories.
 pub(crate) const CALLS: Story<'static> = Story {
     spare: 4,
     acts: &[
@@ -144,9 +144,9 @@ pub(crate) const CALLS: Story<'static> = Story {
     ..NOTHING_WRITTEN
 };
 
-/// What a worker and a host get, call by call: turns in the order of the ready queue; outputs that are shown, and confirmed, once the mark
-/// is above the letter's entry; offers, each with its receipt's number or its fault; what was confirmed is stored once the mark is the
-/// receipt's number, and not before; and once the store is broken, what is refused then, and that each process stays in the ready queue.
+/// What a worker and a host get, call by call: turns in the order of the ready queue; outputs that are shown, and confirmed, once the mark is above
+/// the letter's entry; offers, each with its receipt's number or its fault. What was confirmed is stored once the mark is the receipt's number, and
+/// not before. Once the store is broken, it has what is refused then, and that each process stays in the ready queue.
 pub(crate) const HOSTS: Story<'static> = Story {
     spare: 4,
     acts: &[
@@ -221,8 +221,8 @@ pub(crate) const GOES_ON: Story<'static> = Story {
     ..SCRIPT
 };
 
-/// A round, and then four parts of four rounds each. Before each of the first parts, as many as the number of the row says, a snapshot
-/// begins, and no other one while it runs: the flusher then switches once in that part, and never in the others.
+/// A round, and then four parts of four rounds each. Before each of the first parts, as many as the number of the row says, a snapshot begins, and no
+/// other one while it runs: the flusher then switches once in that part, and never in the others.
 pub(crate) const SNAPSHOTS: [&[Act]; 4] = [
     &[
         Rounds(1, 0),

@@ -42,7 +42,7 @@ impl<J: Naming> Work<J> {
         self.is_refused
     }
 
-    /// Puts the slips behind those of `seat`. Whether there are as many then as entries since the opening, the first with the number
+    /// Puts the slips after those of `seat`. Whether there are as many then as entries since the opening, the first with the number
     /// `first`. Then each number has the slip of the journal's entry, once.
     pub fn are_all(self, held: &mut Locked<J>, seat: &mut Slips<J>, first: u64) -> bool
         requires { first ≡ J.first }

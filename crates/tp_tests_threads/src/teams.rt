@@ -57,8 +57,8 @@ fn work_and_end<J: Naming + Send + Sync, G: Gate + Send + Sync, R: Threads + Wai
     worked
 }
 
-/// What a team journals, beside a host, while the flusher makes its turns. Nothing is answered of the team where one of those wasn't done.
-/// `slips` gets those of the host.
+/// What a team journals, beside a host, while the flusher makes its turns. Nothing is answered of the team if one of those wasn't done. `slips` gets
+/// those of the host.
 fn work_beside<
     J: Naming + Send + Sync,
     D: Disk + Drop,
@@ -100,9 +100,9 @@ fn have_journalled(book: &Book, first: u64) -> bool {
     is_handed && book.next().saturating_sub(first) > handed
 }
 
-/// One worker ends after its first turn, and the others make the rest of `turns`, while a host hands in bytes and the flusher makes its
-/// turns. Answers whether all were handed in, turns journalled, too, and what they journalled is all of the journal, each entry once, whose
-/// first has the number `first`. `slips`, which had none, gets all of theirs.
+/// One worker ends after its first turn, and the others make the rest of `turns`, while a host hands in bytes and the flusher makes its turns.
+/// Answers whether all were handed in and turns journalled, too, and whether what they journalled is all of the journal, each entry once, whose first
+/// has the number `first`. `slips`, which had none, gets all of theirs.
 pub fn are_all_beside<
     J: Naming + Send + Sync,
     D: Disk + Drop,

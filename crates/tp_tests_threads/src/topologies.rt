@@ -27,7 +27,7 @@ fn is_text(topology: &Topology) -> bool {
         && topology.wires() == WIRES.as_slice()
 }
 
-/// Reads a text, and again where memory was refused.
+/// Reads a text, and again if memory ran out.
 pub(crate) fn read(alloc: Global, text: &[u8]) -> Result<Topology, NetFault> {
     match Topology::read(alloc, text) {
         Err(NetFault::Memory) => Topology::read(alloc, text),

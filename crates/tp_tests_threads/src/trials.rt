@@ -6,7 +6,7 @@ use tp_node::Standing;
 use tp_tests_fixtures::letter;
 use tp_turn::{Trial, TryFault, try_standing};
 
-/// Four turns, and again where memory was refused.
+/// Four turns, and again if memory ran out.
 fn tried(alloc: Global, image: &[u8]) -> Result<Trial, TryFault> {
     match try_standing(alloc, image, 4, 16) {
         Err(TryFault::Memory) => try_standing(alloc, image, 4, 16),

@@ -7,7 +7,8 @@ use tp_shared::{Gate, Naming, NoGate, Seat, Shared, Sights};
 /// How many steps a node's turn has.
 pub(crate) const QUANTUM: u16 = 9;
 
-/// A turn of the node `number` at a gate, by a thread that keeps `runs` of instructions. Answers how many steps it made; none where it was refused, or there is no such node.
+/// A turn of the node `number` at a gate, by a thread that keeps `runs` of instructions. Answers how many steps it made; `None` if it was refused, or there is no such
+/// node.
 pub(crate) fn turn_node<J: Naming, G: Gate, R: Wait>(
     rt: &R,
     shared: &Shared<J>,

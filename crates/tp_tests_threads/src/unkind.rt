@@ -9,8 +9,8 @@ use std::alloc::{AllocError, Global};
 use tp_disk::{Counted, DeviceFailed, RawDisk};
 use tp_tests_fixtures::place;
 
-/// What then stands in a range that isn't synced: what stood there at the last sync that was done, what was written last, one byte
-/// everywhere, or for each byte one of them, drawn.
+/// What then is in a range that isn't synced: what was there at the last sync that was done, what was written last, one byte everywhere, or for each
+/// byte one of them, drawn.
 #[derive(Clone, Copy)]
 pub(crate) enum Torn {
     Old,
@@ -20,7 +20,7 @@ pub(crate) enum Torn {
 }
 
 impl Torn {
-    /// The byte that stands at a place.
+    /// The byte that is at a place.
     fn byte(self, place: usize, old: u8, new: u8) -> u8 {
         match self {
             Torn::Old => old,
@@ -43,8 +43,8 @@ impl Torn {
 /// Bytes at their places.
 pub(crate) type Pieces = &'static [(usize, &'static [u8])];
 
-/// How a call ends: the run stops before it, or within it, or it fails and later calls are made; or another process writes pieces before
-/// it, and it is done.
+/// How a call ends: the run stops before it, or within it; it fails and later calls are made; or another process writes pieces before it, and it is
+/// done.
 #[derive(Clone, Copy)]
 pub(crate) enum Ending {
     Before,
@@ -53,7 +53,7 @@ pub(crate) enum Ending {
     Written(Pieces),
 }
 
-/// The call of a number ends so. Where it ends badly, the range that was written last is torn in one way, and all others that aren't
+/// The call of a number ends so. If it ends badly, the range that was written last is torn in one way, and all others that aren't
 /// synced in another.
 #[derive(Clone, Copy)]
 pub(crate) struct Fault {
@@ -70,14 +70,14 @@ enum Came {
     Ends(Fault),
 }
 
-/// A device in memory that doesn't count its failures. When a call ends badly, each range that isn't synced is torn, where a read gives
+/// A device in memory that doesn't count its failures. When a call ends badly, each range that isn't synced is torn, if a read gives
 /// it too, and no sync makes it good.
 #[derive(Drop)]
 pub(crate) struct RawUnkind {
     /// How many bytes it has, and the bytes as a read gives them.
     size: u64,
     bytes: Vec<u8>,
-    /// What stood at the last sync that was done.
+    /// What was at the last sync that was done.
     synced: Vec<u8>,
     /// The first place and the length of each range that was written since.
     ranges: Vec<(usize, usize)>,
@@ -123,7 +123,7 @@ fn put_range(synced: &mut [u8], bytes: &[u8], range: (usize, usize)) {
 }
 
 impl RawUnkind {
-    /// A device with `bytes`, where a call may end badly.
+    /// A device with `bytes`, if a call may end badly.
     pub(crate) fn new(
         alloc: Global,
         bytes: &[u8],
@@ -219,7 +219,7 @@ impl RawUnkind {
         Err(DeviceFailed)
     }
 
-    /// What stands now is synced.
+    /// What is now is synced.
     fn settle(&mut self)
         ensures { self.new.size ≡ self.old.size }
     {

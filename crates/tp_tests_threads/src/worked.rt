@@ -19,14 +19,14 @@ use tp_model::{Entry, Form, Received, Token};
 use tp_recover::{Opened, Unopened, open};
 use tp_tests_fixtures::SECOND;
 
-/// What has to be left: what was worked out, with the entries that opening keeps; or what was told, behind that many switches of the areas.
+/// What has to be left: what was worked out, with the entries that opening keeps; or what was told, after that many switches of the areas.
 #[derive(Clone, Copy)]
 pub(crate) enum Wanted<'a> {
     Worked(&'a Device, &'a [Entry]),
     Told(u8),
 }
 
-/// Whether a piece stands at a place.
+/// Whether a piece is at a place.
 fn stands(bytes: &[u8], at: usize, piece: &[u8]) -> bool {
     match bytes.get(at..) {
         Some(there) => there.starts_with(piece),
@@ -34,7 +34,7 @@ fn stands(bytes: &[u8], at: usize, piece: &[u8]) -> bool {
     }
 }
 
-/// Whether all pieces stand.
+/// Whether all pieces are.
 fn all_stand(bytes: &[u8], pieces: &[(usize, &[u8])]) -> bool {
     for (at, piece) in pieces {
         if !stands(bytes, *at, piece) {
@@ -65,8 +65,8 @@ fn is_device(opened: &Opened, device: &Device, kept: &[Entry]) -> bool {
         && are_kept(opened.kept(), device.base, kept)
 }
 
-/// Whether the area of a device that opened is that of as many `switches`, and holds what the book journalled: what stands in its cut, and
-/// each entry behind it. It has the book's form, and turns once areas were switched.
+/// Whether the area of a device that opened is that of as many `switches`, and holds what the book journalled: what is in its cut, and
+/// each entry after it. It has the book's form, and turns once areas were switched.
 fn is_told(opened: &Opened, told: &Told, switches: u8) -> bool {
     let base = opened.base();
     opened.generation() == 1 + u64::from(switches)
@@ -105,7 +105,7 @@ fn has_all(bytes: &[u8], net: &NetParts, wanted: &Wanted<'_>) -> bool {
     all_stand(bytes, device.bytes)
 }
 
-/// The network of what is left, where opening says what it should.
+/// The network of what is left, if opening says what it should.
 fn net_of(alloc: Global, left: &Left, wanted: &Wanted<'_>) -> Result<Option<NetParts>, Unopened> {
     let Ok(bytes) = Vec::from_slice(alloc, &left.bytes) else {
         return Err(Unopened::Memory);
@@ -121,7 +121,7 @@ fn net_of(alloc: Global, left: &Left, wanted: &Wanted<'_>) -> Result<Option<NetP
     Ok(Some(net))
 }
 
-/// The network of what is left, where all is as it should be.
+/// The network of what is left, if all is as it should be.
 fn opens(alloc: Global, left: &Left, wanted: &Wanted<'_>) -> Result<Option<NetParts>, Unopened> {
     let Some(net) = net_of(alloc, left, wanted)? else {
         return Ok(None);
@@ -133,7 +133,7 @@ fn opens(alloc: Global, left: &Left, wanted: &Wanted<'_>) -> Result<Option<NetPa
     })
 }
 
-/// What a story leaves, where a call of the device may stop it within a write that leaves one byte.
+/// What a story leaves, if a call of the device may stop it within a write that leaves one byte.
 pub(crate) fn played<R: Wait>(
     rt: &R,
     alloc: Global,
@@ -153,7 +153,7 @@ pub(crate) fn played<R: Wait>(
     run(rt, alloc, story, &bytes, fault, untold(alloc))
 }
 
-/// The network that a story leaves, where it goes as it was told, and leaves what it should.
+/// The network that a story leaves, if it goes as it was told, and leaves what it should.
 fn net_after<R: Wait>(
     rt: &R,
     alloc: Global,
@@ -218,7 +218,7 @@ pub(crate) fn is_plain_too<R: Wait>(
     told
 }
 
-/// Whether the call stops a story where it was told that it does, and leaves these pieces.
+/// Whether the call stops a story as it was told to, and leaves these pieces.
 fn is_stop<R: Wait>(
     rt: &R,
     alloc: Global,
@@ -232,7 +232,7 @@ fn is_stop<R: Wait>(
     }
 }
 
-/// The number of the first call that stops a story where it was told that one does, and leaves these pieces.
+/// The number of the first call that stops a story as it was told to, and leaves these pieces.
 pub(crate) fn first_stop<R: Wait>(
     rt: &R,
     alloc: Global,

@@ -7,7 +7,7 @@ use tp_node::Why;
 use tp_tests_fixtures::SECOND;
 
 /// What a crash leaves of a device: the open area, what opening says of it, pieces of the device's bytes, and words of the nodes' images
-/// behind opening, each with its node and its place.
+/// after opening, each with its node and its place.
 #[derive(Clone, Copy)]
 pub(crate) struct Device {
     pub(crate) second: bool,
@@ -89,7 +89,7 @@ pub(crate) const UNDER_WAY_LEFT: Device = Device {
         (29_549, &[1, 1, 0, 0x58]),
         (29_553, &[0; 32]),
         (29_585, &[0; 20]),
-        // The group of one entry, and a closed gate behind it.
+        // The group of one entry, and a closed gate after it.
         (37_797, &[0xA5, 0, 1, 0, 0, 0, 0, 0, 1, 0, 0, 0, 0, 0, 0, 0]),
         (
             37_813,
@@ -99,7 +99,7 @@ pub(crate) const UNDER_WAY_LEFT: Device = Device {
     words: &[(1, 108, [0, 1, 0x58, 0])],
 };
 
-/// The second node records when the next number is 9, the cut is whole at 12, and the entries behind it reach 12. Both nodes count
+/// The second node records when the next number is 9, the cut is whole at 12, and the entries after it reach 12. Both nodes count
 /// on meanwhile.
 pub(crate) const LATE: Story<'static> = Story {
     network: Network {
@@ -177,8 +177,8 @@ pub(crate) const LATE_LEFT: Device = Device {
     words: &[(0, 688, [4, 0, 0, 0]), (1, 1712, [4, 0, 0, 0])],
 };
 
-/// Three checkpoints. Behind the first one the second area gets forty groups more, the last of them in the turn of the second one. The
-/// third one, with one entry outside its cut, leaves them standing behind the closed gate of its group.
+/// Three checkpoints. After the first one the second area gets forty groups more, the last of them in the turn of the second one. The
+/// third one, with one entry outside its cut, leaves them standing after the closed gate of its group.
 pub(crate) const THIRD: Story<'static> = Story {
     network: Network {
         programs: &[Program {
@@ -219,7 +219,7 @@ pub(crate) const THIRD_LEFT: Device = Device {
     base: 42,
     next: 43,
     bytes: &[
-        // The second checkpoint, its count, and its one entry behind the cut.
+        // The second checkpoint, its count, and its one entry after the cut.
         (
             512,
             &[
@@ -243,7 +243,7 @@ pub(crate) const THIRD_LEFT: Device = Device {
             29_417,
             &[0xA5, 0, 1, 0, 0, 0, 0, 0, 42, 0, 0, 0, 0, 0, 0, 0],
         ),
-        // The gate behind its group; then groups of the first one; the last has the number 41.
+        // The gate after its group; then groups of the first one; the last has the number 41.
         (29_449, &[0, 0, 1, 0, 0, 0, 0, 0, 2, 0, 0, 0, 0, 0, 0, 0]),
         (29_481, &[0xA5, 0, 1, 0, 0, 0, 0, 0, 3, 0, 0, 0, 0, 0, 0, 0]),
         (
@@ -280,7 +280,7 @@ pub(crate) const SWITCHED: Story<'static> = Story {
 /// More calls of the device than the story makes.
 pub(crate) const CALLS: u64 = 100;
 
-/// What stands where the gate is half written.
+/// What is there if the gate is half written.
 pub(crate) const TORN: &[(usize, &[u8])] = &[
     (SECOND, &[0x5A]),
     (
@@ -312,7 +312,7 @@ pub(crate) const SWITCHED_LEFT: Device = Device {
     words: &[],
 };
 
-/// What it leaves where another byte stands there.
+/// What it leaves if another byte is there.
 pub(crate) const NOT_SWITCHED_LEFT: Device = Device {
     second: false,
     generation: 1,
@@ -321,7 +321,7 @@ pub(crate) const NOT_SWITCHED_LEFT: Device = Device {
     ..SWITCHED_LEFT
 };
 
-/// With one spare frame a frozen node writes its first page, and the step that writes the second one isn't made until the pages are let go.
+/// With one spare frame a frozen node writes its first page, and the step that writes the second one isn't made until the pages are released.
 pub(crate) const ONE_SPARE: Story<'static> = Story {
     network: Network {
         programs: &[Program {

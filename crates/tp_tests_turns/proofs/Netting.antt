@@ -243,7 +243,7 @@ closed seats a b line K is first act H =
 
 -- ## A snapshot begins, and ends
 
--- where no node is frozen
+-- if no node is frozen
 module _ (a b : BookValue) (act : Act) (did : acted t414 (world_of a) (act ∷ []) ≡ Some (world_of b)) (runs : b.runs ≡ a.runs) (agree : agreed b.state ≡ agreed a.state) where
   thawed_node : (i : ℕ) (n : NodeContents) → n.frozen ≡ None → IsNodeOf a i n → IsNodeOf b i n
   thawed_node i n none N = record {
@@ -410,7 +410,7 @@ aligned f (x ∷ xs) (t ∷ ts) (n ∷ ns) spells same =
         (sym live ∙ ap (λ s. Some s.node.live) one, ap (λ s. s.node.frozen) (sym one) ∙ none, ap (λ s. s.away) (sym one) ∙ home)
     at rest (suc i) seat is = rest i seat is
 
--- a node of which nothing is frozen and no turn is open
+-- a node without a frozen page and without an open turn
 pub fresh_seat : (b : BookValue) (i : ℕ) (seat : Seat) → slice_get b.runs i ≡ Some false → slice_get (agreed b.state) i ≡ Some seat.node.live → IsNodeOfBytes seat.node.live → seat.node.frozen ≡ None → seat.away ≡ None → IsSeated b i seat.away seat.node
 fresh_seat b i seat free there image thawed home =
     subst (λ o. IsSeated b i o seat.node) (sym home)

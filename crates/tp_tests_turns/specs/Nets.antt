@@ -1,4 +1,4 @@
--- A network in memory: a book with its nodes, each with its turn where one is open.
+-- A network in memory: a book with its nodes, each with its turn if one is open.
 use Rattle.std.specs.Prelude.{◌≡◌, ◌≢◌, ℕ, true, false, List, [], ◌∷◌, ◌++◌, map, replicate, Option, Some, None, slice_get}
 use Rattle.tp_model.specs.declared.form.Form.TheVariants.{Turns}
 use Rattle.tp_model.specs.declared.wire.WireEnd.{WireEnd}
@@ -21,7 +21,7 @@ pub record IsHome (b : BookValue) (number : ℕ) (node : NodeContents) : Type 0 
   pub free : slice_get b.runs number ≡ Some false
   pub is : IsNodeOf b number node
 
--- A turn of the node is open: it received what stands in front of its lines, and ran, and the book has none of it.
+-- A turn of the node is open: it received what is before its lines, and ran, and the book has none of it.
 pub record IsAway (b : BookValue) (number : ℕ) (away : Away) (node : NodeContents) : Type 0 where
   pub reserved : slice_get b.runs number ≡ Some true
   pub turned : HasTurnedOn b number away.taken.takes away.stretch.ran.count (away.taken.sent.items ++ away.stretch.sent.items) node

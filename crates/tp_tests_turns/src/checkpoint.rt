@@ -11,9 +11,9 @@ use tp_node::Runs;
 use tp_shared::{Naming, NoGate, Parts, Seat, Shared, Sights, TailCopy, Told};
 use tp_token::Key;
 
-/// What came of a snapshot: whether it ran, whether there was a copy before the pages were let go, whether there were pages afterwards, and
-/// whether no snapshot ran behind the trim; how many entries the cut holds, how many stand outside it and up to which number, and how many
-/// tokens are on line 0 in the cut; and whether a snapshot could begin again.
+/// What came of a snapshot: whether it ran, whether there was a copy before the pages were released, whether there were pages afterwards, and whether
+/// no snapshot ran after the trim; how many entries the cut holds, how many are outside it and up to which number, and how many tokens are on line 0
+/// in the cut; and whether a snapshot could begin again.
 #[derive(Clone, Copy)]
 pub struct Ended {
     pub running: bool,
@@ -101,7 +101,7 @@ fn add_pages<J: Naming, R: Wait>(
     Ok(())
 }
 
-// The image of a node of at most four pages, as it recorded. Nothing where no pages are kept.
+// The image of a node of at most four pages, as it recorded; empty if no pages are kept.
 fn image_of<J: Naming, R: Wait>(
     rt: &R,
     alloc: Global,
@@ -210,7 +210,7 @@ fn trimmed<J: Naming, R: Wait>(
     }
 }
 
-/// What comes of the snapshot then. None where there is no copy, or without memory.
+/// What comes of the snapshot then. None if there is no copy, or without memory.
 fn end<J: Naming, R: Wait>(
     rt: &R,
     alloc: Global,
@@ -227,7 +227,7 @@ fn end<J: Naming, R: Wait>(
     }
 }
 
-/// A snapshot to its end. None where there is no copy, or without memory.
+/// A snapshot to its end. None if there is no copy, or without memory.
 fn checkpoint<J: Naming, R: Wait>(
     rt: &R,
     alloc: Global,

@@ -17,7 +17,7 @@ use tp_turn::{
     whole_turn,
 };
 
-/// What a node does in one call; where it runs, it makes as many steps as the number says, at most.
+/// What a node does in one call; if it runs, it makes as many steps as the number says, at most.
 #[derive(Clone, Copy)]
 pub(crate) enum Deed {
     /// It makes a turn, an entry for each token that it takes and one for its run.
@@ -28,9 +28,9 @@ pub(crate) enum Deed {
     Settle,
     /// It runs, and does nothing else.
     Run(u8),
-    /// It takes the token in front of the line that comes in on a link.
+    /// It takes the token before the line that comes in on a link.
     Take(u8),
-    /// It records, where it is asked to.
+    /// It records, if it is asked to.
     Record,
 }
 
@@ -67,7 +67,7 @@ fn run(
     }
 }
 
-/// A node takes the token in front of a line that leads to it. Answers how many it took.
+/// A node takes the token before a line that leads to it. Answers how many it took.
 fn take_front(book: &mut Book, node: &mut Node, number: u8, link: u8, line: u16) -> u64
     requires goes { receiver book.old.state.start.wires line ≡ Some (Link number link) }
     requires idle { book.old.ready ≡ None }
@@ -94,7 +94,7 @@ fn take_front(book: &mut Book, node: &mut Node, number: u8, link: u8, line: u16)
     }
 }
 
-/// A node takes the token in front of the line that comes in on a link. Answers how many it took.
+/// A node takes the token before the line that comes in on a link. Answers how many it took.
 fn take(book: &mut Book, node: &mut Node, number: u8, link: u8) -> u64
     requires idle { book.old.ready ≡ None }
     requires home { IsHome book.old number node.old }
@@ -142,7 +142,7 @@ fn does(
     }
 }
 
-/// Opens a turn of a node, which then runs for at most `quantum` steps. None where no turn could be reserved.
+/// Opens a turn of a node, which then runs for at most `quantum` steps. None if no turn could be reserved.
 fn open(book: &mut Book, node: &mut Node, runs: &mut Runs, number: u8, quantum: u16) -> Option<Away>
     requires quantum { quantum ≤ MAX_STEPS }
     requires idle { book.old.ready ≡ None }
@@ -175,7 +175,7 @@ fn commit(book: &mut Book, node: &Node, number: u8, away: Away)
 }
 
 impl Seat {
-    /// The node does something in one call, where no turn is open.
+    /// The node does something in one call, if no turn is open.
     pub(crate) fn does(
         &mut self,
         book: &mut Book,
@@ -195,7 +195,7 @@ impl Seat {
         Some(does(book, &mut self.node, runs, number, deed))
     }
 
-    /// Opens a turn, where none is open. Answers whether one was opened.
+    /// Opens a turn, if none is open. Answers whether one was opened.
     pub(crate) fn open(
         &mut self,
         book: &mut Book,

@@ -54,7 +54,7 @@ fn end(nodes: u8, number: u8) -> WireEnd {
     }
 }
 
-/// Draws two ends of `ends`, and wires them where one is a node's and neither is wired.
+/// Draws two ends of `ends`, and wires them if one is a node's and neither is wired.
 fn draw_wire(chance: &mut Chance, nodes: u8, ends: u8, drawn: &mut [Option<WireEnd>; MAX_LINES])
     requires some { 1 < ends }
     requires most { ends ≤ 35 }

@@ -10,9 +10,8 @@ use crate::replayed::{images_in, may_be_swapped, was_recorded};
 use std::alloc::{AllocError, Global};
 use std::test::Fail;
 
-/// What the nodes do; the acts that come first in each order, and those that may come next: where one can't be done nothing changes, and it is
-/// in no order there; how many runs each node may make in all; how many turns each may open before it records, and from then on; and how
-/// many orders there are.
+/// What the nodes do; the acts that come first in each order; those that may come next (one that can't be done changes nothing, and is in no order
+/// there); how many runs each node may make in all; how many turns each may open before it records, and from then on; and how many orders there are.
 pub(crate) struct Case {
     pub(crate) first: &'static [Task],
     pub(crate) second: &'static [Task],
@@ -47,7 +46,7 @@ fn may_open(play: &Play, number: u8, opens: &[[u8; 2]; 2]) -> bool {
 }
 
 /// Whether an act may be in an order here: no run is made and no turn opened beyond those that a node may. Of single acts nothing else than
-/// the trim comes behind a whole cut, and nothing else than commits behind the trim.
+/// the trim comes after a whole cut, and nothing else than commits after the trim.
 fn may_be(play: &Play, act: Act, case: &Case) -> bool {
     let goes_on = !play.trimmed && play.net.book().whole().is_none();
     match act {
@@ -62,7 +61,7 @@ fn may_be(play: &Play, act: Act, case: &Case) -> bool {
     }
 }
 
-/// Whether a whole cut is what the plain lists and replays say; and so where there is none.
+/// Whether a whole cut is what the plain lists and replays say; and so if there is none.
 pub(crate) fn is_cut(alloc: Global, play: &Play, images: &Images) -> Result<bool, Fail> {
     let Some(cut) = play.net.book().whole() else {
         return Ok(true);
@@ -80,7 +79,7 @@ pub(crate) fn is_led(alloc: Global, play: &mut Play, images: &Images) -> Result<
     Ok(swapped? && play.plain.is_behind(play.net.book()))
 }
 
-/// Does the first act that can be done from a choice on. Answers which, where there is one.
+/// Does the first act that can be done from a choice on. Answers which, if there is one.
 fn choose(
     alloc: Global,
     play: &mut Play,
@@ -102,7 +101,7 @@ fn choose(
     Ok(None)
 }
 
-/// Puts a choice at its place, or behind the others; where there is none, those from that place on are over. Answers how the order ends, if
+/// Puts a choice at its place, or after the others; if there is none, those from that place on are over. Answers how the order ends, if
 /// it does.
 fn put(
     choices: &mut Vec<usize>,
@@ -122,7 +121,7 @@ fn put(
     Ok(None)
 }
 
-/// Makes the acts of an order, by the choices so far and the first that can be done behind them. It is over once the book is trimmed, and no
+/// Makes the acts of an order, by the choices so far and the first that can be done after them. It is over once the book is trimmed, and no
 /// turn is open.
 fn make_acts(
     alloc: Global,
@@ -155,7 +154,7 @@ fn go_on(choices: &mut Vec<usize>) -> bool {
     true
 }
 
-/// Plays an order from the beginning. The network is lent to what may end early, so it is let go in one place.
+/// Plays an order from the beginning. The network is lent to what may end early, so it is dropped in one place.
 fn play_order(
     alloc: Global,
     case: &Case,
@@ -171,7 +170,7 @@ fn play_order(
     end
 }
 
-/// Plays each order. Answers how many there are; none where one isn't right.
+/// Plays each order. Answers how many there are; none if one isn't right.
 fn play_each(
     alloc: Global,
     case: &Case,

@@ -38,7 +38,7 @@ pub(crate) enum Task {
     Letters,
 }
 
-/// Where the instructions of each process stand, its workspace, and the one behind it, from the beginning of memory on.
+/// Where the instructions of each process are, and its workspace, and the one after it, from the beginning of memory on.
 const PLACES: [(u16, u16, u16); 4] = [
     (0x100, 0x200, 0x640),
     (0x110, 0x640, 0xA80),

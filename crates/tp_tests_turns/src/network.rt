@@ -1,4 +1,4 @@
-//! A whole network in memory, in one thread: its nodes, each with its turn where one is open, and its book.
+//! A whole network in memory, in one thread: its nodes, each with its turn if one is open, and its book.
 
 ghost use Rattle.std.specs.Prelude.{◌≡◌, ℕ, Ok, IfOk, IsSome, is_none, map, None, Some, slice_get, true};
 ghost use Rattle.std.specs.List.{list_all};
@@ -91,7 +91,7 @@ fn frozen_image(alloc: Global, node: &Node) -> Result<Vec<u8>, AllocError>
     Ok(image)
 }
 
-/// The image of a node, as it recorded or, where `is_now` holds, as it is; empty where it isn't frozen, or is. Then it isn't frozen.
+/// The image of a node, as it recorded or, if `is_now` holds, as it is; empty if it isn't frozen, or is. Then it isn't frozen.
 fn image_of(alloc: Global, node: &mut Node, is_now: bool) -> Result<Vec<u8>, AllocError>
     ensures live { node.new.live ≡ node.old.live }
     ensures thawed { node.new.frozen ≡ None }
@@ -128,7 +128,7 @@ impl Net {
         Ok(Net { book, seats, runs })
     }
 
-    /// The network of what a device leaves, where groups may fill `room` bytes.
+    /// The network of what a device leaves, if groups may fill `room` bytes.
     fn of_state(alloc: Global, state: &NetState, room: u64, spare: usize) -> Result<Net, Fail>
         requires opened { IsWellOpen state.now }
         requires nodes { (i : ℕ) (node : NodeState) → slice_get (now_of state.now).nodes i ≡ Some node → IsNodeOfBytes node }
@@ -168,15 +168,15 @@ impl Net {
         }
     }
 
-    /// Whether a Marker is in front of a line.
+    /// Whether a Marker is before a line.
     pub(crate) fn is_marked(&self, line: u16) -> bool {
         self.book.known();
         let there = usize::from(line) < 4 * self.book.nodes() + self.book.ports();
         there && self.book.marker_ready(line)
     }
 
-    /// A node does something in one call, and answers how many tokens it took, or how many steps it made; none where there is no such node, or
-    /// it has an open turn.
+    /// A node does something in one call. Answers how many tokens it took, or how many steps it made; `None` if there is no such node, or it has an
+    /// open turn.
     pub(crate) fn does(&mut self, number: u8, deed: Deed) -> Option<Result<u64, Refusal>> {
         let place = usize::from(number);
         if place >= self.seats.len() {
@@ -185,7 +185,7 @@ impl Net {
         self.seats[place].does(&mut self.book, &mut self.runs, number, deed)
     }
 
-    /// Opens a turn of a node, where none is open. Answers whether one was opened.
+    /// Opens a turn of a node, if none is open. Answers whether one was opened.
     pub(crate) fn open(&mut self, number: u8, quantum: u16) -> bool {
         let place = usize::from(number);
         if place >= self.seats.len() || usize::from(quantum) > MAX_STEPS {
@@ -203,7 +203,7 @@ impl Net {
         self.seats[place].commit(&mut self.book, number)
     }
 
-    /// A port takes the token in front of a line that leads to one. Answers whether it could.
+    /// A port takes the token before a line that leads to one. Answers whether it could.
     pub(crate) fn port_takes(&mut self, line: u16) -> bool {
         self.book.known();
         if usize::from(line) >= 4 * self.book.nodes() + self.book.ports() {
@@ -251,7 +251,7 @@ impl Net {
         self.book.begin(alloc)
     }
 
-    /// A line is closed at its Marker, where that is in front and who receives the line has recorded. Answers whether it was.
+    /// Closes a line at its Marker, if that is at the front and the line's receiver has recorded. Answers whether it did.
     pub(crate) fn close(&mut self, line: u16) -> bool {
         self.book.known();
         let there = usize::from(line) < 4 * self.book.nodes() + self.book.ports();
@@ -268,7 +268,7 @@ impl Net {
         close_all(&mut self.book);
     }
 
-    /// The image of a node, as it recorded or, where `is_now` holds, as it is; empty where it isn't frozen, or is, or there is no such node. Then
+    /// The image of a node, as it recorded or, if `is_now` holds, as it is; empty if it isn't frozen, or is, or there is no such node. Then
     /// it isn't frozen.
     pub(crate) fn image(
         &mut self,

@@ -1,4 +1,4 @@
-//! Turns that are one entry: they lead where their takes and their runs lead, and take fronts of the lines before them alone.
+//! Turns that are one entry: they lead where their takes and their runs lead, and take only the first tokens of the lines before them.
 
 use crate::devices::tasks_device;
 use crate::machines::Task;
@@ -39,7 +39,7 @@ const ACKNOWLEDGE: [Received; 4] = [JustAck, Nothing, Nothing, Nothing];
 
 const NOTHING: [Received; 4] = [Nothing, Nothing, Nothing, Nothing];
 
-/// Another byte; an acknowledge in front of the byte; the byte on another link, alone and with its acknowledge.
+/// Another byte; an acknowledge before the byte; the byte on another link, alone and with its acknowledge.
 const OTHER_BYTE: [Received; 4] = [JustData(0x59), Nothing, Nothing, Nothing];
 
 const ACKNOWLEDGE_AND_BYTE: [Received; 4] = [AckThenData(0x58), Nothing, Nothing, Nothing];
@@ -48,7 +48,7 @@ const OTHER_LINK: [Received; 4] = [Nothing, JustData(0x58), Nothing, Nothing];
 
 const BYTE_AND_ITS_ACKNOWLEDGE: [Received; 4] = [Nothing, JustData(0x58), JustAck, Nothing];
 
-/// The byte is taken by the second node, and its acknowledge by the first; the runs behind these.
+/// The byte is taken by the second node, and its acknowledge by the first; the runs after these.
 const TAKE_BYTE: Entry = Entry::Take {
     line: 0,
     token: Data(0x58),
@@ -74,8 +74,8 @@ const TAKE_OWN_ACK: Entry = Entry::Take {
     token: Ack,
 };
 
-/// Takes and runs, and turns that lead where these lead, four at most of each; whether all turns are possible. They begin where the byte was
-/// sent, or, where `is_one` holds, on the network of one node.
+/// Takes and runs, and turns that lead where these lead, four at most of each; whether all turns are possible. They begin where the byte was sent,
+/// or, if `is_one` holds, on the network of one node.
 #[derive(Clone, Copy)]
 struct Row {
     is_one: bool,
@@ -84,7 +84,7 @@ struct Row {
     is_possible: bool,
 }
 
-/// Whether `entries` are possible one after another. The network is then that behind them.
+/// Whether `entries` are possible one after another. The network is then that after them.
 fn goes_on(flat: &mut Flat, entries: &[Option<Entry>; 4]) -> bool {
     for entry in entries {
         if let Some(entry) = entry {
@@ -96,7 +96,7 @@ fn goes_on(flat: &mut Flat, entries: &[Option<Entry>; 4]) -> bool {
     true
 }
 
-/// The network behind the entries `before` and then `entries`; `None` where those before aren't possible, or whether those are isn't as
+/// The network after the entries `before` and then `entries`; `None` if those before aren't possible, or whether those are isn't as
 /// `is_possible` says, or without memory.
 fn parts_behind(
     alloc: Global,
@@ -111,7 +111,7 @@ fn parts_behind(
     flat.network.parts(alloc).ok()
 }
 
-/// The network behind `entries`, from where a row begins, where they are possible, or one isn't, as `is_possible` says.
+/// The network after `entries`, from where a row begins, if they are possible, or one isn't, as `is_possible` says.
 fn behind(
     alloc: Global,
     is_one: bool,
@@ -130,7 +130,7 @@ fn behind(
     Ok(parts)
 }
 
-/// Whether the turns of a row lead where its entries lead, which are possible, and are possible themselves, or one isn't, as it says.
+/// Whether the turns of a row lead where its entries lead, which are possible. The turns are possible, too, or one isn't, as the row says.
 fn are_alike(alloc: Global, row: &Row) -> Result<bool, Fail> {
     let one = behind(alloc, row.is_one, &row.plain, true)?;
     let other = behind(alloc, row.is_one, &row.turns, row.is_possible)?;
@@ -265,11 +265,11 @@ fn first_possible(alloc: Global, rows: &[Refused]) -> Result<Option<usize>, Fail
 type Refused = (bool, u8, [Received; 4], u16);
 
 const REFUSED: [Refused; 9] = [
-    // another byte, an acknowledge, and an acknowledge in front of the byte
+    // another byte, an acknowledge, and an acknowledge before the byte
     (false, 1, OTHER_BYTE, 0),
     (false, 1, ACKNOWLEDGE, 0),
     (false, 1, ACKNOWLEDGE_AND_BYTE, 0),
-    // another link, the other node, a node that isn't there
+    // another link, the other node, a node that doesn't exist
     (false, 1, OTHER_LINK, 0),
     (false, 0, BYTE, 0),
     (false, 2, BYTE, 0),

@@ -5,7 +5,7 @@ use crate::plain::HOST;
 use std::alloc::{AllocError, Global};
 use tp_model::{Token, WireEnd};
 
-/// What stands on each line.
+/// What is on each line.
 #[derive(Drop)]
 pub(crate) struct PlainLines {
     lines: Vec<Vec<Token>>,
@@ -37,7 +37,7 @@ fn is_from(process: usize, line: u16) -> bool {
 }
 
 impl PlainLines {
-    /// Nothing stands on any.
+    /// Nothing is on any.
     pub(crate) fn new(alloc: Global) -> Result<PlainLines, AllocError> {
         let mut lines = Vec::new(alloc);
         for _line in 0..LINES {
@@ -64,7 +64,7 @@ impl PlainLines {
         Ok(())
     }
 
-    /// What stands in front of a line.
+    /// What is before a line.
     pub(crate) fn front(&self, line: u16) -> Option<Token> {
         let Some(tokens) = self.lines.get(usize::from(line)) else {
             return None;
@@ -72,7 +72,7 @@ impl PlainLines {
         tokens.first().copied()
     }
 
-    /// Takes a token off the front of a line. Answers whether it stood there.
+    /// Takes the first token off a line, if it is `token`. Answers whether it was there.
     pub(crate) fn pop(&mut self, line: u16, token: Token) -> bool {
         let Some(tokens) = self.lines.get_mut(usize::from(line)) else {
             return false;
@@ -84,7 +84,7 @@ impl PlainLines {
         true
     }
 
-    /// Where the Marker stands on a line.
+    /// Where the Marker is on a line.
     pub(crate) fn marker(&self, line: u16) -> Option<usize> {
         let Some(tokens) = self.lines.get(usize::from(line)) else {
             return None;
@@ -97,7 +97,7 @@ impl PlainLines {
         None
     }
 
-    /// Takes the Marker off a line, wherever it stands. Answers what stood in front of it.
+    /// Takes the Marker off a line, wherever it is. Answers what was before it.
     pub(crate) fn close(&mut self, alloc: Global, line: u16) -> Result<Vec<Token>, AllocError> {
         let at = self.marker(line).unwrap_or(usize::MAX);
         if let Some(tokens) = self.lines.get_mut(usize::from(line)) {

@@ -1,5 +1,5 @@
-//! Each order of two nodes' turns with what may come between a turn's opening and its commit: a snapshot that begins, recordings, lines that
-//! are closed, all of them at once, and the trim.
+//! Each order of two nodes' turns with what may come between a turn's opening and its commit: a snapshot that begins, recordings, lines that are
+//! closed, all of them at once, and the trim.
 
 use crate::each_order::{Case, is_each_right};
 use crate::machines::Task;

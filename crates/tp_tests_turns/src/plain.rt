@@ -65,7 +65,7 @@ impl Plain {
         Ok(())
     }
 
-    /// A token was taken behind a recording: it belongs to the line in the cut, where that isn't closed.
+    /// A token was taken after a recording: it belongs to the line in the cut, if that isn't closed.
     pub(crate) fn gather(&mut self, line: u16, token: Token) -> Result<(), AllocError> {
         if self.closed.get(usize::from(line)) == Some(&false) {
             self.taken.push((line, token))?;
@@ -103,7 +103,7 @@ impl Plain {
         counts
     }
 
-    /// Whether just the tokens that were taken between the recording and the Marker stand on a line of a cut.
+    /// Whether just the tokens that were taken between the recording and the Marker are on a line of a cut.
     fn is_line(&self, cut: &Cut, line: u16) -> bool {
         let place = usize::from(line);
         if place >= cut.lines().count() {

@@ -17,15 +17,15 @@ use tp_model::{Entry, Received, Token, WireEnd};
 pub(crate) enum Act {
     /// A node runs as far as it can.
     Run(u8),
-    /// A node records, where it is asked to.
+    /// A node records, if it is asked to.
     Record(u8),
-    /// Who receives a line takes the token in front.
+    /// The receiver of a line takes its first token.
     Take(u16),
-    /// Who receives a line takes its Marker, which is in front.
+    /// The receiver of a line takes its Marker, which comes first.
     Close(u16),
     /// The host hands a byte to the port.
     HandIn(u8),
-    /// A node records where it is asked to, lines are closed at Markers in front, and its turn is opened.
+    /// A node records if it is asked to, lines that begin with their Marker are closed, and its turn is opened.
     Open(u8),
     /// A node's open turn is committed.
     Commit(u8),
@@ -47,8 +47,8 @@ const TO_PORT: u16 = 3;
 
 const FROM_PORT: u16 = 8;
 
-/// A network; the tokens on its lines, where acts are turns and those of the host; what its snapshot is to gather; each node's image as it
-/// recorded; how many turns each node opened before it recorded and from then on; and whether the book was trimmed.
+/// A network; the tokens on its lines, when acts are turns and those of the host; what its snapshot is to gather; each node's image as it recorded;
+/// how many turns each node opened before it recorded and from then on; and whether the book was trimmed.
 #[derive(Drop)]
 pub(crate) struct Play {
     pub(crate) net: Net,
@@ -96,7 +96,7 @@ fn gather_all(plain: &mut Plain, line: u16, tokens: &[Token]) -> Result<(), Allo
     Ok(())
 }
 
-/// Closes a line: what stands in front of its Marker belongs to the cut, and stays.
+/// Closes a line: what is before its Marker belongs to the cut, and stays.
 fn close(alloc: Global, play: &mut Play, line: u16) -> Result<(), AllocError> {
     let front = play.lines.close(alloc, line)?;
     let gathered = gather_all(&mut play.plain, line, &front);
@@ -104,7 +104,7 @@ fn close(alloc: Global, play: &mut Play, line: u16) -> Result<(), AllocError> {
     gathered
 }
 
-/// Closes the line that comes in on a link of a node, where its Marker stands in front.
+/// Closes the line that comes in on a link of a node, if its Marker comes first.
 fn close_front(alloc: Global, play: &mut Play, line: u16) -> Result<(), AllocError> {
     if is_closable(play, line) && play.lines.marker(line) == Some(0) {
         close(alloc, play, line)?;
@@ -136,7 +136,7 @@ fn note_opened(play: &mut Play, number: u8, asked: bool) {
     }
 }
 
-/// Closes each line that comes in on a link of a node, where its Marker stands in front.
+/// Closes each line that comes in on a link of a node, if its Marker comes first.
 fn close_fronts(alloc: Global, play: &mut Play, number: u8) -> Result<(), AllocError> {
     for link in 0..4u8 {
         if let Some(line) = line_to(number, link) {
@@ -160,7 +160,7 @@ fn open(alloc: Global, play: &mut Play, number: u8) -> Result<bool, Fail> {
     Ok(true)
 }
 
-/// The tokens that a turn took go off the fronts of their lines, and into the cut where they belong to it.
+/// Takes the tokens that a turn took off their lines, and puts those into the cut that belong to it.
 fn note_takes(play: &mut Play, number: u8, takes: &[Received; 4]) -> Result<bool, Fail> {
     let recorded = play.plain.has_recorded(usize::from(number));
     for (link, token) in tokens_of(takes).iter() {
@@ -177,7 +177,7 @@ fn note_takes(play: &mut Play, number: u8, takes: &[Received; 4]) -> Result<bool
     Ok(true)
 }
 
-/// Puts what a node sent for its open turn behind others.
+/// Puts what a node sent for its open turn after others.
 fn add_sent(all: &mut Vec<(u8, Token)>, away: &Away) -> Result<(), AllocError> {
     all.extend_from_slice(away.taken.sent.as_slice())?;
     all.extend_from_slice(away.stretch.sent.as_slice())
@@ -207,7 +207,7 @@ fn note_sends(play: &mut Play, number: u8, sent: &[(u8, Token)]) -> Result<(), A
     Ok(())
 }
 
-/// Writes down the entry behind those that are known, and answers it; none where there is none.
+/// Writes down the entry after those that are known, and answers it; none if there is none.
 fn new_entry(play: &mut Play) -> Result<Option<Entry>, Fail> {
     if play.net.book().next() == play.plain.made.len() as u64 {
         return Ok(None);
@@ -220,7 +220,7 @@ fn new_entry(play: &mut Play) -> Result<Option<Entry>, Fail> {
     Ok(Some(entry))
 }
 
-/// Writes down the entry of a turn, where there is one. Answers whether its takes stood in front.
+/// Writes down the entry of a turn, if there is one. Answers whether its takes were the first tokens.
 fn note_turn(play: &mut Play, number: u8) -> Result<bool, Fail> {
     match new_entry(play)? {
         Some(Entry::Turn { takes, .. }) => note_takes(play, number, &takes),
@@ -301,7 +301,7 @@ fn close_all(alloc: Global, play: &mut Play) -> Result<bool, Fail> {
     Ok(closed)
 }
 
-/// Who receives a line takes the token in front. Answers whether it could.
+/// The receiver of a line takes its first token. Answers whether it could.
 fn takes(net: &mut Net, line: u16) -> bool {
     match WIRES.get(usize::from(line)) {
         Some(Some(WireEnd::Link(node, link))) => {
@@ -325,7 +325,7 @@ fn enters(net: &mut Net, act: Act) -> bool {
     }
 }
 
-/// A line is closed at the Marker in front of it.
+/// A line is closed at the Marker before it.
 fn close_line(play: &mut Play, line: u16) -> bool {
     let closed = play.net.close(line);
     if closed {
@@ -334,7 +334,7 @@ fn close_line(play: &mut Play, line: u16) -> bool {
     closed
 }
 
-/// Does an act, where it can be done. Answers whether it was; else nothing changes.
+/// Does an act, if it can be done. Answers whether it was; else nothing changes.
 pub(crate) fn does(alloc: Global, play: &mut Play, act: Act) -> Result<bool, Fail> {
     match act {
         Act::Run(_) | Act::Take(_) | Act::HandIn(_) => {

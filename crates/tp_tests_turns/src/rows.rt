@@ -11,11 +11,11 @@ use tp_book::{Book, Numbered, PortParts};
 use tp_model::{Entry, Token};
 use tp_net::Lines;
 
-/// Entries, each with its number, four at most; no other comes behind the first `None`.
+/// Entries, each with its number, four at most; no other comes after the first `None`.
 pub(crate) type Entries = [Option<(u64, Entry)>; 4];
 
-/// What is in a whole cut: the entries of each process and in all, the one token on each line that has one, and the port's pending bytes, nothing
-/// else having come to it; then the entries outside, the next number, and the port's outputs.
+/// What is in a whole cut: the entries of each process and in all, the one token on each line that has one, and the port's pending bytes (nothing
+/// else having come to it); then the entries outside, the next number, and the port's outputs.
 #[derive(Clone, Copy)]
 pub(crate) struct Whole<'a> {
     pub(crate) counts: [u64; 3],
@@ -53,7 +53,7 @@ pub(crate) fn are_numbered(entries: &[Numbered], wanted: &Entries) -> bool {
     entries.len() == wanted.len()
 }
 
-/// Whether just these tokens stand on lines, one at most on each.
+/// Whether just these tokens are on lines, one at most on each.
 fn are_lines(lines: &Lines, tokens: &[Option<Token>; LINES]) -> bool {
     for line in 0..LINES {
         let count = usize::from(tokens[line].is_some());
@@ -120,7 +120,7 @@ fn cuts(alloc: Global, play: &mut Play, story: &Story, images: &Images) -> Resul
     does(alloc, play, TakeIn)
 }
 
-/// Plays a story on a network. Whether all is as it was told: what comes before the trim, the trim, the replays, and the entry behind it.
+/// Plays a story on a network. Whether all is as it was told: what comes before the trim, the trim, the replays, and the entry after it.
 fn tell(alloc: Global, play: &mut Play, story: &Story, images: &Images) -> Result<bool, Fail> {
     let cut = cuts(alloc, play, story, images)?;
     if !cut || !is_trimmed(play.net.book(), &story.cut) {
@@ -146,7 +146,7 @@ fn play(alloc: Global, story: &Story) -> Result<bool, Fail> {
     told
 }
 
-/// The cut of a byte under way: the first node is in it behind its run, the second one before all, and takes the byte outside.
+/// The cut of a byte under way: the first node is in it after its run, the second one before all, and takes the byte outside.
 pub(crate) const BYTE_UNDER_WAY: Whole<'static> = Whole {
     counts: [1, 0, 0],
     size: 1,

@@ -38,7 +38,7 @@ fn drawn(alloc: Global, chance: &mut Chance, nodes: u8, ports: u8) -> Result<Mem
     disk
 }
 
-/// Whether a turn may answer so where memory isn't wanting.
+/// Whether a turn may answer so if memory isn't wanting.
 fn is_answer(answer: Option<Result<u64, Refusal>>) -> bool {
     !matches!(
         answer,
@@ -60,14 +60,14 @@ fn happens(alloc: Global, net: &mut Net, chance: &mut Chance) -> bool {
     }
 }
 
-/// How many cuts were whole, and how many tokens stood on their lines.
+/// How many cuts were whole, and how many tokens were on their lines.
 #[derive(Clone, Copy)]
 struct Told {
     cuts: u32,
     tokens: usize,
 }
 
-/// Takes a whole cut in, where there is one, every second time. Answers whether it is right.
+/// Takes a whole cut in, if there is one, every second time. Answers whether it is right.
 fn takes_in(
     alloc: Global,
     net: &mut Net,
@@ -86,7 +86,7 @@ fn takes_in(
     true
 }
 
-/// Plays a schedule on a network. Answers whether its whole cuts were right, and no turn was refused that may not be.
+/// Plays a schedule on a network. Answers whether its whole cuts were right, and no turn was refused that must not be.
 fn play_on(
     alloc: Global,
     net: &mut Net,
@@ -146,7 +146,7 @@ fn round(net: &mut Net, quantum: u8) -> bool {
     is_answer(Some(net.host_turn()))
 }
 
-/// A snapshot, begun behind a round and whole after two more. Answers how many tokens stood on the lines of its cut; none where it isn't
+/// A snapshot, begun after a round and whole after two more. Answers how many tokens were on the lines of its cut; none if it isn't
 /// whole or isn't right.
 fn snapshot(alloc: Global, net: &mut Net, flat: &mut Flat) -> Option<usize> {
     let begun = round(net, 20) && net.begin(alloc).is_ok();
@@ -156,7 +156,7 @@ fn snapshot(alloc: Global, net: &mut Net, flat: &mut Flat) -> Option<usize> {
     take_in(alloc, net, flat)
 }
 
-/// Snapshots one after another. Answers how many tokens stood on the lines of their cuts; none where one isn't right.
+/// Snapshots one after another. Answers how many tokens were on the lines of their cuts; none if one isn't right.
 fn snapshots_on(alloc: Global, net: &mut Net, flat: &mut Flat, count: u8) -> Option<usize> {
     let mut tokens = 0usize;
     for _snapshot in 0..count {

@@ -10,7 +10,7 @@ pub struct Away {
     pub stretch: Stretch,
 }
 
-/// A node, and its turn where one is open.
+/// A node, and its turn if one is open.
 #[derive(Drop)]
 pub struct Seat {
     pub node: Node,

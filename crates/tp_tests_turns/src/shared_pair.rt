@@ -68,7 +68,7 @@ fn parts_of(alloc: Global, image: &[u8], first: Node, second: Node) -> Result<Pa
     Parts::new(alloc, book, nodes, mark)
 }
 
-/// The parts of two nodes of `image` with `spare` frames each; none where it isn't one whose links are idle, or memory is refused.
+/// The parts of two nodes of `image` with `spare` frames each; `None` if it isn't one whose links are idle, or out of memory.
 pub fn parts_of_pair(alloc: Global, image: &[u8], spare: usize) -> Option<Parts>
     ensures { IfSome result (λ parts. length parts.book.state.start.nodes ≡ 2) }
 {

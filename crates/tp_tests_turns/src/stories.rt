@@ -1,4 +1,4 @@
-//! Stories of the network of a device, step by step: what each step takes, where Markers then stand, and the entries that come of them all.
+//! Stories of the network of a device, step by step: what each step takes, if Markers then are, and the entries that come of them all.
 
 use crate::deeds::Deed;
 use crate::devices::tasks_device;
@@ -18,14 +18,14 @@ pub(crate) enum Step {
     Begin,
 }
 
-/// A step; how many tokens it takes, and behind it the next number and the lines with a Marker in front, two at most.
+/// A step; how many tokens it takes, and after it the next number and the lines with a Marker in front, two at most.
 type Told = (Step, u64, u64, Option<u16>, Option<u16>);
 
-/// Steps, six at most; none comes behind the first `None`.
+/// Steps, six at most; none comes after the first `None`.
 pub(crate) type Steps = [Option<Told>; 6];
 
-/// A network, and what its nodes do; steps, how many spare frames each node has, and all entries that are made by the steps. Where the cut is whole
-/// then: how many tokens stand on its lines, and how many entries it has; to it the network is trimmed.
+/// A network, and what its nodes do; steps, how many spare frames each node has, and all entries that are made by the steps. If the cut is whole
+/// then: how many tokens are on its lines, and how many entries it has; the network is trimmed to it.
 #[derive(Clone, Copy)]
 pub(crate) struct Story<'a> {
     pub(crate) text: &'a [u8],
@@ -54,7 +54,7 @@ fn does(alloc: Global, net: &mut Net, step: Step) -> Option<u64> {
     }
 }
 
-/// Whether Markers are in front of these lines, and of no other.
+/// Whether Markers are before these lines, and of no other.
 fn are_marked(net: &Net, one: Option<u16>, other: Option<u16>) -> bool {
     for line in 0..9u16 {
         if net.is_marked(line) != (one == Some(line) || other == Some(line)) {

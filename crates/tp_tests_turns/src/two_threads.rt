@@ -72,8 +72,8 @@ fn is_snapshot<R: Wait>(rt: &R, alloc: Global) -> Result<bool, Fail> {
     Ok(is_so(&done, &image))
 }
 
-/// Node 0 sends, and a snapshot begins. Node 0 records behind its run, node 1 as it was at the start; it then takes the letter, which
-/// is on its line in the cut, and runs, while its pages are still kept as they were. In its next turn it closes that line.
+/// Node 0 sends, and a snapshot begins. Node 0 records after its run, node 1 as it was at the start. Node 1 then takes the letter, which is on its
+/// line in the cut, and runs, while its pages are still kept as they were. In its next turn it closes that line.
 #[test]
 fn a_snapshot_is_copied_and_the_book_is_trimmed(rt: HostRuntime) -> Result<(), Fail> {
     let told = is_snapshot(&rt, rt.alloc())?;

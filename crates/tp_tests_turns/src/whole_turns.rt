@@ -1,4 +1,4 @@
-//! Stories of turns: of one node, entry by entry; and of turns that are one entry, with Markers behind what they take, and a full journal.
+//! Stories of turns: of one node, entry by entry; and of turns that are one entry, with Markers after what they take, and a full journal.
 
 use crate::deeds::Deed;
 use crate::devices::tasks_device;
@@ -39,8 +39,8 @@ const LETTER_ACKNOWLEDGED: Entry = Entry::Turn {
     count: 16,
 };
 
-/// What four turns make, of the node and the host in turns: the node runs up to the acknowledge that it waits for, the port takes the
-/// letter, and the node takes the acknowledge and goes round.
+/// What four turns make, of the node and the host in turns: the node runs up to the acknowledge that it waits for, the port takes the letter, and the
+/// node takes the acknowledge and loops.
 const FOUR_TURNS: Story<'static> = Story {
     text: ONE_NODE,
     tasks: &[&[Task::Letters]],
@@ -68,7 +68,7 @@ const FOUR_TURNS: Story<'static> = Story {
     cut: None,
 };
 
-/// What they make where a node's turn is one entry.
+/// What they make if a node's turn is one entry.
 const ONE_ENTRY: Story<'static> = Story {
     text: ONE_NODE,
     tasks: &[&[Task::Letters]],
@@ -90,7 +90,7 @@ const ONE_ENTRY: Story<'static> = Story {
     cut: None,
 };
 
-/// The Marker stands behind the acknowledge. The turn takes that, and the next one closes the line.
+/// The Marker is after the acknowledge. The turn takes that, and the next one closes the line.
 const MARKER_BEHIND: Story<'static> = Story {
     text: ONE_NODE,
     tasks: &[&[Task::Letters]],
@@ -112,7 +112,7 @@ const MARKER_BEHIND: Story<'static> = Story {
     cut: Some((1, 2)),
 };
 
-/// The sender records before it sends, so its byte stands behind its Marker: the hearer closes the line, and takes the byte.
+/// The sender records before it sends, so its byte is after its Marker: the hearer closes the line, and takes the byte.
 const MARKER_IN_FRONT: Story<'static> = Story {
     text: TWO,
     tasks: &[&[Task::Once(0)], &[]],
@@ -177,7 +177,7 @@ const WIRED_TO_ITSELF: Story<'static> = Story {
     cut: None,
 };
 
-/// The other node's byte comes behind its acknowledge, and one turn takes both, in the order in which they stand.
+/// The other node's byte comes after its acknowledge, and one turn takes both, in the order in which they are.
 const TWO_OF_A_LINK: Story<'static> = Story {
     text: TWO,
     tasks: &[&[Task::Once(0)], &[Task::Relay(0, 1), Task::Once(0)]],
@@ -308,7 +308,7 @@ const NO_FRAME: Story<'static> = Story {
     cut: None,
 };
 
-/// So it does where each take and each run is an entry of its own.
+/// So it is if each take and each run is an entry of its own.
 const NO_FRAME_APART: Story<'static> = Story {
     steps: [
         Some((Step::Node(1, 16), 0, 1, None, None)),
@@ -367,7 +367,7 @@ fn is_refused(net: &mut Net) -> bool {
     net.does(0, Deed::Whole(16)) == Some(Err(Refusal::JournalFull))
 }
 
-/// Whether the last entry is that of the byte that stood in front of the node.
+/// Whether the last entry is that of the byte that was before the node.
 fn has_taken(net: &Net) -> bool {
     let wanted = Entry::Turn {
         node: 0,
@@ -380,8 +380,8 @@ fn has_taken(net: &Net) -> bool {
     }
 }
 
-/// A node goes round until the journal is full, and a byte stands in front of the other, which takes it once it has recorded. Whether there are
-/// many entries before its turn, none more behind it, and one more behind a turn in which it has recorded.
+/// A node goes round until the journal is full, and a byte is before the other, which takes it once it has recorded. Whether there are
+/// many entries before its turn, none more after it, and one more after a turn in which it has recorded.
 fn is_full(alloc: Global, net: &mut Net) -> bool {
     let sent = first_other(alloc, net, &HANDED).is_none();
     if !sent || !matches!(net.hand_in(0, b"x"), Some(Ok(_))) || !fill(net, 1, 4000) {

@@ -5,7 +5,7 @@ use Rattle.tp_law_machine.proofs.Images.{node_at-image}
 use Rattle.tp_model.specs.Image.{IsNode, cpu_at, image, image_head, node_at}
 use Rattle.tp_model.specs.NodeState.{NodeState}
 
--- the processor stands in the head alone
+-- the processor is in the head alone
 head_alone : (n : NodeState) → cpu_at (image_head n) ≡ cpu_at (image n)
 unfolding image image_head
 head_alone n = refl

@@ -1,4 +1,4 @@
--- What the next step of a node does, where it has one.
+-- What the next step of a node does, if it has one.
 use Rattle.std.specs.Prelude.{ℕ, ◌==◌, if◌then◌else◌, List, drop, Option, Some, None}
 use Rattle.tp_model.specs.Coding.{decoded}
 use Rattle.tp_model.specs.Memory.{offset, word_at}

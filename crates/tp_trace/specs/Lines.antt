@@ -37,12 +37,12 @@ act_text DispatchHigh = codes "dispatch high"
 act_text Restore = codes "restore"
 act_text DispatchLow = codes "dispatch low"
 
--- the Error flag, where it is set
+-- the Error flag, if it is set
 abbrev pub error_text : Bool → List ℕ
 error_text false = []
 error_text true = codes " error"
 
--- the number of a step, and where its instruction stands
+-- the number of a step, and where its instruction is
 abbrev pub step_front : ℕ → ℕ → List ℕ
 step_front number at = decimal number ++ (codes " " ++ (hex_word at ++ codes " "))
 
@@ -75,7 +75,7 @@ step_line number seen = step_front number seen.at ++ (act_text seen.act ++ (cpu_
 abbrev pub take_line : Heard → List ℕ
 take_line heard = codes "takes " ++ (decimal heard.link ++ (codes " " ++ (token_text heard.token ++ line_end heard.sent)))
 
--- how a node stands that has no step
+-- why a node has no step
 abbrev pub stop_line : Standing → List ℕ
 stop_line (Halted fault at) = codes "halted " ++ (fault_name fault ++ (codes " at " ++ (hex_word at ++ 10 ∷ [])))
 stop_line Waits = codes "waits" ++ 10 ∷ []

@@ -5,7 +5,7 @@ use tp_model::{DecodeFault, Instr};
 /// What the next step of a node that has one does, as docs/MACHINE.md tells the cases apart.
 #[derive(Clone, Copy)]
 pub enum Act {
-    /// The process that runs makes an instruction, or halts the node at bytes that are none.
+    /// The running process makes an instruction, or halts the node at bytes that are no instruction.
     Instruction(Result<Instr, DecodeFault>),
     /// The low process that runs is kept, since a high one is ready.
     Interrupt,

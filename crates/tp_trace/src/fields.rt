@@ -1,4 +1,4 @@
-//! The fields of a node's image that its processor stands in.
+//! The fields of a node's image that hold its processor.
 
 ghost use Rattle.std.specs.Prelude.{◌≡◌, ◌+◌, ◌<◌, ◌^◌};
 ghost use Rattle.tp_model.specs.Bytes.{u16_at, u32_at, u8_at};

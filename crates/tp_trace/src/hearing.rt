@@ -9,7 +9,7 @@ use tp_law_machine::carries_byte;
 use tp_model::Token;
 use tp_node::{NoFrame, Node};
 
-/// What is seen of a token that came in: its link, the token, and what left in answer with its link, if anything did.
+/// What is seen of a token that came in: its link, the token, and the answer with its link, if there was one.
 #[derive(Clone, Copy)]
 pub struct Heard {
     pub link: u8,
@@ -27,7 +27,7 @@ fn on_link(link: u8, token: Option<Token>) -> Option<(u8, Token)>
     }
 }
 
-/// Has a node take a token that comes in on a link, and says what was done, where the node can take it.
+/// Has a node take a token that comes in on a link, and says what was done; `None` if the node can't take it.
 pub fn trace_take(node: &mut Node, link: u8, token: Token) -> Option<Heard>
     requires thawed { node.old.frozen ≡ None }
     requires bytes { IsNodeOfBytes node.old.live }

@@ -18,7 +18,7 @@ use tp_node::Node;
 /// The word that names no process, and the first address of memory.
 const NOT_PROCESS: u32 = 0x8000_0000;
 
-/// Where the word of the low process that was interrupted stands in memory.
+/// Where memory has the word of the interrupted low process.
 const KEPT_PLACE: usize = 0x2C;
 
 /// The processor of a node that is frozen.
@@ -32,7 +32,7 @@ fn cpu_of(node: &Node) -> Cpu
     cpu_in(&head)
 }
 
-/// The byte at an address of a node that is frozen, where that lies in its memory.
+/// The byte at an address of a frozen node; `None` outside its memory.
 fn byte_of(node: &Node, address: u32) -> Option<u8>
     requires { node.now.frozen ≡ Some node.now.live }
     ensures { result ≡ byte_at node.now.live.memory address }
@@ -63,7 +63,7 @@ fn instruction_of(node: &Node, address: u32) -> Result<Instr, DecodeFault>
     Err(DecodeFault::NeedMore)
 }
 
-/// The word that says which low process was interrupted, in the first page of memory.
+/// The word that names the interrupted low process, in the first page of memory.
 fn kept_in(page: &[u8; PAGE_BYTES]) -> u32
     ensures { result ≡ from_le_bytes w32 (slice_range page.now 44 48) }
 {
@@ -75,7 +75,7 @@ fn kept_in(page: &[u8; PAGE_BYTES]) -> u32
     ])
 }
 
-/// The word that says which low process was interrupted, of a node that is frozen.
+/// The word that names the interrupted low process of a frozen node.
 fn kept_of(node: &Node) -> Option<u32>
     requires { node.now.frozen ≡ Some node.now.live }
     ensures { result ≡ word_at node.now.live.memory kept_at }
@@ -88,7 +88,7 @@ fn kept_of(node: &Node) -> Option<u32>
     Some(kept_in(&page))
 }
 
-/// Which low process comes first, where no high one is ready.
+/// Which low process comes first, if no high one is ready.
 fn low_act(kept: Option<u32>) -> Act
     ensures { result ≡ low_act kept }
 {
@@ -98,7 +98,7 @@ fn low_act(kept: Option<u32>) -> Act
     }
 }
 
-/// What a step of a node that is frozen does, where nothing runs there.
+/// What a step of a frozen node does, if nothing runs there.
 fn idle_act(node: &Node, cpu: &Cpu) -> Act
     requires { node.now.frozen ≡ Some node.now.live }
     ensures { result ≡ idle_act cpu.now node.now.live.memory }

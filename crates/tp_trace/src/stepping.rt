@@ -10,8 +10,7 @@ use arrayvec::ArrayVec;
 use tp_model::{Cpu, Token};
 use tp_node::{Node, Runs};
 
-/// What is seen of a step: what was done, the address of the instruction, the processor behind it, and what left with its link, if
-/// anything did.
+/// What is seen of a step: the act, the address of the instruction, the processor afterwards, and what left with its link, if anything did.
 #[derive(Clone, Copy)]
 pub struct Seen {
     pub act: Act,
@@ -27,7 +26,7 @@ fn first_of(sent: &ArrayVec<(u8, Token), 8>) -> Option<(u8, Token)>
     if sent.is_empty() { None } else { Some(sent[0]) }
 }
 
-/// Makes a step of a node, and puts into `sent` what leaves. Answers whether it had one.
+/// Makes a step of a node, and puts into `sent` what leaves. Answers whether it had a step.
 fn step(node: &mut Node, runs: &mut Runs, sent: &mut ArrayVec<(u8, Token), 8>) -> bool
     requires empty { sent.old.items ≡ [] }
     requires thawed { node.old.frozen ≡ None }
@@ -40,7 +39,7 @@ fn step(node: &mut Node, runs: &mut Runs, sent: &mut ArrayVec<(u8, Token), 8>) -
     node.run(runs, 1, sent).count() == 1
 }
 
-/// Makes a step of a node at whose links there is nobody, and says what was done, where the node has a step. `runs` is what the thread keeps of
+/// Makes a step of a node whose links have no partner, and says what was done; `None` if it has no step. `runs` is what the thread keeps of
 /// instructions.
 pub fn trace_step(node: &mut Node, runs: &mut Runs) -> Option<Seen>
     requires thawed { node.old.frozen ≡ None }

@@ -4,7 +4,7 @@ use Rattle.tp_area.specs.declared.fault.FormatFault.{FormatFault}
 use Rattle.tp_area.specs.declared.fault.FormatFault.TheVariants.{BadImage, Memory, AreaFull, DeviceFailed}
 use Rattle.tp_area.specs.Formatting.{FormatAnswer}
 
--- they fit where only room is wanting, and where the device was formatted
+-- they fit if only room is lacking, and if the device was formatted
 pub fit_full : {A : Type 0} (start : Option A) (has_room : Bool) (fault : FormatFault) → fault ≡ AreaFull → FormatAnswer start has_room (Err fault) → IsSome start
 fit_full None has_room AreaFull is answer = absurd answer
 fit_full (Some s) has_room fault is answer = refl

@@ -1,4 +1,4 @@
--- Texts to which parts were appended, one behind the other.
+-- Texts to which parts were appended, one after the other.
 use Rattle.std.proofs.Common.{◌≡◌, ◌∙◌, ◌++◌, List, ℕ, ap, append_assoc, Ok, Err, Result, OnOk}
 
 pub on_ok : {T E : Type 0} (P Q : Type 0) (r : Result T E) → (P → Q) → OnOk r P → OnOk r Q

@@ -101,16 +101,16 @@ no_text bytes none = sym (no_text_of bytes (is_utf8 bytes) refl none)
 
 -- ## Lines
 
--- a line with a space behind its address
+-- a line with a space after its address
 pub line_cut : (line : List ℕ) → get_or line 8 0 ≡ 32 → line_row line ≡ cut_row (take 8 line) (drop 9 line) (position (λ byte. byte == 32) (drop 9 line))
 line_cut line h =
     cond-true (get_or line 8 0 == 32) (cut_row (take 8 line) (drop 9 line) (position (λ byte. byte == 32) (drop 9 line))) None (ap (λ n. n == 32) h)
 
--- what is left of a list behind its first elements
+-- what is left of a list after its first elements
 pub behind : (xs : List ℕ) (n : ℕ) → take (length xs - n) (drop n xs) ≡ drop n xs
 behind xs n = take_all (length xs - n) (drop n xs) (omega (arith, length-drop n xs))
 
--- a line with no space behind its name
+-- a line with no space after its name
 pub row_none : (line : List ℕ) → get_or line 8 0 ≡ 32 → position (λ byte. byte == 32) (take (length line - 9) (drop 9 line)) ≡ None → None ≡ line_row line
 row_none line space none =
     let p : ℕ → Bool = λ byte. byte == 32 in
@@ -126,12 +126,12 @@ row_cut line rest at space is found =
     ∙ ap (λ rest. row_if (take 8 line) (take at rest) (drop (at + 1) rest)) same
     ∙ sym (line_cut line space ∙ ap (cut_row (take 8 line) (drop 9 line)) (ap (position p) (sym same) ∙ found))
 
--- how many bytes are left, and 1 for the end that stands before them
+-- how many bytes are left, and 1 for the end that is before them
 abbrev pub bytes_left : Option (Bor (List ℕ)) → ℕ
 bytes_left None = 0
 bytes_left (Some rest) = length rest.now + 1
 
--- fewer are left behind a line
+-- fewer are left after a line
 pub fewer : (rest : Option (Bor (List ℕ))) (text : Bor (List ℕ)) (left : Option (Bor (List ℕ))) (number total : ℕ) → rest ≡ Some text
     → IfSome left (λ more. length more.now < length text.now) → number + bytes_left rest ≤ total → number + 1 + bytes_left left ≤ total
 fewer rest text None number total e h le = let f : bytes_left rest ≡ length text.now + 1 = ap bytes_left e in omega arith

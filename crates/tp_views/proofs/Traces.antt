@@ -1,4 +1,4 @@
--- Lines that are printed one behind the other.
+-- Lines that are printed one after the other.
 use Rattle.std.proofs.Common.{◌≡◌, ◌∙◌, ℕ, zero, suc, ◌+◌, ◌<◌, ◌≤◌, true, false, List, [], ◌++◌, length, take, drop, Option, Some, None, Ok, Err, Result, OnOk, refl, sym, ap, subst, append_assoc, append-nil, arith}
 use Rattle.std.proofs.Math.Seq.{take-add, take-append_seam, drop-append_seam}
 use Rattle.std.proofs.lemmas.List.{take-append-drop}
@@ -13,7 +13,7 @@ use Rattle.tp_views.specs.Traced.{Makes, by_step, last_text, next_text, traced}
 
 -- ## Bytes
 
--- bytes behind bytes
+-- bytes after bytes
 pub then_appended : (was then now : Option (List ℕ)) (xs ys : List ℕ) → Appends was then xs → Appends then now ys → Appends was now (xs ++ ys)
 then_appended None then now xs ys first second = tt
 then_appended (Some a) None now xs ys first second = absurd first
@@ -28,7 +28,7 @@ pub whole_front : (was now : Option (List ℕ)) (xs : List ℕ) → Appends was 
 whole_front was now xs is =
     (length xs, subst (λ bytes. Appends was now bytes) (sym (ap (take (length xs)) (sym (append-nil xs)) ∙ take-append_seam xs [])) is)
 
--- a front of bytes that stand in front
+-- the first bytes of those that come first
 pub front_more : (was now : Option (List ℕ)) (xs rest : List ℕ) → AppendsFront was now xs → AppendsFront was now (xs ++ rest)
 front_more was now xs rest (n, is) =
     let front = take n xs in
@@ -37,7 +37,7 @@ front_more was now xs rest (n, is) =
     ∙ ap (take (length front)) (append_assoc front (drop n xs) rest) ∙ take-append_seam front (drop n xs ++ rest) in
     (length front, subst (λ bytes. Appends was now bytes) (sym same) is)
 
--- a front of bytes that stand behind others
+-- the first of bytes that are after others
 pub then_front : (was then now : Option (List ℕ)) (xs ys : List ℕ) → Appends was then xs → AppendsFront then now ys → AppendsFront was now (xs ++ ys)
 then_front was then now xs ys first (n, second) =
     let same : take (length xs + n) (xs ++ ys) ≡ xs ++ take n ys =
@@ -46,7 +46,7 @@ then_front was then now xs ys first (n, second) =
     ∙ ap (λ zs. xs ++ take n zs) (drop-append_seam xs ys) in
     (length xs + n, subst (λ bytes. Appends was now bytes) (sym same) (then_appended was then now xs (take n ys) first second))
 
--- what is so where a call was done
+-- what holds if a call was done
 pub on_ok : {T E : Type 0} (P Q : Type 0) (r : Result T E) → (P → Q) → OnOk r P → OnOk r Q
 on_ok P Q (Ok x) turn h = turn h
 on_ok P Q (Err e) turn h = h

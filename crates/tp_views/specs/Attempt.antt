@@ -17,7 +17,7 @@ pub record PrintsTrial (image : List ℕ) (turns : ℕ) (was now : Option (List 
   pub tried : IsOutput node turns TRY_QUANTUM output
   pub shown : Appends was now output
 
--- The answer: an image that is none is refused, and nothing was written then, nor where memory was wanting.
+-- The answer: an image that is none is refused. Nothing was written then, nor if memory ran out.
 abbrev pub TryAnswer : List ℕ → ℕ → Option (List ℕ) → Option (List ℕ) → Result (Unit {0}) Refusal → Type 0
 TryAnswer image turns was now (Ok done) = PrintsTrial image turns was now
 TryAnswer image turns was now (Err (Trial BadImage)) = (fresh_image image ≡ None) × (now ≡ was)

@@ -30,7 +30,7 @@ shape_line nodes ports version =
 abbrev pub least_line : ℕ → List ℕ
 least_line area = codes "least area " ++ (decimal area ++ 10 ∷ [])
 
--- the area that a device gets where none is asked for
+-- the area that a device gets if none is asked for
 abbrev pub default_line : ℕ → List ℕ
 default_line area = codes "default area " ++ (decimal area ++ 10 ∷ [])
 

@@ -38,7 +38,7 @@ end_name (Some (AtPort p)) = codes "port" ++ decimal p
 abbrev pub wire_line : ℕ → Option WireEnd → List ℕ
 wire_line i other = (codes "  node" ++ (decimal i ++ codes " -> ")) ++ (end_name other ++ codes " [dir=none color=gray];\n")
 
--- the wire at link k of node i, where that is its first end
+-- the wire at link k of node i, if that is its first end
 abbrev pub wire_part : Seen → ℕ → ℕ → List ℕ
 wire_part s i k =
     if is_first (length s.nodes) (4 * i + k) (receiver s.wires (4 * i + k)) then wire_line i (receiver s.wires (4 * i + k)) else []

@@ -1,11 +1,11 @@
 -- How values are spelt for scripts, as JSON: numbers, fixed names, and lists of them.
 use Rattle.std.specs.Prelude.{ℕ, ◌+◌, ◌==◌, Bool, if◌then◌else◌, List, [], ◌∷◌, ◌++◌, codes}
 
--- what stands before an item of a list that has that many before it
+-- what is before an item of a list that has that many before it
 abbrev pub comma : ℕ → List ℕ
 comma before = if before == 0 then [] else codes ","
 
--- items with commas between them, where that many stand before them
+-- items with commas between them, if that many are before them
 abbrev pub json_items : ℕ → List (List ℕ) → List ℕ
 json_items before [] = []
 json_items before (item ∷ items) = (comma before ++ item) ++ json_items (before + 1) items

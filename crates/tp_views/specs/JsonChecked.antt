@@ -18,7 +18,7 @@ shape_json nodes ports version =
 abbrev pub least_json : ℕ → List ℕ
 least_json area = codes ",\"least_area\":" ++ decimal area
 
--- the area that a device gets where none is asked for
+-- the area that a device gets if none is asked for
 abbrev pub default_json : ℕ → List ℕ
 default_json area = codes ",\"default_area\":" ++ (decimal area ++ codes ",\"areas\":[")
 

@@ -12,7 +12,7 @@ abbrev pub label_fields : ℕ → Option Row → List ℕ
 label_fields a None = []
 label_fields a (Some row) = name_fields a row.address row.label
 
--- the label and the place, where there is a place
+-- the label and the place, if there is a place
 abbrev pub fields_if : ℕ → Option Row → Option Row → List ℕ
 fields_if a label None = []
 fields_if a label (Some row) = label_fields a label ++ (codes ",\"place\":\"" ++ (row.place ++ codes "\""))

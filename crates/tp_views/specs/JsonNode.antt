@@ -56,7 +56,7 @@ cpu_fields rows cpu =
 abbrev pub idle_item : List ℕ
 idle_item = codes "{\"state\":\"idle\"}"
 
--- an end at which a process waits: what it does, the process, where the next byte is or goes, and how many bytes are left
+-- an end at which a process waits: what it does, the process, if the next byte is or goes, and how many bytes are left
 abbrev pub working_item : List ℕ → Transfer → List ℕ
 working_item what t =
     codes "{\"state\":\"" ++ (what ++ (codes "\",\"process\":" ++ (decimal t.process
@@ -75,7 +75,7 @@ input_item (Enabled process) = codes "{\"state\":\"enabled\",\"process\":" ++ (d
 
 -- ## The node
 
--- the node with this number, by its pages, its processor and its ends, which stand at their links' numbers
+-- the node with this number, by its pages, its processor and its ends, which are at their links' numbers
 abbrev pub node_fields : List Row → ℕ → ℕ → Cpu → List OutEnd → List InEnd → List ℕ
 node_fields rows number pages cpu outputs inputs =
     number_fields number pages cpu.halt ++ (cpu_fields rows cpu ++ (codes ",\"out\":" ++ (json_list (map output_item outputs)

@@ -36,7 +36,7 @@ entry_fields base entries next =
 abbrev pub front_fields : Front → List ℕ
 front_fields front = area_fields front.area (area_number front.second) front.generation ++ entry_fields front.base front.entries front.next
 
--- All that is printed of a device whose front is this and whose network after the last entry is that: each node and each port stands
+-- All that is printed of a device whose front is this and whose network after the last entry is that: each node and each port is
 -- at its number.
 abbrev pub show_json : Front → Network NodeState → List ℕ
 show_json front now =

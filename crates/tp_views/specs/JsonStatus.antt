@@ -1,4 +1,4 @@
--- What `status --json` prints of a look at a device: an object on a line.
+-- What `status --json` prints of one check of a device: an object on a line.
 use Rattle.std.specs.Prelude.{ℕ, ◌+◌, ◌-◌, ◌*◌, ◌/◌, ◌==◌, Bool, if◌then◌else◌, List, [], ◌∷◌, ◌++◌, length, codes, Option, Some, None}
 use Rattle.std.specs.Fmt.{decimal}
 use Rattle.tp_model.specs.NodeState.{NodeState}
@@ -16,7 +16,7 @@ use Rattle.tp_views.specs.declared.status.PortSeen.{PortSeen}
 use Rattle.tp_views.specs.declared.status.Seen.{Seen}
 use Rattle.tp_views.specs.declared.status.Since.{Since}
 
--- by how much a count grew in a second, rounded down; null where it wasn't seen before
+-- by how much a count grew in a second, rounded down; null if it wasn't seen before
 abbrev pub rate : ℕ → Option Since → List ℕ
 rate now None = codes "null"
 rate now (Some since) = if since.millis == 0 then codes "null" else decimal ((now - since.count) * 1000 / since.millis)
@@ -71,7 +71,7 @@ port_item millis before port =
     accepted_json (bytes_accepted port) (accepted_before millis before) (length port.pending)
     ++ out_json (bytes_put_out port) (out_before millis before) (length port.outputs)
 
--- each port stands at its number
+-- each port is at its number
 abbrev pub port_items : ℕ → ℕ → Option Seen → List Port → List (List ℕ)
 port_items number at before [] = []
 port_items number at before (port ∷ ports) =

@@ -1,4 +1,4 @@
--- What one look of `status` does.
+-- What one check of `status` does.
 use Rattle.std.specs.Prelude.{◌≡◌, ℕ, Bool, List, Option, Ok}
 use Rattle.std.specs.Io.KnownBytes.{Appends}
 use Rattle.tp_model.specs.Opening.{Opened, verdict}

@@ -1,4 +1,4 @@
--- A map: where a source's labels and instructions are. It has a line for each:
+-- A map: if a source's labels and instructions are. It has a line for each:
 --     ADDRESS NAME FILE:LINE
 -- where ADDRESS is eight hexadecimal digits with capital letters, and NAME a label, or - for an instruction. Empty lines are skipped.
 use Rattle.std.specs.Prelude.{◌≡◌, ℕ, ◌+◌, ◌-◌, ◌==◌, nat_le, Bool, true, false, not, ◌&&◌, ◌||◌, if◌then◌else◌, List, [], ◌∷◌, ◌++◌, length, map, take, drop, get_or, position, bytes_eq, Option, Some, None, is_some, option_copied, Result, Ok, Err, codes}
@@ -14,7 +14,7 @@ use Rattle.tp_views.specs.declared.maps.MapRow.{MapRow}
 
 -- ## A line
 
--- an address, the label that stands there if it is the line of one, and the source's file and line
+-- an address, the label that is there if it is the line of one, and the source's file and line
 pub record Row : Type 0 where
   pub address : ℕ
   pub label : Option (List ℕ)
@@ -36,11 +36,11 @@ is_text bytes = list_all is_plain bytes && is_utf8 bytes
 abbrev pub is_name : List ℕ → Bool
 is_name word = not (length word == 0) && is_text word
 
--- a byte goes on with the number of a line, or begins it: the one in front of it is such a digit, or the colon
+-- a byte goes on with the number of a line, or begins it: the one before it is such a digit, or the colon
 abbrev pub is_of_number : Bool → Bool → ℕ → Bool
 is_of_number is_colon is_number byte = (is_colon || is_number) && is_digit byte
 
--- Bytes end with a colon and one digit or more. The one in front of them is a colon, or such a digit.
+-- Bytes end with a colon and one digit or more. The one before them is a colon, or such a digit.
 abbrev pub ends_in_line : Bool → Bool → List ℕ → Bool
 ends_in_line is_colon is_number [] = is_number
 ends_in_line is_colon is_number (byte ∷ bytes) = ends_in_line (byte == 58) (is_of_number is_colon is_number byte) bytes
@@ -63,7 +63,7 @@ row_if word name place =
     then Some (record { address = digits_value 16 word; label = label_in name; place = place })
     else None
 
--- the row of an address's word and of what stands behind it, whose first space is there
+-- the row of an address's word and of what is after it, whose first space is there
 abbrev pub cut_row : List ℕ → List ℕ → Option ℕ → Option Row
 cut_row word rest None = None
 cut_row word rest (Some at) = row_if word (take at rest) (drop (at + 1) rest)
@@ -90,7 +90,7 @@ after_lines rows number (line ∷ lines) = do
   after ← after_line rows number line
   after_lines after (number + 1) lines
 
--- the lines of what stands behind the end of one
+-- the lines of what is after the end of one
 abbrev pub parts_behind : Option (List ℕ) → List (List ℕ)
 parts_behind None = []
 parts_behind (Some rest) = slice_split (λ byte. byte == 10) rest
@@ -127,7 +127,7 @@ least (Some row) = row.address
 abbrev pub is_nearer : Option Row → Bool → ℕ → Row → Bool
 is_nearer found of_labels a row = counts of_labels row && (nat_le (least found) row.address && nat_le row.address a)
 
--- the nearest row at or below an address that counts, of several at one address the last; `found` where none is as near
+-- the nearest row at or below an address that counts, of several at one address the last; `found` if none is as near
 abbrev pub nearest_from : Option Row → Bool → ℕ → List Row → Option Row
 nearest_from found of_labels a [] = found
 nearest_from found of_labels a (row ∷ rows) = nearest_from (if is_nearer found of_labels a row then Some row else found) of_labels a rows
@@ -154,12 +154,12 @@ abbrev pub label_part : ℕ → Option Row → List ℕ
 label_part a None = []
 label_part a (Some row) = name_part a row.address row.label
 
--- behind words, the label and the place, where there is a place
+-- after words, the label and the place, if there is a place
 abbrev pub spot_if : List ℕ → ℕ → Option Row → Option Row → List ℕ
 spot_if words a label None = []
 spot_if words a label (Some row) = words ++ (label_part a label ++ (codes " (" ++ (row.place ++ codes ")")))
 
--- All that a map says of an address, behind words: the nearest label at or below it, and the place of what stands there. A map with no row
+-- All that a map says of an address, after words: the nearest label at or below it, and the place of what is there. A map with no row
 -- at or below it says nothing.
 abbrev pub spot_text : List ℕ → List Row → ℕ → List ℕ
 spot_text words rows a = spot_if words a (nearest true a rows) (nearest false a rows)
@@ -181,11 +181,11 @@ rows_of maps i = own_or (get_or maps.own i []) maps.all
 abbrev pub no_maps : Maps
 no_maps = record { own = []; all = [] }
 
--- the rows of a text; none where it is no map
+-- the rows of a text; none if it is no map
 abbrev pub rows_read : Result (List Row) ℕ → List Row
 rows_read (Ok rows) = rows
 rows_read (Err number) = []
 
--- the maps of these texts; each node's own one stands at its number
+-- the maps of these texts; each node's own one is at its number
 abbrev pub maps_in : List (List ℕ) → List ℕ → Maps
 maps_in own all = record { own = map (λ text. rows_read (read_map text)) own; all = rows_read (read_map all) }

@@ -15,6 +15,6 @@ abbrev pub refusal_of : MapFile → MapFault → Refusal
 refusal_of file (Line number) = BadMap file number
 refusal_of file NoMemory = Memory
 
--- Why the map in a file isn't read: a line of it, counted from 1, is none of a map, or memory was refused.
+-- Why the map in a file isn't read: a line of it, counted from 1, is no line of a map; or out of memory.
 abbrev pub IsMapRefusal : List ℕ → MapFile → Refusal → Type 0
 IsMapRefusal text file refusal = (fault : MapFault) × IsMapFault (read_map text) fault × (refusal ≡ refusal_of file fault)

@@ -54,7 +54,7 @@ cpu_lines rows cpu =
 abbrev pub idle_line : List ℕ → ℕ → List ℕ
 idle_line side link = side ++ (codes " " ++ (decimal link ++ (codes " idle" ++ 10 ∷ [])))
 
--- an end at which a process waits: what it does, the process, where the next byte is or goes, and how many bytes are left
+-- an end at which a process waits: what it does, the process, if the next byte is or goes, and how many bytes are left
 abbrev pub working_line : List ℕ → ℕ → List ℕ → Transfer → List ℕ
 working_line side link what t =
     side ++ (codes " " ++ (decimal link ++ (codes " " ++ (what ++ (codes " process " ++ (hex_word t.process
@@ -90,6 +90,6 @@ abbrev pub node_as_lines : List Row → ℕ → ℕ → Cpu → List OutEnd → 
 node_as_lines rows number pages cpu outputs inputs =
     number_line number pages cpu.halt ++ (cpu_lines rows cpu ++ (output_lines 0 outputs ++ input_lines 0 inputs))
 
--- All that is printed of it, where its map has these rows.
+-- All that is printed of it, if its map has these rows.
 abbrev pub node_text : List Row → ℕ → NodeState → List ℕ
 node_text rows number node = node_as_lines rows number (page_count node.memory) node.cpu node.outputs node.inputs

@@ -32,6 +32,6 @@ pub record Prints (text : Opened → List ℕ) (bytes : List ℕ) (was now : Opt
   pub is : verdict bytes ≡ Ok opened
   pub printed : Appends was now (text opened)
 
--- Nothing was written: where no call of the device failed, a read gives the bytes that it gave before, and all of them are synced.
+-- Nothing was written: if no call of the device failed, a read gives the bytes that it gave before, and all of them are synced.
 abbrev pub IsUnwritten : ℕ → ℕ → Moment → Moment → Type 0
 IsUnwritten failures_before failures_after old new = failures_after ≡ failures_before → new ≡ done Sync old

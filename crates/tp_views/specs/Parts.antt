@@ -13,7 +13,7 @@ part_text (Large number) = decimal number
 part_text (Byte byte) = hex_byte byte
 part_text (Word word) = hex_word word
 
--- the parts, one behind the other
+-- the parts, one after the other
 abbrev pub parts_text : List Part → List ℕ
 parts_text [] = []
 parts_text (part ∷ parts) = part_text part ++ parts_text parts

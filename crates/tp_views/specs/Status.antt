@@ -25,11 +25,11 @@ bytes_accepted port = port.in_base + length port.pending
 abbrev pub bytes_put_out : Port → ℕ
 bytes_put_out port = port.out_base + length port.outputs
 
--- what a look sees of a port
+-- what a check sees of a port
 abbrev pub port_seen : Port → PortSeen
 port_seen port = record { accepted = bytes_accepted port; out = bytes_put_out port }
 
--- what a look sees that the next one compares with
+-- what a check sees that the next one compares with
 pub record IsSeen (at : ℕ) (o : Opened) (seen : Seen) : Type 0 where
   pub time : seen.at ≡ at
   pub next : seen.next ≡ next_of o
@@ -39,7 +39,7 @@ pub record IsSeen (at : ℕ) (o : Opened) (seen : Seen) : Type 0 where
 abbrev pub next_before : ℕ → Option Seen → Option Since
 next_before at before = option_map (λ seen. record { count = seen.next; millis = at - seen.at }) before
 
--- what a look before saw of a port, if it was there
+-- what the check before saw of a port, if it existed
 abbrev pub port_before : Option Seen → ℕ → Option PortSeen
 port_before None number = None
 port_before (Some seen) number = slice_get seen.ports.items number
@@ -56,7 +56,7 @@ accepted_before millis before = option_map (λ port. record { count = port.accep
 abbrev pub out_before : ℕ → Option PortSeen → Option Since
 out_before millis before = option_map (λ port. record { count = port.out; millis = millis }) before
 
--- a count; where it was seen before, also by how much it grew in a second, rounded down
+-- a count; if it was seen before, also by how much it grew in a second, rounded down
 abbrev pub growth_part : ℕ → Option Since → List ℕ
 growth_part now None = []
 growth_part now (Some since) =
@@ -117,7 +117,7 @@ abbrev pub halted_or_none : List ℕ → List ℕ
 halted_or_none [] = codes " halted none"
 halted_or_none (byte ∷ bytes) = byte ∷ bytes
 
--- How many entries the journal has room for, the first one behind its cut.
+-- How many entries the journal has room for, the first one after its cut.
 abbrev pub entries_room : Opened → ℕ
 entries_room o = entries_left 0 o.base (journal_of o.head.topology o.head.areas.length)
 

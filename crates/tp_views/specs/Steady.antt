@@ -1,4 +1,4 @@
--- What a look at a device finds, and what is answered of one that another process may write meanwhile.
+-- What a look finds on a device, and what is answered of one that another process may write meanwhile.
 use Rattle.std.specs.Prelude.{◌≡◌, ℕ, Bool, true, false, ◌||◌, ◌&&◌, not, nat_lt, if◌then◌else◌, List, Option, Some, None, Result, Ok, Err}
 use Rattle.tp_area.specs.Fronts.{area_front}
 use Rattle.tp_area.specs.declared.front.AreaFront.{AreaFront}
@@ -21,7 +21,7 @@ fronts_in areas bytes = record {
   again = area_front (area_start areas false) bytes;
 }
 
--- what a look finds, where that is what is said of the head
+-- what a look finds, by what is said of the head
 abbrev pub look_finds : Result Head OpenFault → List ℕ → Option Fronts
 look_finds (Ok head) bytes = Some (fronts_in head.areas bytes)
 look_finds (Err fault) bytes = None
@@ -38,8 +38,8 @@ counting fronts =
 abbrev pub front_seen : Bool → Fronts → AreaFront
 front_seen second fronts = if second then fronts.second else fronts.first
 
--- The area that counted at one look has at another one the gate and the generation that it had; or none counted, and the other look
--- finds those fronts.
+-- The area that counted at one look has at another one the gate and the generation that it had; or none counted, and the other look finds these
+-- fronts.
 abbrev pub StayedOpen : Option Bool → Fronts → Fronts → Type 0
 StayedOpen (Some second) before after = front_seen second after ≡ front_seen second before
 StayedOpen None before after = after ≡ before
@@ -56,7 +56,7 @@ abbrev pub OfSteady : (Result Opened Unopened → Type 0) → Tried → Type 0
 OfSteady P (Steady answer) = P answer
 OfSteady P Changed = ⊥
 
--- Where the answer is one of a moment, P holds of it.
+-- If the answer is one of a moment, P holds of it.
 abbrev pub IfSteady : (Result Opened Unopened → Type 0) → Tried → Type 0
 IfSteady P (Steady answer) = P answer
 IfSteady P Changed = Unit {0}

@@ -23,7 +23,7 @@ why_name Full = codes "full"
 why_name NoInput = codes "no input"
 why_name NoWire = codes "no wire"
 
--- the other end of a wire, behind words that lead there
+-- the other end of a wire, after words that lead there
 abbrev pub other_part : List ℕ → Option WireEnd → List ℕ
 other_part words None = words ++ codes "nobody"
 other_part words (Some (Link j k)) = words ++ (codes "node " ++ (decimal j ++ (codes " link " ++ decimal k)))

@@ -31,7 +31,7 @@ deed_name Chooses = codes "chooses"
 
 -- ## A node
 
--- The number of the last of some entries that node i made, in a network of these wires and N nodes; `last` where it made none of them.
+-- The number of the last of some entries that node i made, in a network of these wires and N nodes; `last` if it made none of them.
 -- Since then the node has been as it is.
 abbrev pub last_from : Option ℕ → ℕ → List (Option WireEnd) → ℕ → List (Entry × ℕ) → Option ℕ
 last_from last i wires N [] = last

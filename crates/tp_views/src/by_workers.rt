@@ -16,7 +16,7 @@ use tp_gate::NoGate;
 use tp_recover::{Opened, Unopened, open, open_parallel};
 use tp_words::MAX_WORKERS;
 
-/// Opens a device by `workers` threads, 2 to 16 of them. Where there is one, or another number that no command line asks for, this thread
+/// Opens a device by `workers` threads, 2 to 16 of them. If there is one, or another number that no command line asks for, this thread
 /// opens it alone. What it answers is what `tp_recover::open` answers.
 pub fn open_by<D: Disk, R: Threads + Sync>(
     rt: &R,

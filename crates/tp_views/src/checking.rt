@@ -67,7 +67,7 @@ fn push_least(text: &mut String, topology: &Topology) -> Result<(), AllocError>
     push_parts(text, &[Text("least area "), Number(least), Text("\n")])
 }
 
-/// Appends how large an area is where none is asked for.
+/// Appends how large an area is if none is asked for.
 fn push_default(text: &mut String, topology: &Topology) -> Result<(), AllocError>
     ensures { OnOk result (string_bytes text.new ≡ string_bytes text.old ++ default_line (default_area topology.now)) }
 {
@@ -166,8 +166,8 @@ fn check<O: Write>(
     }
 }
 
-/// `tpnet check`, on a topology and its images. Answers the program's status: 0 where a device may be formatted with them and exactly
-/// what is said of the topology was printed, as JSON or not, else 1. Where the images don't fit nothing is printed.
+/// `tpnet check`, on a topology and its images. Answers the program's status: 0 if a device may be formatted with them and exactly what is said of
+/// the topology was printed, as JSON or not, else 1. If the images don't fit, nothing is printed.
 pub fn check_on<O: Write, E: Write>(
     alloc: Global,
     topology: &Topology,

@@ -1,4 +1,4 @@
-//! `tpnet try`, and how each command prints and is refused.
+//! `tpnet try`, and how each command prints and refuses.
 
 ghost use Rattle.std.specs.Prelude.{◌≡◌, ◌≤◌, None, OnOk, IfErr};
 ghost use Rattle.std.specs.Io.KnownBytes.{Appends};
@@ -11,10 +11,10 @@ use std::alloc::Global;
 use std::io::{ErrorKind, Write};
 use tp_turn::try_output;
 
-/// The most steps of a run, where a node is tried.
+/// The most steps of a run, if a node is tried.
 pub const TRY_QUANTUM: u16 = 16;
 
-/// Says why a command was not done. A failed write of that is let go.
+/// Says why a command was not done. A failed write of that is dropped.
 pub fn refuse<E: Write>(err: &mut E, refusal: Refusal) -> u8
     ensures { result ≡ 1 }
 {
@@ -22,7 +22,7 @@ pub fn refuse<E: Write>(err: &mut E, refusal: Refusal) -> u8
     1
 }
 
-/// Writes bytes as they are. A front of them stands on the output, whatever is answered.
+/// Writes bytes as they are. Whatever it answers, the output has some of the first ones.
 pub fn put<O: Write>(out: &mut O, bytes: &[u8]) -> Result<(), Refusal>
     ensures written { OnOk result (Appends (O.contents out.old) (O.contents out.new) bytes.now) }
     ensures refused { IfErr result (λ refusal. refusal ≡ Refusal.DeviceFailed) }
@@ -65,8 +65,8 @@ fn attempt<O: Write>(alloc: Global, image: &[u8], turns: u32, out: &mut O) -> Re
     }
 }
 
-/// `tpnet try`, on the bytes of the image. Answers the program's status: 0 where exactly what port 0 put out was
-/// written, else 1. An image that is none is refused, and nothing is written then.
+/// `tpnet try`, on the bytes of the image. Answers the program's status: 0 if exactly what port 0 put out was written, else 1. It refuses bytes that
+/// are no image, and writes nothing then.
 pub fn try_on<O: Write, E: Write>(
     alloc: Global,
     image: &[u8],

@@ -97,14 +97,14 @@ fn rows_of(alloc: Global, scene: &Scene) -> Result<Vec<u64>, AllocError>
     Ok(rows)
 }
 
-/// A row, with those that this node leads to where it has the node.
+/// A row, with those that this node leads to if it has the node.
 fn passed(node: usize, through: u64, row: u64) -> u64
     ensures { result ≡ passed node through row }
 {
     if has(row, node) { row | through } else { row }
 }
 
-/// The rows, each with those that a node leads to where it has the node.
+/// The rows, each with those that a node leads to if it has the node.
 fn leads(alloc: Global, node: usize, rows: &[u64]) -> Result<Vec<u64>, AllocError>
     ensures { IfOk result (λ next. next.items ≡ leads node rows.now) }
 {
@@ -160,7 +160,7 @@ fn is_first(mine: u64, number: usize, rows: &[u64]) -> bool
     }
 }
 
-/// Appends a node where it and another one wait for one another.
+/// Appends a node if it and another one wait for one another.
 fn push_member(
     text: &mut String,
     mine: u64,
@@ -187,7 +187,7 @@ fn push_members(text: &mut String, mine: u64, number: usize, rows: &[u64]) -> Re
     Ok(())
 }
 
-/// Appends the line of the nodes that wait for one another with a node, where it is the first of them.
+/// Appends the line of the nodes that wait for one another with a node, if it is the first of them.
 fn push_cycle(text: &mut String, mine: u64, number: usize, rows: &[u64]) -> Result<(), AllocError>
     ensures { OnOk result (string_bytes text.new ≡ string_bytes text.old ++ cycle_part mine number rows.now) }
 {

@@ -1,4 +1,4 @@
-//! What `--explain` says of a device that doesn't open: what stands at the damaged place, and which rule it breaks.
+//! What `--explain` says of a device that doesn't open: what is at the damaged place, and which rule it breaks.
 
 use crate::head_rules::push_broken;
 use crate::image_rules::broken_rule;
@@ -32,7 +32,7 @@ const BAD_PORT: &str = "  its counts or positions break their rule: docs/FORMATS
 const BAD_JOURNAL: &str =
     "  its header, its number or what it says isn't possible there: docs/FORMATS.md, section 6, tests 10 and 11\n";
 
-/// What is said where the head is another one now.
+/// What is said if the head is another one now.
 const CHANGED: &str = "  its head was changed since it was opened: try again\n";
 
 /// What is said of a file that doesn't begin as a device does.
@@ -45,7 +45,7 @@ fn is_read<D: Disk>(disk: &mut D, at: u64, bytes: &mut [u8]) -> bool {
     count <= size && at <= size - count && disk.read(at, bytes).is_ok()
 }
 
-/// The bytes of a device at a place, where it has them and they can be read.
+/// The bytes of a device at a place, if it has them and they can be read.
 fn bytes_at<D: Disk, const N: usize>(disk: &mut D, at: u64) -> Option<[u8; N]> {
     let mut bytes = [0; N];
     if is_read(disk, at, &mut bytes) {
@@ -74,7 +74,7 @@ fn push_gate<D: Disk>(text: &mut String, disk: &mut D, at: u64) -> Result<(), Al
     }
 }
 
-/// Says which rule the bytes of a node's image break, where they break one.
+/// Says which rule the bytes of a node's image break, if they break one.
 fn push_rule(alloc: Global, text: &mut String, image: &[u8], pages: u16) -> Result<(), AllocError> {
     match broken_rule(alloc, image, Some(pages), false)? {
         Some(rule) => write!(text, "  {rule}\n"),
@@ -133,7 +133,7 @@ fn push_head(text: &mut String, size: u64, layout: &Layout, head: &[u8]) -> Resu
     }
 }
 
-/// The form of the area that begins at `start`, where it can be read, and the place of it.
+/// The form of the area that begins at `start`, if it can be read, and the place of it.
 fn form_at<D: Disk>(disk: &mut D, start: u64) -> (u64, Option<u64>) {
     let at = start.saturating_add(FIELDS_BYTES as u64 - 1);
     match bytes_at::<D, 2>(disk, at) {
@@ -164,7 +164,7 @@ fn push_front<D: Disk>(text: &mut String, disk: &mut D, start: u64) -> Result<()
     }
 }
 
-/// Says what stands at a place of a device, in the record that begins at `start`.
+/// Says what is at a place of a device, in the record that begins at `start`.
 fn push_place(
     text: &mut String,
     layout: &Layout,

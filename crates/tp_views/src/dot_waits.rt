@@ -78,7 +78,7 @@ fn push_wire_line(
     push(text, " [dir=none color=gray];\n")
 }
 
-/// Appends the wire at a link of a node, where that link is its first end.
+/// Appends the wire at a link of a node, if that link is its first end.
 fn push_wire(text: &mut String, scene: &Scene, number: usize, link: u8) -> Result<(), AllocError>
     requires number { number < MAX_NODES }
     requires nodes { length scene.now.nodes.items ≤ MAX_NODES }
@@ -162,7 +162,7 @@ fn push_edge_label(text: &mut String, wait: &Wait) -> Result<(), AllocError>
     )
 }
 
-/// Appends in which instruction a process waits, where a map is there.
+/// Appends in which instruction a process waits, if a map is there.
 fn push_spot_label(
     text: &mut String,
     rows: &[MapRow<'_>],

@@ -22,12 +22,12 @@ const MEND_RUN: &str =
 const MEND_COMPACT: &str =
     "  It is read and written: mend that, and give the same command again. Nothing is lost.\n";
 
-/// Says what is left where nothing was said.
+/// Says what is left if nothing was said.
 fn push_unless(text: &mut String, is_said: bool) -> Result<(), AllocError> {
     if is_said { Ok(()) } else { push_rest(text) }
 }
 
-/// Says that a file is there already, where it has to be new.
+/// Says that a file is there already, if it has to be new.
 fn push_there<R: Files>(rt: &R, text: &mut String, device: &str) -> Result<(), AllocError> {
     let (what, way) = if is_regular(rt, device) {
         (
@@ -126,7 +126,7 @@ fn push_check<R: Files + AllocGlobal>(
     push_unless(text, is_said)
 }
 
-/// How many bytes the input of a run has; `None` where its file can't be read again, and that is said. What isn't a regular file isn't
+/// How many bytes the input of a run has; `None` if its file can't be read again, and that is said. What isn't a regular file isn't
 /// read again.
 fn input_length<R: Files + AllocGlobal>(
     rt: &R,
@@ -150,7 +150,7 @@ fn is_input_special<R: Files>(rt: &R, run: &Run) -> bool {
     }
 }
 
-/// Says why a run was refused whose device's calls didn't fail.
+/// Says why a run was refused though no call on its device failed.
 fn push_refused_run<R: Files<File = F> + AllocGlobal, F: FileExt + OpenFile + Drop>(
     rt: &R,
     text: &mut String,
@@ -190,7 +190,7 @@ fn push_run<R: Files<File = F> + AllocGlobal, F: FileExt + OpenFile + Drop>(
     }
 }
 
-/// Opens a device's file again, and says why it wasn't opened, where it doesn't open now either: whether it does.
+/// Opens a device's file again, and says why it wasn't opened, if it doesn't open now either. Answers whether it opens.
 fn opens<R: Files<File = F> + AllocGlobal, F: FileExt + OpenFile + Drop>(
     rt: &R,
     text: &mut String,
@@ -278,8 +278,7 @@ fn push_explanation<R: Files<File = F> + AllocGlobal, F: FileExt + OpenFile + Dr
     }
 }
 
-/// Says more of a refusal on standard error: it looks again at what the command looked at. `system` is what the system said
-/// where a call on a device failed.
+/// Says more of a refusal on standard error: it checks again what the command checked. `system` is what the system said if a call on a device failed.
 pub fn explain<R: Files<File = F> + AllocGlobal, F: FileExt + OpenFile + Drop, E: Write>(
     rt: &R,
     asked: &Asked,

@@ -1,4 +1,4 @@
-//! How full a device's journal is, where a run was refused.
+//! How full a device's journal is when a run was refused.
 
 ghost use Rattle.std.specs.Prelude.{◌≡◌, ◌↔◌, ◌<◌, ◌≤◌, ◌+◌, true, false, None, IfSome};
 
@@ -14,8 +14,8 @@ use tp_words::{Run, Shown};
 const FILLS_UP: &str =
     "  Nothing that was acknowledged or shown is lost. So that it doesn't fill up: a larger AREA (tpnet check says how large),\n  and output that is confirmed often; watch unconfirmed in tpnet show.\n";
 
-/// How many entries of a run's input are handed in at once: as many bytes as there are behind those that its port has accepted, and
-/// as it has room for.
+/// How many entries of a run's input are handed in at once: as many bytes as there are after those that its port has accepted, and as it has room
+/// for.
 fn offered(run: &Run, opened: &Opened, input: usize) -> u64 {
     match opened.network().ports().get(run.port as usize) {
         Some(port) => {
@@ -62,7 +62,7 @@ fn push_pieces(text: &mut String, device: &str, port: u64) -> Result<(), AllocEr
     )
 }
 
-/// Says the ways out of a full journal with room for `most` entries; where it is known, `wanted` entries come at once.
+/// Says the ways out of a full journal with room for `most` entries; if it is known, `wanted` entries come at once.
 fn push_ways(
     text: &mut String,
     run: &Run,
@@ -78,8 +78,7 @@ fn push_ways(
     push_pieces(text, device, run.port)
 }
 
-/// Whether a journal with `entries` entries, and room for `most`, has room for those that a run wants, and for one at least, where that is
-/// known.
+/// Whether a journal with `entries` entries, and room for `most`, has room for those that a run wants, if that is known, and for at least one.
 fn has_room(entries: u64, most: u64, wanted: Option<u64>) -> bool
     ensures none { wanted ≡ None → result ≡ false }
     ensures some { IfSome wanted (λ more. result ≡ true ↔ ((entries < most) × (entries + more ≤ most))) }
@@ -90,8 +89,8 @@ fn has_room(entries: u64, most: u64, wanted: Option<u64>) -> bool
     }
 }
 
-/// Says how full a device's journal is, where a run's input or the confirmation of its output has no room. `input` is how many bytes
-/// the run's input has, where that is known.
+/// Says how full a device's journal is, if a run's input or the confirmation of its output has no room. `input` is how many bytes
+/// the run's input has, if that is known.
 pub(crate) fn push_journal(
     text: &mut String,
     run: &Run,

@@ -30,7 +30,7 @@ const PAGES: &[&str] = &[
     " to ",
 ];
 
-/// What is said of the pages of a node that isn't there.
+/// What is said of the pages of a node that doesn't exist.
 const NO_NODE: &[&str] = &[
     "  the pages of node ",
     ", at ",
@@ -94,7 +94,7 @@ pub(crate) fn number_at(bytes: &[u8], at: usize) -> u64 {
     u64::from_le_bytes(field)
 }
 
-/// Where the pages of a node stand.
+/// Where the pages of a node are.
 pub(crate) fn pages_at(node: usize) -> usize {
     PAGES_PLACE.saturating_add(node.saturating_mul(2))
 }
@@ -109,12 +109,12 @@ struct Fields<'a> {
 }
 
 impl Fields<'_> {
-    /// Where the field stands that says where a link leads.
+    /// Where the field is that says where a link leads.
     fn end_place(self, link: usize) -> usize {
         ends_place(self.version).saturating_add(link.saturating_mul(end_bytes(self.version)))
     }
 
-    /// Where a link leads, as a number.
+    /// If a link leads, as a number.
     fn end(self, link: usize) -> usize {
         let at = self.end_place(link);
         match self.version {
@@ -123,7 +123,7 @@ impl Fields<'_> {
         }
     }
 
-    /// Whether no link in front of this one leads where it leads.
+    /// Whether no link before this one leads to its end.
     fn is_first(self, link: usize) -> bool {
         for other in 0..link {
             if self.end(other) == self.end(link) {
@@ -133,7 +133,7 @@ impl Fields<'_> {
         true
     }
 
-    /// What is said where there are too few or too many nodes or ports.
+    /// What is said if there are too few or too many nodes or ports.
     fn counts_rule(self) -> Option<Rule<5>> {
         let (nodes, ports, most) = (self.nodes, self.ports, most_nodes(self.version));
         if nodes < 1 || nodes > most {
@@ -163,7 +163,7 @@ impl Fields<'_> {
         None
     }
 
-    /// Which byte of a range isn't 00, where one isn't.
+    /// Which byte of a range isn't 00, if one isn't.
     fn filled_rule(self, from: usize, to: usize) -> Option<Rule<5>> {
         for at in from..to {
             let byte = byte_in(self.head, at);
@@ -177,7 +177,7 @@ impl Fields<'_> {
         None
     }
 
-    /// What is said of the pages of a node, where their number is wrong.
+    /// What is said of the pages of a node, if their number is wrong.
     fn node_rule(self, node: usize) -> Option<Rule<5>> {
         let at = pages_at(node);
         let pages = usize::from(half_at(self.head, at));
@@ -223,7 +223,7 @@ impl Fields<'_> {
         None
     }
 
-    /// What is said of where a link leads that leads to no end, or to one that doesn't lead back.
+    /// What is said of a link that leads to no end, or to one that doesn't lead back.
     fn wrong_end(self, end: usize) -> Rule<5> {
         let (first, other) = (first_port(self.version), end.saturating_sub(1));
         let port = end.saturating_sub(first);
@@ -265,7 +265,7 @@ impl Fields<'_> {
         end >= first && end.saturating_sub(first) < self.ports && self.is_first(link)
     }
 
-    /// Says what is wrong with where a link leads.
+    /// Says what is wrong with the end that a link leads to.
     fn push_end(self, text: &mut String, link: usize, end: usize) -> Result<(), AllocError> {
         let (node, own) = (link / 4, link % 4);
         let at = self.end_place(link);
@@ -277,7 +277,7 @@ impl Fields<'_> {
         push_words(text, rule.words, &rule.values)
     }
 
-    /// The first link that leads where it mustn't, and where that is.
+    /// The first link that leads to a wrong end, and that end.
     fn wrong_link(self) -> Option<(usize, usize)> {
         for link in 0..self.nodes.saturating_mul(4) {
             let end = self.end(link);
@@ -288,7 +288,7 @@ impl Fields<'_> {
         None
     }
 
-    /// What is said of the fields in front of those that say where the links lead.
+    /// What is said of the fields before those of the links' ends.
     fn front_rule(self) -> Option<Rule<5>> {
         if let Some(rule) = self.counts_rule() {
             return Some(rule);
@@ -299,14 +299,14 @@ impl Fields<'_> {
         }
     }
 
-    /// What is said of the bytes behind the fields.
+    /// What is said of the bytes after the fields.
     fn rest_rule(self) -> Option<Rule<5>> {
         let behind = self.end_place(self.nodes.saturating_mul(4));
         self.filled_rule(behind, self.head.len())
     }
 }
 
-/// Appends a rule, where there is one: whether there is.
+/// Appends a rule, if there is one: whether there is.
 fn push_found(text: &mut String, rule: Option<Rule<5>>) -> Result<bool, AllocError> {
     match rule {
         Some(rule) => {
@@ -317,7 +317,7 @@ fn push_found(text: &mut String, rule: Option<Rule<5>>) -> Result<bool, AllocErr
     }
 }
 
-/// Appends which rule the fields of a head break, where they break one: whether they do.
+/// Appends which rule the fields of a head break, if they break one: whether they do.
 pub(crate) fn push_broken(
     text: &mut String,
     version: HeadVersion,

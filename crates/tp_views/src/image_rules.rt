@@ -19,7 +19,7 @@ const BYTES: &[(usize, u8, &str)] = &[
     (STATE_PLACE, 2, "the state, 0 idle, 1 high or 2 low"),
 ];
 
-/// The rule that is left where all others hold.
+/// The rule that is left if all others hold.
 const BAD_END: &[&str] = &["a link end in bytes 44 to 171 of its head breaks its rule"];
 
 /// What is said of an image that is shorter than its head.
@@ -64,7 +64,7 @@ const BUSY: &[&str] = &[
     " of its head, must be idle and hold no byte",
 ];
 
-/// The rule on the pages that an image breaks, where the topology asks for `wanted` of them.
+/// The rule on the pages that an image breaks, if the topology asks for `wanted` of them.
 fn wanted_rule(pages: u16, wanted: Option<u16>) -> Option<Rule<3>> {
     match wanted {
         Some(count) if count != pages => Some(Rule {
@@ -75,7 +75,7 @@ fn wanted_rule(pages: u16, wanted: Option<u16>) -> Option<Rule<3>> {
     }
 }
 
-/// The rule on lengths that an image with a head breaks, where the topology asks for `wanted` pages.
+/// The rule on lengths that an image with a head breaks, if the topology asks for `wanted` pages.
 fn pages_rule(image: &[u8], wanted: Option<u16>) -> Option<Rule<3>> {
     let (length, pages) = (image.len(), half_in(image, PAGES_PLACE));
     let count = usize::from(pages);
@@ -103,7 +103,7 @@ fn pages_rule(image: &[u8], wanted: Option<u16>) -> Option<Rule<3>> {
     wanted_rule(pages, wanted)
 }
 
-/// The rule on lengths and the version that an image breaks, where the topology asks for `wanted` pages.
+/// The rule on lengths and the version that an image breaks, if the topology asks for `wanted` pages.
 fn length_rule(image: &[u8], wanted: Option<u16>) -> Option<Rule<3>> {
     let length = image.len();
     if length < IMAGE_HEAD_BYTES {
@@ -195,7 +195,7 @@ fn head_rule(image: &[u8], must_be_idle: bool) -> Option<Rule<3>> {
     }
 }
 
-/// The rule that an image breaks, where it breaks one.
+/// The rule that an image breaks, if it breaks one.
 fn rule_of(alloc: Global, image: &[u8], pages: Option<u16>, must_be_idle: bool) -> Option<Rule<3>> {
     if let Some(rule) = length_rule(image, pages) {
         return Some(rule);
@@ -212,7 +212,7 @@ fn rule_of(alloc: Global, image: &[u8], pages: Option<u16>, must_be_idle: bool) 
     }
 }
 
-/// Which rule an image breaks, in words, where it breaks one. On a device ends may be at work.
+/// Which rule an image breaks, in words, if it breaks one. On a device ends may be at work.
 pub(crate) fn broken_rule(
     alloc: Global,
     image: &[u8],

@@ -5,7 +5,7 @@ ghost use Rattle.tp_views.specs.Json.{comma, json_bool};
 
 use std::alloc::AllocError;
 
-/// What stands before an item of a list that has `before` items before it.
+/// What is before an item of a list that has `before` items before it.
 pub(crate) fn comma(before: usize) -> &'static str
     ensures { result.now ≡ comma before }
 {

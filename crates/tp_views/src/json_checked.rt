@@ -47,7 +47,7 @@ fn push_least(text: &mut String, topology: &Topology) -> Result<(), AllocError>
     push_parts(text, &[Text(",\"least_area\":"), Number(least)])
 }
 
-/// Appends how large an area is where none is asked for.
+/// Appends how large an area is if none is asked for.
 fn push_default(text: &mut String, topology: &Topology) -> Result<(), AllocError>
     ensures { OnOk result (string_bytes text.new ≡ string_bytes text.old ++ default_json (default_area topology.now)) }
 {
@@ -62,7 +62,7 @@ fn push_default(text: &mut String, topology: &Topology) -> Result<(), AllocError
     )
 }
 
-/// Appends an item of an area, behind `before` others.
+/// Appends an item of an area, after `before` others.
 fn push_item(text: &mut String, before: usize, entries: u32, area: u64) -> Result<(), AllocError>
     ensures { OnOk result (string_bytes text.new ≡ string_bytes text.old ++ (comma before ++ area_item entries area)) }
 {
@@ -79,7 +79,7 @@ fn push_item(text: &mut String, before: usize, entries: u32, area: u64) -> Resul
     )
 }
 
-/// Appends how large an area has to be whose journal has room for `entries`, behind `before` others.
+/// Appends how large an area has to be whose journal has room for `entries`, after `before` others.
 fn push_area(
     text: &mut String,
     before: usize,

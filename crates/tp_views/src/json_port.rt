@@ -62,7 +62,7 @@ fn outputs_json(alloc: Global, number: u64, port: &HostPort) -> Result<Vec<u8>, 
     Ok(text.into_bytes())
 }
 
-/// The bytes handed in to a port that no node has taken, as JSON, where the port is there.
+/// The bytes handed in to a port that no node has taken, as JSON, if the port is there.
 pub(crate) fn pending_json_in(
     alloc: Global,
     network: &FlatNetwork,
@@ -77,7 +77,7 @@ pub(crate) fn pending_json_in(
     Ok(Some(pending_json(alloc, port, &ports[at])?))
 }
 
-/// The output of a port that isn't confirmed, as JSON, where the port is there.
+/// The output of a port that isn't confirmed, as JSON, if the port is there.
 pub(crate) fn outputs_json_in(
     alloc: Global,
     network: &FlatNetwork,

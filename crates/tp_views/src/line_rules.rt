@@ -2,7 +2,7 @@
 
 use tp_model::limits::{MAX_NAME, MAX_PAGES, MIN_PAGES};
 
-/// A rule that a line breaks, and the word that breaks it, which has no character where it is none that can be shown.
+/// A rule that a line breaks, and the word that breaks it, which is empty if it can't be shown.
 #[derive(Clone, Copy)]
 pub(crate) struct Broken<'a> {
     pub(crate) word: &'a str,
@@ -123,7 +123,7 @@ fn kind_in<'a>(line: &'a [u8], name: &[u8]) -> Option<&'a [u8]> {
     }
 }
 
-/// The first word of the line that declares this name, where one of these lines does.
+/// The first word of the line that declares this name, if one of these lines does.
 fn kind_of<'a>(lines: &'a [u8], name: &[u8]) -> Option<&'a [u8]> {
     for line in lines.split(|byte| *byte == b'\n') {
         let kind = kind_in(without_return(line), name);
@@ -221,7 +221,7 @@ fn taken_rule<'a>(above: &[u8], name: &'a [u8]) -> Option<Broken<'a>> {
     by_word(name, NAME_TAKEN)
 }
 
-/// A word in front of its first dot, and behind it, where it has one.
+/// A word before its first dot, and after it, if it has one.
 fn cut_at_dot(word: &[u8]) -> (&[u8], Option<&[u8]>) {
     match word.iter().position(|byte| *byte == b'.') {
         Some(at) => (

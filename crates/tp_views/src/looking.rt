@@ -1,4 +1,4 @@
-//! What stands at a path, looked at again, and what the system says of it.
+//! What is at a path, looked at again, and what the system says of it.
 
 use std::alloc::AllocError;
 use std::fmt::Write as Push;
@@ -36,7 +36,7 @@ pub fn push_file(text: &mut String, path: &str, error: &io::Error) -> Result<(),
     write!(text, "  {way}\n")
 }
 
-/// Says what is left where all files are good.
+/// Says what is left if all files are good.
 pub(crate) fn push_rest(text: &mut String) -> Result<(), AllocError> {
     text.push_str(
         "  All files are good now: standard output can't be written, or memory is wanting.\n",
@@ -51,7 +51,7 @@ pub fn is_regular<R: Files>(rt: &R, path: &str) -> bool {
     }
 }
 
-/// Whether something else than a regular file or a folder is at a path: reading it again may wait, or take what isn't there twice.
+/// Whether something other than a regular file or a folder is at a path: reading it again may wait, or find other bytes.
 pub fn is_special<R: Files>(rt: &R, path: &str) -> bool {
     match fs::metadata(rt, path) {
         Ok(found) => !found.is_file() && !found.is_dir(),
@@ -68,7 +68,7 @@ fn push_unread(text: &mut String, path: &str) -> Result<(), AllocError> {
     )
 }
 
-/// Reads a whole file again. Where it isn't, says why.
+/// Reads a whole file again. If it isn't, says why.
 pub fn read_again<R: Files + AllocGlobal>(
     rt: &R,
     text: &mut String,

@@ -1,4 +1,4 @@
-//! The files of the maps of a device's nodes, which lie in a folder, and what is wrong with them.
+//! The files of the maps of a device's nodes, which are in a folder, and what is wrong with them.
 
 use crate::looking::{is_regular, read_again};
 use crate::maps::{MapFault, read_map};

@@ -1,4 +1,4 @@
-//! Where a source's labels and instructions are: a reader of the maps that `tools/assemble --map` writes, and what they say of an address.
+//! If a source's labels and instructions are: a reader of the maps that `tools/assemble --map` writes, and what they say of an address.
 
 ghost use Rattle.std.specs.Prelude.{◌≡◌, ◌++◌, ◌<◌, ◌≤◌, ◌∷◌, ◌==◌, false, true, if◌then◌else◌, Some, None, Ok, IfErr, IfOk, IfSome, OnOk, length, option_copied, position, string_bytes};
 ghost use Rattle.std.specs.List.{list_all, slice_split};
@@ -10,7 +10,7 @@ use crate::parts::Part::{Number, Text};
 use crate::parts::push_parts;
 use std::alloc::{AllocError, Global};
 
-/// A line of a map: an address, the label that stands there if it is the line of one, and the source's file and line, as `send.asm:12`.
+/// A line of a map: an address, the label that is there if it is the line of one, and the source's file and line, as `send.asm:12`.
 #[derive(Clone, Copy)]
 pub struct MapRow<'a> {
     pub address: u32,
@@ -26,7 +26,7 @@ const HEXADECIMAL: u32 = 16;
 pub enum MapFault {
     /// The line with this number, counted from 1, is no line of a map.
     Line(u64),
-    /// Memory was refused.
+    /// Out of memory.
     Memory,
 }
 
@@ -174,7 +174,7 @@ fn row_in(line: &[u8]) -> Option<MapRow<'_>>
     row_of(&line[..8], &rest[..at], &rest[at + 1..])
 }
 
-/// The first line of a text, and what stands behind its end if it has one.
+/// The first line of a text, and what is after its end if it has one.
 fn first_line(text: &[u8]) -> (&[u8], Option<&[u8]>)
     ensures cut { slice_split (λ byte. byte == 10) text.now ≡ result.0.now ∷ parts_behind (option_copied result.1) }
     ensures shorter { IfSome result.1 (λ rest. length rest.now < length text.now) }

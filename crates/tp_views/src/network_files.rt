@@ -72,7 +72,7 @@ fn push_images<R: Files + AllocGlobal>(
     Ok(false)
 }
 
-/// Says that an area is too small for a topology, where it is: whether it is. One that nobody asked for isn't.
+/// Says that an area is too small for a topology, if it is: whether it is. One that nobody asked for isn't.
 fn push_small(
     text: &mut String,
     topology: &Topology,

@@ -89,7 +89,7 @@ fn show<D: Disk, O: Write>(
     put(out, text.as_bytes())
 }
 
-/// `tpnet recover`, on a device, which `workers` threads open. Answers the program's status: 0 where the device opens and exactly its line
+/// `tpnet recover`, on a device, which `workers` threads open. Answers the program's status: 0 if the device opens and exactly its line
 /// was printed, else 1. Nothing is written to the device, and a crash finds nothing that the call made. Of one that doesn't open nothing
 /// is printed.
 pub fn recover_on<D: Disk, O: Write, E: Write, R: Threads + Sync>(
@@ -113,7 +113,7 @@ pub fn recover_on<D: Disk, O: Write, E: Write, R: Threads + Sync>(
     }
 }
 
-/// `tpnet show`, on a device, as lines or as JSON. Answers the program's status: 0 where the device opens and exactly that was printed,
+/// `tpnet show`, on a device, as lines or as JSON. Answers the program's status: 0 if the device opens and exactly that was printed,
 /// else 1. Nothing is written to the device, and a crash finds nothing that the call made. Of one that doesn't open nothing is printed.
 pub fn show_on<D: Disk, O: Write, E: Write>(
     alloc: Global,

@@ -1,4 +1,4 @@
-//! Texts said part by part: a table of what stands in them, and one loop that appends it.
+//! Texts said part by part: a table of what is in them, and one loop that appends it.
 
 ghost use Rattle.std.specs.Prelude.{◌≡◌, ◌++◌, OnOk, string_bytes};
 ghost use Rattle.tp_views.specs.Parts.{part_text, parts_text};
@@ -34,7 +34,7 @@ fn push_part(text: &mut String, part: Part<'_>) -> Result<(), AllocError>
     }
 }
 
-/// Appends parts, one behind the other.
+/// Appends parts, one after the other.
 pub(crate) fn push_parts(text: &mut String, parts: &[Part<'_>]) -> Result<(), AllocError>
     ensures { OnOk result (string_bytes text.new ≡ string_bytes text.old ++ parts_text parts.now) }
 {

@@ -1,4 +1,4 @@
-//! What stands at a place of a device, in words.
+//! What is at a place of a device, in words.
 
 use crate::head_rules::{half_at, most_nodes, number_at, pages_at};
 use crate::parts::Part::Number;
@@ -37,7 +37,7 @@ const PORT: &[&str] = &["the record of port "];
 /// What the journal is called.
 const JOURNAL: &[&str] = &["a group of journal entries, or an entry of one"];
 
-/// What a device's head says of where its records stand.
+/// What a device's head says of the places of its records.
 #[derive(Clone, Copy)]
 pub(crate) struct Layout {
     pub(crate) version: HeadVersion,
@@ -47,7 +47,7 @@ pub(crate) struct Layout {
     pages: [u16; MAX_NODES],
 }
 
-/// What stands at a place.
+/// What is at a place.
 #[derive(Clone, Copy)]
 pub(crate) enum Record {
     Head,
@@ -86,7 +86,7 @@ impl Layout {
         self.areas.first.saturating_add(self.areas.length)
     }
 
-    /// What stands where a damaged record begins.
+    /// What begins at the place of a damaged record.
     pub(crate) fn place(&self, at: u64) -> Place {
         let first = self.areas.first;
         if at < first {
@@ -127,7 +127,7 @@ impl Layout {
         self.behind_images(at, next)
     }
 
-    /// What stands at `at` behind the images, where the records of lines begin at `lines`.
+    /// What is at `at` after the images, if the records of lines begin at `lines`.
     fn behind_images(&self, at: u64, lines: u64) -> Place {
         let line = at.saturating_sub(lines) / LINE_BYTES as u64;
         let count = self.nodes.saturating_mul(4).saturating_add(self.ports);

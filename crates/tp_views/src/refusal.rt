@@ -40,13 +40,13 @@ pub enum Refusal {
     Opening(Unopened),
     /// A file can't be read.
     ReadFailed,
-    /// The device's file is there already, where it has to be new.
+    /// The device's file is there already, if it has to be new.
     DeviceExists,
     /// What was to be written couldn't be.
     DeviceFailed,
     /// Another process holds the device.
     InUse,
-    /// Memory was refused.
+    /// Out of memory.
     Memory,
     /// Another process writes the device so fast that no moment of it could be read.
     Busy,

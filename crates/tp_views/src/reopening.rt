@@ -24,7 +24,7 @@ fn push_failed_read<F: FileExt + OpenFile + Drop>(
     }
 }
 
-/// Says why a device's file wasn't opened, which was looked at again.
+/// Says why a device's file wasn't opened, which was checked again.
 #[inline(never)]
 fn push_unopened<F: FileExt + OpenFile + Drop>(
     alloc: Global,
@@ -53,7 +53,7 @@ fn push_changed(text: &mut String, device: &str) -> Result<(), AllocError> {
     )
 }
 
-/// Opens a device's file, and says why it wasn't opened, where it isn't.
+/// Opens a device's file, and says why it wasn't opened, if it isn't.
 #[inline(never)]
 fn reopened<F: FileExt + OpenFile + Drop>(
     alloc: Global,
@@ -79,7 +79,7 @@ fn push_special(text: &mut String, device: &str) -> Result<(), AllocError> {
     )
 }
 
-/// Opens a device's file again, and says why it wasn't opened, where it doesn't open now either. Another process may be running it.
+/// Opens a device's file again, and says why it wasn't opened, if it doesn't open now either. Another process may be running it.
 pub fn push_opening<R: Files<File = F> + AllocGlobal, F: FileExt + OpenFile + Drop>(
     rt: &R,
     text: &mut String,

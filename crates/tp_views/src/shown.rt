@@ -11,8 +11,8 @@ use tp_book::HostPort;
 use tp_node::{Node, halt_byte};
 use tp_replay::FlatNetwork;
 
-/// What is said of a device beside its network: the bytes of an area, which one is open, its generation, the entries in its
-/// cut and in its groups, and the number of the next entry.
+/// What is said of a device beside its network: the bytes of an area, which one is open, its generation, the entries in its cut and in its groups,
+/// and the number of the next entry.
 #[derive(Clone, Copy)]
 pub struct Front {
     pub area: u64,

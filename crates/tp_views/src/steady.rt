@@ -1,30 +1,28 @@
 //! Opening a device that another process may be running.
 //!
-//! Such a process writes only the area that doesn't count. A checkpoint closes that area's gate, writes all behind it with a
-//! generation that is higher by 1 than the other area's, and opens its gate: from then on it counts. The area that counted before is
-//! written anew by the next checkpoint alone, which closes its gate first, and opens it with a generation that is higher by 2. So an
-//! area whose gate is open at two moments, with one generation, wasn't written between them but for groups behind its last one.
+//! Such a process writes only the area that doesn't count. A checkpoint closes that area's gate, writes all after it with a generation that is higher
+//! by 1 than the other area's, and opens its gate: from then on it counts. Only the next checkpoint writes the other area anew: it closes its gate
+//! first, and opens it with a generation that is higher by 2. So if an area's gate is open at two moments with one generation, only groups after its
+//! last one were written between them.
 //!
-//! **An area counts at the look before.** Where its gate and its generation are at the look behind what they were, no checkpoint
-//! wrote into it between the two, so none opened the other area and then wrote into that one either: what opening read, whichever of
-//! the two it took, is what it was from the look before on, or from when that area was opened on, up to the look behind. Of groups
-//! that are appended meanwhile the gate is opened last, when all behind it, with the next gate closed, is written and synced: what is
-//! read up to the first closed gate is whole, and is what stood at the moment of the last read. So the answer is one of that moment,
-//! and a refusal is true of it.
+//! **An area counts at the look before.** If the look after finds its gate and its generation unchanged, no checkpoint wrote into it between the two;
+//! so none opened the other area and then wrote into that one either. What opening read, whichever of the two it took, is what it was from the look
+//! before on, or from when that area was opened on, up to the look after. The gate of groups that are appended meanwhile is opened last, when all
+//! after it, with the next gate closed, is written and synced: what is read up to the first closed gate is whole, and is what was there at the moment
+//! of the last read. So the answer is one of that moment, and a refusal is true of it.
 //!
-//! **No area counts at the look before.** Of a device that is run one area's gate is open at each moment, and the generations of the
-//! two are never equal. A look that reads one front behind the other may miss that, where a switch comes between its reads. So a look
-//! reads the first area's front again, and what opening said stands where the look behind finds these three fronts. A running device
-//! has no such history. Where the first front is closed each time, it is so at three moments at least, with the second one closed at
-//! moments between them; but a gate is closed before one generation in two spans of time at most, while that is being written and before
-//! it is written anew. Where the first front read again is open, it was opened behind its first reading, so it can't be closed before
-//! that generation and opened with it once more.
+//! **No area counts at the look before.** While a device is run one area's gate is open at each moment, and the generations of the two are never
+//! equal. A look that reads one front after the other may miss that, if a switch comes between its reads. So a look reads the first area's front
+//! again, and what opening said holds if the look after finds these three fronts. A running device has no such history. If the first front is closed
+//! each time, it is closed at three moments at least, with the second one closed at moments between them. But a gate is closed before one generation
+//! in two spans of time at most: while that is being written, and before it is written anew. If the first front read again is open, it was opened
+//! after its first reading, so it can't be closed before that generation and opened with it once more.
 //!
-//! **No look finds a head**: a device that isn't formatted, or whose head breaks a rule. No run writes a head, and `format` writes it
-//! last, so what opening said stands where the look behind finds none either.
+//! **No look finds a head**: the device isn't formatted, or its head breaks a rule. No run writes a head, and `format` writes it last, so what
+//! opening said holds if the look after finds none either.
 //!
-//! A read of an area's front is taken to be one of a moment: of its nine bytes the gate is closed and synced before the others are
-//! written. Who formats a file anew that is read meanwhile isn't found out where the new device's front is what the old one's was.
+//! A read of an area's front is taken to be of one moment: of its nine bytes the gate is closed and synced before the others are written. If a file
+//! is formatted anew while it is read, and the new device's front is what the old one's was, that isn't noticed.
 
 ghost use Rattle.std.specs.Prelude.{◌≡◌, ◌+◌, ◌≤◌, ◌<◌, ◌^◌, ◌↔◌, IsTrue, IfErr, IfOk};
 ghost use Rattle.tp_area.specs.Fronts.{area_front};
@@ -45,8 +43,8 @@ use tp_recover::{Opened, Unopened, open, read_head};
 /// How often a device is opened that another process writes meanwhile.
 pub const MAX_TRIES: u32 = 20;
 
-/// What a look finds: where the areas are, and the fronts of both, in the order in which they are read: the first area's, the second
-/// one's, and the first one's again.
+/// What a look finds: the places of the areas, and the fronts of both in the order in which they are read: the first area's, the second one's, and
+/// the first one's again.
 #[derive(Clone, Copy, PartialEq, Eq)]
 pub(crate) struct Fronts {
     areas: TwoAreas,
@@ -63,7 +61,7 @@ fn is_above(one: AreaFront, other: AreaFront) -> bool
 }
 
 impl Fronts {
-    /// Which area counts: whether it is the second one. None does where no gate is open, or both are with one generation.
+    /// Which area counts: whether it is the second one; `None` if no gate is open, or both are with one generation.
     fn counting(&self) -> Option<bool>
         ensures { result ≡ counting self.now }
     {
@@ -129,7 +127,7 @@ fn read_fronts<D: Disk>(disk: &mut D, areas: TwoAreas) -> Result<Fronts, Unopene
     })
 }
 
-/// Looks at a device: finds the fronts of its areas, or none where it has no head, or one that breaks a rule.
+/// Looks at a device: finds the fronts of its areas, or none if it has no head, or one that breaks a rule.
 pub(crate) fn look<D: Disk>(disk: &mut D) -> Result<Option<Fronts>, Unopened>
     ensures counts { Counts (has_read result) (D.size_of disk.old) (D.size_of disk.new) (D.failures_of disk.old) (D.failures_of disk.new) }
     ensures kept { D.keeps → LeavesAlone result (D.state disk.old).now (D.state disk.new).now }
@@ -147,7 +145,7 @@ pub(crate) fn look<D: Disk>(disk: &mut D) -> Result<Option<Fronts>, Unopened>
     }
 }
 
-/// Whether the area that counted at the look `before` has its front at the look `after`; where none counted, whether nothing is otherwise.
+/// Whether the area that counted at the look `before` has its front at the look `after`; if none counted, whether both looks found equal fronts.
 fn has_stayed(second: Option<bool>, before: Fronts, after: Fronts) -> bool
     ensures { IsTrue result ↔ StayedOpen second before after }
 {
@@ -177,7 +175,7 @@ pub enum Tried {
     Changed,
 }
 
-/// Opens a device between two looks. What a call that failed leaves isn't known, so ReadFailed is answered as it is.
+/// Opens a device between two looks. What a call that failed leaves isn't known, so it answers ReadFailed as it is.
 fn open_once<D: Disk>(alloc: Global, disk: &mut D) -> Tried
     ensures leaves { D.keeps → LeavesNothingNew (D.state disk.old) (D.state disk.new) }
     ensures counts { D.keeps → OfSteady (λ answer. Counts (has_read answer) (D.size_of disk.old) (D.size_of disk.new) (D.failures_of disk.old) (D.failures_of disk.new)) result }
@@ -198,9 +196,9 @@ fn open_once<D: Disk>(alloc: Global, disk: &mut D) -> Tried
     }
 }
 
-/// Opens a device that another process may be running: the answer is what opening it answers of one moment of the call, or `Changed`
-/// where no moment could be read. Of a device that keeps the model, whose bytes nobody else writes, it is what opening answers, and never
-/// `Changed`. Nothing is written.
+/// Opens a device that another process may be running: the answer is what opening it answers of one moment of the call, or `Changed` if no moment
+/// could be read. Of a device that keeps the model, and that no other process writes, it is what opening answers, and never `Changed`. Nothing is
+/// written.
 pub fn open_steady<D: Disk>(alloc: Global, disk: &mut D) -> Tried
     ensures leaves { D.keeps → LeavesNothingNew (D.state disk.old) (D.state disk.new) }
     ensures counts { D.keeps → OfSteady (λ answer. Counts (has_read answer) (D.size_of disk.old) (D.size_of disk.new) (D.failures_of disk.old) (D.failures_of disk.new)) result }

@@ -41,8 +41,8 @@ fn open_once_before<D: Disk>(
     }
 }
 
-/// Opens a device, as `open_steady` does, and puts into `image` the image of a node as it was before the device's first entry whose number
-/// isn't below `from`, or `None` where the node isn't there.
+/// Opens a device, as `open_steady` does, and puts into `image` the image of a node as it was before the device's first entry whose number isn't
+/// below `from`; `None` if the node doesn't exist.
 pub fn open_steady_before<D: Disk>(
     alloc: Global,
     disk: &mut D,

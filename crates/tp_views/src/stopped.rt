@@ -13,7 +13,7 @@ use tp_stream_files::{Stopped, say_stopped};
 use tp_turn::try_standing;
 use tp_words::Asked;
 
-/// Says of a node that has halted where it did. A failed write is let go.
+/// Says of a node that has halted where it did. A failed write is dropped.
 fn say_halted<E: Write>(number: u8, standing: Standing, err: &mut E) {
     if let Standing::Halted { fault, at } = standing {
         say_stopped(err, number, Stopped::Halted { fault, at });
@@ -47,15 +47,14 @@ fn tell_run<R: Files<File = F> + AllocGlobal, F: FileExt + OpenFile + Drop, E: W
     }
 }
 
-/// Says of a node whose image this is whether it has halted behind its turns. Where memory is wanting, or it is none, nothing is said.
+/// Says whether the node of this image has halted after its turns. If memory runs out, or the bytes are no image, it says nothing.
 fn tell_image<E: Write>(alloc: Global, image: &[u8], turns: u32, err: &mut E) {
     if let Ok(trial) = try_standing(alloc, image, turns, TRY_QUANTUM) {
         say_halted(0, trial.standing, err);
     }
 }
 
-/// Says of a node that was tried whether it has halted: it is tried again. Of an image that isn't read, or for which memory is wanting,
-/// nothing is said.
+/// Says of a node that was tried whether it has halted: it is tried again. It says nothing of an image that isn't read, or if memory runs out.
 fn tell_trial<R: Files + AllocGlobal, E: Write>(rt: &R, image: &str, turns: u32, err: &mut E) {
     if let Ok(bytes) = fs::read(rt, image) {
         tell_image(rt.alloc(), bytes.as_slice(), turns, err);

@@ -30,7 +30,7 @@ pub(crate) fn why_name(why: Reason) -> &'static str
     }
 }
 
-/// Appends the other end of a wire, behind words that lead there.
+/// Appends the other end of a wire, after words that lead there.
 pub(crate) fn push_other(
     text: &mut String,
     words: &str,

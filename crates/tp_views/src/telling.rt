@@ -1,4 +1,4 @@
-//! `tpnet status`: one look at a device.
+//! `tpnet status`: one check of a device.
 
 ghost use Rattle.std.specs.Prelude.{◌≡◌, ◌⊎◌, IfErr, IfOk, IsErr, OnOk};
 ghost use Rattle.std.specs.Io.KnownBytes.{Appends};

@@ -55,7 +55,7 @@ fn ended_lines(text: &[u8]) -> usize {
     count
 }
 
-/// Where a text says `fault` first, as the number of a line from 1 on. Lines behind it change nothing, so it is looked for by halves.
+/// Where a text says `fault` first, as the number of a line from 1 on. Lines after it change nothing, so halving finds it.
 fn line_of_fault(alloc: Global, text: &[u8], fault: NetFault) -> usize {
     let (mut without, mut with) = (0usize, ended_lines(text).saturating_add(1));
     for _ in 0..usize::BITS {
@@ -88,7 +88,7 @@ fn nth_line(text: &[u8], number: usize) -> &[u8] {
     }
 }
 
-/// The number of the line of a text that says `fault`; 0 where it is none of a line.
+/// The number of the line of a text that says `fault`; 0 if it is none of a line.
 fn faulty_line(alloc: Global, text: &[u8], fault: NetFault) -> usize {
     match fault {
         NetFault::Syntax(line) => line as usize,
@@ -146,7 +146,7 @@ fn push_line(text: &mut String, line: &str) -> Result<(), AllocError> {
     write!(text, "{shown}")
 }
 
-/// Appends where the fault of a text at a path is: at its line with a number from 1 on, or, where that is 0, in all of it.
+/// Appends where the fault of a text at a path is: at its line with a number from 1 on, or, if that is 0, in all of it.
 fn push_where(text: &mut String, path: &str, number: usize, line: &[u8]) -> Result<(), AllocError> {
     let shown = Shown::all(path);
     if number == 0 {

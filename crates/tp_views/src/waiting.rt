@@ -12,8 +12,8 @@ use tp_model::WireEnd;
 use tp_net::{line_of, link_line, receiver};
 use tp_node::Waiter;
 
-/// A process that waits at an end of a link, the output end if it sends: the end's node and link, and the line that it sends, what the
-/// process does there, the other end of the wire, and why it still waits.
+/// A process that waits at an end of a link, the output end if it sends: the end's node and link, and the line that it sends, what the process does
+/// there, the other end of the wire, and why it still waits.
 #[derive(Clone, Copy)]
 pub struct Wait {
     pub sends: bool,

@@ -119,7 +119,7 @@ fn stuck_why(sends: bool, other: &NodeSeen, link: u8) -> Reason
     }
 }
 
-/// Why a process of a node waits for another node, at that node's link, where nothing is on their lines.
+/// Why a process of a node waits for another node, at that node's link, if nothing is on their lines.
 fn other_why(sends: bool, own: &NodeSeen, other: &NodeSeen, link: u8) -> Reason
     ensures { result ≡ other_why sends own.now other.now link }
 {
@@ -132,7 +132,7 @@ fn other_why(sends: bool, own: &NodeSeen, other: &NodeSeen, link: u8) -> Reason
     }
 }
 
-/// Why a process of a node waits at an end whose line this is, where the other end is a node's link.
+/// Why a process of a node waits at an end whose line this is, if the other end is a node's link.
 fn link_why(scene: &Scene, sends: bool, own: &NodeSeen, line: usize, node: u8, link: u8) -> Reason
     ensures { result ≡ link_why (seen_in scene.now) sends own.now line node link }
 {
@@ -145,7 +145,7 @@ fn link_why(scene: &Scene, sends: bool, own: &NodeSeen, line: usize, node: u8, l
     }
 }
 
-/// Why a process waits at an end whose line this is, where the other end is a port.
+/// Why a process waits at an end whose line this is, if the other end is a port.
 fn port_why(scene: &Scene, sends: bool, line: usize, port: u8) -> Reason
     ensures { result ≡ port_why (seen_in scene.now) sends line port }
 {

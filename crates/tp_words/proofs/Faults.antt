@@ -21,7 +21,7 @@ neither true q x y none = absurd (cc)
 neither false true x y none = absurd (cc)
 neither false false x y none = (refl, refl)
 
--- where nothing is wrong at a port, it has one place for its output and one input at most
+-- if nothing is wrong at a port, it has one place for its output and one input at most
 pub nothing_at : (ends : Ends) (port : ℕ) → fault_at ends port ≡ None → (places ends port ≤ 1) × (input_count ends port ≤ 1)
 nothing_at ends port none =
     let both = neither (nat_lt 1 (places ends port)) (nat_lt 1 (input_count ends port)) _ _ none in

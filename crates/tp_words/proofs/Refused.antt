@@ -10,7 +10,7 @@ use Rattle.tp_words.specs.Ends.{IsTextFault, IsRefused}
 use Rattle.tp_words.specs.declared.stream_ends.EndsFault.{EndsFault}
 use Rattle.tp_words.specs.declared.stream_ends.EndsFault.TheVariants.{Missing}
 
--- texts are those where the test of their bytes says so
+-- texts are right exactly if the test of their bytes says so
 pub texts_decide : (texts typed : List (List ℕ)) (are : Bool) → are ≡ pointwise bytes_eq texts typed → Decides are (texts ≡ typed)
 texts_decide texts typed are is = slice_eq-Decides bytes_eq-Decides texts typed are is
 

@@ -75,7 +75,7 @@ from_at (file ∷ files) port (suc k) low each count there is =
     let more = counted files port later in
     pick_false (is_standard file) (Some file.port) (standard_port files) (none_first (is_standard file) (standard_count files) (omega (arith, sum, count)) more) ∙ later
 
--- where one file at most is standard, it is that of the port for which a dash was typed
+-- if one file at most is standard, it is that of the port for which a dash was typed
 pub standard_is : (files : List PortFile) (texts : List (List ℕ)) → map file_text files ≡ texts → All IsFile files → standard_count files ≤ 1
     → IsStandard (standard_port files) texts
 standard_is files texts same each count = λ port low. (

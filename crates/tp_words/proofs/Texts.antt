@@ -52,7 +52,7 @@ by_test text number found false low below spelt small is = (
       absurd (cc),
 )
 
--- the port of a number that is spelt so, where a device may have one
+-- the port of a number that is spelt so, if a device may have one
 pub port_spelt : (text : List ℕ) (number : ℕ) (found : Option ℕ) → text ≡ decimal number → number < 2 ^ 64
     → found ≡ (if nat_lt number MAX_PORTS then Some number else None) → IfSome found (λ port. (port < MAX_PORTS) × (text ≡ decimal port)) × (found ≡ None → IsNoPort text)
 port_spelt text number found spelt small is =
@@ -67,7 +67,7 @@ no_sign port low =
     let digit = decimal_digit port (omega (arith, low)) in
     subst (λ (ds : List ℕ). (i : ℕ) → i < length ds → get_or ds i 0 ≢ 61) (sym digit) (one_digit port low)
 
--- a port with a path behind it is split at the equals sign
+-- a port with a path after it is split at the equals sign
 pub splits_there : (text path : List ℕ) (port : ℕ) (r : Option (Bor (List ℕ) × Bor (List ℕ))) → IsSplitOnceResult 61 text r → port < MAX_PORTS
     → text ≡ decimal port ++ 61 ∷ path → MatchOption r ⊥ (λ x. (x.0.now ≡ decimal port) × (x.1.now ≡ path))
 splits_there text path port r is low spelt = split_after 61 text (decimal port) path r is (omega arith) spelt (no_sign port low)
@@ -75,7 +75,7 @@ splits_there text path port r is low spelt = split_after 61 text (decimal port) 
 rest_of : (port : ℕ) (rest : List ℕ) → port < MAX_PORTS → drop 2 (decimal port ++ 61 ∷ rest) ≡ rest
 rest_of port rest low = ap (λ (ds : List ℕ). drop 2 (ds ++ 61 ∷ rest)) (decimal_digit port (omega (arith, low)))
 
--- what stands behind the equals sign is one text
+-- what is after the equals sign is one text
 pub rests : (text rest other : List ℕ) (p q : ℕ) → p < MAX_PORTS → q < MAX_PORTS → text ≡ decimal p ++ 61 ∷ rest → text ≡ decimal q ++ 61 ∷ other → rest ≡ other
 rests text rest other p q low below first second =
     sym (rest_of p rest low) ∙ ap (λ (t : List ℕ). drop 2 t) (sym first ∙ second) ∙ rest_of q other below

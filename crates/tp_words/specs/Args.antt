@@ -17,7 +17,7 @@ use Rattle.tp_words.specs.Given.{given, has_flag, IsGivenOr}
 use Rattle.tp_words.specs.Size.{IsArea}
 use Rattle.tp_words.specs.Typed.{has_word, was_typed}
 
--- a snapshot begins after a number of entries, or a further look is taken after a number of seconds, where one is given
+-- a snapshot begins after a number of entries, or a device is checked again after a number of seconds, if one is given
 abbrev pub IsEvery : Option ℕ → Type 0
 IsEvery None = Unit {0}
 IsEvery (Some every) = (0 < every) × (every < 2 ^ 32)
@@ -26,7 +26,7 @@ IsEvery (Some every) = (0 < every) × (every < 2 ^ 32)
 unfoldable pub IsRun : Run → Type 0
 IsRun run = (run.turns < 2 ^ 32) × (0 < run.workers) × (run.workers ≤ MAX_WORKERS) × (0 < run.quantum) × (run.quantum ≤ MAX_STEPS) × IsEvery run.every
 
--- where the last number of a journal is given it isn't below the first one, and where a count of entries is, it isn't 0
+-- the last number of a journal, if given, isn't below the first one; a count of entries, if given, isn't 0
 abbrev pub IsPart : JournalPart → Type 0
 IsPart part = IfSome part.to (λ to. part.from ≤ to) × IfSome part.last (λ last. 0 < last)
 
@@ -58,7 +58,7 @@ IsInRange (Status device every json) = IsEvery every
 IsInRange (Check topology images json) = Unit {0}
 IsInRange (Views device view maps) = IsView view
 
--- each option of a journal is what was typed for it; it is shown from its first entry where none was, and as JSON where that was typed
+-- each option of a journal is what was typed for it; it is shown from its first entry if none was typed, and as JSON if that was
 abbrev pub IsTypedPart : List (String Global) → JournalPart → Type 0
 IsTypedPart words part = IsGivenOr 0 part.from (given (codes "from") words)
     × (given (codes "to") words ≡ option_map decimal part.to)
@@ -66,13 +66,13 @@ IsTypedPart words part = IsGivenOr 0 part.from (given (codes "from") words)
     × (given (codes "last") words ≡ option_map decimal part.last)
     × (part.json ≡ has_flag (codes "--json") words)
 
--- the node and the entries of a trace are what was typed; it begins with the first entry where none was
+-- the node and the entries of a trace are what was typed; it begins with the first entry if none was typed
 abbrev pub IsTypedTrace : List (String Global) → TracePart → Type 0
 IsTypedTrace words part = (was_typed words (decimal part.node) ≡ true)
     × IsGivenOr 0 part.from (given (codes "from") words)
     × (given (codes "to") words ≡ option_map decimal part.to)
 
--- the number of a view is a decimal that was typed; JSON is shown where it is asked for
+-- the number of a view is a decimal that was typed; JSON is shown if it is asked for
 abbrev pub HasTyped : List (String Global) → View → Type 0
 HasTyped words (Node node) = (was_typed words (decimal node) ≡ true) × (has_flag (codes "--json") words ≡ false)
 HasTyped words (Image node) = was_typed words (decimal node) ≡ true
@@ -112,7 +112,7 @@ IsTypedRun words run = (has_word (string_bytes run.device) words ≡ true)
     × (given (codes "in") words ≡ option_map string_bytes run.input)
     × IsGivenOr 0 run.wait_lock (given (codes "wait-lock") words)
 
--- each number is a decimal that was typed, each text a word, and JSON is asked for where its flag was typed
+-- each number is a decimal that was typed, each text a word, and JSON is asked for if its flag was typed
 abbrev pub WasTyped : List (String Global) → Asked → Type 0
 WasTyped words (Help text) = Unit {0}
 WasTyped words (Try image turns) = (has_word (string_bytes image) words ≡ true) × (given (codes "turns") words ≡ Some (decimal turns))

@@ -85,7 +85,7 @@ abbrev pub second_reader : List PortNumber → Option EndsFault
 second_reader [] = None
 second_reader (have ∷ haves) = Some (NoReader have.port)
 
--- what is wrong with what readers have, where standard output is that port's: the first number is for another port, or there are two
+-- what is wrong with what readers have, if standard output is that port's: the first number is for another port, or there are two
 abbrev pub reader_fault : Option ℕ → List PortNumber → Option EndsFault
 reader_fault out [] = None
 reader_fault out (have ∷ haves) = if is_port out have.port then second_reader haves else Some (NoReader have.port)
@@ -97,7 +97,7 @@ fault_behind ends =
     else if nat_lt 1 (standard_count ends.ins.items) then Some (TwoStandard In)
     else reader_fault (standard_port ends.outs.items) ends.haves.items
 
--- what is wrong with ends, and what is told of it where several things are
+-- what is wrong with ends, and what is told first
 abbrev pub IsFaultOf : Ends → Option EndsFault → Type 0
 IsFaultOf ends result = (first : Option EndsFault) × IsFirstFault ends first × (result ≡ option_or first (fault_behind ends))
 
@@ -105,8 +105,8 @@ IsFaultOf ends result = (first : Option EndsFault) × IsFirstFault ends first ×
 abbrev pub HasReader : Ends → Type 0
 HasReader ends = (length ends.haves.items ≤ 1) × All (λ (have : PortNumber). standard_port ends.outs.items ≡ Some have.port) ends.haves.items
 
--- Nothing is wrong with them: no port has two places for its output, or two inputs; one is standard output at most, and one standard
--- input; one reader counts at most.
+-- Nothing is wrong with them: no port has two places for its output, or two inputs; at most one is standard output, and at most one standard input;
+-- at most one reader counts.
 pub record AreSound (ends : Ends) : Type 0 where
   pub apart : AreApart MAX_PORTS ends
   pub one_out : standard_count ends.outs.items ≤ 1
@@ -121,7 +121,7 @@ pub record AreEnds (ends : Ends) : Type 0 where
   pub ins : All IsFile ends.ins.items
   pub sound : AreSound ends
 
--- They are those that were typed: each for the port that stands in front of it, in order.
+-- They are those that were typed: each for the port that is before it, in order.
 pub record WereTyped (words : List (String Global)) (ends : Ends) : Type 0 where
   pub outs : map file_text ends.outs.items ≡ all_given (codes "out") words
   pub haves : map have_text ends.haves.items ≡ all_given (codes "have") words
@@ -138,7 +138,7 @@ AreHaves texts = (haves : List PortNumber) × All IsHave haves × (map have_text
 abbrev pub ArePorts : List (List ℕ) → Type 0
 ArePorts texts = (ports : List ℕ) × All IsPort ports × (map decimal ports ≡ texts)
 
--- Why what was typed for an option isn't taken: memory was refused, `clap` found something else, or one of the texts isn't such as it takes.
+-- Why what was typed for an option isn't taken: out of memory, `clap` found something else, or the option doesn't take one of the texts.
 abbrev pub IsTextFault : (List ℕ → Type 0) → EndsFault → List (List ℕ) → List (List ℕ) → EndsFault → Type 0
 IsTextFault IsNone own clap typed fault = (fault ≡ Memory) ⊎ ((fault ≡ Missing) × (clap ≢ typed)) ⊎ ((fault ≡ own) × Any IsNone typed)
 
@@ -146,8 +146,8 @@ IsTextFault IsNone own clap typed fault = (fault ≡ Memory) ⊎ ((fault ≡ Mis
 abbrev pub FoundElse : ArgMatches → List (String Global) → List ℕ → Type 0
 FoundElse found words id = found_texts found id ≢ all_given id words
 
--- Why words name no ends: what was typed for the options is looked at in the order `--out`, `--have`, `--discard`, `--in`, and what is wrong
--- with one of them is told where those before it are right. Where all are right, it is told what is wrong with the ends.
+-- Why words name no ends. What was typed for the options is checked in the order `--out`, `--have`, `--discard`, `--in`: the first fault is told. If
+-- all are right, it is told what is wrong with the ends.
 abbrev pub IsRefused : ArgMatches → List (String Global) → EndsFault → Type 0
 IsRefused found words Memory = Unit {0}
 IsRefused found words Missing = Any (FoundElse found words) (codes "out" ∷ codes "have" ∷ codes "discard" ∷ codes "in" ∷ [])

@@ -10,7 +10,7 @@ use Rattle.clap.specs.Words.{found_of, matched_of, raw_values}
 use Rattle.clap.specs.declared.parser.matches.ArgMatches.{ArgMatches}
 use Rattle.tp_words.specs.Typed.{is_word}
 
--- what stands behind an ending, where the bytes begin with it
+-- what is after an ending, if the bytes begin with it
 abbrev pub value_in : List ℕ → List ℕ → Option (List ℕ)
 value_in ending bytes = if pointwise nat_eq (take (length ending) bytes) ending then Some (drop (length ending) bytes) else None
 
@@ -19,8 +19,8 @@ abbrev pub first_text : List (String Global) → Option (List ℕ)
 first_text [] = None
 first_text (word ∷ words) = Some (string_bytes word)
 
--- what was typed for the option of a name, whose ending is the name with `=` behind it: the word behind the name, or what stands behind
--- the ending, whichever comes first; none behind a word `--`
+-- what was typed for the option of a name, whose ending is the name with `=` after it: the word after the name, or what is after the ending,
+-- whichever comes first; `None` after a word `--`
 abbrev pub given_in : List ℕ → List ℕ → List (String Global) → Option (List ℕ)
 given_in name ending [] = None
 given_in name ending (word ∷ words) =
@@ -32,11 +32,11 @@ given_in name ending (word ∷ words) =
 abbrev pub given : List ℕ → List (String Global) → Option (List ℕ)
 given id words = given_in (codes "--" ++ id) (codes "--" ++ (id ++ codes "=")) words
 
--- what a word says for the option of a name, whose ending is the name with `=` behind it, where these words stand behind it
+-- what a word says for the option of a name, whose ending is the name with `=` after it, if these words are after it
 abbrev pub value_of : List ℕ → List ℕ → String Global → List (String Global) → Option (List ℕ)
 value_of name ending word words = if is_word name word then first_text words else value_in ending (string_bytes word)
 
--- all that was typed for an option that may be there several times, in order; none behind a word `--`
+-- all that was typed for an option that may be there several times, in order; none after a word `--`
 abbrev pub all_given_in : List ℕ → List ℕ → List (String Global) → List (List ℕ)
 all_given_in name ending [] = []
 all_given_in name ending (word ∷ words) =
@@ -49,12 +49,12 @@ all_given id words = all_given_in (codes "--" ++ id) (codes "--" ++ (id ++ codes
 abbrev pub found_texts : ArgMatches → List ℕ → List (List ℕ)
 found_texts found id = unwrap_or (option_map raw_values (matched_of (found_of found) id)) []
 
--- a flag of this name was typed: one of the words is it, and no word `--` stands before that
+-- a flag of this name was typed: one of the words is it, and no word `--` is before that
 abbrev pub has_flag : List ℕ → List (String Global) → Bool
 has_flag name [] = false
 has_flag name (word ∷ words) = if is_word (codes "--") word then false else (is_word name word || has_flag name words)
 
--- the number is the decimal that was typed, or that one where none was
+-- the number is the decimal that was typed, or that one if none was
 abbrev pub IsGivenOr : ℕ → ℕ → Option (List ℕ) → Type 0
 IsGivenOr fallback number None = number ≡ fallback
 IsGivenOr fallback number (Some text) = text ≡ decimal number

@@ -16,11 +16,11 @@ pub record NumberOption : Type 0 where
   pub least : ℕ
   pub most : ℕ
 
--- that of entries after which a snapshot begins, or of seconds after which a device is looked at again
+-- that of entries after which a snapshot begins, or of seconds after which a device is checked again
 abbrev pub every_option : NumberOption
 every_option = record { id = codes "every"; least = 1; most = 4294967295 }
 
--- that of seconds for which another process is waited for that holds the device
+-- that of seconds to wait for another process that holds the device
 abbrev pub wait_option : NumberOption
 wait_option = record { id = codes "wait-lock"; least = 0; most = MAX_WAIT }
 
@@ -28,7 +28,7 @@ wait_option = record { id = codes "wait-lock"; least = 0; most = MAX_WAIT }
 abbrev pub Takes : NumberOption → ℕ → Type 0
 Takes option number = (option.least ≤ number) × (number ≤ option.most)
 
--- what was typed for it, where something was, is the decimal of a number that it takes
+-- what was typed for it, if something was, is the decimal of a number that it takes
 abbrev pub Fits : List (String Global) → NumberOption → Type 0
 Fits words option = IfSome (given option.id words) (λ text. (number : ℕ) × Takes option number × (text ≡ decimal number))
 
@@ -40,14 +40,14 @@ IsUnfit words option = IsSomeAnd (given option.id words) (λ text. (number : ℕ
 abbrev pub FoundOther : ArgMatches → List (String Global) → List ℕ → Type 0
 FoundOther found words id = first_value (found_of found) id ≢ given id words
 
--- Why what was typed for it isn't taken: memory was refused, `clap` found something else, or it is the decimal of no number that it takes.
+-- Why what was typed for it isn't taken: out of memory, `clap` found something else, or it is no decimal of a number that it takes.
 abbrev pub IsNumberFault : ArgMatches → List (String Global) → NumberOption → ArgFault → Type 0
 IsNumberFault found words option Memory = Unit {0}
 IsNumberFault found words option Missing = FoundOther found words option.id
 IsNumberFault found words option (Range id least most) = (option ≡ record { id = id.now; least = least; most = most }) × IsUnfit words option
 IsNumberFault found words option _ = ⊥
 
--- That is told of the first of several options for which something is; what was typed for each one in front of it fits.
+-- That is told of the first of several options for which something is; what was typed for each one before it fits.
 abbrev pub IsFirstNumberFault : ArgMatches → List (String Global) → List NumberOption → ArgFault → Type 0
 IsFirstNumberFault found words [] fault = ⊥
 IsFirstNumberFault found words (option ∷ options) fault =

@@ -12,7 +12,7 @@ use Rattle.tp_words.specs.Args.{IsEvery}
 use Rattle.tp_words.specs.Given.{given, IsGivenOr}
 use Rattle.tp_words.specs.Numbers.{NumberOption, every_option}
 
--- the options that say how turns are made, in the order in which they are looked at
+-- the options that say how turns are made, in the order in which they are checked
 abbrev pub pace_options : List NumberOption
 pace_options =
     record { id = codes "quantum"; least = 1; most = MAX_STEPS }

@@ -1,4 +1,4 @@
--- A number of bytes that was typed, as a decimal or with a letter behind it.
+-- A number of bytes that was typed, as a decimal or with a letter after it.
 use Rattle.std.specs.Prelude.{◌≡◌, ◌*◌, ◌++◌, ℕ, true, List, [], Option, Some, None, IfSome, IsSomeAnd, codes}
 use Rattle.std.specs.Fmt.{decimal}
 use Rattle.std.specs.declared.alloc.Global.{Global}
@@ -21,7 +21,7 @@ bytes_each Kilo = 1024
 bytes_each Mega = 1024 * 1024
 bytes_each Giga = 1024 * 1024 * 1024
 
--- the text is a decimal with the letter of a measure behind it, and the size is that number of the measure's bytes
+-- the text is a decimal with the letter of a measure after it, and the size is that number of the measure's bytes
 pub record IsSize (text : List ℕ) (size : ℕ) : Type 0 where
   pub measure : Measure
   pub number : ℕ
@@ -34,7 +34,7 @@ pub record IsWordSize (words : List (String Global)) (size : ℕ) : Type 0 where
   pub there : has_word text words ≡ true
   pub is : IsSize text size
 
--- an area has the bytes that were typed for its option; where none were it has those of a word, or no area is asked for
+-- an area has the bytes that were typed for its option; if none were it has those of a word, or no area is asked for
 abbrev pub IsArea : List (String Global) → Option ℕ → Option (List ℕ) → Type 0
 IsArea words area None = IfSome area (IsWordSize words)
 IsArea words area (Some text) = IsSomeAnd area (IsSize text)

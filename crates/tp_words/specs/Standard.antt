@@ -12,7 +12,7 @@ use Rattle.tp_words.specs.Given.{all_given}
 abbrev pub standard_text : ℕ → List ℕ
 standard_text port = decimal port ++ 61 ∷ 45 ∷ []
 
--- a port does just where that was typed
+-- a port does just if that was typed
 abbrev pub IsStandard : Option ℕ → List (List ℕ) → Type 0
 IsStandard standard texts = (port : ℕ) → port < MAX_PORTS → (standard ≡ Some port) ↔ Contains texts (standard_text port)
 

@@ -10,12 +10,12 @@ use Rattle.tp_words.specs.Given.{given}
 use Rattle.tp_words.specs.Places.{places}
 use Rattle.tp_words.specs.Typed.{has_word}
 
--- the seconds for which it is waited are in their range, where some were typed
+-- the seconds for which it is waited are in their range, if some were typed
 abbrev pub IsWait : Option ℕ → Type 0
 IsWait None = Unit {0}
 IsWait (Some seconds) = (0 < seconds) × (seconds ≤ MAX_WAIT)
 
--- the device's file is a word that was typed, and it is waited for just where seconds were typed, for as many
+-- the device's file is a word that was typed; the command waits for it exactly if seconds were typed, and for as many
 abbrev pub WasStopTyped : List (String Global) → StopRequest → Type 0
 WasStopTyped words request = (has_word (string_bytes request.device) words ≡ true) × (given (codes "wait") words ≡ option_map decimal request.wait)
 

@@ -21,12 +21,12 @@ abbrev pub IsBound : Option ℕ → Type 0
 IsBound None = Unit {0}
 IsBound (Some turns) = turns < 2 ^ 32
 
--- the seconds after which it is said again how far a stream has come are in their range, where some were typed
+-- the seconds after which it is said again how far a stream has come are in their range, if some were typed
 abbrev pub IsProgressEvery : Option ℕ → Type 0
 IsProgressEvery None = Unit {0}
 IsProgressEvery (Some seconds) = (0 < seconds) × (seconds ≤ 3600)
 
--- the threads that make turns are in theirs, where some were typed
+-- the threads that make turns are in theirs, if some were typed
 abbrev pub IsTeam : Option ℕ → Type 0
 IsTeam None = Unit {0}
 IsTeam (Some workers) = (0 < workers) × (workers ≤ MAX_WORKERS)
@@ -40,8 +40,8 @@ abbrev pub IsStreamInRange : StreamAsked → Type 0
 IsStreamInRange (Help text) = Unit {0}
 IsStreamInRange (Run run) = IsStreamRun run × AreEnds run.ends
 
--- Each number of a stream is what was typed for it, and else what docs/PROGRAM.md says; its turns have a bound, and it ends by a file, just
--- where one was typed; each end of a port is what was typed for it.
+-- Each number of a stream is what was typed for it, or else what docs/PROGRAM.md says. Its turns have a bound exactly if one was typed, and it ends
+-- by a file exactly if one was typed. Each end of a port is what was typed for it.
 abbrev pub IsTypedStream : List (String Global) → StreamRun → Type 0
 IsTypedStream words run = (has_word (string_bytes run.device) words ≡ true)
     × (given (codes "turns") words ≡ option_map decimal run.turns)

@@ -1,4 +1,4 @@
--- Why the words of a stream ask for nothing, and what is told of them where several things are wrong.
+-- Why the words of a stream ask for nothing, and what is told first if several things are wrong.
 use Rattle.std.specs.Prelude.{◌≡◌, ◌⊎◌, ◌≤◌, ◌<◌, ℕ, false, List, [], ◌∷◌, IfSome, codes, length}
 use Rattle.std.specs.declared.alloc.Global.{Global}
 use Rattle.std.specs.declared.string.String.{String}
@@ -16,7 +16,7 @@ use Rattle.tp_words.specs.Numbers.{AllFit, FoundOther, IsFirstNumberFault, Numbe
 use Rattle.tp_words.specs.Parsing.{IsMistake}
 use Rattle.tp_words.specs.Typed.{has_word}
 
--- the options of a stream that take numbers, in the order in which they are looked at
+-- the options of a stream that take numbers, in the order in which they are checked
 abbrev pub number_options : List NumberOption
 number_options =
     record { id = codes "turns"; least = 0; most = MAX_TURNS }
@@ -28,18 +28,18 @@ number_options =
     ∷ wait_option
     ∷ []
 
--- what `clap` found for a word, where it found something, is none of the words
+-- what `clap` found for a word, if it found something, is none of the words
 abbrev pub FoundNoWord : ArgMatches → List (String Global) → List ℕ → Type 0
 FoundNoWord found words id = IfSome (first_value (found_of found) id) (λ text. has_word text words ≡ false)
 
--- why the file that ends it, and its device, are refused: memory was, or `clap` found something else
+-- why the file that ends it, and its device, are refused: out of memory, or `clap` found something else
 abbrev pub IsWordFault : ArgMatches → List (String Global) → ArgFault → Type 0
 IsWordFault found words Memory = Unit {0}
 IsWordFault found words Missing = FoundOther found words (codes "stop-file") ⊎ FoundNoWord found words (codes "DEVICE")
 IsWordFault found words _ = ⊥
 
--- Why what `clap` found asks for no stream. First its numbers are looked at, one behind the other, then its words, and then the ends of its ports:
--- what is wrong with one of these is told where nothing is with those in front of it.
+-- Why what `clap` found asks for no stream. First its numbers are checked, in order, then its words, and then the ends of its ports: the first fault
+-- is told.
 abbrev pub IsRunRefused : ArgMatches → List (String Global) → CommandFault → Type 0
 IsRunRefused found words (Arg fault) =
     IsFirstNumberFault found words number_options fault ⊎ (AllFit words number_options × IsWordFault found words fault)
@@ -49,8 +49,8 @@ IsRunRefused found words (Ends fault) = AllFit words number_options × IsRefused
 abbrev pub IsMatchRefused : List (String Global) → CommandFault → Type 0
 IsMatchRefused words fault = (fault ≡ Arg Missing) ⊎ ((found : ArgMatches) × IsRunRefused found words fault)
 
--- Why words ask for no stream. First they are counted; then `clap` reads them; and then it is looked at what it found. Memory may be refused
--- at any place behind the count, and `clap` may find other values than those that were typed.
+-- Why words ask for no stream. First they are counted; then `clap` reads them; then what it found is checked. Memory may run out at any place after
+-- the count, and `clap` may find other values than those that were typed.
 abbrev pub IsStreamRefused : List (String Global) → CommandFault → Type 0
 IsStreamRefused words (Arg Many) = MAX_WORDS < length words
 IsStreamRefused words (Arg (Words error)) = (length words ≤ MAX_WORDS) × IsMistake error

@@ -18,6 +18,6 @@ has_word text words = list_any (is_word text) words
 abbrev pub has_value : List ℕ → List (String Global) → Bool
 has_value ending words = list_any (is_value ending) words
 
--- a value was typed: a word is it, or an option ends with it behind its equals sign
+-- a value was typed: a word is it, or an option ends with it after its equals sign
 abbrev pub was_typed : List (String Global) → List ℕ → Bool
 was_typed words text = has_word text words || has_value (codes "=" ++ text) words

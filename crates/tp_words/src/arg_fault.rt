@@ -30,13 +30,12 @@ pub enum ArgFault {
     Stream(&'static str),
     /// Both `--explain` and `--no-explain` are there.
     BothExplain,
-    /// `clap` found other words than those that were typed, or none where one has to be; or the words are those of a command that is read
-    /// by a function of its own.
+    /// `clap` found other words than those that were typed, or found none though one is needed; or another function reads the words of this command.
     Missing,
     Memory,
 }
 
-/// Which numbers an option takes, where that isn't told by the least and the most of them.
+/// Which numbers an option takes, if that isn't told by the least and the most of them.
 const BOUNDS: &[(&str, &str)] = &[
     ("spare", "from 0 to the pages of the smallest node"),
     ("port", "from 0 to 7, a port of the device"),

@@ -35,8 +35,8 @@ pub enum Asked {
     Format(NewDevice),
     /// A run of a device's network.
     Run(Run),
-    /// Makes a device's network, as it is, its cut, behind which the journal is empty.
-    /// `wait_lock`: how many seconds another process is waited for that holds it.
+    /// Makes a device's network, as it is, its cut, after which the journal is empty. `wait_lock`: how many seconds it waits for another process that
+    /// holds the device.
     Compact {
         device: String,
         wait_lock: u32,
@@ -51,8 +51,8 @@ pub enum Asked {
         device: String,
         json: bool,
     },
-    /// Opens a device and says in a line whether it is run, and how far it is.
-    /// `every`: how many seconds lie between two looks; `None`: there is one. `json`: as JSON.
+    /// Opens a device and says in a line whether it is run, and how far it is. `every`: how many seconds are between two checks; `None`: there is
+    /// one. `json`: as JSON.
     Status {
         device: String,
         every: Option<u32>,
@@ -64,7 +64,7 @@ pub enum Asked {
         images: String,
         json: bool,
     },
-    /// Opens a device and shows a view of it. `maps`: the folder of the maps that name addresses, where one is given.
+    /// Opens a device and shows a view of it. `maps`: the folder of the maps that name addresses, if one is given.
     View {
         device: String,
         view: View,
@@ -80,14 +80,14 @@ pub struct NewDevice {
     pub topology: String,
     pub images: String,
     pub area: Option<u64>,
-    /// Whether a file that is there is refused.
+    /// Whether an existing file is refused.
     pub only_new: bool,
-    /// How many seconds another process is waited for that holds it.
+    /// How many seconds it waits for another process that holds the device.
     pub wait_lock: u32,
 }
 
-/// A run of a device's network: its file, how many turns are made and how, the port that input goes to and output comes from, and the
-/// file of that port's whole input.
+/// A run of a device's network: its file, how many turns are made and how, the port that input goes to and output comes from, and the file of that
+/// port's whole input.
 #[derive(Drop)]
 pub struct Run {
     pub device: String,
@@ -97,11 +97,11 @@ pub struct Run {
     pub quantum: u16,
     /// The spare frames of each node.
     pub spare: u64,
-    /// The entries since the kept cut after which a snapshot begins; `None`: where the journal is half full.
+    /// The entries since the kept cut after which a snapshot begins; `None`: if the journal is half full.
     pub every: Option<u32>,
     pub port: u64,
     pub input: Option<String>,
-    /// How many seconds another process is waited for that holds it.
+    /// How many seconds it waits for another process that holds the device.
     pub wait_lock: u32,
 }
 
@@ -111,16 +111,16 @@ pub const MAX_AREA: u64 = 1 << 40;
 /// The most turns of a trial or a run, and the most steps of a trace.
 pub const MAX_TURNS: u64 = 4_294_967_295;
 
-/// How many steps of a node are traced, where nothing else is asked for.
+/// How many steps of a node are traced, if nothing else is asked for.
 pub const STEPS: u32 = 100;
 
 /// The most threads that make the turns of a run, as many as `tp_run` takes, and the most that open a device.
 pub const MAX_WORKERS: u8 = 16;
 
-/// How many steps a turn may run, where nothing else is asked for.
+/// How many steps a turn may run, if nothing else is asked for.
 pub const QUANTUM: u16 = 1024;
 
-/// The most seconds that another process is waited for.
+/// The most seconds that a command waits for another process.
 pub const MAX_WAIT: u64 = 4_294_967;
 
 /// The most words of a command line. Each port has four options at most, each of two words.

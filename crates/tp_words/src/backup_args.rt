@@ -10,7 +10,7 @@ use crate::places::has_places;
 use clap::ArgMatches;
 use std::alloc::Global;
 
-/// A copy of a device that is to be made: the device's file, and the copy's, which isn't there yet.
+/// A copy of a device that is to be made: the device's file, and the copy's, which doesn't exist yet.
 #[derive(Drop)]
 pub struct Backup {
     pub device: String,

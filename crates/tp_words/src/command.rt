@@ -130,7 +130,7 @@ fn command_in(alloc: Global, words: &[String], matches: &ArgMatches) -> Result<C
     }
 }
 
-/// What is told of words that `clap` doesn't take: that an option goes with `--stream`, where one of them is such.
+/// What is told of words that `clap` doesn't take: that an option goes with `--stream`, if one of them is such.
 fn fault_in(words: &[String], fault: ArgFault) -> ArgFault {
     match fault {
         ArgFault::Words(error) => match stream_option(words) {

@@ -54,7 +54,7 @@ fn format_placed(words: &[String], found: &ArgMatches, new: &NewDevice) -> Resul
     }
 }
 
-/// The entries after which a snapshot begins, or the seconds after which a device is looked at again.
+/// The entries after which a snapshot begins, or the seconds after which a device is checked again.
 pub fn every_of(
     alloc: Global,
     words: &[String],
@@ -68,7 +68,7 @@ pub fn every_of(
     option_short(alloc, words, found, "every", 1, u32::MAX as u64)
 }
 
-/// How many seconds another process is waited for that holds the device.
+/// How many seconds to wait for another process that holds the device.
 pub fn wait_of(alloc: Global, words: &[String], found: &ArgMatches) -> Result<u32, ArgFault>
     ensures range { IfOk result (λ seconds. seconds ≤ MAX_WAIT) }
     ensures typed { IfOk result (λ seconds. IsGivenOr 0 seconds (given (codes "wait-lock") words.now)) }

@@ -12,11 +12,11 @@ pub enum Explaining {
     Always,
     /// `--no-explain`.
     Never,
-    /// Neither: it goes by where standard error goes.
+    /// Neither: it depends on where standard error goes.
     OnTerminal,
 }
 
-/// What more is said on standard error behind the lines of a command.
+/// What more is said on standard error after the lines of a command.
 #[derive(Clone, Copy)]
 pub struct More {
     /// Of a refusal: which file, why, and the way out.
@@ -26,7 +26,7 @@ pub struct More {
 }
 
 impl Explaining {
-    /// What more is said, where standard error is a terminal or isn't: a refusal is explained to who sits there, unless that was refused.
+    /// What more is said, if standard error is a terminal or isn't: on a terminal refusals are explained, unless that was turned off.
     pub fn more(self, on_terminal: bool) -> More
         ensures { result ≡ more_said self on_terminal }
     {

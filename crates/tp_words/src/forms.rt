@@ -23,7 +23,7 @@ pub const NO_EXPLAIN: Word = Word::Flag(
 /// Prints for scripts.
 const JSON: Word = Word::Flag("json", "print it as one line of JSON, for scripts");
 
-/// How long another process is waited for that holds the device.
+/// How long to wait for another process that holds the device.
 pub const WAIT_LOCK: Word = Word::Value(
     "wait-lock",
     "SECONDS",

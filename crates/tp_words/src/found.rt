@@ -85,7 +85,7 @@ pub fn option_short(
     }
 }
 
-/// The number that was typed for an option, which has to be in its range, or `fallback` where none was.
+/// The number that was typed for an option, which has to be in its range, or `fallback` if none was.
 pub fn option_or(
     alloc: Global,
     words: &[String],
@@ -144,7 +144,7 @@ fn size_area(alloc: Global, text: &str, name: &'static str) -> Result<u64, ArgFa
     }
 }
 
-/// How many bytes an area has, by the word of it, where there is one.
+/// How many bytes an area has, by the word of it, if there is one.
 fn word_area(alloc: Global, words: &[String], found: &ArgMatches) -> Result<Option<u64>, ArgFault>
     ensures range { IfOk result (λ area. IfSome area (λ area. area ≤ MAX_AREA)) }
     ensures typed { IfOk result (λ area. IfSome area (IsWordSize words.now)) }
@@ -159,7 +159,7 @@ fn word_area(alloc: Global, words: &[String], found: &ArgMatches) -> Result<Opti
     Ok(Some(size_area(alloc, text, "AREA")?))
 }
 
-/// How many bytes an area has: by `--area`, and where that isn't given by the word of it; `None`: neither is.
+/// How many bytes an area has: by `--area`, or else by the word of it; `None`: neither is given.
 pub fn area_of(alloc: Global, words: &[String], found: &ArgMatches) -> Result<Option<u64>, ArgFault>
     ensures range { IfOk result (λ area. IfSome area (λ area. area ≤ MAX_AREA)) }
     ensures typed { IfOk result (λ area. IsArea words.now area (given (codes "area") words.now)) }

@@ -44,7 +44,7 @@ pub(crate) fn trace_part(
     }
 }
 
-/// The part itself, where its last number isn't below its first one.
+/// The part itself, if its last number isn't below its first one.
 fn in_order(part: JournalPart) -> Result<JournalPart, ArgFault>
     ensures order { IfOk result (λ kept. IfSome kept.to (λ to. kept.from ≤ to)) }
     ensures same { IfOk result (λ kept. kept ≡ part) }

@@ -70,14 +70,14 @@ pub fn number_of(alloc: Global, text: &str) -> Result<Option<u64>, AllocError>
     Ok(Some(number))
 }
 
-/// What stands behind an ending such as `--turns=`, where a word begins with it.
+/// What is after an ending such as `--turns=`, if a word begins with it.
 fn value_in<'a>(word: &'a String, ending: &str) -> Option<&'a [u8]>
     ensures { option_map (λ text. text.now) result ≡ value_in ending.now (string_bytes word.now) }
 {
     word.as_bytes().strip_prefix(ending.as_bytes())
 }
 
-/// What was typed for the option of this name, whose ending is the name with `=` behind it.
+/// What was typed for the option of this name, whose ending is the name with `=` after it.
 pub fn given<'a>(words: &'a [String], name: &str, ending: &str) -> Option<&'a [u8]>
     ensures { option_map (λ text. text.now) result ≡ given_in name.now ending.now words.now }
 {
@@ -94,7 +94,7 @@ pub fn given<'a>(words: &'a [String], name: &str, ending: &str) -> Option<&'a [u
     }
 }
 
-/// What a word says for the option of this name, whose ending is the name with `=` behind it; `rest` stands behind it.
+/// What a word says for the option of this name, whose ending is the name with `=` after it; `rest` is after it.
 fn value_of<'a>(word: &'a String, rest: &'a [String], name: &str, ending: &str) -> Option<&'a [u8]>
     ensures { option_map (λ text. text.now) result ≡ value_of name.now ending.now word.now rest.now }
 {
@@ -104,7 +104,7 @@ fn value_of<'a>(word: &'a String, rest: &'a [String], name: &str, ending: &str) 
     value_in(word, ending)
 }
 
-/// Whether the texts are all that was typed for the option of this name, whose ending is the name with `=` behind it, in order.
+/// Whether the texts are all that was typed for the option of this name, whose ending is the name with `=` after it, in order.
 pub fn are_given(words: &[String], texts: &[&str], name: &str, ending: &str) -> bool
     ensures { result ≡ pointwise bytes_eq (map (λ text. text.now) texts.now) (all_given_in name.now ending.now words.now) }
 {
@@ -123,7 +123,7 @@ pub fn are_given(words: &[String], texts: &[&str], name: &str, ending: &str) -> 
     text.as_bytes() == value && are_given(rest, others, name, ending)
 }
 
-/// Whether the flag of this name was typed: one of the words is it, and no word `--` stands before that.
+/// Whether the flag of this name was typed: one of the words is it, and no word `--` is before that.
 pub fn has_flag(words: &[String], name: &str) -> bool
     ensures { result ≡ has_flag name.now words.now }
 {

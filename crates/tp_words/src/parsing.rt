@@ -23,14 +23,14 @@ pub enum Parsed<'a> {
     Found(ArgMatches<'a>),
 }
 
-/// Whether `clap` was refused memory.
+/// Whether `clap` ran out of memory.
 fn wants_memory(error: &clap::Error) -> bool
     ensures { IsTrue result ↔ (kind_of error.now ≡ OutOfMemory) }
 {
     error.kind() == ErrorKind::OutOfMemory
 }
 
-/// What is told if `clap` finds nothing: that memory was refused, or its text, which is no fault if help or the version was asked for.
+/// What is told if `clap` finds nothing: out of memory, or its text, which is no fault if help or the version was asked for.
 fn unfound<'a>(
     alloc: Global,
     words: &[String],
@@ -64,8 +64,8 @@ fn mistake_in(
     }
 }
 
-/// What `clap` says of words that it doesn't take, with each word as messages show it. It doesn't take the words as they are shown either, since no
-/// name of a command or an option has a character that isn't shown as it is.
+/// What `clap` says of words that it doesn't take, with each word as messages show it. It doesn't take the words as they are shown either, since each
+/// name of a command or an option consists of characters that are shown as they are.
 fn shown_error(
     alloc: Global,
     words: &[String],

@@ -1,4 +1,4 @@
-//! What was typed, or stands in a file, as a message shows it.
+//! What was typed, or is in a file, as a message shows it.
 
 use std::alloc::{AllocError, Global};
 use std::fmt;

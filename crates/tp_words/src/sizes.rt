@@ -39,7 +39,7 @@ fn bytes_each(measure: Measure) -> u64
     }
 }
 
-/// The number whose decimal stands in front of these letters in a text that ends with them.
+/// The number whose decimal is before these letters in a text that ends with them.
 fn number_before(alloc: Global, text: &str, letters: &str) -> Result<Option<u64>, AllocError>
     ensures { IfOk result (λ found. IfSome found (λ number. text.now ≡ decimal number ++ letters.now)) }
 {
@@ -57,7 +57,7 @@ fn number_before(alloc: Global, text: &str, letters: &str) -> Result<Option<u64>
     }
 }
 
-/// The size that a text says in a measure, where it says one below 2^64.
+/// The size that a text says in a measure, if it says one below 2^64.
 fn size_in(alloc: Global, text: &str, measure: Measure) -> Result<Option<u64>, AllocError>
     ensures { IfOk result (λ found. IfSome found (IsSize text.now)) }
 {
@@ -67,7 +67,7 @@ fn size_in(alloc: Global, text: &str, measure: Measure) -> Result<Option<u64>, A
     }
 }
 
-/// The size that a text says, where it says one below 2^64.
+/// The size that a text says, if it says one below 2^64.
 pub fn size_of(alloc: Global, text: &str) -> Result<Option<u64>, AllocError>
     ensures { IfOk result (λ found. IfSome found (IsSize text.now)) }
 {

@@ -13,7 +13,7 @@ use crate::places::has_places;
 use clap::ArgMatches;
 use std::alloc::Global;
 
-/// A stream that is to be asked to end: its device's file, and how many seconds it is waited for that; `None`: it is only asked.
+/// A request that a stream ends: its device's file, and how many seconds to wait for the end; `None`: it doesn't wait.
 #[derive(Drop)]
 pub struct StopRequest {
     pub device: String,
@@ -28,8 +28,7 @@ fn seconds_of(alloc: Global, words: &[String], found: &ArgMatches) -> Result<Opt
     option_short(alloc, words, found, "wait", 1, MAX_WAIT)
 }
 
-/// The request that was found among the words. The device is one of them; it is waited for just where `--wait` was typed, for the seconds
-/// that were typed.
+/// The request that was found among the words. The device is one of them. It waits exactly if `--wait` was typed, for the seconds that were typed.
 pub fn request_of(
     alloc: Global,
     words: &[String],

@@ -40,11 +40,11 @@ pub struct StreamRun {
     pub until_quiet: bool,
     /// Whether it ends once a node halts.
     pub stop_on_halt: bool,
-    /// The path at which it is looked for a file that ends it; `None`: it isn't looked.
+    /// The path of a file that ends it, once it exists; `None`: no file ends it.
     pub stop_file: Option<String>,
     /// Whether it says how far it has come.
     pub has_progress: bool,
-    /// How many seconds lie between two lines, where that was typed, which asks for lines, too; `None`: 10, if `has_progress` asks for any.
+    /// How many seconds are between two lines, if that was typed, which asks for lines, too; `None`: 10, if `has_progress` asks for lines.
     pub progress_every: Option<u32>,
     /// How many threads make turns at most; `None`: as many as there are processors, up to 4.
     pub workers: Option<u32>,
@@ -52,10 +52,10 @@ pub struct StreamRun {
     pub quantum: u16,
     /// The spare frames of each node.
     pub spare: u64,
-    /// The entries since the kept cut after which a snapshot begins; `None`: where the journal is half full.
+    /// The entries since the kept cut after which a snapshot begins; `None`: if the journal is half full.
     pub every: Option<u32>,
     pub ends: Ends,
-    /// How many seconds another process is waited for that holds the device.
+    /// How many seconds it waits for another process that holds the device.
     pub wait_lock: u32,
 }
 
@@ -139,8 +139,8 @@ fn stream_in(
     }
 }
 
-/// Reads the words of a command line with `--stream`, the program's name first. Each number is the decimal that was typed, and in its
-/// range, the path of a file that ends it is what was typed for it, and the device is one of the words.
+/// Reads the words of a command line with `--stream`, the program's name first. Each number is the decimal that was typed, and in its range. The path
+/// of a file that ends it is what was typed for it, and the device is one of the words.
 pub fn read_stream_args(alloc: Global, words: &[String]) -> Result<StreamAsked, CommandFault>
     ensures few { OnOk result (length words.now ≤ MAX_WORDS) }
     ensures range { IfOk result IsStreamInRange }

@@ -42,11 +42,11 @@ impl FileOption {
 /// Why what was typed names no ends. Each ends the program with status 2.
 #[derive(Drop)]
 pub enum EndsFault {
-    /// What stands behind this option isn't a port, an equals sign and a file.
+    /// What is after this option isn't a port, an equals sign and a file.
     File(FileOption),
-    /// What stands behind `--have` isn't a port, an equals sign and a number.
+    /// What is after `--have` isn't a port, an equals sign and a number.
     Have,
-    /// What stands behind `--discard` is no port.
+    /// What is after `--discard` is no port.
     Discard,
     /// The output of this port goes to two places.
     TwoOutputs(u8),
@@ -122,7 +122,7 @@ impl<T: Drop> From<AllocFailed<T>> for EndsFault {
     }
 }
 
-/// The port of a number, where a device may have one.
+/// The port of a number, if a device may have one.
 fn port_at(number: u64) -> Option<u8>
     ensures port { result ≡ (if nat_lt number MAX_PORTS then Some number else None) }
     ensures number { number < 2 ^ 64 }
@@ -134,7 +134,7 @@ fn port_at(number: u64) -> Option<u8>
     }
 }
 
-/// The port whose number is typed so, where a device may have one.
+/// The port whose number is typed so, if a device may have one.
 fn port_of(alloc: Global, text: &str) -> Result<Option<u8>, AllocError>
     ensures some { IfOk result (λ found. IfSome found (λ port. (port < MAX_PORTS) × (text.now ≡ decimal port))) }
     ensures none { IfOk result (λ found. found ≡ None → IsNoPort text.now) }
@@ -145,7 +145,7 @@ fn port_of(alloc: Global, text: &str) -> Result<Option<u8>, AllocError>
     Ok(port_at(number))
 }
 
-/// The port, and the text behind the equals sign, which isn't empty.
+/// The port, and the text after the equals sign, which isn't empty.
 fn pair_of<'a>(alloc: Global, text: &'a str) -> Result<Option<(u8, &'a str)>, AllocError>
     ensures port { IfOk result (λ found. IfSome found (λ pair. pair.0 < MAX_PORTS)) }
     ensures rest { IfOk result (λ found. IfSome found (λ pair. 0 < length pair.1.now)) }
@@ -299,7 +299,7 @@ fn discards_in(alloc: Global, texts: &[&str]) -> Result<Vec<u8>, EndsFault>
     Ok(ports)
 }
 
-/// The ports whose output is let go.
+/// The ports whose output is dropped.
 fn discards_of(alloc: Global, words: &[String], found: &ArgMatches) -> Result<Vec<u8>, EndsFault>
     ensures ports { IfOk result (λ ports. All IsPort ports.items) }
     ensures typed { IfOk result (λ ports. map decimal ports.items ≡ all_given (codes "discard") words.now) }
@@ -321,7 +321,7 @@ fn count_of(files: &[PortFile], port: u8) -> usize
     count
 }
 
-/// How many of the ports whose output is let go are this one.
+/// How many of the ports whose output is dropped are this one.
 fn discard_count(discards: &[u8], port: u8) -> usize
     ensures { result ≡ count_by (λ other. other == port) discards.now }
 {

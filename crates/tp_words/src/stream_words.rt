@@ -47,7 +47,7 @@ const STREAM_OPTIONS: &[&str] = &[
     "progress-every",
 ];
 
-/// Whether a word is the option of this name, with a value behind an equals sign or without.
+/// Whether a word is the option of this name, with a value after an equals sign or without.
 fn is_option(word: &str, id: &str) -> bool {
     let name = match word.split_once('=') {
         Some((name, _)) => name,

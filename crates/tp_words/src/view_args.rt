@@ -193,7 +193,7 @@ fn view_placed(
     has_places(words, &[command, device, text.as_str()])
 }
 
-/// The folder of the maps of a view that takes them, where one was typed.
+/// The folder of the maps of a view that takes them, if one was typed.
 fn maps_of(
     alloc: Global,
     words: &[String],

@@ -1,7 +1,7 @@
 //! What is shown of a device.
 
-/// What is shown of a device that opens: a node's registers, a node's image, a part of the kept entries, and the bytes of a port that are
-/// pending or not confirmed; the first of these and the last two as JSON; and who waits for whom, as lines, as JSON and as a graph.
+/// What is shown of a device that opens: a node's registers, a node's image, a part of the kept entries, and the bytes of a port that are pending or
+/// not confirmed; the first of these and the last two as JSON; and who waits for whom, as lines, as JSON and as a graph.
 #[derive(Clone, Copy)]
 pub enum View {
     Node(u64),

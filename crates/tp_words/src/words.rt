@@ -18,7 +18,7 @@ use std::alloc::{AllocError, Global};
 const VERSION: &str =
     "0.1.0\nmade for Rattle's logic dac8208d650f15bf\nproved if rt run or rt ci built it";
 
-/// A word of a command: its name, what its value is called where it has one, and what help says of it.
+/// A word of a command: its name, what its value is called if it has one, and what help says of it.
 pub enum Word {
     /// A word that has to be there.
     Place(&'static str, &'static str),

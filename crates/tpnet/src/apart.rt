@@ -16,8 +16,8 @@ struct Writer {
     thread: JoinHandle<()>,
 }
 
-/// A writer whose thread takes all that is written at once, and hands it on in order. Where there is no memory, or no thread, a piece is handed
-/// on here, behind all before it.
+/// A writer whose thread takes all that is written at once, and hands it on in order. If there is no memory, or no thread, a piece is handed
+/// on here, after all before it.
 #[derive(Drop)]
 pub(crate) struct Apart<R: Drop, W: Drop> {
     rt: R,
@@ -26,7 +26,7 @@ pub(crate) struct Apart<R: Drop, W: Drop> {
     writer: Option<Writer>,
 }
 
-/// Hands on each piece, until none comes any more. One that isn't taken is let go.
+/// Hands on each piece, until none comes any more. One that isn't taken is dropped.
 fn hand_on<R: Wait + Clock + Copy + Drop, W: Write + Drop>(
     rt: R,
     to: W,
@@ -40,7 +40,7 @@ fn hand_on<R: Wait + Clock + Copy + Drop, W: Write + Drop>(
     }
 }
 
-/// Begins the thread. None where there is no memory for it, or no thread.
+/// Begins the thread. None if there is no memory for it, or no thread.
 fn begin<
     R: Threads + Wait + Clock + AllocGlobal + Copy + Drop + Send + 'static,
     W: Write + Drop + Send + 'static,

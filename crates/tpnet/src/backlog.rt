@@ -6,13 +6,13 @@ use std::sync::{Arc, Wait};
 use std::thread::sleep;
 use std::time::{Clock, Duration};
 
-/// How many milliseconds lie between two looks whether all is written.
+/// How many milliseconds are between two checks whether all is written.
 const PAUSE: u64 = 1;
 
-/// How many milliseconds others wait until what was said is written: standard output in front of its first byte, and whoever is to let a device go.
+/// How many milliseconds others wait until what was said is written: standard output before its first byte, and whoever is to let a device go.
 const PATIENCE: u64 = 5000;
 
-/// How many pieces aren't written yet, which two threads count. There is no count where there was no memory for it.
+/// How many pieces aren't written yet, which two threads count. There is no count if there was no memory for it.
 #[derive(Drop)]
 pub(crate) struct Backlog {
     count: Option<Arc<AtomicU64, Global>>,
@@ -48,14 +48,14 @@ impl Backlog {
         }
     }
 
-    /// A piece is written, or let go.
+    /// A piece is written, or dropped.
     pub(crate) fn take(&self) {
         if let Some(count) = &self.count {
             count.fetch_sub(1, Ordering::SeqCst);
         }
     }
 
-    /// Whether all is written. It is looked anew each time.
+    /// Whether all is written. It checks anew each time.
     pub(crate) fn is_empty(&self) -> bool {
         match &self.count {
             Some(count) => count.load(Ordering::SeqCst) == 0,

@@ -10,7 +10,7 @@ use tp_program::{Held, InUse, Locks, is_openable};
 /// How many times a second a device is tried again that another process holds.
 const TRIES: u64 = 20;
 
-/// How many milliseconds lie between two of them.
+/// How many milliseconds are between two of them.
 const PAUSE: u64 = 1000 / TRIES;
 
 /// How many times it is tried again at least: `status` and `stop` hold a device for a moment, and a script may call them without a pause.
@@ -31,10 +31,10 @@ fn lock_file<R: Clock>(rt: &R, file: &File, seconds: u32) -> Result<(), InUse> {
     Err(InUse)
 }
 
-/// What stood at a device's path as it was asked for, or was made there then.
+/// What was at a device's path as it was asked for, or was made there then.
 #[derive(Drop)]
 pub(crate) enum Found {
-    /// A file, which is locked for as long as this lives, where its system knows locks.
+    /// A file, which is locked for as long as this lives, if its system knows locks.
     Locked(File),
     Nothing,
     /// What can't be opened to be written, or is no device's file: it is nobody's.
@@ -69,7 +69,7 @@ fn is_named<R: Files>(rt: &R, path: &str, file: &File) -> bool {
     }
 }
 
-/// Whether nothing stands at a path, as far as the system says.
+/// Whether nothing is at a path, as far as the system says.
 fn is_free<R: Files>(rt: &R, path: &str) -> bool {
     match fs::metadata(rt, path) {
         Ok(_) => false,

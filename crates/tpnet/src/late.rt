@@ -16,8 +16,8 @@ use tp_stream_files::{Feed, SourceFailed, Threaded, Trace};
 /// How many milliseconds a reader is left alone that didn't wait for bytes.
 const PAUSE: u64 = 20;
 
-/// The next bytes of a reader, which are waited for also where the reader doesn't wait itself: whoever shares a pipe or a terminal with this
-/// process may have made it so (O_NONBLOCK).
+/// The next bytes of a reader. It waits for them even if the reader doesn't wait itself: whoever shares a pipe or a terminal with this process may
+/// have made it so (O_NONBLOCK).
 fn read_waiting<R: Wait + Clock, I: Read>(
     rt: &R,
     reader: &mut I,
@@ -37,7 +37,7 @@ fn read_waiting<R: Wait + Clock, I: Read>(
     Err(io::Error::from(ErrorKind::WouldBlock))
 }
 
-/// A reader that reads nothing before it is told to; where nobody is left who could tell it, a read fails.
+/// A reader that reads nothing before it is told to; if nobody is left who could tell it, a read fails.
 #[derive(Drop)]
 struct Gated<R: Drop, I: Drop> {
     rt: R,
@@ -103,7 +103,7 @@ impl<
 }
 
 impl<R: Wait + Drop> Late<R> {
-    /// Tells the thread to read, where it wasn't told.
+    /// Tells the thread to read, if it wasn't told.
     fn begin(&mut self)
         ensures same { self.new.trace.told ≡ self.old.trace.told }
         ensures told { self.new.to_tell ≡ None }

@@ -6,8 +6,8 @@ use crate::backlog::Backlog;
 use std::time::Clock;
 use tp_stream_files::{Onlooker, Times};
 
-/// Goes by the system's clock, and was told whether standard error and standard output are terminals. While what was said isn't written it has
-/// no time: a line that may be left out would only be kept behind it.
+/// Has the system's clock, and was told whether standard error and standard output are terminals. While what was said isn't written it has no time: a
+/// line that may be left out would only queue up.
 #[derive(Drop)]
 pub(crate) struct Looker<'a, R> {
     rt: &'a R,
@@ -38,7 +38,7 @@ impl<'a, R> Looker<'a, R> {
     }
 }
 
-/// How many milliseconds the system's clock has gone. One that can't be read stands still.
+/// How many milliseconds the system's clock has gone. One that can't be read is still.
 fn millis<R: Clock>(rt: &R) -> u64 {
     match rt.monotonic() {
         Ok(time) => u64::try_from(time.as_millis()).unwrap_or(0),

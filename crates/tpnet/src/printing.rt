@@ -1,12 +1,12 @@
-//! Standard output, whose first byte comes behind what was said before it.
+//! Standard output, whose first byte comes after what was said before it.
 
 use crate::backlog::Backlog;
 use std::io;
 use std::io::Write;
 use std::time::Clock;
 
-/// A writer that waits before its first byte until what was said is written: where a port's output begins is said first. But it waits for
-/// some seconds at most, and never again: whoever reads nothing of what is said still gets each byte.
+/// A writer that waits before its first byte until what was said is written: where a port's output begins is said first. But it waits for some
+/// seconds at most, and never again: even if nobody reads what is said, each byte is written.
 #[derive(Drop)]
 pub(crate) struct Printing<'a, R, W: Drop> {
     rt: &'a R,

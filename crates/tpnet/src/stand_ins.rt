@@ -1,4 +1,4 @@
-//! What stands in for standard streams that are closed, and which files the streams are then.
+//! What replaces standard streams that are closed, and which files the streams are then.
 
 use crate::system::System;
 use std::fs;
@@ -10,7 +10,7 @@ use tp_stream_files::{StandardFile, numbers_in};
 /// The last number that a standard stream has.
 const LAST_STREAM: i32 = 2;
 
-/// Opens a file that is only read. It gets the number of the first standard stream that is closed, if one is; else it is let go. Any
+/// Opens a file that is only read. It gets the number of the first standard stream that is closed, if one is; else it is dropped. Any
 /// file that was opened later would get that number otherwise, and what is printed would be written over it.
 pub(crate) fn stand_in<R: Files<File = File>>(rt: &R) -> Option<File> {
     let mut reads = OpenOptions::new();
@@ -26,7 +26,7 @@ pub(crate) fn stand_in<R: Files<File = File>>(rt: &R) -> Option<File> {
     }
 }
 
-/// Which file a standard stream is, as far as the system says of one of these paths. A terminal is none that has bytes to lose, also where no
+/// Which file a standard stream is, as far as the system says of one of these paths. A terminal is none that has bytes to lose, also if no
 /// path says so.
 fn standard_file<R: Files, S: IsTerminal>(
     rt: &R,
@@ -50,7 +50,7 @@ fn standard_file<R: Files, S: IsTerminal>(
     })
 }
 
-/// The system with the files that its standard streams are. None where it can't be told of one of them.
+/// The system with the files that its standard streams are. None if it can't be told of one of them.
 pub(crate) fn ask_system<'a, R: Files, I: IsTerminal, O: IsTerminal, E: IsTerminal>(
     rt: &'a R,
     input: &I,

@@ -1,4 +1,4 @@
-//! A writer that is waited for, also where it doesn't wait itself.
+//! A writer that this process waits for, even if the writer doesn't wait itself.
 
 ghost use Rattle.std.specs.Io.{WritesAtMost};
 ghost use Rattle.std.specs.Io.KnownBytes.{WriteAppends};
@@ -12,8 +12,8 @@ use std::time::{Clock, Duration};
 /// How many milliseconds a writer is left alone that didn't wait until it could take bytes.
 const PAUSE: u64 = 20;
 
-/// Hands bytes to a writer, and waits until it takes some, also where it doesn't wait itself: whoever shares a pipe or a terminal with this
-/// process may have made it so (O_NONBLOCK).
+/// Hands bytes to a writer, and waits until it takes some, even if it doesn't wait itself: whoever shares a pipe or a terminal with this process may
+/// have made it so (O_NONBLOCK).
 fn write_waiting<R: Wait + Clock, W: Write>(rt: &R, writer: &mut W, buf: &[u8]) -> io::Result<usize>
     ensures bound { WritesAtMost result buf.now }
     ensures bytes { WriteAppends (W.contents writer.old) (W.contents writer.new) result buf.now }
@@ -29,7 +29,7 @@ fn write_waiting<R: Wait + Clock, W: Write>(rt: &R, writer: &mut W, buf: &[u8]) 
     Err(io::Error::from(ErrorKind::WouldBlock))
 }
 
-/// A writer that is waited for.
+/// A writer that this process waits for.
 #[derive(Drop)]
 pub(crate) struct Patient<R: Drop, W: Drop> {
     rt: R,

@@ -2,7 +2,7 @@ use Rattle.std.proofs.Common.{◌≡◌}
 use Rattle.tp_recover.specs.Reading.{LeavesNothingNew}
 use Rattle.tp_program.proofs.backing_up.backup_on.Given as goal
 
--- Nothing was written to the device so far; where the copy keeps the model as well, it is as it was.
+-- Nothing was written to the device so far; if the copy keeps the model as well, it is as it was.
 abbrev pub invariant-loop-left : goal.invariant-loop-left
 invariant-loop-left g l =
     g.D.Disk.keeps

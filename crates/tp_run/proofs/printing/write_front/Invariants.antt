@@ -3,7 +3,7 @@ use Rattle.std.specs.Io.KnownBytes.{Appends}
 use Rattle.tp_run.proofs.Called.{CalledFor}
 use Rattle.tp_run.proofs.printing.write_front.Given as goal
 
--- a front of the bytes was taken so far, and the outlet was called for what was left each time
+-- some of the first bytes were taken so far, and the outlet was called for what was left each time
 abbrev pub invariant-loop : goal.invariant-loop
 invariant-loop g l = record {
   few : l.written ≤ length l.bytes;

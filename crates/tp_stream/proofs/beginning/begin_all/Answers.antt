@@ -17,7 +17,7 @@ however_it_ends : {A E : Type 0} (P : Type 0) (r : Result A E) → P → OnOk r 
 however_it_ends P (Ok x) so = so
 however_it_ends P (Err e) so = tt
 
--- an input is refused behind all outputs
+-- an input is refused after all outputs
 short_behind : {A : Type 0} (ports : ℕ) (stands : ℕ → Standing) (taken : ℕ → ℕ) (gs : List Given) (inputs : List GivenInput) (r : Result A StreamFault)
     → AllMayBegin stands gs → IfErr r (IsFirstShort ports taken inputs) → IfErr r (IsNotBegun ports stands taken gs inputs)
 short_behind ports stands taken gs inputs (Ok x) begun short = tt

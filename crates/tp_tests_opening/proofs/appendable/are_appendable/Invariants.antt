@@ -1,4 +1,4 @@
--- where the entries from here on may be appended, all may
+-- if the entries from here on may be appended, all may
 use Rattle.std.proofs.Common.{◌≡◌, true, drop}
 use Rattle.std.specs.List.{AllByRecursion}
 use Rattle.tp_model.specs.EntryBytes.{is_in_range, is_of}

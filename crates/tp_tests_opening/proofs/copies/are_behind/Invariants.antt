@@ -1,4 +1,4 @@
--- where the entries from here on may stand there, all may
+-- if the entries from here on may be there, all may
 use Rattle.std.proofs.Common.{◌+◌, ◌≤◌, drop, map}
 use Rattle.std.specs.List.{AllByRecursion}
 use Rattle.tp_model.specs.EntryBytes.{IsSpelt}

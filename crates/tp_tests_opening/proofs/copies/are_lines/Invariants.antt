@@ -1,4 +1,4 @@
--- where the records can hold the lines from here on, they can hold all
+-- if the records can hold the lines from here on, they can hold all
 use Rattle.std.proofs.Common.{◌≡◌, ◌≤◌, true, drop, length}
 use Rattle.tp_model.specs.Spelling.{are_lines}
 use Rattle.tp_tests_opening.proofs.copies.are_lines.Given as goal

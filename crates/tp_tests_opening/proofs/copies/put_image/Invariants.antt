@@ -1,4 +1,4 @@
--- the other area stays closed, and the pages that are left stand in the rest
+-- the other area stays closed, and the pages that are left are in the rest
 use Rattle.std.proofs.Common.{◌≡◌, ◌-◌, ◌*◌, length}
 use Rattle.tp_model.specs.declared.limits.TheConstants.{PAGE_BYTES}
 use Rattle.tp_area.specs.Other.{OtherIsClosed}

@@ -2,7 +2,7 @@ use Rattle.std.proofs.Common.{◌≤◌, length, take}
 use Rattle.std.specs.Io.KnownBytes.{Appends}
 use Rattle.tp_views.proofs.commands.put.Given as goal
 
--- a front of the bytes was appended so far
+-- the first bytes were appended so far
 abbrev pub invariant-loop : goal.invariant-loop
 invariant-loop g l = record {
   few : l.written ≤ length l.bytes;

@@ -5,7 +5,7 @@ on_ok : {T E : Type 0} (P Q : Type 0) (r : Result T E) → (P → Q) → OnOk r 
 on_ok P Q (Ok x) turn h = turn h
 on_ok P Q (Err e) turn h = h
 
--- three parts, one behind the other
+-- three parts, one after the other
 joined : (start a b c first second third : List ℕ) → first ≡ start ++ a → second ≡ first ++ b → third ≡ second ++ c → third ≡ start ++ (a ++ (b ++ c))
 joined start a b c first second third ia ib ic =
     ic ∙ ap (λ x. x ++ c) ib ∙ append_assoc first b c ∙ ap (λ x. x ++ (b ++ c)) ia ∙ append_assoc start a (b ++ c)

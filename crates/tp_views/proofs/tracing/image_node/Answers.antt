@@ -12,7 +12,7 @@ unread : (o : Option NodeState) → ReadsImage o (Err BadImage) → o ≡ None
 unread None read = refl
 unread (Some node) read = absurd read
 
--- memory is wanting for one that is there
+-- memory runs out for one that exists
 wanting : (o : Option NodeState) → ReadsImage o (Err Memory) → IsSome o
 wanting None read = absurd read
 wanting (Some node) read = refl
