@@ -57,8 +57,8 @@ fn begin<J: Naming, R: Wait>(rt: &R, alloc: Global, shared: &Shared<J>, watch: &
     watch.set_due(made, missing_in(&held, watch.every()));
 }
 
-/// Makes turns until none is left, or the store has failed: behind a turn that is refused for that it makes none. A refused turn counts. It never
-/// waits for the flusher; one that `helps` rests while turns are short. `seat` has the slips of just these turns.
+/// Makes turns until none is left or the store has failed: after a turn that is refused for that reason it makes no more. A refused turn counts
+/// as one. It never waits for the flusher. A worker that `helps` rests while turns are short. `seat` has the slips of just these turns.
 fn work<J: Naming, R: Wait>(
     rt: &R,
     alloc: Global,
@@ -99,8 +99,8 @@ fn work<J: Naming, R: Wait>(
     }
 }
 
-/// Lets a worker at each seat make turns until none is left, or the store has failed, each in a thread of its own where one can be made, and
-/// then tells the flusher. The first worker never rests, and the others only while it makes turns.
+/// Lets a worker at each seat make turns until none is left or the store has failed, each in a thread of its own if one can be made. Then it
+/// tells the flusher that the workers have ended. The first worker never rests, and the others only while the first makes turns.
 pub(crate) fn work_all<J: Naming + Send + Sync, R: Threads + Wait + Sync>(
     rt: &R,
     alloc: Global,

@@ -12,7 +12,7 @@ pub trait Source {
     /// All of its bytes, where they are known.
     ghost input: { Self → Option (List ℕ) } = { λ _. None };
 
-    /// How many bytes the whole input has, where that is known, as of a regular file; none: it isn't known.
+    /// How many bytes the whole input has, if that is known, as for a regular file; else `None`.
     fn length(&self) -> Option<u64>
         ensures { IsLength result (input self.now) };
 

@@ -239,8 +239,8 @@ fn faults_are_printed_by_their_names(rt: HostRuntime) {
     }
 }
 
-/// Whether a run on the device of a node that echoes ends with that fault, or with none, once its outlet, which has room for `room` bytes,
-/// took these bytes, by calls for these numbers.
+/// Whether a run ends with `fault`, or with none, and its outlet has taken just `taken`, by calls for as many bytes as `asked` says. The run
+/// is on the device of a node that echoes, and the outlet has room for `room` bytes.
 fn ends_so<R: Threads + Wait + Abort + Sync>(
     rt: &R,
     alloc: Global,
@@ -255,7 +255,7 @@ fn ends_so<R: Threads + Wait + Abort + Sync>(
     done.err() == fault && slow.has(taken, asked)
 }
 
-/// The calls for three bytes, where each other call takes one.
+/// For how many bytes an outlet is called that takes three bytes, one at every second call.
 const ALL: &[usize] = &[3, 3, 2, 2, 1, 1];
 
 #[test]

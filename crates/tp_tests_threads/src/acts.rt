@@ -24,7 +24,7 @@ use tp_work::{ConfirmFault, OfferFault, ShownFault, TurnFault};
 /// In how many rounds a snapshot has to end.
 const ROUNDS: u8 = 4;
 
-/// What is done, and what comes of it. Each number of an entry is one behind the bytes that the story offers first.
+/// What is done, and what comes of it. Entries are numbered from 0 after those of the bytes that the story offers first.
 #[derive(Clone, Copy)]
 pub(crate) enum Act {
     /// The process of that number, which waits longest, makes a turn: it takes that many tokens, and a node makes that many steps, and no
@@ -46,8 +46,8 @@ pub(crate) enum Act {
     Next(u64),
     /// The book's next number is that, and its cut is whole or isn't.
     Book(u64, bool),
-    /// The cut is whole: it has that many entries of the node, and of the host beside those that the story offers first; the token is in
-    /// front of the line to the node; and the last number is that of the entries outside it.
+    /// The cut is whole. The numbers say how many entries of the node are in it, how many of the host besides those that the story offers
+    /// first, and at last how many entries are outside it. The token is the first one on the line to the node.
     Whole(u64, u64, Option<Token>, usize),
     /// A turn of the flusher brings all to the device, and switches its areas or doesn't.
     Flush(bool),

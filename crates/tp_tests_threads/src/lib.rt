@@ -1,6 +1,6 @@
-//! Networks in threads, of devices that opened: calls one by one, those that are refused memory and made again, those of a worker and a
-//! host, and copies of devices; threads that a gate holds at a point of a turn, beside others that go on; and scripts, act by act in one
-//! thread, over devices that are stopped or fail at each of their calls.
+//! Tests of networks in threads, each over a device that opened. Some make one call after another: calls that find no memory and are made
+//! again, calls of a worker and a host, and copies of devices. In others a gate holds a thread at a point of a turn while the others go on.
+//! Scripts run act by act in one thread, over devices that are stopped or fail at each of their calls.
 #![tactic(auto)]
 
 #[cfg(test)]

@@ -17,7 +17,7 @@ use tp_turn::{
     whole_turn,
 };
 
-/// What a node does in one call; where it runs, it makes as many steps as the number says, at most.
+/// What a node does in one call. If it runs, it makes at most as many steps as the number says.
 #[derive(Clone, Copy)]
 pub(crate) enum Deed {
     /// It makes a turn, an entry for each token that it takes and one for its run.
@@ -28,9 +28,9 @@ pub(crate) enum Deed {
     Settle,
     /// It runs, and does nothing else.
     Run(u8),
-    /// It takes the token in front of the line that comes in on a link.
+    /// It takes the first token on the line that comes in on a link.
     Take(u8),
-    /// It records, where it is asked to.
+    /// It records if it is asked to.
     Record,
 }
 

@@ -109,7 +109,7 @@ struct Fields<'a> {
 }
 
 impl Fields<'_> {
-    /// Where the field stands that says where a link leads.
+    /// The place of the field that says where a link leads.
     fn end_place(self, link: usize) -> usize {
         ends_place(self.version).saturating_add(link.saturating_mul(end_bytes(self.version)))
     }
@@ -123,7 +123,7 @@ impl Fields<'_> {
         }
     }
 
-    /// Whether no link in front of this one leads where it leads.
+    /// Whether this is the first link that leads to its end: no link of a lower number leads there.
     fn is_first(self, link: usize) -> bool {
         for other in 0..link {
             if self.end(other) == self.end(link) {
@@ -133,7 +133,7 @@ impl Fields<'_> {
         true
     }
 
-    /// What is said where there are too few or too many nodes or ports.
+    /// The rule that is broken if there are too few or too many nodes or ports.
     fn counts_rule(self) -> Option<Rule<5>> {
         let (nodes, ports, most) = (self.nodes, self.ports, most_nodes(self.version));
         if nodes < 1 || nodes > most {

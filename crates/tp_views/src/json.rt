@@ -5,7 +5,7 @@ ghost use Rattle.tp_views.specs.Json.{comma, json_bool};
 
 use std::alloc::AllocError;
 
-/// What stands before an item of a list that has `before` items before it.
+/// What is printed before an item of a list: nothing if it is the first (`before` is 0), else a comma.
 pub(crate) fn comma(before: usize) -> &'static str
     ensures { result.now ≡ comma before }
 {

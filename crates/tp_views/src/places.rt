@@ -37,7 +37,7 @@ const PORT: &[&str] = &["the record of port "];
 /// What the journal is called.
 const JOURNAL: &[&str] = &["a group of journal entries, or an entry of one"];
 
-/// What a device's head says of where its records stand.
+/// The places of a device's records, as its head gives them.
 #[derive(Clone, Copy)]
 pub(crate) struct Layout {
     pub(crate) version: HeadVersion,
@@ -47,7 +47,7 @@ pub(crate) struct Layout {
     pages: [u16; MAX_NODES],
 }
 
-/// What stands at a place.
+/// What is at a place.
 #[derive(Clone, Copy)]
 pub(crate) enum Record {
     Head,
