@@ -1,4 +1,4 @@
-//! Frozen nodes under the locks of a row.
+//! Images of frozen nodes, taken under the locks of a row (four locks for nodes).
 
 ghost use Rattle.std.specs.Prelude.{◌≡◌, ◌<◌, ◌≤◌, ◌+◌, ◌&&◌, ℕ, true, false, length, nat_lt};
 ghost use Rattle.tp_shared.specs.Frozen.{has_page, keeps_pages};

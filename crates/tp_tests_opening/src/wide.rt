@@ -179,7 +179,7 @@ const ANOTHER_NODE: &[(usize, &[u8])] = &[(82_138, &[15])];
 /// That group's entries, if the turn is said as a take and a run.
 const APART: &[u8] = b"RAKO";
 
-/// How many bytes of it are left, and what it then says.
+/// For a length to which the device is cut: what opening it then says.
 const LENGTHS: &[(usize, Result<u64, OpenFault>)] = &[
     (511, Err(NotFormatted)),
     (512, Err(Damaged(0))),
