@@ -298,14 +298,7 @@ pub fn trace_device_file<
     D: Disk + Drop,
     O: Write,
     E: Write,
->(
-    rt: &R,
-    devices: &mut S,
-    device: &str,
-    part: TracePart,
-    out: &mut O,
-    err: &mut E,
-) -> u8
+>(rt: &R, devices: &mut S, device: &str, part: TracePart, out: &mut O, err: &mut E) -> u8
     ensures few { result ≤ 2 }
     ensures uncalled { S.calls devices.new ≡ S.calls devices.old }
     ensures used { WasRefused (S.uses devices.old) (S.uses devices.new) (O.contents out.old) (O.contents out.new) result ⊎ LooksAtOne device.now (S.uses devices.old) (S.uses devices.new) (TracedDevice D.keeps part (O.contents out.old) (O.contents out.new) result) }
