@@ -318,6 +318,14 @@ pub fn show_file<
     }
 }
 
+/// The time that a look prints: none if it is the only one.
+fn clock_of<W: Watch>(watch: &mut W, every: Option<u32>) -> Option<u64> {
+    match every {
+        Some(_) => watch.clock(),
+        None => None,
+    }
+}
+
 /// A look at a device's file, which stays as it is. Answers what was seen, or the status.
 #[inline(never)]
 fn look_file<
@@ -330,6 +338,7 @@ fn look_file<
     rt: &R,
     watch: &mut W,
     device: &str,
+    every: Option<u32>,
     before: &Option<Seen>,
     json: bool,
     out: &mut O,
@@ -338,8 +347,19 @@ fn look_file<
     ensures { IfErr result (λ status. status ≡ 1) }
 {
     let (held, at) = (watch.is_held(device), watch.now());
+    let clock = clock_of(watch, every);
     match disk_to_read(rt, device) {
-        Ok(mut disk) => status_on(rt.alloc(), &mut disk, held, at, before, json, out, err),
+        Ok(mut disk) => status_on(
+            rt.alloc(),
+            &mut disk,
+            held,
+            at,
+            clock,
+            before,
+            json,
+            out,
+            err,
+        ),
         Err(refusal) => Err(refuse(err, refusal)),
     }
 }
@@ -365,7 +385,7 @@ pub fn status_file<
 {
     let mut before = None;
     for _ in 0..u64::MAX {
-        let seen = match look_file(rt, watch, device, &before, json, out, err) {
+        let seen = match look_file(rt, watch, device, every, &before, json, out, err) {
             Ok(seen) => seen,
             Err(status) => return status,
         };
