@@ -165,14 +165,16 @@ FormattedFile keeps device old new was now status =
 pub record Told (keeps : Type 0) (json : Bool) (before : Option Seen) (was now : Option (List ℕ)) (seen : Seen) (opened closed : State) : Type 0 where
   pub held : Bool
   pub at : ℕ
-  pub tells : keeps → StatusTells json held at before opened.now.bytes was now seen
+  pub clock : Option ℕ
+  pub tells : keeps → StatusTells json held at clock before opened.now.bytes was now seen
   pub left : keeps → LeavesNothingNew opened closed
 
 -- What it promises where it was refused.
 pub record Untold (keeps : Type 0) (json : Bool) (before : Option Seen) (was now : Option (List ℕ)) (opened closed : State) : Type 0 where
   pub held : Bool
   pub at : ℕ
-  pub front : keeps → PrintsFront (look_text json held at before) opened.now.bytes was now
+  pub clock : Option ℕ
+  pub front : keeps → PrintsFront (look_text json held at clock before) opened.now.bytes was now
   pub left : keeps → LeavesNothingNew opened closed
   pub unopened : keeps → IsErr (verdict opened.now.bytes) → now ≡ was
 

@@ -390,6 +390,14 @@ pub fn show_file<R: AllocGlobal, S: Devices<Device = D>, D: Disk + Drop, O: Writ
     status
 }
 
+/// The time that a look prints: none if it is the only one.
+fn clock_of<W: Watch>(watch: &mut W, every: Option<u32>) -> Option<u64> {
+    match every {
+        Some(_) => watch.clock(),
+        None => None,
+    }
+}
+
 /// A look at a device's file, which stays as it is. Answers what was seen, or the status.
 #[inline(never)]
 fn look_file<R: AllocGlobal, S: Devices<Device = D>, D: Disk + Drop, W: Watch, O: Write, E: Write>(
@@ -397,6 +405,7 @@ fn look_file<R: AllocGlobal, S: Devices<Device = D>, D: Disk + Drop, W: Watch, O
     devices: &mut S,
     watch: &mut W,
     device: &str,
+    every: Option<u32>,
     before: &Option<Seen>,
     json: bool,
     out: &mut O,
@@ -408,11 +417,22 @@ fn look_file<R: AllocGlobal, S: Devices<Device = D>, D: Disk + Drop, W: Watch, O
     ensures refused { IfErr result (λ status. WasRefused (S.uses devices.old) (S.uses devices.new) (O.contents out.old) (O.contents out.new) status ⊎ (status ≡ 1) × LooksAtOne device.now (S.uses devices.old) (S.uses devices.new) (Untold D.keeps json before.now (O.contents out.old) (O.contents out.new))) }
 {
     let (held, at) = (watch.is_held(device), watch.now());
+    let clock = clock_of(watch, every);
     let mut disk = match devices.look(device) {
         Ok(disk) => disk,
         Err(refusal) => return Err(refuse(err, refusal)),
     };
-    let told = status_on(rt.alloc(), &mut disk, held, at, before, json, out, err);
+    let told = status_on(
+        rt.alloc(),
+        &mut disk,
+        held,
+        at,
+        clock,
+        before,
+        json,
+        out,
+        err,
+    );
     devices.leave(disk);
     told
 }
@@ -440,7 +460,7 @@ pub fn status_file<
     ensures uncalled { S.calls devices.new ≡ S.calls devices.old }
     ensures used { HasStatus D.keeps json device.now (S.uses devices.old) (S.uses devices.new) (O.contents out.old) (O.contents out.new) result }
 {
-    let mut before = match look_file(rt, devices, watch, device, &None, json, out, err) {
+    let mut before = match look_file(rt, devices, watch, device, every, &None, json, out, err) {
         Ok(seen) => Some(seen),
         Err(status) => return status,
     };
@@ -449,7 +469,7 @@ pub fn status_file<
             Some(seconds) if watch.pause(seconds) => {}
             _ => return 0,
         }
-        let seen = match look_file(rt, devices, watch, device, &before, json, out, err) {
+        let seen = match look_file(rt, devices, watch, device, every, &before, json, out, err) {
             Ok(seen) => seen,
             Err(status) => return status,
         };
