@@ -15,7 +15,7 @@ use tp_disk::{Counted, NotedFile, RawFile};
 use tp_net::{Named, Topology};
 use tp_views::{
     NodeMaps, Refusal, Seen, check_on, is_openable, read_maps, recover_on, refuse, show_on,
-    status_on, trace_device_on, trace_on, try_on, view_on,
+    status_on, trace_device_on, try_on, view_on,
 };
 use tp_words::{TracePart, View};
 
@@ -44,23 +44,6 @@ pub fn try_file<R: Files + AllocGlobal, O: Write, E: Write>(
 {
     match read_source(rt, image) {
         Ok(bytes) => try_on(rt.alloc(), bytes.as_slice(), turns, out, err),
-        Err(refusal) => refuse(err, refusal),
-    }
-}
-
-/// `tpnet trace`, on the image's file.
-#[inline(never)]
-pub fn trace_file<R: Files + AllocGlobal, O: Write, E: Write>(
-    rt: &R,
-    image: &str,
-    steps: u32,
-    out: &mut O,
-    err: &mut E,
-) -> u8
-    ensures { result ≤ 1 }
-{
-    match read_source(rt, image) {
-        Ok(bytes) => trace_on(rt.alloc(), bytes.as_slice(), steps, out, err),
         Err(refusal) => refuse(err, refusal),
     }
 }
@@ -237,18 +220,50 @@ pub fn view_file<
     }
 }
 
-/// `tpnet trace`, on a device's file, which stays as it is.
+/// Traces a node of a device's file, which stays as it is, with what maps say of addresses.
+fn trace_mapped<R: Files<File = F> + AllocGlobal, F: FileExt + OpenFile + Drop, O: Write, E: Write>(
+    rt: &R,
+    device: &str,
+    part: TracePart,
+    maps: &NodeMaps<'_>,
+    out: &mut O,
+    err: &mut E,
+) -> u8
+    ensures { result ≤ 2 }
+{
+    match disk_to_read(rt, device) {
+        Ok(mut disk) => trace_device_on(rt.alloc(), &mut disk, part, maps, out, err),
+        Err(refusal) => refuse(err, refusal),
+    }
+}
+
+/// Traces a node of a device's file, with what the texts of maps say of addresses.
+fn trace_with_texts<
+    R: Files<File = F> + AllocGlobal,
+    F: FileExt + OpenFile + Drop,
+    O: Write,
+    E: Write,
+>(rt: &R, device: &str, part: TracePart, texts: &MapTexts, out: &mut O, err: &mut E) -> u8
+    ensures { result ≤ 2 }
+{
+    match read_maps(rt.alloc(), texts.own.as_slice(), texts.all.as_slice()) {
+        Ok(maps) => trace_mapped(rt, device, part, &maps, out, err),
+        Err(refusal) => refuse(err, refusal),
+    }
+}
+
+/// `tpnet trace`, on a device's file, which stays as it is. Maps are read first, from a folder if one is named.
 #[inline(never)]
 pub fn trace_device_file<
     R: Files<File = F> + AllocGlobal,
     F: FileExt + OpenFile + Drop,
     O: Write,
     E: Write,
->(rt: &R, device: &str, part: TracePart, out: &mut O, err: &mut E) -> u8
+>(rt: &R, device: &str, part: TracePart, maps: Option<&str>, out: &mut O, err: &mut E) -> u8
     ensures { result ≤ 2 }
 {
-    match disk_to_read(rt, device) {
-        Ok(mut disk) => trace_device_on(rt.alloc(), &mut disk, part, out, err),
+    match read_texts(rt, maps) {
+        Ok(texts) => trace_with_texts(rt, device, part, &texts, out, err),
         Err(refusal) => refuse(err, refusal),
     }
 }

@@ -12,14 +12,14 @@ use crate::backup_program::answer_backup;
 use crate::compact_file::compact_file;
 use crate::devices::{Devices, FileDevices};
 use crate::files::{
-    check_file, recover_file, show_file, status_file, trace_device_file, trace_file, try_file,
-    view_file,
+    check_file, recover_file, show_file, status_file, trace_device_file, try_file, view_file,
 };
 use crate::format_file::format_file;
 use crate::in_use::{explain_changed, is_busy, refuse_in_use};
 use crate::locks::{InUse, Locks};
 use crate::run_file::run_file;
 use crate::stream_program::hold_and_stream;
+use crate::trace_files::trace_file;
 use crate::watching::Watch;
 use std::fs::{Files, OpenFile};
 use std::io;
@@ -62,9 +62,9 @@ fn carry_out<
     match asked {
         Asked::Help(text) => print_help(text.as_str(), out, err),
         Asked::Try { image, turns } => try_file(rt, image.as_str(), *turns, out, err),
-        Asked::Trace { image, steps } => trace_file(rt, image.as_str(), *steps, out, err),
-        Asked::TraceDevice { device, part } => {
-            trace_device_file(rt, device.as_str(), *part, out, err)
+        Asked::Trace(trace) => trace_file(rt, trace, out, err),
+        Asked::TraceDevice { device, part, maps } => {
+            trace_device_file(rt, device.as_str(), *part, text_in(maps), out, err)
         }
         Asked::Format(new) => format_file(rt, devices, new, system, out, err),
         Asked::Run(run) => run_file(rt, devices, run, system, out, err),
@@ -90,7 +90,7 @@ fn carry_out<
 }
 
 /// The text of an option that may have been typed.
-fn text_in(option: &Option<String>) -> Option<&str> {
+pub(crate) fn text_in(option: &Option<String>) -> Option<&str> {
     match option {
         Some(text) => Some(text.as_str()),
         None => None,
@@ -108,7 +108,7 @@ fn device_of(asked: &Asked) -> Option<&str> {
         | Asked::Status { device, .. }
         | Asked::TraceDevice { device, .. }
         | Asked::View { device, .. } => Some(device.as_str()),
-        Asked::Help(_) | Asked::Try { .. } | Asked::Trace { .. } | Asked::Check { .. } => None,
+        Asked::Help(_) | Asked::Try { .. } | Asked::Trace(_) | Asked::Check { .. } => None,
     }
 }
 
@@ -244,7 +244,7 @@ fn hold_written<S: Devices>(devices: &mut S, asked: &Asked) -> Result<(), InUse>
         Asked::Compact { device, wait_lock } => devices.hold(device.as_str(), *wait_lock),
         Asked::Help(_)
         | Asked::Try { .. }
-        | Asked::Trace { .. }
+        | Asked::Trace(_)
         | Asked::TraceDevice { .. }
         | Asked::Recover { .. }
         | Asked::Show { .. }

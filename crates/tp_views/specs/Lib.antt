@@ -31,6 +31,8 @@ pub mod JsonChecked
 pub mod Looks
 pub mod Steady
 pub mod Attempt
+pub mod Stops
+pub mod Placing
 pub mod Traced
 pub mod EntriesTraced
 pub mod EntrySteps
