@@ -16,7 +16,7 @@ use Rattle.tp_program.specs.Devices.{DeviceCall, Holds, MadeAtMost, WasRefused}
 use Rattle.tp_program.specs.RunFile.{RanFile}
 use Rattle.tp_program.specs.Stops.{StopAnswered}
 use Rattle.tp_program.specs.StreamFile.{StreamedFile}
-use Rattle.tp_program.specs.Uses.{Checked, FormattedFile, HasBackup, HasRequested, HasStatus, LooksAtOne, ReadsOne, Shows, Traced, TracedDevice, Tried, ViewedBy, part_of}
+use Rattle.tp_program.specs.Uses.{Checked, FormattedFile, HasBackup, HasRequested, HasStatus, LooksAtOne, ReadsOne, Shows, TracedBy, TracedFiles, Tried, ViewedBy, WasUnbegun, part_of}
 use Rattle.tp_views.specs.Opens.{recovered, shown}
 
 -- Help was printed, where the status says so. No device was opened.
@@ -77,7 +77,7 @@ CommandDone keeps history unread (Other asked) old new was now status = unread �
 abbrev pub FilesUsed : (keeps new_keeps : Type 0) → Asked → (old new : List DeviceCall) → (was now : Option (List ℕ)) → ℕ → Type 0
 FilesUsed keeps new_keeps (Help text) old new was now status = new ≡ old
 FilesUsed keeps new_keeps (Try image turns) old new was now status = ReadsOne (string_bytes image) old new (Tried turns was now status)
-FilesUsed keeps new_keeps (Trace image steps) old new was now status = ReadsOne (string_bytes image) old new (Traced steps was now status)
+FilesUsed keeps new_keeps (Trace trace) old new was now status = WasUnbegun was now status ⊎ TracedFiles trace old new was now status
 FilesUsed keeps new_keeps (Check topology images json) old new was now status = status ≡ 0 → Checked json (string_bytes topology) (string_bytes images) old new was now
 FilesUsed keeps new_keeps (Format device) old new was now status = FormattedFile new_keeps device old new was now status
 FilesUsed keeps new_keeps (Runs run) old new was now status = Unit {0}
@@ -85,7 +85,7 @@ FilesUsed keeps new_keeps (Compact device wait_lock) old new was now status = Un
 FilesUsed keeps new_keeps (Recover device workers) old new was now status = LooksAtOne (string_bytes device) old new (Shows keeps recovered was now status)
 FilesUsed keeps new_keeps (Show device json) old new was now status = LooksAtOne (string_bytes device) old new (Shows keeps (shown json) was now status)
 FilesUsed keeps new_keeps (Status device every json) old new was now status = HasStatus keeps json (string_bytes device) old new was now status
-FilesUsed keeps new_keeps (TraceDevice device part) old new was now status = LooksAtOne (string_bytes device) old new (TracedDevice keeps part was now status)
+FilesUsed keeps new_keeps (TraceDevice device part maps) old new was now status = LooksAtOne (string_bytes device) old new (TracedBy keeps part maps was now status)
 FilesUsed keeps new_keeps (View device view maps) old new was now status = LooksAtOne (string_bytes device) old new (ViewedBy keeps view maps was now status)
 
 -- It was refused with nothing printed and no such file used, or they were used so.

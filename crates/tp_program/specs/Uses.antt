@@ -1,5 +1,5 @@
 -- What commands do with files beside the devices that they write, and print.
-use Rattle.std.specs.Prelude.{◌≡◌, ◌⊎◌, ◌≤◌, ◌++◌, ◌∷◌, ℕ, Bool, true, List, [], codes, map, length, string_bytes, Option, Some, None, IsErr, IsSome, Ok}
+use Rattle.std.specs.Prelude.{◌≡◌, ◌⊎◌, ◌≤◌, ◌++◌, ◌∷◌, ◌==◌, if◌then◌else◌, option_map, unwrap_or, ℕ, Bool, true, List, [], codes, map, length, string_bytes, Option, Some, None, IsErr, IsSome, Ok}
 use Rattle.std.specs.Io.KnownBytes.{Appends}
 use Rattle.std.specs.declared.alloc.Global.{Global}
 use Rattle.std.specs.declared.string.String.{String}
@@ -12,6 +12,7 @@ use Rattle.tp_model.specs.Opening.{Opened, verdict}
 use Rattle.tp_model.specs.Topology.{Topology}
 use Rattle.tp_model.specs.TopologyText.{read_text}
 use Rattle.tp_net.specs.NodeNames.{node_names}
+use Rattle.tp_stream_files.specs.declared.ends.PortFile.{PortFile}
 use Rattle.tp_recover.specs.Reading.{LeavesNothingNew}
 use Rattle.tp_turn.specs.Tried.{fresh_image}
 use Rattle.tp_views.specs.Attempt.{PrintsTrial}
@@ -20,13 +21,16 @@ use Rattle.tp_views.specs.JsonChecked.{topology_said}
 use Rattle.tp_views.specs.EntriesTraced.{device_text, device_traced}
 use Rattle.tp_views.specs.Front.{AppendsFront, PrintsFront}
 use Rattle.tp_views.specs.Looks.{StatusTells}
-use Rattle.tp_views.specs.Maps.{Maps, no_maps}
+use Rattle.tp_views.specs.Maps.{Maps, Row, no_maps, read_map, rows_of}
 use Rattle.tp_views.specs.Opens.{Prints}
 use Rattle.tp_views.specs.JsonStatus.{look_text}
-use Rattle.tp_views.specs.Traced.{Traces}
+use Rattle.tp_views.specs.Traced.{Traces, node_traced}
+use Rattle.tp_views.specs.Placing.{place_of, range_of}
 use Rattle.tp_views.specs.Views.{HasNone, LacksShown, PrintsShown, PrintsView, view_text}
 use Rattle.tp_views.specs.declared.status.Seen.{Seen}
+use Rattle.tp_views.specs.declared.stops.Stops.{Stops}
 use Rattle.tp_words.specs.declared.args.NewDevice.{NewDevice}
+use Rattle.tp_words.specs.declared.trace_args.ImageTrace.{ImageTrace}
 use Rattle.tp_words.specs.declared.views.TracePart.{TracePart}
 use Rattle.tp_words.specs.declared.views.View.{View}
 use Rattle.tp_program.specs.Backups.{IsBackup, copied_line}
@@ -48,13 +52,14 @@ pub record LooksAtOne (path : List ℕ) (old new : List DeviceCall) (P : State �
   pub uses : new ≡ old ++ Looks path opened ∷ Leaves closed ∷ []
   pub between : P opened closed
 
--- What `try_on` promises of an image, and `trace_on`.
+-- What `try_on` promises of an image.
 pub record Tried (turns : ℕ) (was now : Option (List ℕ)) (status : ℕ) (image : List ℕ) : Type 0 where
   pub done : status ≡ 0 → PrintsTrial image turns was now
   pub refused : fresh_image image ≡ None → (status ≡ 1) × (now ≡ was)
 
-pub record Traced (steps : ℕ) (was now : Option (List ℕ)) (status : ℕ) (image : List ℕ) : Type 0 where
-  pub done : status ≡ 0 → Traces image steps was now
+-- What `trace_on` promises of one, with the rows of a map, stops, a number of steps, and what comes in at each link.
+pub record Traced (rows : List Row) (stops : Stops) (steps : ℕ) (others : List (Option (List ℕ))) (was now : Option (List ℕ)) (status : ℕ) (image : List ℕ) : Type 0 where
+  pub done : status ≡ 0 → Traces (node_traced rows stops steps others) image was now
   pub refused : node_of image ≡ None → (status ≡ 1) × (now ≡ was)
 
 -- What `show_on` and `recover_on` promise, of a device from the state as it was opened to the one as it was given back.
@@ -78,18 +83,67 @@ pub record ViewedBy (keeps : Type 0) (view : View) (folder : Option (String Glob
   pub unnamed : folder ≡ None → maps ≡ no_maps
   pub viewed : Viewed keeps view maps was now status opened closed
 
--- What `trace_device_on` promises.
-pub record TracedDevice (keeps : Type 0) (part : TracePart) (was now : Option (List ℕ)) (status : ℕ) (opened closed : State) : Type 0 where
-  pub done : keeps → status ≡ 0 → PrintsShown (device_traced part) opened.now.bytes was now
-  pub absent : keeps → status ≡ 2 → LacksShown (device_traced part) opened.now.bytes was now
-  pub front : keeps → PrintsFront (device_text part) opened.now.bytes was now
+-- What `trace_device_on` promises, with what these maps say of addresses.
+pub record TracedDevice (keeps : Type 0) (part : TracePart) (maps : Maps) (was now : Option (List ℕ)) (status : ℕ) (opened closed : State) : Type 0 where
+  pub done : keeps → status ≡ 0 → PrintsShown (device_traced (rows_of maps part.node) part) opened.now.bytes was now
+  pub absent : keeps → status ≡ 2 → LacksShown (device_traced (rows_of maps part.node) part) opened.now.bytes was now
+  pub front : keeps → PrintsFront (device_text (rows_of maps part.node) part) opened.now.bytes was now
   pub left : keeps → LeavesNothingNew opened closed
   pub unopened : keeps → IsErr (verdict opened.now.bytes) → (status ≡ 1) × (now ≡ was)
+
+-- So it is with the maps of a folder. If none is named, no map says anything.
+pub record TracedBy (keeps : Type 0) (part : TracePart) (folder : Option (String Global)) (was now : Option (List ℕ)) (status : ℕ) (opened closed : State) : Type 0 where
+  pub maps : Maps
+  pub unnamed : folder ≡ None → maps ≡ no_maps
+  pub traced : TracedDevice keeps part maps was now status opened closed
 
 -- Why a command's files aren't all used: it was refused at once, with nothing printed.
 pub record WasUnbegun (was now : Option (List ℕ)) (status : ℕ) : Type 0 where
   pub refused : 1 ≤ status
   pub silent : now ≡ was
+
+-- A file was read if its path is there, and no other one was.
+abbrev pub IsRead : (path bytes : Option (List ℕ)) → (old new : List DeviceCall) → Type 0
+IsRead (Some path) (Some bytes) old new = new ≡ old ++ Reads path bytes ∷ []
+IsRead None None old new = new ≡ old
+IsRead path bytes old new = ⊥
+
+-- the first of these files that is for a link
+abbrev pub path_at : List PortFile → ℕ → Option (List ℕ)
+path_at [] link = None
+path_at (file ∷ files) link = if file.port == link then Some (string_bytes file.path) else path_at files link
+
+-- The files of a trace were read, one after the other: the image, the map if one is named, and what comes in at each link that has a file.
+pub record ReadsTrace (trace : ImageTrace) (old new : List DeviceCall) (image : List ℕ) (text in_0 in_1 in_2 in_3 : Option (List ℕ)) : Type 0 where
+  pub behind : List DeviceCall
+  pub behind_0 : List DeviceCall
+  pub behind_1 : List DeviceCall
+  pub behind_2 : List DeviceCall
+  pub read : IsRead (option_map string_bytes trace.map) text (old ++ Reads (string_bytes trace.image) image ∷ []) behind
+  pub link_0 : IsRead (path_at trace.inputs.items 0) in_0 behind behind_0
+  pub link_1 : IsRead (path_at trace.inputs.items 1) in_1 behind_0 behind_1
+  pub link_2 : IsRead (path_at trace.inputs.items 2) in_2 behind_1 behind_2
+  pub link_3 : IsRead (path_at trace.inputs.items 3) in_3 behind_2 new
+
+-- Its image was traced, with what came in at links, what the map says, and the stops that were typed.
+pub record TracedImage (trace : ImageTrace) (image : List ℕ) (text in_0 in_1 in_2 in_3 : Option (List ℕ)) (was now : Option (List ℕ)) (status : ℕ) : Type 0 where
+  pub rows : List Row
+  pub stops : Stops
+  pub map : read_map (unwrap_or text []) ≡ Ok rows
+  pub until : stops.until ≡ place_of rows (option_map string_bytes trace.until)
+  pub watch : stops.watch ≡ range_of trace.bytes (place_of rows (option_map string_bytes trace.watch))
+  pub traced : Traced rows stops trace.steps (in_0 ∷ in_1 ∷ in_2 ∷ in_3 ∷ []) was now status image
+
+-- So it is of the files that are named.
+pub record TracedFiles (trace : ImageTrace) (old new : List DeviceCall) (was now : Option (List ℕ)) (status : ℕ) : Type 0 where
+  pub image : List ℕ
+  pub text : Option (List ℕ)
+  pub in_0 : Option (List ℕ)
+  pub in_1 : Option (List ℕ)
+  pub in_2 : Option (List ℕ)
+  pub in_3 : Option (List ℕ)
+  pub read : ReadsTrace trace old new image text in_0 in_1 in_2 in_3
+  pub traced : TracedImage trace image text in_0 in_1 in_2 in_3 was now status
 
 -- what is read for some nodes' images
 abbrev pub image_of : (folder name : List ℕ) → List ℕ

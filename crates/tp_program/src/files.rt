@@ -11,7 +11,7 @@ ghost use Rattle.tp_views.specs.Maps.{no_maps};
 ghost use Rattle.tp_views.specs.NodeMaps.{maps_seen};
 ghost use Rattle.tp_views.specs.Opens.{recovered, shown};
 ghost use Rattle.tp_program.specs.Devices.{Reads, WasRefused};
-ghost use Rattle.tp_program.specs.Uses.{Checked, CheckedText, HasStatus, LooksAtOne, ReadsOne, Shows, Told, Traced, TracedDevice, Tried, Untold, ViewedBy, image_of, images_read};
+ghost use Rattle.tp_program.specs.Uses.{Checked, CheckedText, HasStatus, LooksAtOne, ReadsOne, Shows, Told, TracedBy, Tried, Untold, ViewedBy, image_of, images_read};
 
 use crate::devices::Devices;
 use crate::map_texts::read_texts;
@@ -26,7 +26,7 @@ use tp_disk::{Counted, Disk, NotedFile, RawFile};
 use tp_net::{Named, Topology};
 use tp_views::{
     NodeMaps, Refusal, Seen, check_on, is_openable, read_maps, recover_on, refuse, show_on,
-    status_on, trace_device_on, trace_on, try_on, view_on,
+    status_on, trace_device_on, try_on, view_on,
 };
 use tp_words::{TracePart, View};
 
@@ -58,26 +58,6 @@ pub fn try_file<R: Files + AllocGlobal, S: Devices, O: Write, E: Write>(
 {
     match read_source(rt, devices, image) {
         Ok(bytes) => try_on(rt.alloc(), bytes.as_slice(), turns, out, err),
-        Err(refusal) => refuse(err, refusal),
-    }
-}
-
-/// `tpnet trace`, on the image's file.
-#[inline(never)]
-pub fn trace_file<R: Files + AllocGlobal, S: Devices, O: Write, E: Write>(
-    rt: &R,
-    devices: &mut S,
-    image: &str,
-    steps: u32,
-    out: &mut O,
-    err: &mut E,
-) -> u8
-    ensures few { result ≤ 1 }
-    ensures uncalled { S.calls devices.new ≡ S.calls devices.old }
-    ensures used { WasRefused (S.uses devices.old) (S.uses devices.new) (O.contents out.old) (O.contents out.new) result ⊎ ReadsOne image.now (S.uses devices.old) (S.uses devices.new) (Traced steps (O.contents out.old) (O.contents out.new) result) }
-{
-    match read_source(rt, devices, image) {
-        Ok(bytes) => trace_on(rt.alloc(), bytes.as_slice(), steps, out, err),
         Err(refusal) => refuse(err, refusal),
     }
 }
@@ -290,26 +270,60 @@ pub fn view_file<
     }
 }
 
-/// `tpnet trace`, on a device's file, which stays as it is.
-#[inline(never)]
-pub fn trace_device_file<
-    R: AllocGlobal,
-    S: Devices<Device = D>,
-    D: Disk + Drop,
-    O: Write,
-    E: Write,
->(rt: &R, devices: &mut S, device: &str, part: TracePart, out: &mut O, err: &mut E) -> u8
+/// Traces a node of a device's file, which stays as it is, with what maps say of addresses. `folder` is where they were read.
+fn trace_mapped<R: AllocGlobal, S: Devices<Device = D>, D: Disk + Drop, O: Write, E: Write>(
+    rt: &R,
+    devices: &mut S,
+    device: &str,
+    part: TracePart,
+    folder: &Option<String>,
+    maps: &NodeMaps<'_>,
+    out: &mut O,
+    err: &mut E,
+) -> u8
+    requires unnamed { folder.now ≡ None → maps_seen maps.now ≡ no_maps }
     ensures few { result ≤ 2 }
     ensures uncalled { S.calls devices.new ≡ S.calls devices.old }
-    ensures used { WasRefused (S.uses devices.old) (S.uses devices.new) (O.contents out.old) (O.contents out.new) result ⊎ LooksAtOne device.now (S.uses devices.old) (S.uses devices.new) (TracedDevice D.keeps part (O.contents out.old) (O.contents out.new) result) }
+    ensures used { WasRefused (S.uses devices.old) (S.uses devices.new) (O.contents out.old) (O.contents out.new) result ⊎ LooksAtOne device.now (S.uses devices.old) (S.uses devices.new) (TracedBy D.keeps part folder.now (O.contents out.old) (O.contents out.new) result) }
 {
     let mut disk = match devices.look(device) {
         Ok(disk) => disk,
         Err(refusal) => return refuse(err, refusal),
     };
-    let status = trace_device_on(rt.alloc(), &mut disk, part, out, err);
+    let status = trace_device_on(rt.alloc(), &mut disk, part, maps, out, err);
     devices.leave(disk);
     status
+}
+
+/// `tpnet trace`, on a device's file, which stays as it is. Maps are read first, from a folder if one is named.
+#[inline(never)]
+pub fn trace_device_file<
+    R: Files + AllocGlobal,
+    S: Devices<Device = D>,
+    D: Disk + Drop,
+    O: Write,
+    E: Write,
+>(
+    rt: &R,
+    devices: &mut S,
+    device: &str,
+    part: TracePart,
+    folder: &Option<String>,
+    out: &mut O,
+    err: &mut E,
+) -> u8
+    ensures few { result ≤ 2 }
+    ensures uncalled { S.calls devices.new ≡ S.calls devices.old }
+    ensures used { WasRefused (S.uses devices.old) (S.uses devices.new) (O.contents out.old) (O.contents out.new) result ⊎ LooksAtOne device.now (S.uses devices.old) (S.uses devices.new) (TracedBy D.keeps part folder.now (O.contents out.old) (O.contents out.new) result) }
+{
+    let texts = match read_texts(rt, folder) {
+        Ok(texts) => texts,
+        Err(refusal) => return refuse(err, refusal),
+    };
+    match read_maps(rt.alloc(), texts.own.as_slice(), texts.all.as_slice()) {
+        Ok(maps) => trace_mapped(rt, devices, device, part, folder, &maps, out, err),
+        Err(refusal) => refuse(err, refusal),
+    }
 }
 
 /// Opens a device's file to be read alone. What is no device's file isn't opened.

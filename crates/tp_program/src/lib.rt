@@ -28,6 +28,7 @@ mod stop_file;
 mod stream_explain;
 mod stream_program;
 mod streaming;
+mod trace_files;
 mod watching;
 
 pub use asking::{Unasked, Unmade};

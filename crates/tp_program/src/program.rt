@@ -12,14 +12,14 @@ use crate::backup_program::answer_backup;
 use crate::compact_file::compact_file;
 use crate::devices::Devices;
 use crate::files::{
-    check_file, recover_file, show_file, status_file, trace_device_file, trace_file, try_file,
-    view_file,
+    check_file, recover_file, show_file, status_file, trace_device_file, try_file, view_file,
 };
 use crate::format_file::format_file;
 use crate::in_use::{explain_changed, is_busy, refuse_in_use};
 use crate::locks::InUse;
 use crate::run_file::run_file;
 use crate::stream_program::hold_and_stream;
+use crate::trace_files::trace_file;
 use crate::watching::Watch;
 use std::fs::{Files, OpenFile};
 use std::io;
@@ -63,9 +63,9 @@ fn carry_out<
     match asked {
         Asked::Help(text) => print_help(text.as_str(), out, err),
         Asked::Try { image, turns } => try_file(rt, devices, image.as_str(), *turns, out, err),
-        Asked::Trace { image, steps } => trace_file(rt, devices, image.as_str(), *steps, out, err),
-        Asked::TraceDevice { device, part } => {
-            trace_device_file(rt, devices, device.as_str(), *part, out, err)
+        Asked::Trace(trace) => trace_file(rt, devices, trace, out, err),
+        Asked::TraceDevice { device, part, maps } => {
+            trace_device_file(rt, devices, device.as_str(), *part, maps, out, err)
         }
         Asked::Format(new) => format_file(rt, devices, new, system, out, err),
         Asked::Run(run) => run_file(rt, devices, run, system, out, err),
@@ -109,7 +109,7 @@ fn device_of(asked: &Asked) -> Option<&str> {
         | Asked::Status { device, .. }
         | Asked::TraceDevice { device, .. }
         | Asked::View { device, .. } => Some(device.as_str()),
-        Asked::Help(_) | Asked::Try { .. } | Asked::Trace { .. } | Asked::Check { .. } => None,
+        Asked::Help(_) | Asked::Try { .. } | Asked::Trace(_) | Asked::Check { .. } => None,
     }
 }
 
@@ -248,7 +248,7 @@ fn hold_written<S: Devices>(devices: &mut S, asked: &Asked) -> Result<(), InUse>
         Asked::Compact { device, wait_lock } => devices.hold(device.as_str(), *wait_lock),
         Asked::Help(_)
         | Asked::Try { .. }
-        | Asked::Trace { .. }
+        | Asked::Trace(_)
         | Asked::TraceDevice { .. }
         | Asked::Recover { .. }
         | Asked::Show { .. }
