@@ -30,7 +30,6 @@ use crate::job::Job;
 use crate::opening::{job_fault, parts_of};
 use crate::outlet::Outlet;
 use crate::outset::Outset;
-use crate::resting::rest_after;
 use crate::serving::serve;
 use std::alloc::Global;
 use std::marker::Brand;
@@ -103,10 +102,9 @@ fn run_parts<J: Naming + Send + Sync, D: Disk + Send + Drop, O: Outlet, R: Threa
     let flusher = Flusher::over(opened, topology, store, key, raiser);
     flusher.known();
     stored_slips_are_recovered();
-    let (mut flusher, done) = serve(
-        rt, alloc, job, every, outset, &net, seats, host, flusher, input, out,
+    let (flusher, done, rest) = serve(
+        rt, alloc, job, every, outset, net, seats, host, flusher, input, out,
     );
-    let rest = rest_after(rt, net.shared(), &mut flusher, &done);
     (flusher.into_disk(), done, rest)
 }
 
