@@ -12,7 +12,6 @@ ghost use Rattle.tp_run.specs.Input.{IsForInput, input_slips, rest_at};
 ghost use Rattle.tp_run.specs.Output.{IsForOutput};
 ghost use Rattle.tp_run.specs.Prints.{TellsAllPrinted};
 ghost use Rattle.tp_run.specs.Ran.{Settled};
-ghost use Rattle.tp_run.specs.Rested.{SaysRest};
 ghost use Rattle.tp_run.specs.Shown.{AreShownIn, MayPrint, MayShow};
 ghost use Rattle.tp_run.specs.Worked.{Worked};
 
@@ -24,7 +23,6 @@ use crate::offering::offer_at;
 use crate::outlet::Outlet;
 use crate::outset::Outset;
 use crate::printing::print_from;
-use crate::resting::rest_after;
 use crate::watch::Watch;
 use crate::working::work_all;
 use std::alloc::Global;
@@ -33,7 +31,6 @@ use std::thread::{Threads, join};
 use tp_book::Receipt;
 use tp_disk::Disk;
 use tp_flush::Flusher;
-use tp_node::Rest;
 use tp_shared::{Locked, Naming, NoGate, Shared};
 use tp_work::{Net, Seat};
 
@@ -212,8 +209,7 @@ fn finish<J: Naming, D: Disk, O: Outlet, R: Wait>(
 }
 
 /// Hands in the input, lets the workers make their turns, and prints and confirms what is shown then. Answers the number that the
-/// next entry gets, and what is left to do. The seat `host` gets the slips of what is handed in and confirmed. The network is let go here, so that
-/// what that moves takes no room beside what it was made of.
+/// next entry gets. The seat `host` gets the slips of what is handed in and confirmed.
 #[inline(never)]
 pub(crate) fn serve<
     J: Naming + Send + Sync,
@@ -226,17 +222,17 @@ pub(crate) fn serve<
     job: Job,
     every: u64,
     outset: Outset,
-    net: Net<J, NoGate>,
+    net: &Net<J, NoGate>,
     seats: Vec<Seat<J>>,
     host: tp_shared::Seat<J>,
     flusher: Flusher<J, D>,
     input: &[u8],
     out: &mut O,
-) -> (Flusher<J, D>, Result<u64, RunFault>, Rest)
+) -> (Flusher<J, D>, Result<u64, RunFault>)
     requires there { outset.port < length J.start.ports }
     requires first { outset.next ≡ J.first }
-    requires quantum { net.quantum ≡ job.quantum }
-    requires seats { All (λ seat. (seat.hand.of ≡ Some net.queue) × (seat.slips ≡ [])) seats.items }
+    requires quantum { net.now.quantum ≡ job.quantum }
+    requires seats { All (λ seat. (seat.hand.of ≡ Some net.now.queue) × (seat.slips ≡ [])) seats.items }
     requires count { vec_len seats ≡ job.workers }
     requires host { host ≡ [] }
     requires rests { flusher.world.at ≡ Resting }
@@ -248,24 +244,23 @@ pub(crate) fn serve<
         → IfOk result.1 (Settled J.formatted J.start job outset (input_slips outset input.now) (O.value out.old).taken (O.value out.new).taken result.0.world.journal) }
     ensures shown { D.keeps → Began J.formatted J.before flusher.opened
         → MayPrint J.formatted flusher result.0 outset.port outset.confirmed (O.value out.old) (O.value out.new) result.1 }
-    ensures rest { D.keeps → Began J.formatted J.before flusher.opened
-        → IfOk result.1 (λ next. SaysRest J.formatted result.0.world.journal next result.2) }
     ensures silent { IsSilent result.1 → O.value out.new ≡ O.value out.old }
     ensures some { IfErr result.1 (λ fault. fault ≡ RunFault.OfferRefused → 0 < length (rest_at outset input.now)) }
     ensures begun { IfErr result.1 ComesBegun }
 {
     flusher.known();
+    let shared = net.shared();
     let mut host = host;
-    let offered = match offer(rt, net.shared(), &mut host, outset, input) {
+    let offered = match offer(rt, shared, &mut host, outset, input) {
         Ok(offered) => offered,
-        Err(fault) => return (flusher, Err(fault), Rest::Busy),
+        Err(fault) => return (flusher, Err(fault)),
     };
     let watch = Watch::new(job.turns, every);
-    let (mut flusher, seats) = work(rt, alloc, &net, seats, watch, flusher);
+    let (mut flusher, seats) = work(rt, alloc, net, seats, watch, flusher);
     let done = finish(
         rt,
         alloc,
-        net.shared(),
+        shared,
         job,
         outset,
         offered,
@@ -274,6 +269,5 @@ pub(crate) fn serve<
         &mut flusher,
         out,
     );
-    let rest = rest_after(rt, net.shared(), &mut flusher, &done);
-    (flusher, done, rest)
+    (flusher, done)
 }

@@ -2,13 +2,10 @@ use Rattle.std.proofs.Common.{◌<◌, ◌++◌, inl, refl, length, sym, ap, sub
 use Rattle.std.specs.Prelude.{All}
 use Rattle.tp_work.specs.declared.seat.Seat.{Seat}
 use Rattle.tp_flush.specs.Known.{Began}
-use Rattle.tp_flush.specs.Flushing.{Flushing, Walked}
 use Rattle.tp_flush.proofs.Turns.{walked_nowhere, walked_then}
 use Rattle.tp_run.specs.Failures.{is_failure, has_failed}
 use Rattle.tp_run.specs.Input.{input_slips, rest_at}
 use Rattle.tp_run.specs.Ran.{Settled}
-use Rattle.tp_run.specs.Rested.{SaysRest}
-use Rattle.tp_run.specs.Shown.{MayPrint}
 use Rattle.tp_run.specs.Worked.{Worked, idle}
 use Rattle.tp_run.proofs.Failures.{counted, failures_then, uncounted}
 use Rattle.tp_run.proofs.Faults.{behind_begun_of, behind_unrefused_of, offer_begun, offer_silent, offer_unfailed}
@@ -20,40 +17,29 @@ returns-in-Err-clause-walks g c k began = walked_nowhere c.args.flusher (c.known
 
 pub returns-clause-walks : goal.returns-clause-walks
 returns-clause-walks g c k began =
-    subst (λ (f : Flushing). Walked c.args.flusher f) (sym c.rest_after-rest.ensures.same)
-    (walked_then c.args.flusher c.work-flusher.result.0 c.finish-done.new.flusher (c.work-flusher.ensures.walks k began)
-    (c.finish-done.ensures.walks k (subst (Began g.J.Naming.formatted g.J.Naming.before) (sym c.work-flusher.ensures.process.opened) began)))
+    walked_then c.args.flusher c.work-flusher.result.0 c.finish-done.new.flusher (c.work-flusher.ensures.walks k began)
+    (c.finish-done.ensures.walks k (subst (Began g.J.Naming.formatted g.J.Naming.before) (sym c.work-flusher.ensures.process.opened) began))
 
 pub returns-clause-settled : goal.returns-clause-settled
 returns-clause-settled g c k began =
     let handed = c.in-Ok.ensures.receipt.slips ∙ ap (λ slips. slips ++ input_slips c.args.outset c.args.input.now) c.requires.host in
     let was = (g.O.Outlet.value c.args.out.now).taken in
     let now = (g.O.Outlet.value c.finish-done.new.out).taken in
-    subst (λ (f : Flushing). IfOk c.finish-done.result (Settled g.J.Naming.formatted g.J.Naming.start c.args.job c.args.outset (input_slips c.args.outset c.args.input.now) was now f.world.journal)) (sym c.rest_after-rest.ensures.same)
-    (subst (λ slips. IfOk c.finish-done.result (Settled g.J.Naming.formatted g.J.Naming.start c.args.job c.args.outset slips was now c.finish-done.new.flusher.world.journal)) handed
-    (c.finish-done.ensures.settled k (subst (Began g.J.Naming.formatted g.J.Naming.before) (sym c.work-flusher.ensures.process.opened) began)))
+    subst (λ slips. IfOk c.finish-done.result (Settled g.J.Naming.formatted g.J.Naming.start c.args.job c.args.outset slips was now c.finish-done.new.flusher.world.journal)) handed
+    (c.finish-done.ensures.settled k (subst (Began g.J.Naming.formatted g.J.Naming.before) (sym c.work-flusher.ensures.process.opened) began))
 
 pub returns-clause-shown : goal.returns-clause-shown
 returns-clause-shown g c k began =
-    subst (λ (f : Flushing). MayPrint g.J.Naming.formatted c.args.flusher f c.args.outset.port c.args.outset.confirmed (g.O.Outlet.value c.args.out.now) (g.O.Outlet.value c.finish-done.new.out) c.finish-done.result)
-    (sym c.rest_after-rest.ensures.same)
-    (may_print_since g.J.Naming.formatted c.args.flusher c.work-flusher.result.0 c.finish-done.new.flusher (c.known.ensures.reached k began) (c.work-flusher.ensures.walks k began) c.args.outset.port c.args.outset.confirmed
+    may_print_since g.J.Naming.formatted c.args.flusher c.work-flusher.result.0 c.finish-done.new.flusher (c.known.ensures.reached k began) (c.work-flusher.ensures.walks k began) c.args.outset.port c.args.outset.confirmed
     (g.O.Outlet.value c.args.out.now) (g.O.Outlet.value c.finish-done.new.out) c.finish-done.result
-    (c.finish-done.ensures.shown k (subst (Began g.J.Naming.formatted g.J.Naming.before) (sym c.work-flusher.ensures.process.opened) began)))
-
--- ## What is left to do
-
-pub returns-clause-rest : goal.returns-clause-rest
-returns-clause-rest g c k began =
-    subst (λ (f : Flushing). IfOk c.finish-done.result (λ next. SaysRest g.J.Naming.formatted f.world.journal next c.rest_after-rest.result)) (sym c.rest_after-rest.ensures.same)
-    (c.rest_after-rest.ensures.says k (subst (Began g.J.Naming.formatted g.J.Naming.before) (sym (c.finish-done.ensures.process.opened ∙ c.work-flusher.ensures.process.opened)) began))
+    (c.finish-done.ensures.shown k (subst (Began g.J.Naming.formatted g.J.Naming.before) (sym c.work-flusher.ensures.process.opened) began))
 
 -- ## Who made what
 
 pub work-flusher-requires-clause-seats : goal.work-flusher-requires-clause-seats
 work-flusher-requires-clause-seats g c κs within k d below =
     let seat = c.requires.seats k d below in
-    (seat.0, subst (Worked g.J.Naming.start c.args.net.quantum) (sym seat.1) idle)
+    (seat.0, subst (Worked g.J.Naming.start c.args.net.now.quantum) (sym seat.1) idle)
 
 pub finish-done-requires-clause-seats : goal.finish-done-requires-clause-seats
 finish-done-requires-clause-seats g c =
@@ -69,8 +55,7 @@ returns-in-Err-clause-failures g c = uncounted _ _ (is_failure c.in-Err.fault) (
 
 pub returns-clause-failures : goal.returns-clause-failures
 returns-clause-failures g c =
-    ap (λ (f : Flushing). f.failures) c.rest_after-rest.ensures.same
-    ∙ counted c.args.flusher c.finish-done.new.flusher (has_failed c.finish-done.result) c.requires.rests
+    counted c.args.flusher c.finish-done.new.flusher (has_failed c.finish-done.result) c.requires.rests
     (failures_then c.args.flusher c.work-flusher.result.0 c.finish-done.new.flusher c.work-flusher.ensures.failures c.finish-done.ensures.failures) c.finish-done.ensures.ends
 
 pub returns-in-Err-clause-begun : goal.returns-in-Err-clause-begun
