@@ -1,9 +1,9 @@
 //! Where a trace stops, and what is printed there.
 
-ghost use Rattle.std.specs.Prelude.{◌≡◌, ◌≤◌, ◌++◌, ◌/◌, None, IfOk, OnOk, length, string_bytes};
+ghost use Rattle.std.specs.Prelude.{◌≡◌, ◌≤◌, ◌++◌, ◌*◌, ◌/◌, None, IfOk, OnOk, length, string_bytes};
 ghost use Rattle.tp_law_machine.specs.NodeOfBytes.{IsNodeOfBytes};
 ghost use Rattle.tp_views.specs.Maps.{rows_seen};
-ghost use Rattle.tp_views.specs.declared.stops.TheConstants.{WORKSPACE_BYTES};
+ghost use Rattle.tp_views.specs.declared.stops.TheConstants.{WORKSPACE_WORDS};
 ghost use Rattle.tp_views.specs.Stops.{bytes_text, has_stops, is_here, is_until, memory_line, state_if, state_text, steps_line, until_text, watch_text, watched, words_text, workspace_line};
 
 use crate::maps::{MapRow, push_spot};
@@ -28,8 +28,8 @@ pub struct Stops {
     pub watch: Option<Range>,
 }
 
-/// How many bytes of the workspace are printed.
-const WORKSPACE_BYTES: usize = 32;
+/// How many words of the workspace are printed.
+const WORKSPACE_WORDS: usize = 8;
 
 /// Whether an address that may be asked for is the one of an instruction.
 fn is_here(asked: Option<u32>, at: Option<u32>) -> bool
@@ -76,7 +76,7 @@ fn has_stops(stops: Stops) -> bool
 
 /// Appends words of a workspace.
 fn push_words(text: &mut String, bytes: &[u8]) -> Result<(), AllocError>
-    requires { length bytes.now ≤ WORKSPACE_BYTES }
+    requires { length bytes.now ≤ 4 * WORKSPACE_WORDS }
     ensures { OnOk result (string_bytes text.new ≡ string_bytes text.old ++ words_text bytes.now (length bytes.now / 4) 0) }
 {
     for index in 0..bytes.len() / 4 {
@@ -95,7 +95,7 @@ fn push_bytes(text: &mut String, bytes: &[u8]) -> Result<(), AllocError>
 }
 
 fn push_workspace(text: &mut String, wptr: u32, bytes: &[u8]) -> Result<(), AllocError>
-    requires { length bytes.now ≤ WORKSPACE_BYTES }
+    requires { length bytes.now ≤ 4 * WORKSPACE_WORDS }
     ensures { OnOk result (string_bytes text.new ≡ string_bytes text.old ++ workspace_line wptr bytes.now) }
 {
     push_parts(text, &[Text("workspace "), Word(wptr)])?;
@@ -139,7 +139,7 @@ fn push_state(
 {
     let cpu = cpu_now(node);
     push_cpu(text, rows, &cpu)?;
-    let bytes = memory_of(alloc, node, cpu.wptr, WORKSPACE_BYTES)?;
+    let bytes = memory_of(alloc, node, cpu.wptr, 4 * WORKSPACE_WORDS)?;
     push_workspace(text, cpu.wptr, bytes.as_slice())?;
     push_range(alloc, text, stops.watch, node)
 }
