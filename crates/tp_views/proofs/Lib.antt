@@ -4,5 +4,6 @@ pub mod Fit
 pub mod Found
 pub mod Joined
 pub mod Mapped
+mod Moments
 pub mod Traces
 mod Looked

@@ -1,5 +1,5 @@
 -- What `trace` of an image prints.
-use Rattle.std.specs.Prelude.{◌≡◌, ◌≢◌, ◌⊎◌, ℕ, Bool, false, true, zero, suc, ◌+◌, List, [], ◌∷◌, ◌++◌, if◌then◌else◌, Option, Some, None, IsSome, Result, Ok, Err, codes}
+use Rattle.std.specs.Prelude.{◌≡◌, ◌⊎◌, ℕ, Bool, false, true, zero, suc, ◌+◌, List, [], ◌∷◌, ◌++◌, if◌then◌else◌, Option, Some, None, IsSome, Result, Ok, Err, codes}
 use Rattle.std.specs.Fmt.{decimal}
 use Rattle.std.specs.Io.KnownBytes.{Appends}
 use Rattle.tp_model.specs.Image.{node_of}
@@ -15,7 +15,7 @@ use Rattle.tp_turn.specs.declared.image.TryFault.{TryFault}
 use Rattle.tp_turn.specs.declared.image.TryFault.TheVariants.{BadImage, Memory as NodeMemory}
 use Rattle.tp_views.specs.Front.{AppendsFront}
 use Rattle.tp_views.specs.Maps.{Row, spot_text}
-use Rattle.tp_views.specs.Stops.{is_changed, is_until, state_if, steps_line, until_text, watch_text, watched}
+use Rattle.tp_views.specs.Stops.{is_changed, is_until, state_if, steps_line, until_text, watch_text}
 use Rattle.tp_views.specs.declared.refusal.Refusal.{Refusal}
 use Rattle.tp_views.specs.declared.refusal.Refusal.TheVariants.{DeviceFailed, Memory, Trial}
 use Rattle.tp_views.specs.declared.stops.Stops.{Stops}
@@ -101,10 +101,10 @@ abbrev pub GoesTo : Bool → Option Attended → Attended → Type 0
 GoesTo true next now = next ≡ Some now
 GoesTo false next now = next ≡ None
 
--- Behind a line, the trace goes on, or what was watched was changed from these bytes, and that was appended.
-abbrev pub IsBehind : Bool → List Row → Stops → List ℕ → NodeState → List ℕ → List ℕ → Type 0
-IsBehind true rows stops before node old new = (watched stops.watch node ≡ before) × (new ≡ old)
-IsBehind false rows stops before node old new = (watched stops.watch node ≢ before) × (new ≡ old ++ watch_text rows stops node)
+-- what is printed behind a line: nothing where the trace goes on
+abbrev pub text_behind : Bool → List Row → Stops → NodeState → List ℕ
+text_behind true rows stops node = []
+text_behind false rows stops node = watch_text rows stops node
 
 -- A moment passed, and exactly its text was appended: to a text, and to what was printed.
 pub record PassesText (m : Moment) (goes : Bool) (now : Attended) (old new : List ℕ) : Type 0 where
