@@ -64,7 +64,7 @@ fn input_at<'a>(files: &[PortFile], inputs: &'a [Vec<u8>], link: u8) -> Option<&
     None
 }
 
-/// Traces what was read, where the map's rows were.
+/// Traces what was read, with the rows of the map.
 fn trace_mapped<O: Write, E: Write>(
     alloc: Global,
     trace: &ImageTrace,

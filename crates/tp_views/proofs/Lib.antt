@@ -5,5 +5,6 @@ pub mod Found
 pub mod Joined
 pub mod Mapped
 mod Moments
+mod Stopped
 pub mod Traces
 mod Looked

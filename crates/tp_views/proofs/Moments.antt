@@ -51,7 +51,7 @@ behind_passes rows stops now line old mid new false false is first then = record
   text = then ∙ ap (λ (xs : List ℕ). xs ++ watch_text rows stops now.node) first ∙ append_assoc old line (watch_text rows stops now.node);
 }
 
--- something happened, and the trace goes on, or stops behind that
+-- something happened, and the trace goes on, or stops after that
 pub happened : (rows : List Row) (stops : Stops) (was : NodeState) (there : Option (List ℕ × Attended)) (a now : Attended) (goes : Bool) (old mid new : List ℕ) → Happens true there a now old mid
     → goes ≡ bytes_eq (watched stops.watch was) (watched stops.watch now.node) → new ≡ mid ++ text_behind goes rows stops now.node → PassesText (moment_by rows stops was there) goes now old new
 happened rows stops was there a now goes old mid new (line, is, text) tested then =

@@ -21,7 +21,7 @@ pub struct Range {
     pub count: usize,
 }
 
-/// Where a trace stops beside its end: before the instruction at an address, and behind a change of a range.
+/// Where a trace stops before its last step: before the instruction at an address, and after a change of a range.
 #[derive(Clone, Copy)]
 pub struct Stops {
     pub until: Option<u32>,
@@ -184,7 +184,7 @@ pub(crate) fn push_until(
     push_state(alloc, text, rows, stops, node)
 }
 
-/// Appends that a trace stopped behind a change of the range that is watched.
+/// Appends that a trace stopped after a change of the range that is watched.
 pub(crate) fn push_watch(
     alloc: Global,
     text: &mut String,
@@ -201,7 +201,7 @@ pub(crate) fn push_watch(
     push_state(alloc, text, rows, stops, node)
 }
 
-/// Appends that a trace stopped behind the steps that were asked for, if another stop was asked for.
+/// Appends that a trace stopped after the steps that were asked for, if another stop was asked for.
 pub(crate) fn push_steps(text: &mut String, stops: Stops) -> Result<(), AllocError>
     ensures { OnOk result (string_bytes text.new ≡ string_bytes text.old ++ steps_line stops) }
 {

@@ -62,7 +62,7 @@ fn push_event(
     }
 }
 
-/// Appends how a node stands at which nothing happens any more.
+/// Appends why nothing happens any more at a node.
 fn push_ended(
     alloc: Global,
     text: &mut String,
@@ -79,7 +79,7 @@ fn push_ended(
     push_state_if(alloc, text, rows, stops, node)
 }
 
-/// Appends what is printed behind a line, and answers whether the trace goes on: not where what is watched isn't `before` any more.
+/// Appends what is printed after a line, and answers whether the trace goes on: it does if what is watched is `before` still.
 fn push_behind(
     alloc: Global,
     text: &mut String,
@@ -102,7 +102,7 @@ fn push_behind(
     Ok(false)
 }
 
-/// Appends what is printed of a moment at which the trace doesn't stop, and answers whether it goes on behind that.
+/// Appends what is printed of a moment at which the trace doesn't stop, and answers whether it goes on after that.
 fn push_happening(
     alloc: Global,
     text: &mut String,
@@ -152,7 +152,7 @@ fn push_moment(
     push_happening(alloc, text, rows, stops, number, linked, runs)
 }
 
-/// Appends why no further line is printed behind the last one that was asked for.
+/// Appends why no further line is printed after the last one that was asked for.
 fn push_last_line(
     alloc: Global,
     text: &mut String,
@@ -172,7 +172,7 @@ fn push_last_line(
     }
 }
 
-/// Appends what is printed behind the last line that was asked for.
+/// Appends what is printed after the last line that was asked for.
 fn push_last(
     alloc: Global,
     text: &mut String,
@@ -211,7 +211,7 @@ pub(crate) fn moment_text(
     Ok((text, goes))
 }
 
-/// What is printed behind the last line that was asked for.
+/// What is printed after the last line that was asked for.
 pub(crate) fn last_text(
     alloc: Global,
     rows: &[MapRow<'_>],
