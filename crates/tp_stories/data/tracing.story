@@ -19,7 +19,7 @@ story two_links
 image a.img
 text low L
 text high H!
-tpnet trace a.img --in 3=high --in 0=low
+tpnet trace a.img --in 3=high --in 0=low --steps 8
 
 story short_input
 # A process wants four bytes, and three come: it waits. With a fourth it goes on, and stops.

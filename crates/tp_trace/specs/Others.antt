@@ -5,8 +5,7 @@ use Rattle.std.specs.Prelude.{◌≡◌, ℕ, List, [], ◌∷◌, get_or, map, 
 use Rattle.std.specs.Option.{option_map, option_or}
 use Rattle.tp_law_machine.specs.NodeOfBytes.{IsNodeOfBytes}
 use Rattle.tp_model.specs.NodeState.{NodeState}
-use Rattle.tp_model.specs.declared.link.Token.{Token}
-use Rattle.tp_model.specs.declared.link.Token.TheVariants.{Data, Ack, Marker}
+use Rattle.tp_model.specs.declared.link.Token.TheVariants.{Data, Ack}
 use Rattle.tp_trace.specs.Steps.{heard, took_one}
 use Rattle.tp_trace.specs.declared.hearing.Heard.{Heard}
 use Rattle.tp_trace.specs.declared.others.Linked.{Linked}

@@ -21,7 +21,7 @@ is_here (Some address) (Some at) = at == address
 abbrev pub is_until : Stops → NodeState → Bool
 is_until stops node = is_here stops.until (instruction_at node)
 
--- the bytes of the range of `--watch`; none where none is watched
+-- the bytes of the range of `--watch`; none if none is watched
 abbrev pub watched : Option Range → NodeState → List ℕ
 watched None node = []
 watched (Some range) node = memory_of node range.from range.count
@@ -68,10 +68,10 @@ abbrev pub until_text : List Row → Stops → NodeState → List ℕ
 until_text rows stops node =
     codes "stop until " ++ (hex_word node.cpu.iptr ++ (spot_text [] rows node.cpu.iptr ++ (10 ∷ [] ++ state_text rows stops node)))
 
--- behind what changed the range
+-- after what changed the range
 abbrev pub watch_text : List Row → Stops → NodeState → List ℕ
 watch_text rows stops node = codes "stop watch" ++ (10 ∷ [] ++ state_text rows stops node)
 
--- behind as many steps as were asked for
+-- after as many steps as were asked for
 abbrev pub steps_line : Stops → List ℕ
 steps_line stops = if has_stops stops then codes "stop steps" ++ 10 ∷ [] else []

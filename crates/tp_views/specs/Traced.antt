@@ -1,5 +1,5 @@
 -- What `trace` of an image prints.
-use Rattle.std.specs.Prelude.{◌≡◌, ◌≢◌, ◌⊎◌, ℕ, Bool, false, true, zero, suc, ◌+◌, List, [], ◌∷◌, ◌++◌, if◌then◌else◌, Option, Some, None, IsSome, Result, Ok, Err, codes}
+use Rattle.std.specs.Prelude.{◌≡◌, ◌⊎◌, ℕ, Bool, false, true, zero, suc, ◌+◌, List, [], ◌∷◌, ◌++◌, if◌then◌else◌, Option, Some, None, IsSome, Result, Ok, Err, codes}
 use Rattle.std.specs.Fmt.{decimal}
 use Rattle.std.specs.Io.KnownBytes.{Appends}
 use Rattle.tp_model.specs.Image.{node_of}
@@ -15,7 +15,7 @@ use Rattle.tp_turn.specs.declared.image.TryFault.{TryFault}
 use Rattle.tp_turn.specs.declared.image.TryFault.TheVariants.{BadImage, Memory as NodeMemory}
 use Rattle.tp_views.specs.Front.{AppendsFront}
 use Rattle.tp_views.specs.Maps.{Row, spot_text}
-use Rattle.tp_views.specs.Stops.{is_changed, is_until, state_if, steps_line, until_text, watch_text, watched}
+use Rattle.tp_views.specs.Stops.{is_changed, is_until, state_if, steps_line, until_text, watch_text}
 use Rattle.tp_views.specs.declared.refusal.Refusal.{Refusal}
 use Rattle.tp_views.specs.declared.refusal.Refusal.TheVariants.{DeviceFailed, Memory, Trial}
 use Rattle.tp_views.specs.declared.stops.Stops.{Stops}
@@ -30,7 +30,7 @@ step_line rows number one = step_text number one ++ (spot_text [] rows one.at ++
 abbrev pub came_line : ℕ → Heard → List ℕ
 came_line number one = decimal number ++ (codes " " ++ take_line one)
 
--- what happens next, as a line, and what comes of it: a step, where the node has one, ..
+-- what happens next, as a line, and what comes of it: a step, if the node has one, ..
 abbrev pub by_step : List Row → ℕ → Attended → Option NodeState → Option (List ℕ × Attended)
 by_step rows number a None = None
 by_step rows number a (Some next) = Some (step_line rows number (seen a.node next), record a { node = next })
@@ -43,18 +43,18 @@ by_coming rows number a (Some one) = Some (came_line number one.0, one.1)
 abbrev pub event : List Row → ℕ → Attended → Option (List ℕ × Attended)
 event rows number a = by_coming rows number a (came a)
 
--- nothing happens any more: how the node stands, and, if a stop was asked for, its state
+-- nothing happens any more: why, and, if a stop was asked for, its state
 abbrev pub ended_text : List Row → Stops → NodeState → List ℕ
 ended_text rows stops node = stop_line (standing node) ++ state_if rows stops node
 
 -- ## All lines
 
--- What is printed at a moment, and with what it goes on; none where the trace ends there.
+-- What is printed at a moment, and with what it goes on; none if the trace ends there.
 pub record Moment : Type 0 where
   pub text : List ℕ
   pub next : Option Attended
 
--- behind a line the trace goes on, unless it changed what is watched
+-- after a line the trace goes on, unless it changed what is watched
 abbrev pub moment_behind : List Row → Stops → NodeState → List ℕ → Attended → Moment
 moment_behind rows stops was line a =
     if is_changed stops was a.node then record { text = line ++ watch_text rows stops a.node; next = None } else record { text = line; next = Some a }
@@ -68,22 +68,22 @@ abbrev pub moment : List Row → Stops → ℕ → Attended → Moment
 moment rows stops number a =
     if is_until stops a.node then record { text = until_text rows stops a.node; next = None } else moment_by rows stops a.node (event rows number a)
 
--- why no further line is printed behind the last one that was asked for
+-- why no further line is printed after the last one that was asked for
 abbrev pub last_line : Stops → NodeState → Option (List ℕ × Attended) → List ℕ
 last_line stops node None = stop_line (standing node)
 last_line stops node (Some one) = steps_line stops
 
--- what is printed behind that line
+-- what is printed after that line
 abbrev pub last_text : List Row → Stops → Attended → List ℕ
 last_text rows stops a =
     if is_until stops a.node then until_text rows stops a.node else (last_line stops a.node (event rows 0 a) ++ state_if rows stops a.node)
 
--- what stands behind a moment, where the trace goes on
+-- what is printed after a moment, if the trace goes on
 abbrev pub behind : Option Attended → (Attended → List ℕ) → List ℕ
 behind None lines = []
 behind (Some a) lines = lines a
 
--- the lines from the one of a number on, as many as there are at most, and what is printed behind them
+-- the lines from the one of a number on, as many as there are at most, and what is printed after them
 unfoldable pub traced : List Row → Stops → ℕ → ℕ → Attended → List ℕ
 traced rows stops zero number a = last_text rows stops a
 traced rows stops (suc left) number a =
@@ -101,10 +101,10 @@ abbrev pub GoesTo : Bool → Option Attended → Attended → Type 0
 GoesTo true next now = next ≡ Some now
 GoesTo false next now = next ≡ None
 
--- Behind a line, the trace goes on, or what was watched was changed from these bytes, and that was appended.
-abbrev pub IsBehind : Bool → List Row → Stops → List ℕ → NodeState → List ℕ → List ℕ → Type 0
-IsBehind true rows stops before node old new = (watched stops.watch node ≡ before) × (new ≡ old)
-IsBehind false rows stops before node old new = (watched stops.watch node ≢ before) × (new ≡ old ++ watch_text rows stops node)
+-- what is printed after a line: nothing if the trace goes on
+abbrev pub text_behind : Bool → List Row → Stops → NodeState → List ℕ
+text_behind true rows stops node = []
+text_behind false rows stops node = watch_text rows stops node
 
 -- A moment passed, and exactly its text was appended: to a text, and to what was printed.
 pub record PassesText (m : Moment) (goes : Bool) (now : Attended) (old new : List ℕ) : Type 0 where

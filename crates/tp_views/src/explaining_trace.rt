@@ -40,7 +40,7 @@ fn push_inputs<R: Files + AllocGlobal>(
     Ok(false)
 }
 
-/// Says that a place names no address, where one is asked for that names none: whether one is.
+/// Says that a place names no address, if one is asked for that names none: whether one is.
 fn push_place(
     text: &mut String,
     rows: &[MapRow<'_>],

@@ -45,8 +45,8 @@ fn range_of(count: u32, from: Option<u32>) -> Option<Range>
     }
 }
 
-/// Where a trace stops: before the instruction at the place `until`, and behind a change of `count` bytes from the place `watch` on. A place that is
-/// neither an address nor a label of the map is refused.
+/// Where a trace stops: before the instruction at the place `until`, and after a change of `count` bytes from the place `watch` on. It refuses a place
+/// that is neither an address nor a label of the map.
 pub fn stops_at(
     rows: &[MapRow<'_>],
     until: Option<&str>,

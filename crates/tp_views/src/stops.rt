@@ -1,9 +1,9 @@
 //! Where a trace stops, and what is printed there.
 
-ghost use Rattle.std.specs.Prelude.{◌≡◌, ◌≤◌, ◌++◌, ◌/◌, None, IfOk, OnOk, length, string_bytes};
+ghost use Rattle.std.specs.Prelude.{◌≡◌, ◌≤◌, ◌++◌, ◌*◌, ◌/◌, None, IfOk, OnOk, length, string_bytes};
 ghost use Rattle.tp_law_machine.specs.NodeOfBytes.{IsNodeOfBytes};
 ghost use Rattle.tp_views.specs.Maps.{rows_seen};
-ghost use Rattle.tp_views.specs.declared.stops.TheConstants.{WORKSPACE_BYTES};
+ghost use Rattle.tp_views.specs.declared.stops.TheConstants.{WORKSPACE_WORDS};
 ghost use Rattle.tp_views.specs.Stops.{bytes_text, has_stops, is_here, is_until, memory_line, state_if, state_text, steps_line, until_text, watch_text, watched, words_text, workspace_line};
 
 use crate::maps::{MapRow, push_spot};
@@ -21,15 +21,15 @@ pub struct Range {
     pub count: usize,
 }
 
-/// Where a trace stops beside its end: before the instruction at an address, and behind a change of a range.
+/// Where a trace stops before its last step: before the instruction at an address, and after a change of a range.
 #[derive(Clone, Copy)]
 pub struct Stops {
     pub until: Option<u32>,
     pub watch: Option<Range>,
 }
 
-/// How many bytes of the workspace are printed.
-const WORKSPACE_BYTES: usize = 32;
+/// How many words of the workspace are printed.
+const WORKSPACE_WORDS: usize = 8;
 
 /// Whether an address that may be asked for is the one of an instruction.
 fn is_here(asked: Option<u32>, at: Option<u32>) -> bool
@@ -76,7 +76,7 @@ fn has_stops(stops: Stops) -> bool
 
 /// Appends words of a workspace.
 fn push_words(text: &mut String, bytes: &[u8]) -> Result<(), AllocError>
-    requires { length bytes.now ≤ WORKSPACE_BYTES }
+    requires { length bytes.now ≤ 4 * WORKSPACE_WORDS }
     ensures { OnOk result (string_bytes text.new ≡ string_bytes text.old ++ words_text bytes.now (length bytes.now / 4) 0) }
 {
     for index in 0..bytes.len() / 4 {
@@ -95,7 +95,7 @@ fn push_bytes(text: &mut String, bytes: &[u8]) -> Result<(), AllocError>
 }
 
 fn push_workspace(text: &mut String, wptr: u32, bytes: &[u8]) -> Result<(), AllocError>
-    requires { length bytes.now ≤ WORKSPACE_BYTES }
+    requires { length bytes.now ≤ 4 * WORKSPACE_WORDS }
     ensures { OnOk result (string_bytes text.new ≡ string_bytes text.old ++ workspace_line wptr bytes.now) }
 {
     push_parts(text, &[Text("workspace "), Word(wptr)])?;
@@ -139,7 +139,7 @@ fn push_state(
 {
     let cpu = cpu_now(node);
     push_cpu(text, rows, &cpu)?;
-    let bytes = memory_of(alloc, node, cpu.wptr, WORKSPACE_BYTES)?;
+    let bytes = memory_of(alloc, node, cpu.wptr, 4 * WORKSPACE_WORDS)?;
     push_workspace(text, cpu.wptr, bytes.as_slice())?;
     push_range(alloc, text, stops.watch, node)
 }
@@ -184,7 +184,7 @@ pub(crate) fn push_until(
     push_state(alloc, text, rows, stops, node)
 }
 
-/// Appends that a trace stopped behind a change of the range that is watched.
+/// Appends that a trace stopped after a change of the range that is watched.
 pub(crate) fn push_watch(
     alloc: Global,
     text: &mut String,
@@ -201,7 +201,7 @@ pub(crate) fn push_watch(
     push_state(alloc, text, rows, stops, node)
 }
 
-/// Appends that a trace stopped behind the steps that were asked for, if another stop was asked for.
+/// Appends that a trace stopped after the steps that were asked for, if another stop was asked for.
 pub(crate) fn push_steps(text: &mut String, stops: Stops) -> Result<(), AllocError>
     ensures { OnOk result (string_bytes text.new ≡ string_bytes text.old ++ steps_line stops) }
 {

@@ -42,7 +42,7 @@ fn put_moment<O: Write>(
     Ok(goes)
 }
 
-/// Prints what there is behind the last line that was asked for.
+/// Prints what is printed after the last line that was asked for.
 fn put_last<O: Write>(
     alloc: Global,
     rows: &[MapRow<'_>],
@@ -121,9 +121,9 @@ fn trace<O: Write>(
 }
 
 /// `tpnet trace`, on the bytes of the image, whose links may be at work. `others` has for each link the bytes that its other end sends; `None`:
-/// nobody is there. Answers the program's status: 0 where exactly the lines of the node's first steps and of the tokens that came in were
-/// written, as many as `steps` at most, with what is printed where it stops; else 1. Whatever the status, nothing but a front of them was.
-/// Bytes that are no image are refused, and nothing is written then.
+/// nobody is there. Answers the program's status: 0 if exactly the lines of the node's first steps and of the tokens that came in were
+/// written, as many as `steps` at most, with what is printed where it stops; else 1. Whatever the status, only a first part of them was.
+/// It refuses bytes that are no image, and writes nothing then.
 pub fn trace_on<O: Write, E: Write>(
     alloc: Global,
     image: &[u8],

@@ -1,10 +1,11 @@
 //! What happens at a node that is traced, and at its links, as lines.
 
-ghost use Rattle.std.specs.Prelude.{◌≡◌, ◌++◌, List, [], None, IfOk, OnOk, false, is_some, string_bytes};
+ghost use Rattle.std.specs.Prelude.{◌≡◌, ◌++◌, [], None, IfOk, OnOk, bytes_eq, string_bytes};
 ghost use Rattle.tp_law_machine.specs.NodeOfBytes.{IsNodeOfBytes};
 ghost use Rattle.tp_trace.specs.Others.{IsLinked, attended};
-ghost use Rattle.tp_views.specs.Maps.{Row, rows_seen};
-ghost use Rattle.tp_views.specs.Traced.{Happens, IsBehind, PassesText, came_line, ended_text, event, last_line, last_text, moment, moment_by, step_line};
+ghost use Rattle.tp_views.specs.Maps.{rows_seen};
+ghost use Rattle.tp_views.specs.Traced.{Happens, PassesText, came_line, ended_text, event, last_line, last_text, moment, moment_by, step_line, text_behind};
+ghost use Rattle.tp_views.specs.Stops.{watched};
 
 use crate::maps::{MapRow, push_spot};
 use crate::parts::Part::{Number, Text};
@@ -61,16 +62,7 @@ fn push_event(
     }
 }
 
-/// Has a node take what comes in next, or else make a step. Answers whether there was anything; where there was nothing the node is as it was.
-fn has_event(linked: &mut Linked<'_>, runs: &mut Runs) -> bool
-    requires { IsLinked linked.old }
-    ensures is { (rows : List Row) → result ≡ is_some (event rows 0 (attended linked.old)) }
-    ensures same { result ≡ false → attended linked.new ≡ attended linked.old }
-{
-    come(linked).is_some() || trace_step(&mut linked.node, runs).is_some()
-}
-
-/// Appends how a node stands at which nothing happens any more.
+/// Appends why nothing happens any more at a node.
 fn push_ended(
     alloc: Global,
     text: &mut String,
@@ -87,7 +79,7 @@ fn push_ended(
     push_state_if(alloc, text, rows, stops, node)
 }
 
-/// Appends what is printed behind a line, and answers whether the trace goes on: not where what is watched isn't `before` any more.
+/// Appends what is printed after a line, and answers whether the trace goes on: it does if what is watched is `before` still.
 fn push_behind(
     alloc: Global,
     text: &mut String,
@@ -98,18 +90,19 @@ fn push_behind(
 ) -> Result<bool, AllocError>
     requires thawed { node.old.frozen ≡ None }
     requires bytes { IsNodeOfBytes node.old.live }
-    ensures goes { IfOk result (λ goes. IsBehind goes (rows_seen rows.now) stops before.now node.old.live (string_bytes text.old) (string_bytes text.new)) }
+    ensures goes { IfOk result (λ goes. goes ≡ bytes_eq before.now (watched stops.watch node.old.live)) }
+    ensures text { IfOk result (λ goes. string_bytes text.new ≡ string_bytes text.old ++ text_behind goes (rows_seen rows.now) stops node.old.live) }
     ensures same { node.new ≡ node.old }
 {
     let now = watched(alloc, stops, node)?;
-    if now.as_slice() == before {
+    if before == now.as_slice() {
         return Ok(true);
     }
     push_watch(alloc, text, rows, stops, node)?;
     Ok(false)
 }
 
-/// Appends what is printed of a moment at which the trace doesn't stop, and answers whether it goes on behind that.
+/// Appends what is printed of a moment at which the trace doesn't stop, and answers whether it goes on after that.
 fn push_happening(
     alloc: Global,
     text: &mut String,
@@ -159,24 +152,27 @@ fn push_moment(
     push_happening(alloc, text, rows, stops, number, linked, runs)
 }
 
-/// Appends why no further line is printed behind the last one that was asked for.
+/// Appends why no further line is printed after the last one that was asked for.
 fn push_last_line(
+    alloc: Global,
     text: &mut String,
+    rows: &[MapRow<'_>],
     stops: Stops,
     linked: &mut Linked<'_>,
     runs: &mut Runs,
 ) -> Result<(), AllocError>
     requires { IsLinked linked.old }
-    ensures { (rows : List Row) → OnOk result (string_bytes text.new ≡ string_bytes text.old ++ last_line stops linked.old.node.live (event rows 0 (attended linked.old))) }
+    ensures { OnOk result (string_bytes text.new ≡ string_bytes text.old ++ last_line stops linked.old.node.live (event (rows_seen rows.now) 0 (attended linked.old))) }
 {
-    if has_event(linked, runs) {
+    let mut line = String::new(alloc);
+    if push_event(&mut line, rows, 0, linked, runs)? {
         push_steps(text, stops)
     } else {
         push_stop(text, linked.node.standing())
     }
 }
 
-/// Appends what is printed behind the last line that was asked for.
+/// Appends what is printed after the last line that was asked for.
 fn push_last(
     alloc: Global,
     text: &mut String,
@@ -193,7 +189,7 @@ fn push_last(
     }
     let mut state = String::new(alloc);
     push_state_if(alloc, &mut state, rows, stops, &mut linked.node)?;
-    push_last_line(text, stops, linked, runs)?;
+    push_last_line(alloc, text, rows, stops, linked, runs)?;
     text.push_str(state.as_str())
 }
 
@@ -215,7 +211,7 @@ pub(crate) fn moment_text(
     Ok((text, goes))
 }
 
-/// What is printed behind the last line that was asked for.
+/// What is printed after the last line that was asked for.
 pub(crate) fn last_text(
     alloc: Global,
     rows: &[MapRow<'_>],

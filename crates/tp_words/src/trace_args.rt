@@ -24,7 +24,7 @@ const LINKS: u8 = 4;
 pub const WATCHED: u32 = 4;
 
 /// The most bytes that are watched.
-pub const MAX_WATCHED: u64 = 1024;
+pub const MAX_WATCHED: u64 = 1 << 10;
 
 /// A trace of a node's image: its file; how many lines of steps and of tokens there are at most; for links the files whose bytes come in there, each link as
 /// the port; the file of the map that names addresses; the place of the instruction before which it stops; and the place of the bytes behind whose change it

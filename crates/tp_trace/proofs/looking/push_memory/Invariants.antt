@@ -3,12 +3,12 @@ use Rattle.std.proofs.Common.{◌≡◌, ◌≤◌, ◌+◌, ◌-◌, drop, leng
 use Rattle.tp_model.specs.Memory.{offset}
 use Rattle.tp_trace.proofs.looking.push_memory.Given as goal
 
-abbrev pub invariant-loop : goal.invariant-loop
-invariant-loop l = record {
-  at : offset l.at ≡ offset l.fn.from + length l.bytes.items;
+abbrev pub invariant-loop-byte : goal.invariant-loop-byte
+invariant-loop-byte l = record {
+  place : offset l.at ≡ offset l.fn.from + length l.bytes.items;
   items : l.bytes.items ≡ take (length l.bytes.items) (drop (offset l.fn.from) l.node.live.memory);
   few : length l.bytes.items ≤ l.count;
 }
 
-abbrev pub decreases-loop : goal.decreases-loop
-decreases-loop l = l.count - length l.bytes.items
+abbrev pub decreases-loop-byte : goal.decreases-loop-byte
+decreases-loop-byte l = l.count - length l.bytes.items
