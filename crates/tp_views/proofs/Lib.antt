@@ -4,5 +4,7 @@ pub mod Fit
 pub mod Found
 pub mod Joined
 pub mod Mapped
+mod Moments
+mod Stopped
 pub mod Traces
 mod Looked

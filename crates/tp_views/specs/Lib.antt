@@ -35,5 +35,7 @@ pub mod JsonChecked
 pub mod Looks
 pub mod Steady
 pub mod Attempt
+pub mod Stops
+pub mod Placing
 pub mod Traced
 pub mod EntrySteps
