@@ -1,25 +1,28 @@
 //! A run, from a device to a device.
 
 ghost use Rattle.std.specs.List.{AllByRecursion};
-ghost use Rattle.std.specs.Prelude.{◌≡◌, ◌<◌, ◌≤◌, true, false, Ok, Err, Some, length, IfErr, IfOk, IsErr};
+ghost use Rattle.std.specs.Prelude.{◌≡◌, ◌<◌, ◌≤◌, [], true, false, All, Ok, Err, Some, length, vec_len, IfErr, IfOk, IsErr};
 ghost use Rattle.tp_area.specs.Places.{place_at};
 ghost use Rattle.tp_flush.specs.Known.{Began};
+ghost use Rattle.tp_flush.specs.Flushing.{IsSameProcess, Walked};
 ghost use Rattle.tp_model.specs.DiskHistory.{IsSynced};
 ghost use Rattle.tp_law_machine.specs.NodeOfBytes.{IsNodeOfBytes};
 ghost use Rattle.tp_model.specs.Journal.{is_roomy, room};
 ghost use Rattle.tp_model.specs.Node.{t414_ends};
 ghost use Rattle.tp_model.specs.Opening.{verdict};
 ghost use Rattle.tp_model.specs.Spelling.{IsCut};
+ghost use Rattle.tp_model.specs.WriteOrder.{Resting};
 ghost use Rattle.tp_model.specs.declared.limits.TheConstants.{MAX_STEPS};
 ghost use Rattle.tp_recover.specs.Reading.{LeavesNothingNew};
 ghost use Rattle.tp_run.specs.Answered.{AnswerFor};
 ghost use Rattle.tp_run.specs.Failures.{failures_after, has_failed};
 ghost use Rattle.tp_run.specs.Faults.{ComesBegun, IsSilent, IsUnbegun};
-ghost use Rattle.tp_run.specs.Input.{rest_at};
+ghost use Rattle.tp_run.specs.Input.{input_slips, rest_at};
 ghost use Rattle.tp_flush.specs.Made.{IsMadeOf};
 ghost use Rattle.tp_run.specs.Outset.{outset_in};
-ghost use Rattle.tp_run.specs.Ran.{History, Ran, RanInto};
-ghost use Rattle.tp_run.specs.Rested.{RestsAt};
+ghost use Rattle.tp_run.specs.Ran.{History, Ran, RanInto, Settled};
+ghost use Rattle.tp_run.specs.Rested.{RestsAt, SaysRest};
+ghost use Rattle.tp_run.specs.Shown.{MayPrint};
 ghost use Rattle.tp_recover.specs.declared.unopened.Unopened.{Unopened};
 ghost use Rattle.tp_work.specs.declared.start.TheConstants.{MAX_WORKERS};
 ghost use Rattle.tp_shared.specs.Named.{Names};
@@ -45,7 +48,55 @@ use tp_node::Rest;
 use tp_ready::Raiser;
 use tp_recover::{Opened, open};
 use tp_shared::{Naming, NoGate, Parts};
-use tp_work::Net;
+use tp_work::{Net, Seat};
+
+/// Lets a network go. What that moves takes room on the stack, so it is never inlined.
+#[inline(never)]
+fn let_go<J: Naming>(_net: Net<J, NoGate>) {}
+
+/// Serves a network, as `serve` does, says what is left to do in it, and lets it go, so that it takes no room on the stack beside what it was made of.
+#[inline(never)]
+fn use_up<J: Naming + Send + Sync, D: Disk + Send + Drop, O: Outlet, R: Threads + Wait + Sync>(
+    rt: &R,
+    alloc: Global,
+    job: Job,
+    every: u64,
+    outset: Outset,
+    net: Net<J, NoGate>,
+    seats: Vec<Seat<J>>,
+    host: tp_shared::Seat<J>,
+    flusher: Flusher<J, D>,
+    input: &[u8],
+    out: &mut O,
+) -> (Flusher<J, D>, Result<u64, RunFault>, Rest)
+    requires there { outset.port < length J.start.ports }
+    requires first { outset.next ≡ J.first }
+    requires quantum { net.quantum ≡ job.quantum }
+    requires seats { All (λ seat. (seat.hand.of ≡ Some net.queue) × (seat.slips ≡ [])) seats.items }
+    requires count { vec_len seats ≡ job.workers }
+    requires host { host ≡ [] }
+    requires rests { flusher.world.at ≡ Resting }
+    ensures walks { D.keeps → Began J.formatted J.before flusher.opened → Walked flusher result.0 }
+    ensures process { IsSameProcess flusher result.0 }
+    ensures failures { result.0.failures ≡ failures_after (has_failed result.1) flusher.failures }
+    ensures stored { IfOk result.1 (λ next. next ≤ result.0.world.mark) }
+    ensures settled { D.keeps → Began J.formatted J.before flusher.opened
+        → IfOk result.1 (Settled J.formatted J.start job outset (input_slips outset input.now) (O.value out.old).taken (O.value out.new).taken result.0.world.journal) }
+    ensures shown { D.keeps → Began J.formatted J.before flusher.opened
+        → MayPrint J.formatted flusher result.0 outset.port outset.confirmed (O.value out.old) (O.value out.new) result.1 }
+    ensures rest { D.keeps → Began J.formatted J.before flusher.opened
+        → IfOk result.1 (λ next. SaysRest J.formatted result.0.world.journal next result.2) }
+    ensures silent { IsSilent result.1 → O.value out.new ≡ O.value out.old }
+    ensures some { IfErr result.1 (λ fault. fault ≡ RunFault.OfferRefused → 0 < length (rest_at outset input.now)) }
+    ensures begun { IfErr result.1 ComesBegun }
+{
+    let (mut flusher, done) = serve(
+        rt, alloc, job, every, outset, &net, seats, host, flusher, input, out,
+    );
+    let rest = rest_after(rt, net.shared(), &mut flusher, &done);
+    let_go(net);
+    (flusher, done, rest)
+}
 
 /// A run over the store of a device that was opened, with the parts that were made of it.
 #[inline(never)]
@@ -103,10 +154,9 @@ fn run_parts<J: Naming + Send + Sync, D: Disk + Send + Drop, O: Outlet, R: Threa
     let flusher = Flusher::over(opened, topology, store, key, raiser);
     flusher.known();
     stored_slips_are_recovered();
-    let (mut flusher, done) = serve(
-        rt, alloc, job, every, outset, &net, seats, host, flusher, input, out,
+    let (flusher, done, rest) = use_up(
+        rt, alloc, job, every, outset, net, seats, host, flusher, input, out,
     );
-    let rest = rest_after(rt, net.shared(), &mut flusher, &done);
     (flusher.into_disk(), done, rest)
 }
 

@@ -25,22 +25,35 @@ use tp_work::Seat;
 
 /// What the thread that calls does, with all that is lent to it.
 #[derive(Drop)]
-struct Leading<'r, 's, 'u, 'v, 'w, J: Naming, D: Disk, S: Sink, I: Source, L, P, R> {
+struct Leading<'r, 's, 'f, 'u, 'v, 'w, J: Naming, D: Disk, S: Sink, I: Source, L, P, R> {
     ground: Ground<'r, J, R>,
     shift: &'s Shift,
     seat: Option<Seat<J>>,
     going: Going<J>,
-    flusher: Flusher<J, D>,
+    flusher: &'f mut Flusher<J, D>,
     streams: &'u mut Streams<S, I>,
     listener: &'v mut L,
     stop: &'w mut P,
 }
 
-impl<'r, 's, 'u, 'v, 'w, J: Naming, D: Disk, S: Sink, I: Source, L: Listener, P: Stop, R: Wait> Lent
-    for Leading<'r, 's, 'u, 'v, 'w, J, D, S, I, L, P, R> {
+impl<
+    'r,
+    's,
+    'f,
+    'u,
+    'v,
+    'w,
+    J: Naming,
+    D: Disk,
+    S: Sink,
+    I: Source,
+    L: Listener,
+    P: Stop,
+    R: Wait,
+> Lent for Leading<'r, 's, 'f, 'u, 'v, 'w, J, D, S, I, L, P, R> {
     type Back = (
-        Flusher<J, D>,
         Going<J>,
+        &'f mut Flusher<J, D>,
         &'u mut Streams<S, I>,
         &'v mut L,
         &'w mut P,
@@ -52,10 +65,11 @@ impl<'r, 's, 'u, 'v, 'w, J: Naming, D: Disk, S: Sink, I: Source, L: Listener, P:
         × IfSome work.seat (λ seat. seat.hand.of ≡ Some work.ground.net.now.queue) };
 
     ghost gives = { λ work back.
-        ServedOn D.keeps J.formatted J.before (answer_failed back.5) work.flusher back.0 work.streams.now.outputs.items back.2.now.outputs.items
+        ServedOn D.keeps J.formatted J.before (answer_failed back.5) work.flusher.now back.1.now work.streams.now.outputs.items back.2.now.outputs.items
         × ServedAnswer J.start work.ground.pace.task (list_all (λ i. is_over i.ended i.is_blocked) back.2.now.inputs.items) back.5
         × IfOk back.5 (HaveLooked work.ground.pace.task (P.answers work.stop.now) (P.answers back.4.now))
         × ToldLater (length J.start.nodes) (L.told work.listener.now) (L.told back.3.now)
+        × (back.1.ghost_name ≡ work.flusher.ghost_name)
         × (back.2.ghost_name ≡ work.streams.ghost_name)
         × (back.3.ghost_name ≡ work.listener.ghost_name)
         × (back.4.ghost_name ≡ work.stop.ghost_name) };
@@ -74,19 +88,11 @@ impl<'r, 's, 'u, 'v, 'w, J: Naming, D: Disk, S: Sink, I: Source, L: Listener, P:
         } = self;
         let mut seat = seat;
         let mut going = going;
-        let mut flusher = flusher;
         let done = laps(
-            ground,
-            shift,
-            &mut seat,
-            &mut going,
-            &mut flusher,
-            streams,
-            listener,
-            stop,
+            ground, shift, &mut seat, &mut going, flusher, streams, listener, stop,
         );
         shift.crew.dismiss();
-        (flusher, going, streams, listener, stop, done)
+        (going, flusher, streams, listener, stop, done)
     }
 }
 
@@ -104,34 +110,27 @@ pub(crate) fn lead<
     ground: Ground<'_, J, R>,
     seats: Vec<Seat<J>>,
     going: Going<J>,
-    flusher: Flusher<J, D>,
+    flusher: &mut Flusher<J, D>,
     streams: &mut Streams<S, I>,
     listener: &mut L,
     stop: &mut P,
-) -> (Flusher<J, D>, Going<J>, Result<Option<Ending>, StreamFault>)
+) -> (Going<J>, Result<Option<Ending>, StreamFault>)
     requires rested { HaveRested J.start going.turns.whose going.turns.idle }
     requires seats { All (λ seat. seat.hand.of ≡ Some ground.net.now.queue) seats.items }
-    ensures served { ServedOn D.keeps J.formatted J.before (answer_failed result.2) flusher result.0 streams.old.outputs.items streams.new.outputs.items }
-    ensures answer { ServedAnswer J.start ground.entry.pace.task (list_all (λ i. is_over i.ended i.is_blocked) streams.new.inputs.items) result.2 }
-    ensures looks { IfOk result.2 (HaveLooked ground.entry.pace.task (P.answers stop.old) (P.answers stop.new)) }
+    ensures served { ServedOn D.keeps J.formatted J.before (answer_failed result.1) flusher.old flusher.new streams.old.outputs.items streams.new.outputs.items }
+    ensures answer { ServedAnswer J.start ground.entry.pace.task (list_all (λ i. is_over i.ended i.is_blocked) streams.new.inputs.items) result.1 }
+    ensures looks { IfOk result.1 (HaveLooked ground.entry.pace.task (P.answers stop.old) (P.answers stop.new)) }
     ensures told { ToldLater (length J.start.nodes) (L.told listener.old) (L.told listener.new) }
 {
     let mut seats = seats;
     let mut seat = seats.pop();
     let shift = Shift::new(ground.net.shared().nodes());
     if ground.pace.workers < 2 {
-        let (mut going, mut flusher) = (going, flusher);
+        let mut going = going;
         let done = laps(
-            ground,
-            &shift,
-            &mut seat,
-            &mut going,
-            &mut flusher,
-            streams,
-            listener,
-            stop,
+            ground, &shift, &mut seat, &mut going, flusher, streams, listener, stop,
         );
-        return (flusher, going, done);
+        return (going, done);
     }
     let leading = Leading {
         ground,
@@ -143,11 +142,12 @@ pub(crate) fn lead<
         listener,
         stop,
     };
-    let (flusher, going, streams, listener, stop, done) = go_with_workers(
+    let (going, flusher, streams, listener, stop, done) = go_with_workers(
         ground.rt, ground.net, &shift, seats, leading,
     );
+    take_back(flusher);
     take_back(streams);
     take_back(listener);
     take_back(stop);
-    (flusher, going, done)
+    (going, done)
 }

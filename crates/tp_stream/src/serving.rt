@@ -359,39 +359,39 @@ pub(crate) fn serve<
     ground: Ground<'_, J, R>,
     seats: Vec<tp_work::Seat<J>>,
     going: Going<J>,
-    flusher: Flusher<J, D>,
+    flusher: &mut Flusher<J, D>,
     streams: &mut Streams<S, I>,
     listener: &mut L,
     stop: &mut P,
-) -> (Flusher<J, D>, Result<Ended, StreamFault>)
+) -> Result<Ended, StreamFault>
     requires rested { HaveRested J.start going.turns.whose going.turns.idle }
     requires seats { All (λ seat. seat.hand.of ≡ Some ground.net.now.queue) seats.items }
-    ensures served { ServedOn D.keeps J.formatted J.before (answer_failed result.1) flusher result.0 streams.old.outputs.items streams.new.outputs.items }
-    ensures why { IfOk result.1 (λ ended. IsWhyEnded J.start ground.entry.pace.task ended.why) }
-    ensures inputs { IfOk result.1 (λ ended. LeavesNoInput (list_all (λ i. is_over i.ended i.is_blocked) streams.new.inputs.items) ended.why) }
+    ensures served { ServedOn D.keeps J.formatted J.before (answer_failed result) flusher.old flusher.new streams.old.outputs.items streams.new.outputs.items }
+    ensures why { IfOk result (λ ended. IsWhyEnded J.start ground.entry.pace.task ended.why) }
+    ensures inputs { IfOk result (λ ended. LeavesNoInput (list_all (λ i. is_over i.ended i.is_blocked) streams.new.inputs.items) ended.why) }
     ensures told { ToldLater (length J.start.nodes) (L.told listener.old) (L.told listener.new) }
-    ensures looks { IfOk result.1 (λ ended. HaveLooked ground.entry.pace.task (P.answers stop.old) (P.answers stop.new) (Some ended.why)) }
-    ensures stored { IfOk result.1 (λ ended. ended.next ≤ result.0.world.mark) }
-    ensures last { D.keeps → Began J.formatted J.before flusher.opened → IfOk result.1 (λ ended. ended.next ≡ length result.0.world.journal) }
-    ensures put { D.keeps → Began J.formatted J.before flusher.opened
-        → IfOk result.1 (λ ended. EndsPut J.formatted result.0.world.journal ended.why streams.new.outputs.items) }
-    ensures begun { IfErr result.1 CameBegun }
+    ensures looks { IfOk result (λ ended. HaveLooked ground.entry.pace.task (P.answers stop.old) (P.answers stop.new) (Some ended.why)) }
+    ensures stored { IfOk result (λ ended. ended.next ≤ flusher.new.world.mark) }
+    ensures last { D.keeps → Began J.formatted J.before flusher.old.opened → IfOk result (λ ended. ended.next ≡ length flusher.new.world.journal) }
+    ensures put { D.keeps → Began J.formatted J.before flusher.old.opened
+        → IfOk result (λ ended. EndsPut J.formatted flusher.new.world.journal ended.why streams.new.outputs.items) }
+    ensures begun { IfErr result CameBegun }
 {
     let Ground { rt, alloc, net, .. } = ground;
     let shared = net.shared();
-    let (mut there, going, last) = lead(ground, seats, going, flusher, streams, listener, stop);
+    let (going, last) = lead(ground, seats, going, flusher, streams, listener, stop);
     let rests = going.turns.is_quiet(shared.nodes());
     let why = match last {
         Ok(Some(why)) => why,
         // The loop goes on as long as nothing is answered.
-        Ok(None) => return (there, Err(StreamFault::NotStored)),
-        Err(fault) => return (there, Err(fault)),
+        Ok(None) => return Err(StreamFault::NotStored),
+        Err(fault) => return Err(fault),
     };
-    match finish(rt, alloc, shared, &mut there, why, &streams.outputs) {
+    match finish(rt, alloc, shared, flusher, why, &streams.outputs) {
         Ok(next) => {
             tell_stopped(rt, shared, why, rests, listener);
-            (there, Ok(Ended { next, why }))
+            Ok(Ended { next, why })
         }
-        Err(fault) => (there, Err(fault)),
+        Err(fault) => Err(fault),
     }
 }

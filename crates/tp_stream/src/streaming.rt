@@ -164,7 +164,7 @@ fn stream_parts<
         return (store.into_disk(), Err(StreamFault::Memory));
     };
     let (seat, steps) = (net.seat(), net.seat());
-    let flusher = Flusher::over(opened, topology, store, key, raiser);
+    let mut flusher = Flusher::over(opened, topology, store, key, raiser);
     flusher.known();
     let ground = Ground {
         rt,
@@ -173,7 +173,7 @@ fn stream_parts<
         pace,
     };
     let going = Going::new(ground, seat, steps, runs);
-    let (flusher, done) = serve(ground, seats, going, flusher, streams, listener, stop);
+    let done = serve(ground, seats, going, &mut flusher, streams, listener, stop);
     (flusher.into_disk(), done)
 }
 
@@ -257,13 +257,20 @@ pub fn stream<
         Ok(made) => made,
         Err(fault) => return (store.into_disk(), Err(fault)),
     };
-    let device = Device {
-        opened: known,
-        topology,
-        parts,
-        raiser,
-        runs,
-        store,
-    };
-    stream_parts::<Brand, D, S, I, L, P, R>(rt, alloc, task, device, streams, listener, stop)
+    stream_parts::<Brand, D, S, I, L, P, R>(
+        rt,
+        alloc,
+        task,
+        Device {
+            opened: known,
+            topology,
+            parts,
+            raiser,
+            runs,
+            store,
+        },
+        streams,
+        listener,
+        stop,
+    )
 }

@@ -7,9 +7,11 @@ ghost use Rattle.tp_stream_files.specs.Trace.{GrewAlike, bytes_given, says_end, 
 use crate::SourceFailed;
 use crate::feeds::Feed;
 use crate::trace::Trace;
+use std::alloc::{AllocError, Global};
 use tp_model::limits::MAX_HELD;
 
-/// The last bytes that came of a feed: they are kept, since a port may have no room for them yet. Those in front of them are gone.
+/// The last bytes that came of a feed: they are kept, since a port may have no room for them yet. Those in front of them are gone. They lie in
+/// memory of their own, so that nobody moves them, and a limited stack needs no room for them.
 #[derive(Drop)]
 pub(crate) struct Held {
     /// What the feed has given.
@@ -17,29 +19,29 @@ pub(crate) struct Held {
     /// The position of the first byte that is kept.
     from: u64,
     count: usize,
-    kept: [u8; MAX_HELD],
+    kept: Box<[u8; MAX_HELD]>,
     has_ended: bool,
     has_failed: bool,
-    ghost few: { count ≤ length kept },
+    ghost few: { count ≤ length kept.value },
     ghost place: { from + count ≡ length (bytes_given trace.told) },
-    ghost bytes: { take count kept ≡ drop from (bytes_given trace.told) },
+    ghost bytes: { take count kept.value ≡ drop from (bytes_given trace.told) },
     ghost ended: { has_ended ≡ true → says_end trace.told ≡ true },
     ghost failed: { says_failed trace.told ≡ true → has_failed ≡ true },
 }
 
 impl Held {
     /// Nothing has come.
-    pub(crate) fn new() -> Held
-        ensures { result.trace.told ≡ [] }
+    pub(crate) fn new(alloc: Global) -> Result<Held, AllocError>
+        ensures { IfOk result (λ held. held.trace.told ≡ []) }
     {
-        Held {
+        Ok(Held {
             trace: Trace::new(),
             from: 0,
             count: 0,
-            kept: [0u8; MAX_HELD],
+            kept: Box::new(alloc, [0u8; MAX_HELD])?,
             has_ended: false,
             has_failed: false,
-        }
+        })
     }
 
     /// Whether a byte at a position is kept or in front of those, or none comes any more.
@@ -69,7 +71,7 @@ impl Held {
     {
         self.from = behind;
         self.count = 0;
-        match feed.next(&mut self.kept) {
+        match feed.next(&mut *self.kept) {
             Ok(count) => self.take_bytes(count),
             Err(SourceFailed) => self.take_failure(),
         }
@@ -78,11 +80,12 @@ impl Held {
     /// Takes the bytes that a feed gave: the first ones of `kept`, while none counts yet; none came at the feed's end.
     #[tactic(auto, using(crate::proofs::Traces::bytes_of_gave, crate::proofs::Traces::says_end_gave, crate::proofs::Traces::says_failed_gave))]
     fn take_bytes(&mut self, count: usize)
-        requires few { count ≤ length self.old.kept }
+        requires few { count ≤ length self.old.kept.value }
         requires none { self.old.count ≡ 0 }
-        ensures { self.new.trace.told ≡ self.old.trace.told ++ Gave (take count self.old.kept) ∷ [] }
+        ensures { self.new.trace.told ≡ self.old.trace.told ++ Gave (take count self.old.kept.value) ∷ [] }
     {
-        self.trace = self.trace.gave(&self.kept[..count]);
+        let kept = self.kept.as_slice();
+        self.trace = self.trace.gave(&kept[..count]);
         self.count = count;
         self.has_ended = self.has_ended || count == 0;
     }

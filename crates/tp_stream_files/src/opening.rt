@@ -1,6 +1,6 @@
 //! How ends are opened.
 
-ghost use Rattle.std.specs.Prelude.{◌≡◌, ◌++◌, ◌∷◌, [], true, map, is_ok, string_bytes, IfErr, IfOk, OnOk};
+ghost use Rattle.std.specs.Prelude.{◌≡◌, ◌⊎◌, ◌++◌, ◌∷◌, [], true, map, is_ok, string_bytes, IfErr, IfOk, OnOk};
 ghost use Rattle.tp_stream_files.specs.Named.{inputs_named, is_standard, output_away, output_to, outputs_named};
 ghost use Rattle.tp_stream_files.specs.Opened.{IsSinkOf, IsSourceOf, IsUnread};
 ghost use Rattle.tp_stream_files.specs.Opening.{KeepsFiles, NamesPort, to_read, to_write};
@@ -162,15 +162,19 @@ fn file_source<S: EndFiles<File = F>, F: EndFile + Drop>(
 
 /// Standard input as a source, which only one may have.
 fn standard_source<'a, F: EndFile + Drop, I: Feed>(
+    alloc: Global,
     port: u8,
     feed: &mut Option<&'a mut I>,
 ) -> Result<AnySource<'a, F, I>, EndFault>
     ensures source { IfOk result IsUnread }
-    ensures fault { IfErr result (λ fault. fault ≡ EndFault.Twice port) }
+    ensures fault { IfErr result (λ fault. (fault ≡ EndFault.Twice port) ⊎ (fault ≡ EndFault.Memory)) }
 {
-    match feed.take() {
-        Some(feed) => Ok(AnySource::In(Pipe::new(feed))),
-        None => Err(EndFault::Twice(port)),
+    let Some(feed) = feed.take() else {
+        return Err(EndFault::Twice(port));
+    };
+    match Pipe::new(alloc, feed) {
+        Ok(pipe) => Ok(AnySource::In(pipe)),
+        Err(_) => Err(EndFault::Memory),
     }
 }
 
@@ -178,6 +182,7 @@ fn standard_source<'a, F: EndFile + Drop, I: Feed>(
 #[tactic(auto, using(crate::proofs::Keeping::keeps_none))]
 fn source_at<'a, S: EndFiles<File = F> + Looks, F: EndFile + Drop, I: Feed>(
     files: &mut S,
+    alloc: Global,
     end: &PortFile,
     taken: &mut Taken,
     feed: &mut Option<&'a mut I>,
@@ -188,7 +193,7 @@ fn source_at<'a, S: EndFiles<File = F> + Looks, F: EndFile + Drop, I: Feed>(
 {
     if end.is_standard() {
         taken.add(files.numbers_behind(StandardStream::In))?;
-        return standard_source(end.port, feed);
+        return standard_source(alloc, end.port, feed);
     }
     match file_source(files, end, taken) {
         Ok(file) => Ok(AnySource::File(file)),
@@ -304,7 +309,6 @@ fn outputs_of<'a, S: EndFiles<File = F> + Looks, F: EndFile + Drop, O: Write>(
 }
 
 /// Adds where the input of `port` comes from to `inputs`.
-#[inline(never)]
 fn add_input<'a, F: EndFile + Drop, I: Feed>(
     port: u8,
     source: AnySource<'a, F, I>,
@@ -320,9 +324,9 @@ fn add_input<'a, F: EndFile + Drop, I: Feed>(
 }
 
 /// Opens where an input comes from, and adds it to `inputs`.
-#[inline(never)]
 fn push_input<'a, S: EndFiles<File = F> + Looks, F: EndFile + Drop, I: Feed>(
     files: &mut S,
+    alloc: Global,
     end: &PortFile,
     taken: &mut Taken,
     feed: &mut Option<&'a mut I>,
@@ -332,13 +336,14 @@ fn push_input<'a, S: EndFiles<File = F> + Looks, F: EndFile + Drop, I: Feed>(
     ensures ports { OnOk result (map (λ i. i.port) inputs.new.items ≡ map (λ i. i.port) inputs.old.items ++ end.now.port ∷ []) }
     ensures fault { IfErr result (NamesPort end.now.port) }
 {
-    let source = source_at(files, end, taken, feed)?;
+    let source = source_at(files, alloc, end, taken, feed)?;
     add_input(end.port, source, inputs)
 }
 
 /// Opens where the inputs of ports come from, and adds each to `inputs`.
 fn push_inputs<'a, S: EndFiles<File = F> + Looks, F: EndFile + Drop, I: Feed>(
     files: &mut S,
+    alloc: Global,
     ends: &Ends,
     taken: &mut Taken,
     feed: &mut Option<&'a mut I>,
@@ -348,7 +353,7 @@ fn push_inputs<'a, S: EndFiles<File = F> + Looks, F: EndFile + Drop, I: Feed>(
     ensures ports { OnOk result (map (λ i. i.port) inputs.new.items ≡ map (λ i. i.port) inputs.old.items ++ inputs_named ends.now) }
 {
     for end in &ends.ins {
-        push_input(files, end, taken, feed, inputs)?;
+        push_input(files, alloc, end, taken, feed, inputs)?;
     }
     Ok(())
 }
@@ -365,7 +370,7 @@ fn inputs_of<'a, S: EndFiles<File = F> + Looks, F: EndFile + Drop, I: Feed>(
     ensures ports { IfOk result (λ inputs. map (λ i. i.port) inputs.items ≡ inputs_named ends.now) }
 {
     let mut inputs = Vec::new(alloc);
-    match push_inputs(files, ends, taken, &mut Some(feed), &mut inputs) {
+    match push_inputs(files, alloc, ends, taken, &mut Some(feed), &mut inputs) {
         Ok(()) => Ok(inputs),
         Err(fault) => Err(fault),
     }

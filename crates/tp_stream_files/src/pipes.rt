@@ -6,6 +6,7 @@ ghost use Rattle.tp_stream_files.specs.Trace.{GrewAlike, bytes_given, says_end, 
 use crate::SourceFailed;
 use crate::feeds::Feed;
 use crate::held::Held;
+use std::alloc::{AllocError, Global};
 
 /// A port's whole input, from a feed.
 #[derive(Drop)]
@@ -16,13 +17,13 @@ pub struct Pipe<'a, I> {
 
 impl<'a, I: Feed> Pipe<'a, I> {
     /// Nothing has come.
-    pub fn new(feed: &'a mut I) -> Pipe<'a, I>
-        ensures { result.held.trace.told ≡ [] }
+    pub fn new(alloc: Global, feed: &'a mut I) -> Result<Pipe<'a, I>, AllocError>
+        ensures { IfOk result (λ pipe. pipe.held.trace.told ≡ []) }
     {
-        Pipe {
+        Ok(Pipe {
             feed,
-            held: Held::new(),
-        }
+            held: Held::new(alloc)?,
+        })
     }
 
     /// Takes the next bytes in place of those that are kept.

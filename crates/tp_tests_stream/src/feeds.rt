@@ -4,6 +4,7 @@ ghost use Rattle.std.specs.Prelude.{None};
 
 use crate::files::Lent;
 use crossbeam_channel::{Receiver, bounded};
+use std::alloc::Global;
 use std::io;
 use std::io::{ErrorKind, Read};
 use std::rt::Clock;
@@ -104,8 +105,8 @@ fn drain<S: Source>(source: &mut S) -> Drained {
 }
 
 /// A pipe over a feed, as a source.
-fn piped<'a, I: Feed>(feed: &'a mut I) -> AnySource<'a, Lent<'a>, I> {
-    AnySource::In(Pipe::new(feed))
+fn piped<'a, I: Feed>(alloc: Global, feed: &'a mut I) -> Result<AnySource<'a, Lent<'a>, I>, Fail> {
+    Ok(AnySource::In(Pipe::new(alloc, feed)?))
 }
 
 /// Pieces, whether a read fails behind the bytes, and what comes; a piece of no bytes is the end.
@@ -140,43 +141,47 @@ const FAILED: Drained = Drained {
 
 /// A feed's bytes don't depend on the pieces in which they come, and a read that fails is no end.
 #[test]
-fn pieces_are_put_together(rt: HostRuntime) {
+fn pieces_are_put_together(rt: HostRuntime) -> Result<(), Fail> {
     for (piece, fails, wanted) in CASES {
         let mut feed = Plain::new(Numbered::new(*piece, *fails));
-        assert!(rt; drain(&mut piped(&mut feed)) == *wanted);
+        assert!(rt; drain(&mut piped(rt.alloc(), &mut feed)?) == *wanted);
     }
+    Ok(())
 }
 
 /// The bytes that a thread of its own reads don't depend on the pieces in which they come, either.
 #[test]
-fn pieces_of_a_thread_are_put_together(rt: HostRuntime) {
+fn pieces_of_a_thread_are_put_together(rt: HostRuntime) -> Result<(), Fail> {
     for (piece, fails, wanted) in CASES {
         let mut feed = Threaded::new(rt, Some(Numbered::new(*piece, *fails)));
-        assert!(rt; drain(&mut piped(&mut feed)) == *wanted);
+        assert!(rt; drain(&mut piped(rt.alloc(), &mut feed)?) == *wanted);
     }
+    Ok(())
 }
 
 /// With no reader a read fails.
 #[test]
-fn no_reader_is_no_end(rt: HostRuntime) {
+fn no_reader_is_no_end(rt: HostRuntime) -> Result<(), Fail> {
     let none: Option<Numbered> = None;
     let mut feed = Threaded::new(rt, none);
     assert!(rt; !feed.would_wait(0) && !feed.would_wait(1));
-    let drained = drain(&mut piped(&mut feed));
+    let drained = drain(&mut piped(rt.alloc(), &mut feed)?);
     assert!(rt; drained.count == 0 && !drained.has_ended);
+    Ok(())
 }
 
 /// Bytes that were passed over are gone: a read from their position fails, and gives no others.
 #[test]
-fn bytes_that_are_gone_are_not_given(rt: HostRuntime) {
+fn bytes_that_are_gone_are_not_given(rt: HostRuntime) -> Result<(), Fail> {
     let mut feed = Plain::new(Numbered::new(7, false));
-    let mut source = piped(&mut feed);
+    let mut source = piped(rt.alloc(), &mut feed)?;
     let mut out = [0u8; 3];
     assert!(rt; !source.would_wait(7_994, 0));
     assert!(rt; matches!(source.read(7_994, &mut out), Ok(3)) && are_from(7_994, &out));
     assert!(rt; source.read(7_000, &mut out).is_err());
     assert!(rt; matches!(source.read(7_995, &mut out), Ok(3)) && are_from(7_995, &out));
     assert!(rt; matches!(source.read(TOTAL as u64, &mut out), Ok(0)));
+    Ok(())
 }
 
 /// A feed of such a reader: its pieces come while they are waited for, and not before. It adds up for how many milliseconds they were.
@@ -200,25 +205,26 @@ impl Feed for Slow {
 }
 
 /// Whether a byte behind six pieces is there once each of seven was waited for by itself, and no longer than it was asked to.
-fn waits_once_a_piece(feed: &mut Slow) -> bool {
-    let mut source: AnySource<'_, Lent<'_>, Slow> = AnySource::In(Pipe::new(feed));
+fn waits_once_a_piece(alloc: Global, feed: &mut Slow) -> Result<bool, Fail> {
+    let mut source = piped(alloc, feed)?;
     for _ in 0..6 {
         if !source.would_wait(42, 20) {
-            return false;
+            return Ok(false);
         }
     }
-    !source.would_wait(42, 20)
+    Ok(!source.would_wait(42, 20))
 }
 
 /// Where bytes are passed over each call waits for one piece alone: so what else is to be done meanwhile isn't kept waiting.
 #[test]
-fn bytes_that_are_passed_over_are_waited_for_by_pieces(rt: HostRuntime) {
+fn bytes_that_are_passed_over_are_waited_for_by_pieces(rt: HostRuntime) -> Result<(), Fail> {
     let mut feed = Slow {
         below: Plain::new(Numbered::new(7, false)),
         waited: 0,
     };
-    let is_there = waits_once_a_piece(&mut feed);
+    let is_there = waits_once_a_piece(rt.alloc(), &mut feed)?;
     assert!(rt; is_there && feed.waited == 140);
+    Ok(())
 }
 
 /// A reader of numbered bytes that waits before the first one until it is told.

@@ -8,14 +8,18 @@ pub mod Shown
 pub mod JsonShow
 pub mod Opens
 pub mod Parts
+pub mod Entries
+pub mod JsonEntries
+pub mod JournalText
+pub mod EntriesTraced
+pub mod Done
+pub mod NodeDone
+pub mod TimeOfDay
 pub mod Status
 pub mod JsonStatus
 pub mod NodeText
 pub mod JsonNode
 pub mod JsonPort
-pub mod Entries
-pub mod JsonEntries
-pub mod JournalText
 pub mod Scene
 pub mod Why
 pub mod Cycles
@@ -34,5 +38,4 @@ pub mod Attempt
 pub mod Stops
 pub mod Placing
 pub mod Traced
-pub mod EntriesTraced
 pub mod EntrySteps

@@ -12,7 +12,6 @@ use Rattle.tp_run.specs.Outset.{outset_in}
 use Rattle.tp_run.specs.declared.outset.Outset.{Outset}
 use Rattle.tp_run.specs.Ran.{RanInto, Settled}
 use Rattle.tp_run.specs.Shown.{MayPrint}
-use Rattle.tp_flush.specs.Flushing.{Flushing}
 use Rattle.tp_run.specs.Failures.{failures_after, has_failed}
 use Rattle.tp_run.proofs.Failures.{uncounted}
 use Rattle.tp_run.proofs.Rested.{served_rests}
@@ -39,11 +38,11 @@ returns-clause-called g c k began =
     let job = c.args.job in
     let input = c.args.input.now in
     let was = g.O.Outlet.value c.args.out.now in
-    let now = g.O.Outlet.value c.serve-flusher.new.out in
+    let now = g.O.Outlet.value c.use_up-flusher.new.out in
     let opened = c.args.opened.value in
     let old = c.over-flusher.result in
-    let new = c.serve-flusher.result.0 in
-    let done = c.serve-flusher.result.1 in
+    let new = c.use_up-flusher.result.0 in
+    let done = c.use_up-flusher.result.1 in
     let before = g.J.Naming.before in
     let first : Began start before old.opened = subst (Began start before) (sym c.over-flusher.ensures.opened) began in
     let device = sym c.over-flusher.ensures.device.0 in
@@ -53,11 +52,11 @@ returns-clause-called g c k began =
     let reads : verdict old.state.now.bytes ≡ Ok opened = subst (λ (s : State). verdict s.now.bytes ≡ Ok opened) device (c.requires.read k) in
     let settled =
     subst (λ (s : Network NodeState). IfOk done (Settled start s job (outset_in opened job.port) (input_slips (outset_in opened job.port) input) was.taken now.taken new.world.journal)) c.requires.network
-    (subst (λ u. IfOk done (Settled start g.J.Naming.start job u (input_slips u input) was.taken now.taken new.world.journal)) c.requires.outset (c.serve-flusher.ensures.settled k first)) in
-    let shown = subst (λ (u : Outset). MayPrint start old new u.port u.confirmed was now done) c.requires.outset (c.serve-flusher.ensures.shown k first) in
+    (subst (λ u. IfOk done (Settled start g.J.Naming.start job u (input_slips u input) was.taken now.taken new.world.journal)) c.requires.outset (c.use_up-flusher.ensures.settled k first)) in
+    let shown = subst (λ (u : Outset). MayPrint start old new u.port u.confirmed was now done) c.requires.outset (c.use_up-flusher.ensures.shown k first) in
     let ran : RanInto start job input was now done old.state new.state =
-    served_ran c.stored_slips_are_recovered.ensures start before opened job input was now old new done there reads world (c.serve-flusher.ensures.walks k first) c.serve-flusher.ensures.stored settled shown in
-    subst (λ s. RanInto start job input was now done (g.D.Disk.state c.args.store.disk) s) (sym (c.into_disk-2.ensures.state ∙ ap (λ (f : Flushing). f.state) c.rest_after-rest.ensures.same)) (subst (λ s. RanInto start job input was now done s new.state) c.over-flusher.ensures.device.0 ran)
+    served_ran c.stored_slips_are_recovered.ensures start before opened job input was now old new done there reads world (c.use_up-flusher.ensures.walks k first) c.use_up-flusher.ensures.stored settled shown in
+    subst (λ s. RanInto start job input was now done (g.D.Disk.state c.args.store.disk) s) (sym c.into_disk-2.ensures.state) (subst (λ s. RanInto start job input was now done s new.state) c.over-flusher.ensures.device.0 ran)
 
 -- ## What is left to do
 
@@ -66,36 +65,35 @@ returns-clause-rest g c k began =
     let start = g.J.Naming.formatted in
     let opened = c.args.opened.value in
     let old = c.over-flusher.result in
-    let new = c.serve-flusher.result.0 in
-    let done = c.serve-flusher.result.1 in
+    let new = c.use_up-flusher.result.0 in
+    let done = c.use_up-flusher.result.1 in
     let before = g.J.Naming.before in
-    let rest = c.rest_after-rest.result in
+    let rest = c.use_up-flusher.result.2 in
     let first : Began start before old.opened = subst (Began start before) (sym c.over-flusher.ensures.opened) began in
     let device = sym c.over-flusher.ensures.device.0 in
     let there : Began start before old.state.now.bytes = subst (λ (s : State). Began start before s.now.bytes) device began in
     let world : old.world ≡ reopened before old.state.now.bytes (held_of opened) opened.now =
     subst (λ (s : State). old.world ≡ reopened before s.now.bytes (held_of opened) opened.now) device c.over-flusher.ensures.world in
     let reads : verdict old.state.now.bytes ≡ Ok opened = subst (λ (s : State). verdict s.now.bytes ≡ Ok opened) device (c.requires.read k) in
-    let later : Began start before new.opened = subst (Began start before) (sym c.serve-flusher.ensures.process.opened) first in
-    let rests = served_rests start before opened old new rest done there reads world (c.serve-flusher.ensures.walks k first) c.serve-flusher.ensures.stored (c.rest_after-rest.ensures.says k later) in
-    subst (λ s. IfOk done (λ next. RestsAt start rest next (g.D.Disk.state c.args.store.disk) s)) (sym (c.into_disk-2.ensures.state ∙ ap (λ (f : Flushing). f.state) c.rest_after-rest.ensures.same))
+    let rests = served_rests start before opened old new rest done there reads world (c.use_up-flusher.ensures.walks k first) c.use_up-flusher.ensures.stored (c.use_up-flusher.ensures.rest k first) in
+    subst (λ s. IfOk done (λ next. RestsAt start rest next (g.D.Disk.state c.args.store.disk) s)) (sym c.into_disk-2.ensures.state)
     (subst (λ s. IfOk done (λ next. RestsAt start rest next s new.state)) c.over-flusher.ensures.device.0 rests)
 
-pub serve-flusher-requires-clause-seats : goal.serve-flusher-requires-clause-seats
-serve-flusher-requires-clause-seats g c κs within =
+pub use_up-flusher-requires-clause-seats : goal.use_up-flusher-requires-clause-seats
+use_up-flusher-requires-clause-seats g c κs within =
     subst (λ queue. All (λ seat. (seat.hand.of ≡ Some queue) × (seat.slips ≡ [])) c.in-Ok.seats.items) (sym c.seat-host.ensures.same.1) c.in-Ok.ensures.seats
 
-pub serve-flusher-requires-clause-first : goal.serve-flusher-requires-clause-first
-serve-flusher-requires-clause-first g c κs within = ap (λ (u : Outset). u.next) c.requires.outset ∙ sym c.requires.stands.first ∙ c.requires.names.first_is
+pub use_up-flusher-requires-clause-first : goal.use_up-flusher-requires-clause-first
+use_up-flusher-requires-clause-first g c κs within = ap (λ (u : Outset). u.next) c.requires.outset ∙ sym c.requires.stands.first ∙ c.requires.names.first_is
 
 -- ## How many calls of the device have failed
 
-pub serve-flusher-requires-clause-rests : goal.serve-flusher-requires-clause-rests
-serve-flusher-requires-clause-rests g c κs within = ap (λ (w : World NodeState). w.at) c.over-flusher.ensures.world
+pub use_up-flusher-requires-clause-rests : goal.use_up-flusher-requires-clause-rests
+use_up-flusher-requires-clause-rests g c κs within = ap (λ (w : World NodeState). w.at) c.over-flusher.ensures.world
 
 pub returns-in_default-clause-failures : goal.returns-in_default-clause-failures
 returns-in_default-clause-failures g c = uncounted _ _ false refl (ap g.D.Disk.failures_of c.into_disk.ensures)
 
 pub returns-clause-failures : goal.returns-clause-failures
 returns-clause-failures g c =
-    c.into_disk-2.ensures.failures ∙ ap (λ (f : Flushing). f.failures) c.rest_after-rest.ensures.same ∙ subst (λ n. c.serve-flusher.result.0.failures ≡ failures_after (has_failed c.serve-flusher.result.1) n) c.over-flusher.ensures.device.2 c.serve-flusher.ensures.failures
+    c.into_disk-2.ensures.failures ∙ subst (λ n. c.use_up-flusher.result.0.failures ≡ failures_after (has_failed c.use_up-flusher.result.1) n) c.over-flusher.ensures.device.2 c.use_up-flusher.ensures.failures

@@ -25,35 +25,35 @@ returns-clause-streamed g c k began =
     let before = g.J.Naming.before in
     let o = c.args.device.opened.value in
     let old = c.over-flusher.result in
-    let new = c.serve-flusher.result.0 in
-    let done = c.serve-flusher.result.1 in
+    let new = c.serve-done.new.flusher in
+    let done = c.serve-done.result in
     let device = sym c.over-flusher.ensures.device.0 in
     let first : Began start before old.opened = subst (Began start before) (sym c.over-flusher.ensures.opened) began in
     let there : Began start before old.state.now.bytes = subst (λ (s : State). Began start before s.now.bytes) device began in
     let reads : verdict old.state.now.bytes ≡ Ok o = subst (λ (s : State). verdict s.now.bytes ≡ Ok o) device (c.requires.read k) in
     let world : old.world ≡ reopened before old.state.now.bytes (held_of o) o.now = subst (λ (s : State). old.world ≡ reopened before s.now.bytes (held_of o) o.now) device c.over-flusher.ensures.world in
     let was = c.args.streams.now.outputs.items in
-    let now = c.serve-flusher.new.streams.outputs.items in
-    let S = c.serve-flusher.ensures in
+    let now = c.serve-done.new.streams.outputs.items in
+    let S = c.serve-done.ensures in
     subst (λ s. ServedInto start (next_of o) done was now (g.D.Disk.state c.args.device.store.disk) s) (sym c.into_disk-2.ensures.state)
     (subst (λ s. ServedInto start (next_of o) done was now s new.state) c.over-flusher.ensures.device.0
     (served start before o old new done there reads world (c.known.ensures.reached k first) (S.served.walks k first) S.stored (S.last k first) was now (S.served.put k first) (S.put k first)))
 
 pub returns-clause-why : goal.returns-clause-why
 returns-clause-why g c =
-    all_asked g.J.Naming.start c.args.task c.serve-flusher.result.1
-    (subst (λ task. IfOk c.serve-flusher.result.1 (λ ended. IsWhyEnded g.J.Naming.start task ended.why)) c.pace_of-pace.ensures.task c.serve-flusher.ensures.why)
+    all_asked g.J.Naming.start c.args.task c.serve-done.result
+    (subst (λ task. IfOk c.serve-done.result (λ ended. IsWhyEnded g.J.Naming.start task ended.why)) c.pace_of-pace.ensures.task c.serve-done.ensures.why)
 
 pub returns-clause-looks : goal.returns-clause-looks
 returns-clause-looks g c =
     let old = g.P.Stop.answers c.args.stop.now in
-    let new = g.P.Stop.answers c.serve-flusher.new.stop in
-    subst (λ task. IfOk c.serve-flusher.result.1 (λ ended. HaveLooked task old new (Some ended.why))) c.pace_of-pace.ensures.task c.serve-flusher.ensures.looks
+    let new = g.P.Stop.answers c.serve-done.new.stop in
+    subst (λ task. IfOk c.serve-done.result (λ ended. HaveLooked task old new (Some ended.why))) c.pace_of-pace.ensures.task c.serve-done.ensures.looks
 
 pub returns-clause-told : goal.returns-clause-told
 returns-clause-told g c =
     let many = nodes_of c.args.device.opened.value c.args.device.parts.book g.J.Naming.start c.requires.stands.book c.requires.cut c.requires.names.count_is ∙ ap node_count (sym c.requires.topology) in
-    subst (λ n. ToldLater n (g.L.Listener.told c.args.listener.now) (g.L.Listener.told c.serve-flusher.new.listener)) many c.serve-flusher.ensures.told
+    subst (λ n. ToldLater n (g.L.Listener.told c.args.listener.now) (g.L.Listener.told c.serve-done.new.listener)) many c.serve-done.ensures.told
 
 pub returns-clause-quiet : goal.returns-clause-quiet
 returns-clause-quiet g c =
@@ -61,19 +61,19 @@ returns-clause-quiet g c =
     let b = c.args.device.parts.book in
     let start = g.J.Naming.start in
     let N = c.requires.names in
-    let done = c.serve-flusher.result.1 in
+    let done = c.serve-done.result in
     subst (λ t. IfOk done (λ ended. LeavesNothingToDo t ended.why)) (sym c.requires.topology)
     (all_left start o.head.topology c.pace_of-pace.result.task done (nodes_of o b start c.requires.stands.book c.requires.cut N.count_is)
-    (ports_of o b start c.requires.stands.ports N.ports_are) (wires_of o b start c.requires.stands.book c.requires.cut N.wires_are) c.serve-flusher.ensures.why)
+    (ports_of o b start c.requires.stands.ports N.ports_are) (wires_of o b start c.requires.stands.book c.requires.cut N.wires_are) c.serve-done.ensures.why)
 
 pub returns-clause-failures : goal.returns-clause-failures
 returns-clause-failures g c =
-    let done = c.serve-flusher.result.1 in
-    let F = c.serve-flusher.ensures.served.failures (ap (λ (w : World NodeState). w.at) c.over-flusher.ensures.world) in
+    let done = c.serve-done.result in
+    let F = c.serve-done.ensures.served.failures (ap (λ (w : World NodeState). w.at) c.over-flusher.ensures.world) in
     c.into_disk-2.ensures.failures ∙ F.calls ∙ ap (λ n. calls_failed (answer_failed done) n) c.over-flusher.ensures.device.2
 
-pub serve-flusher-requires-clause-seats : goal.serve-flusher-requires-clause-seats
-serve-flusher-requires-clause-seats g c κs within k d there =
+pub serve-done-requires-clause-seats : goal.serve-done-requires-clause-seats
+serve-done-requires-clause-seats g c κs within k d there =
     (c.in-Ok.ensures.seats k d there).0 ∙ ap Some (sym (c.seat-steps.ensures.same.1 ∙ c.seat-seat.ensures.same.1))
 
 -- ## Where there is no memory for workers

@@ -1,0 +1,30 @@
+use Rattle.std.proofs.Common.{refl, sym, ap, subst, ◌∙◌, IfOk}
+use Rattle.tp_flush.specs.Known.{Began}
+use Rattle.tp_flush.specs.Flushing.{Flushing, Walked}
+use Rattle.tp_run.specs.Input.{input_slips}
+use Rattle.tp_run.specs.Ran.{Settled}
+use Rattle.tp_run.specs.Rested.{SaysRest}
+use Rattle.tp_run.specs.Shown.{MayPrint}
+use Rattle.tp_run.proofs.running.use_up.Goals as goal
+
+pub returns-clause-walks : goal.returns-clause-walks
+returns-clause-walks g c k began =
+    subst (λ (f : Flushing). Walked c.args.flusher f) (sym c.rest_after-rest.ensures.same) (c.serve-flusher.ensures.walks k began)
+
+pub returns-clause-settled : goal.returns-clause-settled
+returns-clause-settled g c k began =
+    subst (λ (f : Flushing). IfOk c.serve-flusher.result.1 (Settled g.J.Naming.formatted g.J.Naming.start c.args.job c.args.outset (input_slips c.args.outset c.args.input.now) (g.O.Outlet.value c.args.out.now).taken (g.O.Outlet.value c.serve-flusher.new.out).taken f.world.journal))
+    (sym c.rest_after-rest.ensures.same) (c.serve-flusher.ensures.settled k began)
+
+pub returns-clause-shown : goal.returns-clause-shown
+returns-clause-shown g c k began =
+    subst (λ (f : Flushing). MayPrint g.J.Naming.formatted c.args.flusher f c.args.outset.port c.args.outset.confirmed (g.O.Outlet.value c.args.out.now) (g.O.Outlet.value c.serve-flusher.new.out) c.serve-flusher.result.1)
+    (sym c.rest_after-rest.ensures.same) (c.serve-flusher.ensures.shown k began)
+
+pub returns-clause-rest : goal.returns-clause-rest
+returns-clause-rest g c k began =
+    subst (λ (f : Flushing). IfOk c.serve-flusher.result.1 (λ next. SaysRest g.J.Naming.formatted f.world.journal next c.rest_after-rest.result)) (sym c.rest_after-rest.ensures.same)
+    (c.rest_after-rest.ensures.says k (subst (Began g.J.Naming.formatted g.J.Naming.before) (sym c.serve-flusher.ensures.process.opened) began))
+
+pub returns-clause-failures : goal.returns-clause-failures
+returns-clause-failures g c = ap (λ (f : Flushing). f.failures) c.rest_after-rest.ensures.same ∙ c.serve-flusher.ensures.failures
