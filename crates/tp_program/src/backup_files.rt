@@ -151,8 +151,8 @@ fn fill_part<D: Disk, F: FileExt + OpenFile + Drop, E: Write>(
     }
 }
 
-/// Gives the file that is named by the one name the other, too. The kit's call takes 16 kB of the stack, four times the longest path, so it is
-/// alone here, and never inlined.
+/// Gives the copy's file its second name. The kit's call has two buffers of 4,096 bytes for each path on the stack, so it is alone here, and never
+/// inlined.
 #[inline(never)]
 fn link_names<R: Files>(rt: &R, names: &Names<'_>) -> io::Result<()> {
     fs::hard_link(rt, names.part, names.copy)
