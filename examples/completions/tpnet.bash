@@ -1,5 +1,6 @@
-# Completes what is typed behind `tpnet` in bash: commands, their options, and files. What there is comes from `tpnet --help` and
-# `tpnet COMMAND --help`. For one shell: `. examples/completions/tpnet.bash`.
+# Completes what is typed after `tpnet` in bash: commands, their options, and files; and after `tpnet-assemble` and its siblings: their
+# options, the shapes of `tpnet-topology`, and files. What there is comes from the `--help` of each. For one shell:
+# `. examples/completions/tpnet.bash`.
 
 # The commands, one a line.
 _tpnet_commands() {
@@ -25,4 +26,26 @@ _tpnet() {
     fi
 }
 
+# The options of a sibling that its usage names, one a line.
+_tpnet_tool_options() {
+    "$1" --help 2>/dev/null | sed -n '/^usage: /,/^$/p' | grep -o -- '--[a-z-]\{1,\}'
+    echo --help
+}
+
+# The shapes of a network, one a line.
+_tpnet_shapes() {
+    "$1" --help 2>/dev/null | sed -n 's/^ \{4\}\([a-z]\{1,\}\) [A-Z].*/\1/p'
+}
+
+_tpnet_tool() {
+    local word=${COMP_WORDS[COMP_CWORD]} program=${COMP_WORDS[0]}
+    COMPREPLY=()
+    if [ "${word#-}" != "$word" ]; then
+        COMPREPLY=($(compgen -W "$(_tpnet_tool_options "$program")" -- "$word"))
+    elif [ "$COMP_CWORD" -eq 1 ] && [ "${program##*/}" = tpnet-topology ]; then
+        COMPREPLY=($(compgen -W "$(_tpnet_shapes "$program")" -- "$word"))
+    fi
+}
+
 complete -o default -F _tpnet tpnet
+complete -o default -F _tpnet_tool tpnet-assemble tpnet-list-image tpnet-make-image tpnet-plot-run tpnet-topology

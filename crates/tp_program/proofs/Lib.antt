@@ -1,5 +1,7 @@
 mod Commands
 pub mod Ends
 pub mod Histories
+mod ImagesRead
+mod Requests
 mod Statuses
 mod Stayed

@@ -9,4 +9,5 @@ pub mod Stops
 pub mod RunFile
 pub mod CompactFile
 pub mod StreamFile
+pub mod Uses
 pub mod Answers

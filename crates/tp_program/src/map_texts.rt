@@ -1,5 +1,7 @@
 //! The texts of the maps of a device's nodes, from the files of a folder.
 
+ghost use Rattle.std.specs.Prelude.{◌≡◌, [], IfOk, None};
+
 use crate::files::read_file;
 use std::alloc::Global;
 use std::fs::Files;
@@ -14,7 +16,10 @@ pub(crate) struct MapTexts {
 }
 
 /// No map.
-fn no_texts(alloc: Global) -> MapTexts {
+fn no_texts(alloc: Global) -> MapTexts
+    ensures own { result.own.items ≡ [] }
+    ensures all { result.all.items ≡ [] }
+{
     MapTexts {
         own: Vec::new(alloc),
         all: Vec::new(alloc),
@@ -74,10 +79,13 @@ fn read_folder<R: Files + AllocGlobal>(rt: &R, folder: &str) -> Result<MapTexts,
 /// Reads the maps of a folder, if one is named.
 pub(crate) fn read_texts<R: Files + AllocGlobal>(
     rt: &R,
-    folder: Option<&str>,
-) -> Result<MapTexts, Refusal> {
+    folder: &Option<String>,
+) -> Result<MapTexts, Refusal>
+    ensures own { folder.now ≡ None → IfOk result (λ texts. texts.own.items ≡ []) }
+    ensures all { folder.now ≡ None → IfOk result (λ texts. texts.all.items ≡ []) }
+{
     match folder {
-        Some(folder) => read_folder(rt, folder),
+        Some(folder) => read_folder(rt, folder.as_str()),
         None => Ok(no_texts(rt.alloc())),
     }
 }

@@ -8,6 +8,9 @@ pub trait Watch {
     /// How many milliseconds have gone by since some start.
     fn now(&mut self) -> u64;
 
+    /// How many seconds have gone by since 1970, if that is known.
+    fn clock(&mut self) -> Option<u64>;
+
     /// Waits `seconds`. Answers whether a further look is wanted.
     fn pause(&mut self, seconds: u32) -> bool;
 }

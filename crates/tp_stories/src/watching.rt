@@ -6,6 +6,9 @@ use std::fs::Files;
 use std::{fs, io};
 use tp_program::Watch;
 
+/// How many seconds have gone by since 1970 at a first look: it is 01:46:40 in UTC.
+const START: u64 = 1_000_000_000;
+
 /// Another process that has the device at which `status` looks, where there is one; behind how many looks `status` takes a further one; and
 /// the file that the process moves to `device` behind the first look, as if it had gone on.
 #[derive(Drop)]
@@ -65,6 +68,10 @@ impl<'a, R: Files> Watch for Watcher<'a, R> {
 
     fn now(&mut self) -> u64 {
         self.now
+    }
+
+    fn clock(&mut self) -> Option<u64> {
+        Some(START.saturating_add(self.now / 1000))
     }
 
     fn pause(&mut self, seconds: u32) -> bool {

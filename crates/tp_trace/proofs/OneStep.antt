@@ -1,8 +1,8 @@
 -- A run of one step at most.
-use Rattle.std.proofs.Common.{◌≡◌, ◌∙◌, ℕ, zero, suc, List, [], ◌++◌, Option, Some, None, ap, append-nil, arith, nat_eq, sym, slice_get}
+use Rattle.std.proofs.Common.{◌≡◌, ◌∙◌, ℕ, zero, suc, List, [], ◌++◌, Some, None, ap, append-nil, arith, nat_eq, sym, slice_get}
 use Rattle.std.specs.Option.{option_map}
 use Rattle.tp_law_machine.proofs.Partial.{bind_some}
-use Rattle.tp_model.specs.Network.{steps, ◌>>=◌}
+use Rattle.tp_model.specs.Network.{steps}
 use Rattle.tp_model.specs.Node.{node_step, t414}
 use Rattle.tp_model.specs.NodeState.{NodeState}
 use Rattle.tp_model.specs.declared.link.Token.{Token}

@@ -63,17 +63,13 @@ abbrev pub sent_text : Option (ℕ × Token) → List ℕ
 sent_text None = []
 sent_text (Some sent) = codes " sends " ++ (decimal sent.0 ++ (codes " " ++ token_text sent.1))
 
--- what leaves ends a line
-abbrev pub line_end : Option (ℕ × Token) → List ℕ
-line_end sent = sent_text sent ++ 10 ∷ []
-
--- the line of the step of a number
-abbrev pub step_line : ℕ → Seen → List ℕ
-step_line number seen = step_front number seen.at ++ (act_text seen.act ++ (cpu_text seen.cpu ++ line_end seen.sent))
+-- the step of a number, as the front of a line
+abbrev pub step_text : ℕ → Seen → List ℕ
+step_text number seen = step_front number seen.at ++ (act_text seen.act ++ (cpu_text seen.cpu ++ sent_text seen.sent))
 
 -- the line of a token that comes in
 abbrev pub take_line : Heard → List ℕ
-take_line heard = codes "takes " ++ (decimal heard.link ++ (codes " " ++ (token_text heard.token ++ line_end heard.sent)))
+take_line heard = codes "takes " ++ (decimal heard.link ++ (codes " " ++ (token_text heard.token ++ (sent_text heard.sent ++ 10 ∷ []))))
 
 -- how a node stands that has no step
 abbrev pub stop_line : Standing → List ℕ

@@ -1,13 +1,13 @@
 //! Steps as lines.
 
-ghost use Rattle.std.specs.Prelude.{◌≡◌, ◌++◌, IfOk, OnOk, Some, string_bytes};
-ghost use Rattle.tp_trace.specs.Lines.{act_text, cpu_text, error_text, function_text, line_end, operation_text, sent_text, step_front, step_line, stop_line, take_line, token_text};
+ghost use Rattle.std.specs.Prelude.{◌≡◌, ◌++◌, OnOk, Some, string_bytes};
+ghost use Rattle.tp_trace.specs.Lines.{act_text, cpu_text, error_text, function_text, operation_text, sent_text, step_front, step_text, stop_line, take_line, token_text};
 
 use crate::act::Act;
 use crate::hearing::Heard;
 use crate::names::{fault_name, fun_name, op_name, state_name};
 use crate::stepping::Seen;
-use std::alloc::{AllocError, Global};
+use std::alloc::AllocError;
 use std::fmt::Write;
 use tp_cpu::op_at;
 use tp_model::{Cpu, Fun, Instr, Op, Token};
@@ -100,22 +100,14 @@ fn push_sent(text: &mut String, sent: Option<(u8, Token)>) -> Result<(), AllocEr
     }
 }
 
-/// Appends what leaves, and ends a line.
-fn push_end(text: &mut String, sent: Option<(u8, Token)>) -> Result<(), AllocError>
-    ensures { OnOk result (string_bytes text.new ≡ string_bytes text.old ++ line_end sent) }
-{
-    push_sent(text, sent)?;
-    text.push_str("\n")
-}
-
-/// Appends the line of the step of a number.
+/// Appends the step of a number, as the front of a line.
 pub fn push_step(text: &mut String, number: u64, seen: Seen) -> Result<(), AllocError>
-    ensures { OnOk result (string_bytes text.new ≡ string_bytes text.old ++ step_line number seen) }
+    ensures { OnOk result (string_bytes text.new ≡ string_bytes text.old ++ step_text number seen) }
 {
     push_front(text, number, seen.at)?;
     push_act(text, seen.act)?;
     push_cpu(text, seen.cpu)?;
-    push_end(text, seen.sent)
+    push_sent(text, seen.sent)
 }
 
 /// Appends the line of a token that comes in.
@@ -125,19 +117,12 @@ pub fn push_take(text: &mut String, heard: Heard) -> Result<(), AllocError>
     let link = heard.link;
     write!(text, "takes {link} ")?;
     push_token(text, heard.token)?;
-    push_end(text, heard.sent)
+    push_sent(text, heard.sent)?;
+    text.push_str("\n")
 }
 
-/// The line of the step of a number.
-pub fn step_line(alloc: Global, number: u64, seen: Seen) -> Result<String, AllocError>
-    ensures { IfOk result (λ text. string_bytes text ≡ step_line number seen) }
-{
-    let mut text = String::new(alloc);
-    push_step(&mut text, number, seen)?;
-    Ok(text)
-}
-
-fn push_stop(text: &mut String, standing: Standing) -> Result<(), AllocError>
+/// Appends the line of a node that has no step, by how it stands.
+pub fn push_stop(text: &mut String, standing: Standing) -> Result<(), AllocError>
     ensures { OnOk result (string_bytes text.new ≡ string_bytes text.old ++ stop_line standing) }
 {
     match standing {
@@ -148,13 +133,4 @@ fn push_stop(text: &mut String, standing: Standing) -> Result<(), AllocError>
         Standing::Waits => text.push_str("waits\n"),
         Standing::Free => text.push_str("idle\n"),
     }
-}
-
-/// The line of a node that has no step, by how it stands.
-pub fn stop_line(alloc: Global, standing: Standing) -> Result<String, AllocError>
-    ensures { IfOk result (λ text. string_bytes text ≡ stop_line standing) }
-{
-    let mut text = String::new(alloc);
-    push_stop(&mut text, standing)?;
-    Ok(text)
 }

@@ -1,15 +1,17 @@
 //! Looking at a node: its processor, and what its next step does.
 
 ghost use Rattle.std.specs.Int.{from_le_bytes, w32};
-ghost use Rattle.std.specs.Prelude.{◌≡◌, Some, None, drop, slice_range};
+ghost use Rattle.std.specs.Prelude.{◌≡◌, Some, None, [], IfOk, OnOk, drop, slice_range};
 ghost use Rattle.tp_law_machine.specs.NodeOfBytes.{IsNodeOfBytes};
 ghost use Rattle.tp_model.specs.Coding.{decoded};
 ghost use Rattle.tp_model.specs.Memory.{byte_at, offset, word_at};
 ghost use Rattle.tp_model.specs.Processor.{kept_at};
 ghost use Rattle.tp_trace.specs.Act.{act_in, act_of, idle_act, instruction_act, low_act};
+ghost use Rattle.tp_trace.specs.Stops.{instruction_at, instruction_in, memory_of};
 
 use crate::act::Act;
 use crate::fields::cpu_in;
+use std::alloc::{AllocError, Global};
 use tp_cpu::Decoder;
 use tp_model::limits::{IMAGE_HEAD_BYTES, PAGE_BYTES};
 use tp_model::{Cpu, DecodeFault, Instr, State};
@@ -152,4 +154,74 @@ pub fn look(node: &mut Node) -> Moment
     let look = look_at(node);
     node.drop_frozen();
     look
+}
+
+/// The processor of a node, which is frozen meanwhile.
+pub fn cpu_now(node: &mut Node) -> Cpu
+    requires thawed { node.old.frozen ≡ None }
+    requires bytes { IsNodeOfBytes node.old.live }
+    ensures cpu { result ≡ node.old.live.cpu }
+    ensures same { node.new ≡ node.old }
+{
+    look(node).cpu
+}
+
+/// Where the instruction is that a process of a node makes next, if the next step is one.
+fn instruction_in(moment: Moment) -> Option<u32>
+    ensures { result ≡ instruction_in moment.act moment.cpu }
+{
+    match (moment.act, moment.cpu.halt) {
+        (Act::Instruction(_), None) => Some(moment.cpu.iptr),
+        _ => None,
+    }
+}
+
+/// Where the instruction is that a process of a node makes next, if the next step is one. The node is frozen meanwhile.
+pub fn instruction_at(node: &mut Node) -> Option<u32>
+    requires thawed { node.old.frozen ≡ None }
+    requires bytes { IsNodeOfBytes node.old.live }
+    ensures at { result ≡ instruction_at node.old.live }
+    ensures same { node.new ≡ node.old }
+{
+    instruction_in(look(node))
+}
+
+/// Appends bytes of a node's memory, as many from an address on as there are, up to `count`. The node is frozen.
+fn push_memory(node: &Node, from: u32, count: usize, bytes: &mut Vec<u8>) -> Result<(), AllocError>
+    requires frozen { node.now.frozen ≡ Some node.now.live }
+    requires bytes { IsNodeOfBytes node.now.live }
+    requires empty { bytes.old.items ≡ [] }
+    ensures { OnOk result (bytes.new.items ≡ memory_of node.now.live from count) }
+{
+    let mut at = from;
+    while bytes.len() < count {
+        let Some(byte) = byte_of(node, at) else {
+            return Ok(());
+        };
+        bytes.push(byte)?;
+        at = at.wrapping_add(1);
+    }
+    Ok(())
+}
+
+/// Bytes of a node's memory, as many from an address on as there are, up to `count`. The node is frozen meanwhile.
+pub fn memory_of(
+    alloc: Global,
+    node: &mut Node,
+    from: u32,
+    count: usize,
+) -> Result<Vec<u8>, AllocError>
+    requires thawed { node.old.frozen ≡ None }
+    requires bytes { IsNodeOfBytes node.old.live }
+    ensures memory { IfOk result (λ bytes. bytes.items ≡ memory_of node.old.live from count) }
+    ensures same { node.new ≡ node.old }
+{
+    let mut bytes = Vec::new(alloc);
+    node.freeze();
+    let pushed = push_memory(node, from, count, &mut bytes);
+    node.drop_frozen();
+    match pushed {
+        Ok(()) => Ok(bytes),
+        Err(refused) => Err(refused),
+    }
 }

@@ -4,5 +4,7 @@ pub mod Fit
 pub mod Found
 pub mod Joined
 pub mod Mapped
+mod Moments
+mod Workspaces
 pub mod Traces
 mod Looked

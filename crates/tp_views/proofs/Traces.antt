@@ -3,13 +3,12 @@ use Rattle.std.proofs.Common.{◌≡◌, ◌∙◌, ℕ, zero, suc, ◌+◌, ◌
 use Rattle.std.proofs.Math.Seq.{take-add, take-append_seam, drop-append_seam}
 use Rattle.std.proofs.lemmas.List.{take-append-drop}
 use Rattle.std.specs.Io.KnownBytes.{Appends}
-use Rattle.tp_model.specs.NodeState.{NodeState}
-use Rattle.tp_node.specs.Standing.{standing}
 use Rattle.tp_stream_files.proofs.Fronts.{none_appended}
-use Rattle.tp_trace.specs.Lines.{step_line, stop_line}
-use Rattle.tp_trace.specs.Steps.{seen, stepped}
+use Rattle.tp_trace.specs.Others.{Attended}
 use Rattle.tp_views.specs.Front.{AppendsFront}
-use Rattle.tp_views.specs.Traced.{Makes, by_step, last_text, next_text, traced}
+use Rattle.tp_views.specs.Maps.{Row}
+use Rattle.tp_views.specs.Traced.{Passes, behind, last_text, moment, traced}
+use Rattle.tp_views.specs.declared.stops.Stops.{Stops}
 
 -- ## Bytes
 
@@ -51,109 +50,97 @@ pub on_ok : {T E : Type 0} (P Q : Type 0) (r : Result T E) → (P → Q) → OnO
 on_ok P Q (Ok x) turn h = turn h
 on_ok P Q (Err e) turn h = h
 
--- ## One line
+-- ## One moment
 
--- what is printed, by the step
-by_some : (node next : NodeState) (lines : NodeState → List ℕ) → stepped node ≡ Some next → by_step (stepped node) node lines ≡ lines next
-by_some node next lines is = ap (λ o. by_step o node lines) is
-
-by_none : (node : NodeState) (lines : NodeState → List ℕ) → stepped node ≡ None → by_step (stepped node) node lines ≡ stop_line (standing node)
-by_none node lines is = ap (λ o. by_step o node lines) is
-
--- ## Lines
-
--- the lines where a step goes on, and where there is none
-goes_on : (left number : ℕ) (node next : NodeState) → stepped node ≡ Some next → traced (suc left) number node ≡ next_text number node ++ traced left (number + 1) next
+-- the lines where the trace goes on, and where it ends
+goes_on : (rows : List Row) (stops : Stops) (left number : ℕ) (a next : Attended) → (moment rows stops number a).next ≡ Some next
+    → traced rows stops (suc left) number a ≡ (moment rows stops number a).text ++ traced rows stops left (number + 1) next
 unfolding traced
-goes_on left number node next is =
-    by_some node next (λ next. step_line number (seen node next) ++ traced left (number + 1) next) is
-    ∙ ap (λ xs. xs ++ traced left (number + 1) next) (sym (by_some node next (λ next. step_line number (seen node next)) is))
+goes_on rows stops left number a next is = ap (λ (o : Option Attended). (moment rows stops number a).text ++ behind o (traced rows stops left (number + 1))) is
 
-stops : (left number : ℕ) (node : NodeState) → stepped node ≡ None → traced (suc left) number node ≡ next_text number node
+stops_there : (rows : List Row) (stops : Stops) (left number : ℕ) (a : Attended) → (moment rows stops number a).next ≡ None → traced rows stops (suc left) number a ≡ (moment rows stops number a).text
 unfolding traced
-stops left number node is =
-    by_none node (λ next. step_line number (seen node next) ++ traced left (number + 1) next) is
-    ∙ sym (by_none node (λ next. step_line number (seen node next)) is)
+stops_there rows stops left number a is =
+    ap (λ (o : Option Attended). (moment rows stops number a).text ++ behind o (traced rows stops left (number + 1))) is ∙ append-nil (moment rows stops number a).text
 
--- the next line stands in front either way
-fronted : (left number : ℕ) (node : NodeState) → (rest : List ℕ) × (traced (suc left) number node ≡ next_text number node ++ rest)
-fronted left number node = go (stepped node) refl
-  where
-    go : (o : Option NodeState) → stepped node ≡ o → (rest : List ℕ) × (traced (suc left) number node ≡ next_text number node ++ rest)
-    go None is = ([], stops left number node is ∙ sym (append-nil (next_text number node)))
-    go (Some next) is = (traced left (number + 1) next, goes_on left number node next is)
-
-ends : (number : ℕ) (node : NodeState) → traced zero number node ≡ last_text node
+-- its text stands in front either way
+fronted : (rows : List Row) (stops : Stops) (left number : ℕ) (a : Attended) → (rest : List ℕ) × (traced rows stops (suc left) number a ≡ (moment rows stops number a).text ++ rest)
 unfolding traced
-ends number node = refl
+fronted rows stops left number a = (behind (moment rows stops number a).next (traced rows stops left (number + 1)), refl)
+
+ends : (rows : List Row) (stops : Stops) (number : ℕ) (a : Attended) → traced rows stops zero number a ≡ last_text rows stops a
+unfolding traced
+ends rows stops number a = refl
 
 -- ## Some lines printed
 
--- The lines of `index` steps were appended, and those of the others are left.
-pub record Goes (was now : Option (List ℕ)) (whole : List ℕ) (steps index : ℕ) (node : NodeState) : Type 0 where
+-- The text of `index` moments was appended, and that of the others is left.
+pub record Goes (rows : List Row) (stops : Stops) (was now : Option (List ℕ)) (whole : List ℕ) (steps index : ℕ) (a : Attended) : Type 0 where
   pub left : ℕ
   pub counted : steps ≡ index + left
   pub done : List ℕ
   pub appended : Appends was now done
-  pub whole_is : whole ≡ done ++ traced left (index + 1) node
+  pub whole_is : whole ≡ done ++ traced rows stops left (index + 1) a
 
-pub begun : (was : Option (List ℕ)) (steps : ℕ) (node : NodeState) → Goes was was (traced steps 1 node) steps 0 node
-begun was steps node = record { left = steps; counted = omega arith; done = []; appended = none_appended was; whole_is = refl }
+pub begun : (rows : List Row) (stops : Stops) (was : Option (List ℕ)) (steps : ℕ) (a : Attended) → Goes rows stops was was (traced rows stops steps 1 a) steps 0 a
+begun rows stops was steps a = record { left = steps; counted = omega arith; done = []; appended = none_appended was; whole_is = refl }
 
--- a line more
-pub goes_further : (was then now : Option (List ℕ)) (whole : List ℕ) (steps index : ℕ) (node next : NodeState) → Goes was then whole steps index node → index < steps
-    → Makes (index + 1) true node next then now → Goes was now whole steps (index + 1) next
-goes_further was then now whole steps index node next g few made = go g.left g.counted g.whole_is
+-- a moment more
+pub goes_further : (rows : List Row) (stops : Stops) (was then now : Option (List ℕ)) (whole : List ℕ) (steps index : ℕ) (a next : Attended) → Goes rows stops was then whole steps index a → index < steps
+    → Passes (moment rows stops (index + 1) a) true next then now → Goes rows stops was now whole steps (index + 1) next
+goes_further rows stops was then now whole steps index a next g few made = go g.left g.counted g.whole_is
   where
-    go : (left : ℕ) → steps ≡ index + left → whole ≡ g.done ++ traced left (index + 1) node → Goes was now whole steps (index + 1) next
+    go : (left : ℕ) → steps ≡ index + left → whole ≡ g.done ++ traced rows stops left (index + 1) a → Goes rows stops was now whole steps (index + 1) next
     go zero counted is = absurd (omega (arith, counted, few))
     go (suc left) counted is =
-        let line = next_text (index + 1) node in
+        let text = (moment rows stops (index + 1) a).text in
         record {
           left = left;
           counted = omega (arith, counted);
-          done = g.done ++ line;
-          appended = then_appended was then now g.done line g.appended made.shown;
-          whole_is = is ∙ ap (λ xs. g.done ++ xs) (goes_on left (index + 1) node next made.step) ∙ sym (append_assoc g.done line (traced left (index + 1 + 1) next));
+          done = g.done ++ text;
+          appended = then_appended was then now g.done text g.appended made.shown;
+          whole_is = is ∙ ap (λ xs. g.done ++ xs) (goes_on rows stops left (index + 1) a next made.next) ∙ sym (append_assoc g.done text (traced rows stops left (index + 1 + 1) next));
         }
 
--- the node has no step
-pub goes_stopped : (was then now : Option (List ℕ)) (whole : List ℕ) (steps index : ℕ) (node next : NodeState) → Goes was then whole steps index node → index < steps
-    → Makes (index + 1) false node next then now → Appends was now whole
-goes_stopped was then now whole steps index node next g few made = go g.left g.counted g.whole_is
+-- the trace ends there
+pub goes_stopped : (rows : List Row) (stops : Stops) (was then now : Option (List ℕ)) (whole : List ℕ) (steps index : ℕ) (a next : Attended) → Goes rows stops was then whole steps index a → index < steps
+    → Passes (moment rows stops (index + 1) a) false next then now → Appends was now whole
+goes_stopped rows stops was then now whole steps index a next g few made = go g.left g.counted g.whole_is
   where
-    go : (left : ℕ) → steps ≡ index + left → whole ≡ g.done ++ traced left (index + 1) node → Appends was now whole
+    go : (left : ℕ) → steps ≡ index + left → whole ≡ g.done ++ traced rows stops left (index + 1) a → Appends was now whole
     go zero counted is = absurd (omega (arith, counted, few))
     go (suc left) counted is =
-        subst (λ bytes. Appends was now bytes) (sym (is ∙ ap (λ xs. g.done ++ xs) (stops left (index + 1) node made.step.0)))
-        (then_appended was then now g.done (next_text (index + 1) node) g.appended made.shown)
+        subst (λ bytes. Appends was now bytes) (sym (is ∙ ap (λ xs. g.done ++ xs) (stops_there rows stops left (index + 1) a made.next)))
+        (then_appended was then now g.done (moment rows stops (index + 1) a).text g.appended made.shown)
 
--- a front of the next line
-pub goes_front : (was then now : Option (List ℕ)) (whole : List ℕ) (steps index : ℕ) (node : NodeState) → Goes was then whole steps index node → index < steps
-    → AppendsFront then now (next_text (index + 1) node) → AppendsFront was now whole
-goes_front was then now whole steps index node g few front = go g.left g.counted g.whole_is
+-- a front of its text
+pub goes_front : (rows : List Row) (stops : Stops) (was then now : Option (List ℕ)) (whole : List ℕ) (steps index : ℕ) (a : Attended) → Goes rows stops was then whole steps index a → index < steps
+    → AppendsFront then now (moment rows stops (index + 1) a).text → AppendsFront was now whole
+goes_front rows stops was then now whole steps index a g few front = go g.left g.counted g.whole_is
   where
-    go : (left : ℕ) → steps ≡ index + left → whole ≡ g.done ++ traced left (index + 1) node → AppendsFront was now whole
+    go : (left : ℕ) → steps ≡ index + left → whole ≡ g.done ++ traced rows stops left (index + 1) a → AppendsFront was now whole
     go zero counted is = absurd (omega (arith, counted, few))
     go (suc left) counted is =
-        let rest = fronted left (index + 1) node in
+        let rest = fronted rows stops left (index + 1) a in
+        let text = (moment rows stops (index + 1) a).text in
         subst (λ bytes. AppendsFront was now bytes) (sym (is ∙ ap (λ xs. g.done ++ xs) rest.1))
-        (then_front was then now g.done (next_text (index + 1) node ++ rest.0) g.appended (front_more then now (next_text (index + 1) node) rest.0 front))
+        (then_front was then now g.done (text ++ rest.0) g.appended (front_more then now text rest.0 front))
 
--- what is left behind the last step
-last_is : (was now : Option (List ℕ)) (whole : List ℕ) (steps index : ℕ) (node : NodeState) (g : Goes was now whole steps index node) → steps ≤ index → whole ≡ g.done ++ last_text node
-last_is was now whole steps index node g all = go g.left g.counted g.whole_is
+-- what is left behind the last line
+last_is : (rows : List Row) (stops : Stops) (was now : Option (List ℕ)) (whole : List ℕ) (steps index : ℕ) (a : Attended) (g : Goes rows stops was now whole steps index a) → steps ≤ index
+    → whole ≡ g.done ++ last_text rows stops a
+last_is rows stops was now whole steps index a g all = go g.left g.counted g.whole_is
   where
-    go : (left : ℕ) → steps ≡ index + left → whole ≡ g.done ++ traced left (index + 1) node → whole ≡ g.done ++ last_text node
-    go zero counted is = is ∙ ap (λ xs. g.done ++ xs) (ends (index + 1) node)
+    go : (left : ℕ) → steps ≡ index + left → whole ≡ g.done ++ traced rows stops left (index + 1) a → whole ≡ g.done ++ last_text rows stops a
+    go zero counted is = is ∙ ap (λ xs. g.done ++ xs) (ends rows stops (index + 1) a)
     go (suc left) counted is = absurd (omega (arith, counted, all))
 
-pub goes_ended : (was then now : Option (List ℕ)) (whole : List ℕ) (steps index : ℕ) (node : NodeState) → Goes was then whole steps index node → steps ≤ index
-    → Appends then now (last_text node) → Appends was now whole
-goes_ended was then now whole steps index node g all shown =
-    subst (λ bytes. Appends was now bytes) (sym (last_is was then whole steps index node g all)) (then_appended was then now g.done (last_text node) g.appended shown)
+pub goes_ended : (rows : List Row) (stops : Stops) (was then now : Option (List ℕ)) (whole : List ℕ) (steps index : ℕ) (a : Attended) → Goes rows stops was then whole steps index a → steps ≤ index
+    → Appends then now (last_text rows stops a) → Appends was now whole
+goes_ended rows stops was then now whole steps index a g all shown =
+    subst (λ bytes. Appends was now bytes) (sym (last_is rows stops was then whole steps index a g all)) (then_appended was then now g.done (last_text rows stops a) g.appended shown)
 
-pub goes_ended_front : (was then now : Option (List ℕ)) (whole : List ℕ) (steps index : ℕ) (node : NodeState) → Goes was then whole steps index node → steps ≤ index
-    → AppendsFront then now (last_text node) → AppendsFront was now whole
-goes_ended_front was then now whole steps index node g all front =
-    subst (λ bytes. AppendsFront was now bytes) (sym (last_is was then whole steps index node g all)) (then_front was then now g.done (last_text node) g.appended front)
+pub goes_ended_front : (rows : List Row) (stops : Stops) (was then now : Option (List ℕ)) (whole : List ℕ) (steps index : ℕ) (a : Attended) → Goes rows stops was then whole steps index a → steps ≤ index
+    → AppendsFront then now (last_text rows stops a) → AppendsFront was now whole
+goes_ended_front rows stops was then now whole steps index a g all front =
+    subst (λ bytes. AppendsFront was now bytes) (sym (last_is rows stops was then whole steps index a g all)) (then_front was then now g.done (last_text rows stops a) g.appended front)

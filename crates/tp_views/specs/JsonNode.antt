@@ -79,8 +79,8 @@ input_item (Enabled process) = codes "{\"state\":\"enabled\",\"process\":" ++ (d
 abbrev pub node_fields : List Row → ℕ → ℕ → Cpu → List OutEnd → List InEnd → List ℕ
 node_fields rows number pages cpu outputs inputs =
     number_fields number pages cpu.halt ++ (cpu_fields rows cpu ++ (codes ",\"out\":" ++ (json_list (map output_item outputs)
-    ++ (codes ",\"in\":" ++ (json_list (map input_item inputs) ++ codes "}\n")))))
+    ++ (codes ",\"in\":" ++ json_list (map input_item inputs)))))
 
--- All that is printed of it.
+-- All that is printed of it, up to what it has done, which ends the object.
 abbrev pub node_json : List Row → ℕ → NodeState → List ℕ
 node_json rows number node = node_fields rows number (page_count node.memory) node.cpu node.outputs node.inputs

@@ -4,11 +4,16 @@ use Rattle.std.specs.Fmt.{decimal}
 use Rattle.tp_model.specs.NodeState.{NodeState}
 use Rattle.tp_model.specs.Network.{Port}
 use Rattle.tp_model.specs.Opening.{Opened, next_of}
+use Rattle.tp_model.specs.declared.entry.Entry.{Entry}
 use Rattle.tp_model.specs.declared.form.Form.{Form}
+use Rattle.tp_model.specs.declared.wire.WireEnd.{WireEnd}
 use Rattle.tp_node.specs.Standing.{standing}
 use Rattle.tp_node.specs.declared.standing.Standing.{Standing}
 use Rattle.tp_node.specs.declared.standing.Standing.TheVariants.{Halted, Waits, Free}
+use Rattle.tp_views.specs.Done.{steps_made, total}
+use Rattle.tp_views.specs.declared.done.Count.TheVariants.{Entries, Steps}
 use Rattle.tp_views.specs.Json.{json_items}
+use Rattle.tp_views.specs.TimeOfDay.{time_field}
 use Rattle.tp_trace.specs.Names.{fault_name}
 use Rattle.tp_views.specs.Names.{form_name}
 use Rattle.tp_views.specs.Status.{bytes_accepted, accepted_before, millis_since, next_before, out_before, percent, port_before, bytes_put_out, entries_room, status_line}
@@ -91,14 +96,37 @@ all_halted_items number [] = []
 all_halted_items number (node ∷ nodes) = halted_items number (standing node) ++ all_halted_items (number + 1) nodes
 
 abbrev pub halts_json : List NodeState → List ℕ
-halts_json nodes = codes "],\"halted\":[" ++ (json_items 0 (all_halted_items 0 nodes) ++ codes "]}\n")
+halts_json nodes = codes "],\"halted\":[" ++ (json_items 0 (all_halted_items 0 nodes) ++ codes "]")
 
--- The object of a device that opened, where a process held it or none did, at a time in milliseconds, behind what a look before saw.
-abbrev pub status_json : Bool → ℕ → Option Seen → Opened → List ℕ
-status_json held at before o =
+-- how many entries and steps a node has made since the checkpoint, in a network of these wires and N nodes
+abbrev pub counts_item : ℕ → ℕ → List ℕ
+counts_item entries steps = codes "{\"entries\":" ++ (decimal entries ++ (codes ",\"steps\":" ++ (decimal steps ++ codes "}")))
+
+abbrev pub node_item : ℕ → List (Option WireEnd) → ℕ → List (Entry × ℕ) → List ℕ
+node_item number wires N kept = counts_item (total Entries (Some number) wires N kept) (total Steps (Some number) wires N kept)
+
+-- each node stands at its number
+abbrev pub node_items : ℕ → List (Option WireEnd) → ℕ → List (Entry × ℕ) → List NodeState → List (List ℕ)
+node_items number wires N kept [] = []
+node_items number wires N kept (node ∷ nodes) = node_item number wires N kept ∷ node_items (number + 1) wires N kept nodes
+
+-- how many steps all made, and each of them
+abbrev pub steps_json : ℕ → List ℕ
+steps_json steps = codes ",\"steps\":" ++ (decimal steps ++ codes ",\"nodes\":[")
+
+abbrev pub done_json : Opened → List ℕ
+done_json o =
+    steps_json (steps_made o)
+    ++ (json_items 0 (node_items 0 o.head.topology.wires (length o.now.nodes) o.kept o.now.nodes) ++ codes "]")
+
+-- The object of a device that opened, whether a process held it or none did, at a time in milliseconds, after what a look before saw. `clock` is
+-- the time since 1970, if the object has one.
+abbrev pub status_json : Bool → ℕ → Option ℕ → Option Seen → Opened → List ℕ
+status_json held at clock before o =
     front_json held o.generation o.form (next_of o) (next_before at before)
-    ++ (journal_json (length o.kept) (entries_room o) ++ (json_items 0 (port_items 0 at before o.now.ports) ++ halts_json o.now.nodes))
+    ++ (journal_json (length o.kept) (entries_room o)
+    ++ (json_items 0 (port_items 0 at before o.now.ports) ++ (halts_json o.now.nodes ++ (done_json o ++ time_field clock))))
 
 -- What is printed of it, as JSON or not.
-abbrev pub look_text : Bool → Bool → ℕ → Option Seen → Opened → List ℕ
-look_text json held at before o = if json then status_json held at before o else status_line held at before o
+abbrev pub look_text : Bool → Bool → ℕ → Option ℕ → Option Seen → Opened → List ℕ
+look_text json held at clock before o = if json then status_json held at clock before o else status_line held at clock before o

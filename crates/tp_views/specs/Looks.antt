@@ -7,8 +7,8 @@ use Rattle.tp_views.specs.Status.{IsSeen}
 use Rattle.tp_views.specs.declared.status.Seen.{Seen}
 
 -- The device opens, exactly its line is printed, as JSON or not, and what is handed on is what was seen of it.
-pub record StatusTells (json held : Bool) (at : ℕ) (before : Option Seen) (bytes : List ℕ) (was now : Option (List ℕ)) (seen : Seen) : Type 0 where
+pub record StatusTells (json held : Bool) (at : ℕ) (clock : Option ℕ) (before : Option Seen) (bytes : List ℕ) (was now : Option (List ℕ)) (seen : Seen) : Type 0 where
   pub opened : Opened
   pub is : verdict bytes ≡ Ok opened
-  pub printed : Appends was now (look_text json held at before opened)
+  pub printed : Appends was now (look_text json held at clock before opened)
   pub saw : IsSeen at opened seen

@@ -13,7 +13,9 @@ use Rattle.tp_node.specs.declared.standing.Standing.{Standing}
 use Rattle.tp_node.specs.declared.standing.Standing.TheVariants.{Halted, Waits, Free}
 use Rattle.tp_trace.specs.Hex.{hex_word}
 use Rattle.tp_trace.specs.Names.{fault_name}
+use Rattle.tp_views.specs.Done.{steps_made}
 use Rattle.tp_views.specs.Names.{form_name}
+use Rattle.tp_views.specs.TimeOfDay.{time_part}
 use Rattle.tp_views.specs.declared.status.PortSeen.{PortSeen}
 use Rattle.tp_views.specs.declared.status.Seen.{Seen}
 use Rattle.tp_views.specs.declared.status.Since.{Since}
@@ -83,6 +85,10 @@ abbrev pub journal_part : ℕ → ℕ → List ℕ
 journal_part entries room =
     codes " entries " ++ (decimal entries ++ (codes " of " ++ (decimal room ++ (codes " (" ++ (decimal (percent entries room) ++ codes " %)")))))
 
+-- how many steps these entries made
+abbrev pub steps_part : ℕ → List ℕ
+steps_part steps = codes " steps " ++ decimal steps
+
 -- what a port has accepted, and how much of that no node has taken
 abbrev pub accepted_part : ℕ → ℕ → Option Since → ℕ → List ℕ
 accepted_part number now since pending =
@@ -121,9 +127,12 @@ halted_or_none (byte ∷ bytes) = byte ∷ bytes
 abbrev pub entries_room : Opened → ℕ
 entries_room o = entries_left 0 o.base (journal_of o.head.topology o.head.areas.length)
 
--- The line of a device that opened, where a process held it or none did, at a time in milliseconds, behind what a look before saw.
-abbrev pub status_line : Bool → ℕ → Option Seen → Opened → List ℕ
-status_line held at before o =
-    front_part held o.generation o.form (next_of o) (next_before at before)
+-- The line of a device that opened, whether a process held it or none did, at a time in milliseconds, after what a look before saw. `clock` is
+-- the time of day, if the line has one.
+abbrev pub status_line : Bool → ℕ → Option ℕ → Option Seen → Opened → List ℕ
+status_line held at clock before o =
+    time_part clock
+    ++ (front_part held o.generation o.form (next_of o) (next_before at before)
     ++ (journal_part (length o.kept) (entries_room o)
-    ++ (port_parts 0 at before o.now.ports ++ (halted_or_none (halted_parts 0 o.now.nodes) ++ 10 ∷ [])))
+    ++ (steps_part (steps_made o)
+    ++ (port_parts 0 at before o.now.ports ++ (halted_or_none (halted_parts 0 o.now.nodes) ++ 10 ∷ [])))))

@@ -1,5 +1,6 @@
 //! What `--explain` says of a refusal: which file, why, and the way out. It looks again at what the command looked at.
 
+use crate::explaining_trace::push_trace;
 use crate::full_journal::push_journal;
 use crate::looking::{is_regular, is_special, is_writable, push_file, push_rest, read_again};
 use crate::map_files::push_maps;
@@ -259,9 +260,8 @@ fn push_explanation<R: Files<File = F> + AllocGlobal, F: FileExt + OpenFile + Dr
 ) -> Result<(), AllocError> {
     match asked {
         Asked::Help(_) => push_rest(text),
-        Asked::Try { image, .. } | Asked::Trace { image, .. } => {
-            push_try(rt, text, image.as_str())
-        }
+        Asked::Try { image, .. } => push_try(rt, text, image.as_str()),
+        Asked::Trace(trace) => push_trace(rt, text, trace),
         Asked::Format(new) => push_format(rt, text, new, system),
         Asked::Run(run) => push_run(rt, text, run, system),
         Asked::Check {
@@ -270,11 +270,11 @@ fn push_explanation<R: Files<File = F> + AllocGlobal, F: FileExt + OpenFile + Dr
             ..
         } => { push_check(rt, text, topology.as_str(), images.as_str()) }
         Asked::Compact { device, .. } => push_compact(rt, text, device.as_str(), system),
-        Asked::Recover { device, .. }
-        | Asked::Show { device, .. }
-        | Asked::Status { device, .. }
-        | Asked::TraceDevice { device, .. } => push_reading(rt, text, device.as_str()),
-        Asked::View { device, maps, .. } => push_view(rt, text, device.as_str(), maps),
+        Asked::Recover { device, .. } | Asked::Show { device, .. } | Asked::Status { device, .. } =>
+            push_reading(rt, text, device.as_str()),
+        Asked::TraceDevice { device, maps, .. } | Asked::View { device, maps, .. } => {
+            push_view(rt, text, device.as_str(), maps)
+        }
     }
 }
 

@@ -214,13 +214,13 @@ fn push_output_list(text: &mut String, ends: &[OutEnd]) -> Result<(), AllocError
     push(text, "]")
 }
 
-/// Appends the field of the input ends, and ends the object.
+/// Appends the field of the input ends.
 fn push_input_list(text: &mut String, ends: &[InEnd]) -> Result<(), AllocError>
-    ensures { OnOk result (string_bytes text.new ≡ string_bytes text.old ++ (codes ",\"in\":" ++ (json_list (map input_item ends.now) ++ codes "}\n"))) }
+    ensures { OnOk result (string_bytes text.new ≡ string_bytes text.old ++ (codes ",\"in\":" ++ json_list (map input_item ends.now))) }
 {
     push(text, ",\"in\":[")?;
     push_inputs(text, ends)?;
-    push(text, "]}\n")
+    push(text, "]")
 }
 
 /// Appends the fields of a node, by its pages, its processor and its ends.
@@ -258,7 +258,7 @@ fn node_fields(
     Ok(text)
 }
 
-/// All that is printed of a node, which its image spells, as JSON; its map has these rows.
+/// What is printed of a node, which its image spells, as JSON, up to what it has done; its map has these rows.
 pub(crate) fn node_json(
     alloc: Global,
     rows: &[MapRow<'_>],

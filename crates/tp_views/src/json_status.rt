@@ -2,10 +2,12 @@
 
 ghost use Rattle.std.specs.Prelude.{◌≡◌, ◌≤◌, ◌<◌, ◌+◌, ◌^◌, ◌++◌, List, ℕ, IfOk, OnOk, map, string_bytes};
 ghost use Rattle.tp_node.specs.Standing.{standing};
+ghost use Rattle.tp_views.specs.Done.{steps_made};
 ghost use Rattle.tp_views.specs.Json.{comma, json_items};
-ghost use Rattle.tp_views.specs.JsonStatus.{accepted_front, accepted_json, all_halted_items, front_json, generation_part, halted_item, halted_items, halts_json, journal_json, look_text, next_part, out_front, out_json, pending_part, percent_part, port_item, port_items, rate, room_part, running_part, status_json, unconfirmed_part};
+ghost use Rattle.tp_views.specs.JsonStatus.{accepted_front, accepted_json, all_halted_items, counts_item, done_json, front_json, generation_part, halted_item, halted_items, halts_json, journal_json, look_text, next_part, node_item, node_items, out_front, out_json, pending_part, percent_part, port_item, port_items, rate, room_part, running_part, status_json, steps_json, unconfirmed_part};
 ghost use Rattle.tp_views.specs.Status.{percent};
 
+use crate::done::{Count, node_count, steps_made, total};
 use crate::formats::form_name;
 use crate::json::{comma, push};
 use crate::parts::Part::{Large, Number, Text};
@@ -14,10 +16,11 @@ use crate::status::{
     PortSeen, Seen, Since, accepted, accepted_before, millis_since, next_before, out_before,
     percent, port_before, put_out, room_of, status_text,
 };
+use crate::time_of_day::push_time_field;
 use std::alloc::{AllocError, Global};
 use std::fmt::Write;
-use tp_book::HostPort;
-use tp_model::Form;
+use tp_book::{HostPort, Numbered};
+use tp_model::{Form, WireEnd};
 use tp_node::{Node, Standing};
 use tp_recover::Opened;
 use tp_trace::fault_name;
@@ -296,24 +299,102 @@ fn push_all_halted(text: &mut String, nodes: &[Node]) -> Result<(), AllocError>
     Ok(())
 }
 
-/// Appends each node that has halted, and ends the object.
+/// Appends each node that has halted.
 fn push_halts(text: &mut String, nodes: &[Node]) -> Result<(), AllocError>
     ensures { OnOk result (string_bytes text.new ≡ string_bytes text.old ++ halts_json (map (λ node. node.live) nodes.now)) }
 {
     push(text, "],\"halted\":[")?;
     push_all_halted(text, nodes)?;
-    push(text, "]}\n")
+    push(text, "]")
 }
 
-/// The object of an opened device: `held` says whether a process holds it, and `before` what a look before saw; it is `at` milliseconds.
+/// Appends the item of how many entries and steps a node has made, with what stands before it.
+fn push_counts<'a>(
+    text: &mut String,
+    comma: &'a str,
+    entries: u128,
+    steps: u128,
+) -> Result<(), AllocError>
+    ensures { OnOk result (string_bytes text.new ≡ string_bytes text.old ++ (comma.now ++ counts_item entries steps)) }
+{
+    push_parts(
+        text,
+        &[
+            Text(comma),
+            Text("{\"entries\":"),
+            Large(entries),
+            Text(",\"steps\":"),
+            Large(steps),
+            Text("}"),
+        ],
+    )
+}
+
+/// Appends the item of a node that has `number` nodes before it.
+fn push_node_item(
+    text: &mut String,
+    number: usize,
+    wires: &[Option<WireEnd>],
+    count: usize,
+    kept: &[Numbered],
+) -> Result<(), AllocError>
+    ensures { OnOk result (string_bytes text.new ≡ string_bytes text.old ++ (comma number ++ node_item number wires.now count kept.now)) }
+{
+    let node = Some(number as u64);
+    let entries = total(Count::Entries, node, wires, count, kept);
+    let steps = total(Count::Steps, node, wires, count, kept);
+    push_counts(text, comma(number), entries, steps)
+}
+
+/// Appends the items of nodes, of a network of `count` nodes.
+fn push_node_items(
+    text: &mut String,
+    wires: &[Option<WireEnd>],
+    count: usize,
+    kept: &[Numbered],
+    nodes: &[Node],
+) -> Result<(), AllocError>
+    ensures { OnOk result (string_bytes text.new ≡ string_bytes text.old ++ json_items 0 (node_items 0 wires.now count kept.now (map (λ node. node.live) nodes.now))) }
+{
+    for (number, _node) in nodes.iter().enumerate() {
+        push_node_item(text, number, wires, count, kept)?;
+    }
+    Ok(())
+}
+
+/// Appends how many steps all nodes have made.
+fn push_steps(text: &mut String, steps: u128) -> Result<(), AllocError>
+    ensures { OnOk result (string_bytes text.new ≡ string_bytes text.old ++ steps_json steps) }
+{
+    push_parts(
+        text,
+        &[Text(",\"steps\":"), Large(steps), Text(",\"nodes\":[")],
+    )
+}
+
+/// Appends what the nodes of an opened device have done since its checkpoint.
+fn push_done(text: &mut String, opened: &Opened) -> Result<(), AllocError>
+    ensures { OnOk result (string_bytes text.new ≡ string_bytes text.old ++ done_json opened.now) }
+{
+    let wires = opened.head().topology().wires();
+    let now = opened.network();
+    let (nodes, count) = (now.nodes(), node_count(now));
+    push_steps(text, steps_made(opened))?;
+    push_node_items(text, wires, count, opened.kept(), nodes)?;
+    push(text, "]")
+}
+
+/// The object of an opened device: `held` says whether a process holds it, and `before` what a look before saw; it is `at` milliseconds, and
+/// `clock` the seconds since 1970, if the object has them.
 fn status_json(
     alloc: Global,
     held: bool,
     at: u64,
+    clock: Option<u64>,
     before: &Option<Seen>,
     opened: &Opened,
 ) -> Result<String, AllocError>
-    ensures { IfOk result (λ text. string_bytes text ≡ status_json held at before.now opened.now) }
+    ensures { IfOk result (λ text. string_bytes text ≡ status_json held at clock before.now opened.now) }
 {
     let now = opened.network();
     let (generation, form, next) = (opened.generation(), opened.form(), opened.next());
@@ -323,6 +404,8 @@ fn status_json(
     push_journal(&mut text, opened.kept().len(), room_of(opened))?;
     push_ports(&mut text, at, before, now.ports())?;
     push_halts(&mut text, now.nodes())?;
+    push_done(&mut text, opened)?;
+    push_time_field(&mut text, clock)?;
     Ok(text)
 }
 
@@ -332,14 +415,15 @@ pub(crate) fn look_text(
     json: bool,
     held: bool,
     at: u64,
+    clock: Option<u64>,
     before: &Option<Seen>,
     opened: &Opened,
 ) -> Result<String, AllocError>
-    ensures { IfOk result (λ text. string_bytes text ≡ look_text json held at before.now opened.now) }
+    ensures { IfOk result (λ text. string_bytes text ≡ look_text json held at clock before.now opened.now) }
 {
     if json {
-        status_json(alloc, held, at, before, opened)
+        status_json(alloc, held, at, clock, before, opened)
     } else {
-        status_text(alloc, held, at, before, opened)
+        status_text(alloc, held, at, clock, before, opened)
     }
 }

@@ -42,7 +42,7 @@ fn push_map(
 }
 
 /// Says what is wrong with the map in a file: whether anything is.
-fn push_map_file<R: Files + AllocGlobal>(
+pub(crate) fn push_map_file<R: Files + AllocGlobal>(
     rt: &R,
     text: &mut String,
     path: &str,

@@ -50,7 +50,7 @@ fn is_address(word: &[u8]) -> bool
 }
 
 /// The address that a word spells, if it spells one.
-fn address_in(word: &[u8]) -> Option<u32>
+pub(crate) fn address_in(word: &[u8]) -> Option<u32>
     ensures { result ≡ (if is_address word.now then Some (digits_value 16 word.now) else None) }
 {
     if !is_address(word) {

@@ -10,6 +10,20 @@ use tp_area::area_for;
 use tp_net::{Named, Topology};
 use tp_words::Shown;
 
+/// Says which rule the image in a file breaks. Answers that something was said.
+pub(crate) fn push_image_rule(
+    text: &mut String,
+    path: &str,
+    rule: String,
+) -> Result<bool, AllocError> {
+    let shown = Shown::all(path);
+    write!(
+        text,
+        "  {shown}: {rule}\n  Make the image anew, by tools/make-image or docs/FORMATS.md, section 1.\n"
+    )?;
+    Ok(true)
+}
+
 /// Says which rule an image breaks, where it breaks one: whether it does.
 fn push_image(
     alloc: Global,
@@ -18,17 +32,9 @@ fn push_image(
     image: &[u8],
     pages: Option<u16>,
 ) -> Result<bool, AllocError> {
-    let Some(rule) = broken_rule(alloc, image, pages, true)? else {
-        return Ok(false);
-    };
-    let shown = Shown::all(path);
-    let said = write!(
-        text,
-        "  {shown}: {rule}\n  Make the image anew, by tools/make-image or docs/FORMATS.md, section 1.\n"
-    );
-    match said {
-        Ok(()) => Ok(true),
-        Err(error) => Err(error),
+    match broken_rule(alloc, image, pages, true)? {
+        Some(rule) => push_image_rule(text, path, rule),
+        None => Ok(false),
     }
 }
 

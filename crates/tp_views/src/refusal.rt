@@ -50,6 +50,8 @@ pub enum Refusal {
     Memory,
     /// Another process writes the device so fast that no moment of it could be read.
     Busy,
+    /// What was typed as a place is neither an address nor a label of the map.
+    NoPlace,
     /// The line of a map with this number, counted from 1, is none of one.
     BadMap(MapFile, u64),
 }
@@ -67,6 +69,7 @@ impl fmt::Display for Refusal {
             Refusal::InUse => f.write_str("InUse"),
             Refusal::Memory => f.write_str("Memory"),
             Refusal::Busy => f.write_str("Busy"),
+            Refusal::NoPlace => f.write_str("NoPlace"),
             Refusal::BadMap(file, line) => write!(f, "BadMap{file} {line}"),
         }
     }

@@ -106,7 +106,7 @@ fn push_state(text: &mut String, error: bool, state: State, slice: u16) -> Resul
 }
 
 /// Appends the lines of a processor.
-fn push_cpu(text: &mut String, rows: &[MapRow<'_>], cpu: &Cpu) -> Result<(), AllocError>
+pub(crate) fn push_cpu(text: &mut String, rows: &[MapRow<'_>], cpu: &Cpu) -> Result<(), AllocError>
     ensures { OnOk result (string_bytes text.new ≡ string_bytes text.old ++ cpu_lines (rows_seen rows.now) cpu.now) }
 {
     push_pointers(text, rows, cpu.iptr, cpu.wptr)?;

@@ -1,12 +1,15 @@
 //! The line of `tpnet status`, and what a look sees that the next one compares with.
 
 ghost use Rattle.std.specs.Prelude.{◌≡◌, ◌++◌, ◌∷◌, ◌<◌, ◌^◌, [], IfOk, OnOk, codes, map, string_bytes};
-ghost use Rattle.tp_views.specs.Status.{IsSeen, bytes_accepted, accepted_before, accepted_part, count_part, front_part, growth_part, halted_or_none, halted_part, halted_parts, journal_part, millis_since, next_before, out_before, out_part, percent, port_before, port_part, port_parts, port_seen, bytes_put_out, entries_room, status_line, yes_or_no};
+ghost use Rattle.tp_views.specs.Status.{IsSeen, bytes_accepted, accepted_before, accepted_part, count_part, front_part, growth_part, halted_or_none, halted_part, halted_parts, journal_part, millis_since, next_before, out_before, out_part, percent, port_before, port_part, port_parts, port_seen, bytes_put_out, entries_room, status_line, steps_part, yes_or_no};
+ghost use Rattle.tp_views.specs.Done.{steps_made};
 ghost use Rattle.tp_node.specs.Standing.{standing};
 
+use crate::done::steps_made;
 use crate::formats::form_name;
 use crate::parts::Part::{Large, Number, Text, Word};
 use crate::parts::push_parts;
+use crate::time_of_day::push_time;
 use std::alloc::{AllocError, Global};
 use std::fmt::Write;
 use tp_area::JournalRoom;
@@ -231,6 +234,14 @@ fn push_journal(text: &mut String, entries: usize, room: u64) -> Result<(), Allo
     )
 }
 
+/// Appends how many steps all nodes have made since the checkpoint.
+fn push_steps(text: &mut String, opened: &Opened) -> Result<(), AllocError>
+    ensures { OnOk result (string_bytes text.new ≡ string_bytes text.old ++ steps_part (steps_made opened.now)) }
+{
+    let steps = steps_made(opened);
+    write!(text, " steps {steps}")
+}
+
 /// Appends what a port has accepted, and how much of that no node has taken.
 fn push_accepted(
     text: &mut String,
@@ -356,22 +367,26 @@ pub(crate) fn room_of(opened: &Opened) -> u64
     entries_left(journal, 0, opened.base())
 }
 
-/// The line of an opened device: `held` says whether a process holds it, and `before` what a look before saw; it is `at` milliseconds.
+/// The line of an opened device: `held` says whether a process holds it, and `before` what a look before saw; it is `at` milliseconds, and
+/// `clock` the seconds since 1970, if the line has the time of day.
 pub(crate) fn status_text(
     alloc: Global,
     held: bool,
     at: u64,
+    clock: Option<u64>,
     before: &Option<Seen>,
     opened: &Opened,
 ) -> Result<String, AllocError>
-    ensures { IfOk result (λ text. string_bytes text ≡ status_line held at before.now opened.now) }
+    ensures { IfOk result (λ text. string_bytes text ≡ status_line held at clock before.now opened.now) }
 {
     let now = opened.network();
     let (generation, form, next) = (opened.generation(), opened.form(), opened.next());
     let mut text = String::new(alloc);
     let since = next_before(at, before);
+    push_time(&mut text, clock)?;
     push_front(&mut text, held, generation, form, next, since)?;
     push_journal(&mut text, opened.kept().len(), room_of(opened))?;
+    push_steps(&mut text, opened)?;
     push_ports(&mut text, at, before, now.ports())?;
     push_halts(alloc, &mut text, now.nodes())?;
     Ok(text)

@@ -26,14 +26,15 @@ fn put_line<O: Write>(
     opened: &Opened,
     held: bool,
     at: u64,
+    clock: Option<u64>,
     before: &Option<Seen>,
     json: bool,
     out: &mut O,
 ) -> Result<(), Refusal>
-    ensures printed { OnOk result (Appends (O.contents out.old) (O.contents out.new) (look_text json held at before.now opened.now)) }
-    ensures front { (O.contents out.new ≡ O.contents out.old) ⊎ AppendsFront (O.contents out.old) (O.contents out.new) (look_text json held at before.now opened.now) }
+    ensures printed { OnOk result (Appends (O.contents out.old) (O.contents out.new) (look_text json held at clock before.now opened.now)) }
+    ensures front { (O.contents out.new ≡ O.contents out.old) ⊎ AppendsFront (O.contents out.old) (O.contents out.new) (look_text json held at clock before.now opened.now) }
 {
-    let Ok(text) = look_text(alloc, json, held, at, before, opened) else {
+    let Ok(text) = look_text(alloc, json, held, at, clock, before, opened) else {
         return Err(Refusal::Memory);
     };
     put(out, text.as_bytes())
@@ -45,18 +46,19 @@ fn tell<O: Write>(
     opened: &Opened,
     held: bool,
     at: u64,
+    clock: Option<u64>,
     before: &Option<Seen>,
     json: bool,
     out: &mut O,
 ) -> Result<Seen, Refusal>
-    ensures printed { IfOk result (λ seen. Appends (O.contents out.old) (O.contents out.new) (look_text json held at before.now opened.now)) }
+    ensures printed { IfOk result (λ seen. Appends (O.contents out.old) (O.contents out.new) (look_text json held at clock before.now opened.now)) }
     ensures seen { IfOk result (λ seen. IsSeen at opened.now seen) }
-    ensures front { (O.contents out.new ≡ O.contents out.old) ⊎ AppendsFront (O.contents out.old) (O.contents out.new) (look_text json held at before.now opened.now) }
+    ensures front { (O.contents out.new ≡ O.contents out.old) ⊎ AppendsFront (O.contents out.old) (O.contents out.new) (look_text json held at clock before.now opened.now) }
 {
     let Ok(seen) = seen_of(alloc, at, opened) else {
         return Err(Refusal::Memory);
     };
-    put_line(alloc, opened, held, at, before, json, out)?;
+    put_line(alloc, opened, held, at, clock, before, json, out)?;
     Ok(seen)
 }
 
@@ -65,13 +67,14 @@ fn look<D: Disk, O: Write>(
     disk: &mut D,
     held: bool,
     at: u64,
+    clock: Option<u64>,
     before: &Option<Seen>,
     json: bool,
     out: &mut O,
 ) -> Result<Seen, Refusal>
-    ensures done { D.keeps → IfOk result (StatusTells json held at before.now (D.state disk.old).now.bytes (O.contents out.old) (O.contents out.new)) }
+    ensures done { D.keeps → IfOk result (StatusTells json held at clock before.now (D.state disk.old).now.bytes (O.contents out.old) (O.contents out.new)) }
     ensures leaves { D.keeps → LeavesNothingNew (D.state disk.old) (D.state disk.new) }
-    ensures front { D.keeps → PrintsFront (look_text json held at before.now) (D.state disk.old).now.bytes (O.contents out.old) (O.contents out.new) }
+    ensures front { D.keeps → PrintsFront (look_text json held at clock before.now) (D.state disk.old).now.bytes (O.contents out.old) (O.contents out.new) }
     ensures kept { D.keeps → IsUnwritten (D.failures_of disk.old) (D.failures_of disk.new) (D.state disk.old).now (D.state disk.new).now }
     ensures refused { D.keeps → IsErr (verdict (D.state disk.old).now.bytes) → (IsErr result) × (O.contents out.new ≡ O.contents out.old) }
 {
@@ -79,11 +82,11 @@ fn look<D: Disk, O: Write>(
         return Err(Refusal::Busy);
     };
     let opened = answer?;
-    tell(alloc, &opened, held, at, before, json, out)
+    tell(alloc, &opened, held, at, clock, before, json, out)
 }
 
-/// One look of `tpnet status` at a device: `held` says whether another process holds it, `at` is the time in milliseconds, `before` what
-/// the look before saw, and `json` whether it is printed as JSON. Answers what was seen, where the device opens and exactly its line was
+/// One look of `tpnet status` at a device: `held` says whether another process holds it, `at` is the time in milliseconds, `clock` the seconds
+/// since 1970, if the time is printed, `before` what the look before saw, and `json` whether it is printed as JSON. Answers what was seen, where the device opens and exactly its line was
 /// printed, else the status 1, and why is said then. Nothing is written to the device, and a crash finds nothing that the call made. Of one
 /// that doesn't open nothing is printed.
 pub fn status_on<D: Disk, O: Write, E: Write>(
@@ -91,19 +94,20 @@ pub fn status_on<D: Disk, O: Write, E: Write>(
     disk: &mut D,
     held: bool,
     at: u64,
+    clock: Option<u64>,
     before: &Option<Seen>,
     json: bool,
     out: &mut O,
     err: &mut E,
 ) -> Result<Seen, u8>
     ensures status { IfErr result (λ status. status ≡ 1) }
-    ensures done { D.keeps → IfOk result (StatusTells json held at before.now (D.state disk.old).now.bytes (O.contents out.old) (O.contents out.new)) }
+    ensures done { D.keeps → IfOk result (StatusTells json held at clock before.now (D.state disk.old).now.bytes (O.contents out.old) (O.contents out.new)) }
     ensures leaves { D.keeps → LeavesNothingNew (D.state disk.old) (D.state disk.new) }
-    ensures front { D.keeps → PrintsFront (look_text json held at before.now) (D.state disk.old).now.bytes (O.contents out.old) (O.contents out.new) }
+    ensures front { D.keeps → PrintsFront (look_text json held at clock before.now) (D.state disk.old).now.bytes (O.contents out.old) (O.contents out.new) }
     ensures kept { D.keeps → IsUnwritten (D.failures_of disk.old) (D.failures_of disk.new) (D.state disk.old).now (D.state disk.new).now }
     ensures refused { D.keeps → IsErr (verdict (D.state disk.old).now.bytes) → (IsErr result) × (O.contents out.new ≡ O.contents out.old) }
 {
-    match look(alloc, disk, held, at, before, json, out) {
+    match look(alloc, disk, held, at, clock, before, json, out) {
         Ok(seen) => Ok(seen),
         Err(refusal) => Err(refuse(err, refusal)),
     }

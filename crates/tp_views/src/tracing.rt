@@ -1,112 +1,88 @@
-//! `tpnet trace`: the steps of a node alone, a line each.
+//! `tpnet trace`, on an image: the steps of a node alone, and what comes in at its links, a line each.
 
-ghost use Rattle.std.specs.Prelude.{◌≡◌, ◌≤◌, None, IfErr, IfOk, OnOk};
+ghost use Rattle.std.specs.Prelude.{◌≡◌, ◌≤◌, None, IfErr, IfOk, OnOk, map, option_copied};
 ghost use Rattle.std.specs.Io.KnownBytes.{Appends};
-ghost use Rattle.tp_law_machine.specs.NodeOfBytes.{IsNodeOfBytes};
-ghost use Rattle.tp_trace.specs.Lines.{step_line, stop_line};
 ghost use Rattle.tp_model.specs.Image.{node_of};
+ghost use Rattle.tp_trace.specs.Others.{IsLinked, attended};
 ghost use Rattle.tp_views.specs.Front.{AppendsFront};
-ghost use Rattle.tp_views.specs.Traced.{IsLineFault, Makes, ReadsNode, TraceAnswer, Traces, TracesFront, last_text, next_text, traced};
+ghost use Rattle.tp_views.specs.Maps.{rows_seen};
+ghost use Rattle.tp_views.specs.Traced.{IsLineFault, Passes, ReadsNode, TraceAnswer, Traces, TracesFront, last_text, moment, node_traced, traced};
 
 use crate::commands::{put, refuse};
+use crate::maps::MapRow;
 use crate::refusal::Refusal;
+use crate::stops::Stops;
+use crate::tracing_lines::{last_text, moment_text};
 use std::alloc::Global;
 use std::io::Write;
-use tp_node::{ImageFault, Node, Runs, Standing};
-use tp_trace::{Seen, step_line, stop_line, trace_step};
+use tp_node::{ImageFault, Node, Runs};
+use tp_trace::Linked;
 use tp_turn::TryFault;
 
-/// Prints the line of a step.
-fn put_step<O: Write>(alloc: Global, number: u64, seen: Seen, out: &mut O) -> Result<(), Refusal>
-    ensures printed { OnOk result (Appends (O.contents out.old) (O.contents out.new) (step_line number seen)) }
-    ensures front { AppendsFront (O.contents out.old) (O.contents out.new) (step_line number seen) }
-    ensures refused { IfErr result IsLineFault }
-{
-    match step_line(alloc, number, seen) {
-        Ok(text) => put(out, text.as_bytes()),
-        Err(_) => Err(Refusal::Memory),
-    }
-}
-
-/// Prints how a node stands that has no further step.
-fn put_stop<O: Write>(alloc: Global, standing: Standing, out: &mut O) -> Result<(), Refusal>
-    ensures printed { OnOk result (Appends (O.contents out.old) (O.contents out.new) (stop_line standing)) }
-    ensures front { AppendsFront (O.contents out.old) (O.contents out.new) (stop_line standing) }
-    ensures refused { IfErr result IsLineFault }
-{
-    match stop_line(alloc, standing) {
-        Ok(text) => put(out, text.as_bytes()),
-        Err(_) => Err(Refusal::Memory),
-    }
-}
-
-/// Makes a step and prints its line, or prints how the node stands where it has none. Answers whether it had one.
-fn put_next<O: Write>(
+/// Prints what there is at the moment before the line of a number, and answers whether the trace goes on.
+fn put_moment<O: Write>(
     alloc: Global,
-    node: &mut Node,
-    runs: &mut Runs,
+    rows: &[MapRow<'_>],
+    stops: Stops,
     number: u64,
+    linked: &mut Linked<'_>,
+    runs: &mut Runs,
     out: &mut O,
 ) -> Result<bool, Refusal>
-    requires thawed { node.old.frozen ≡ None }
-    requires bytes { IsNodeOfBytes node.old.live }
-    ensures printed { IfOk result (λ goes. Makes number goes node.old.live node.new.live (O.contents out.old) (O.contents out.new)) }
-    ensures front { AppendsFront (O.contents out.old) (O.contents out.new) (next_text number node.old.live) }
+    requires { IsLinked linked.old }
+    ensures passes { IfOk result (λ goes. Passes (moment (rows_seen rows.now) stops number (attended linked.old)) goes (attended linked.new) (O.contents out.old) (O.contents out.new)) }
+    ensures front { AppendsFront (O.contents out.old) (O.contents out.new) (moment (rows_seen rows.now) stops number (attended linked.old)).text }
     ensures refused { IfErr result IsLineFault }
-    ensures thawed { node.new.frozen ≡ None }
-    ensures bytes { IsNodeOfBytes node.new.live }
+    ensures linked { IsLinked linked.new }
 {
-    match trace_step(node, runs) {
-        Some(seen) => {
-            put_step(alloc, number, seen, out)?;
-            Ok(true)
-        }
-        None => {
-            put_stop(alloc, node.standing(), out)?;
-            Ok(false)
-        }
-    }
+    let Ok((text, goes)) = moment_text(alloc, rows, stops, number, linked, runs) else {
+        return Err(Refusal::Memory);
+    };
+    put(out, text.as_bytes())?;
+    Ok(goes)
 }
 
-/// Prints how a node stands, where it has no step.
+/// Prints what is printed after the last line that was asked for.
 fn put_last<O: Write>(
     alloc: Global,
-    node: &mut Node,
+    rows: &[MapRow<'_>],
+    stops: Stops,
+    linked: &mut Linked<'_>,
     runs: &mut Runs,
     out: &mut O,
 ) -> Result<(), Refusal>
-    requires thawed { node.old.frozen ≡ None }
-    requires bytes { IsNodeOfBytes node.old.live }
-    ensures printed { OnOk result (Appends (O.contents out.old) (O.contents out.new) (last_text node.old.live)) }
-    ensures front { AppendsFront (O.contents out.old) (O.contents out.new) (last_text node.old.live) }
+    requires { IsLinked linked.old }
+    ensures printed { OnOk result (Appends (O.contents out.old) (O.contents out.new) (last_text (rows_seen rows.now) stops (attended linked.old))) }
+    ensures front { AppendsFront (O.contents out.old) (O.contents out.new) (last_text (rows_seen rows.now) stops (attended linked.old)) }
     ensures refused { IfErr result IsLineFault }
 {
-    match trace_step(node, runs) {
-        Some(_) => Ok(()),
-        None => put_stop(alloc, node.standing(), out),
+    match last_text(alloc, rows, stops, linked, runs) {
+        Ok(text) => put(out, text.as_bytes()),
+        Err(_) => Err(Refusal::Memory),
     }
 }
 
-/// Prints the lines of a node's steps as they are made, which takes no more memory for more of them.
+/// Prints the lines of a node as what they say happens, which takes no more memory for more of them.
 fn put_steps<O: Write>(
     alloc: Global,
-    node: &mut Node,
-    runs: &mut Runs,
+    rows: &[MapRow<'_>],
+    stops: Stops,
     steps: u32,
+    linked: &mut Linked<'_>,
+    runs: &mut Runs,
     out: &mut O,
 ) -> Result<(), Refusal>
-    requires thawed { node.old.frozen ≡ None }
-    requires bytes { IsNodeOfBytes node.old.live }
-    ensures printed { OnOk result (Appends (O.contents out.old) (O.contents out.new) (traced steps 1 node.old.live)) }
-    ensures front { AppendsFront (O.contents out.old) (O.contents out.new) (traced steps 1 node.old.live) }
+    requires { IsLinked linked.old }
+    ensures printed { OnOk result (Appends (O.contents out.old) (O.contents out.new) (traced (rows_seen rows.now) stops steps 1 (attended linked.old))) }
+    ensures front { AppendsFront (O.contents out.old) (O.contents out.new) (traced (rows_seen rows.now) stops steps 1 (attended linked.old)) }
     ensures refused { IfErr result IsLineFault }
 {
     for index in 0..steps {
-        if !put_next(alloc, node, runs, u64::from(index) + 1, out)? {
+        if !put_moment(alloc, rows, stops, u64::from(index) + 1, linked, runs, out)? {
             return Ok(());
         }
     }
-    put_last(alloc, node, runs, out)
+    put_last(alloc, rows, stops, linked, runs, out)
 }
 
 /// The node of an image, whatever its links do.
@@ -121,36 +97,49 @@ pub(crate) fn image_node(alloc: Global, image: &[u8]) -> Result<Node, TryFault>
 }
 
 /// Traces the node of an image.
-fn trace<O: Write>(alloc: Global, image: &[u8], steps: u32, out: &mut O) -> Result<(), Refusal>
-    ensures { TraceAnswer image.now steps (O.contents out.old) (O.contents out.new) result }
+fn trace<O: Write>(
+    alloc: Global,
+    image: &[u8],
+    rows: &[MapRow<'_>],
+    stops: Stops,
+    steps: u32,
+    others: [Option<&[u8]>; 4],
+    out: &mut O,
+) -> Result<(), Refusal>
+    ensures { TraceAnswer (node_traced (rows_seen rows.now) stops steps (map option_copied others.entry)) image.now (O.contents out.old) (O.contents out.new) result }
 {
     match image_node(alloc, image) {
-        Ok(mut node) => {
+        Ok(node) => {
             let Ok(mut runs) = Runs::new(alloc) else {
                 return Err(Refusal::Trial(TryFault::Memory));
             };
-            put_steps(alloc, &mut node, &mut runs, steps, out)
+            let mut linked = Linked { node, others };
+            put_steps(alloc, rows, stops, steps, &mut linked, &mut runs, out)
         }
         Err(fault) => Err(Refusal::Trial(fault)),
     }
 }
 
-/// `tpnet trace`, on the bytes of the image. Answers the program's status: 0 where exactly the lines of the node's first steps were
-/// written, else 1. Whatever the status, nothing but a front of them was. Its links may be at work. Bytes that are no image are refused, and
-/// nothing is written then.
+/// `tpnet trace`, on the bytes of the image, whose links may be at work. `others` has for each link the bytes that its other end sends; `None`:
+/// nobody is there. Answers the program's status: 0 if exactly the lines of the node's first steps and of the tokens that came in were
+/// written, as many as `steps` at most, with what is printed where it stops; else 1. Whatever the status, only a first part of them was.
+/// It refuses bytes that are no image, and writes nothing then.
 pub fn trace_on<O: Write, E: Write>(
     alloc: Global,
     image: &[u8],
+    rows: &[MapRow<'_>],
+    stops: Stops,
     steps: u32,
+    others: [Option<&[u8]>; 4],
     out: &mut O,
     err: &mut E,
 ) -> u8
     ensures status { result ≤ 1 }
-    ensures done { result ≡ 0 → Traces image.now steps (O.contents out.old) (O.contents out.new) }
-    ensures front { TracesFront image.now steps (O.contents out.old) (O.contents out.new) }
+    ensures done { result ≡ 0 → Traces (node_traced (rows_seen rows.now) stops steps (map option_copied others.entry)) image.now (O.contents out.old) (O.contents out.new) }
+    ensures front { TracesFront (node_traced (rows_seen rows.now) stops steps (map option_copied others.entry)) image.now (O.contents out.old) (O.contents out.new) }
     ensures refused { node_of image.now ≡ None → (result ≡ 1) × (O.contents out.new ≡ O.contents out.old) }
 {
-    match trace(alloc, image, steps, out) {
+    match trace(alloc, image, rows, stops, steps, others, out) {
         Ok(()) => 0,
         Err(refusal) => refuse(err, refusal),
     }

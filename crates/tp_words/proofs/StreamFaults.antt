@@ -5,7 +5,7 @@ use Rattle.std.specs.declared.alloc.Global.{Global}
 use Rattle.std.specs.declared.string.String.{String}
 use Rattle.clap.specs.declared.parser.matches.ArgMatches.{ArgMatches}
 use Rattle.tp_words.specs.declared.arg_fault.ArgFault.{ArgFault}
-use Rattle.tp_words.specs.declared.arg_fault.ArgFault.TheVariants.{Words, Range, Size, Number, Order, Many, Stream, BothExplain, Missing, Memory}
+use Rattle.tp_words.specs.declared.arg_fault.ArgFault.TheVariants.{Words, Range, Size, Number, Order, Links, TwoInputs, Many, Stream, BothExplain, Missing, Memory}
 use Rattle.tp_words.specs.declared.args.TheConstants.{MAX_WORDS}
 use Rattle.tp_words.specs.declared.command.CommandFault.{CommandFault}
 use Rattle.tp_words.specs.declared.command.CommandFault.TheVariants.{Arg, Ends}
@@ -25,6 +25,8 @@ unparsed words (Range id least most) is = absurd (is)
 unparsed words (Size name) is = absurd (is)
 unparsed words Number is = absurd (is)
 unparsed words Order is = absurd (is)
+unparsed words Links is = absurd (is)
+unparsed words (TwoInputs link) is = absurd (is)
 unparsed words Many is = is
 unparsed words (Stream id) is = absurd (is)
 unparsed words BothExplain is = absurd (is)
@@ -58,6 +60,10 @@ of_match words (Arg Number) few (inl missing) = absurd (cc)
 of_match words (Arg Number) few (inr at) = (few, at.0, at.1)
 of_match words (Arg Order) few (inl missing) = absurd (cc)
 of_match words (Arg Order) few (inr at) = (few, at.0, at.1)
+of_match words (Arg Links) few (inl missing) = absurd (cc)
+of_match words (Arg Links) few (inr at) = (few, at.0, at.1)
+of_match words (Arg (TwoInputs link)) few (inl missing) = absurd (cc)
+of_match words (Arg (TwoInputs link)) few (inr at) = (few, at.0, at.1)
 of_match words (Arg (Stream id)) few (inl missing) = absurd (cc)
 of_match words (Arg (Stream id)) few (inr at) = (few, at.0, at.1)
 of_match words (Arg BothExplain) few (inl missing) = absurd (cc)

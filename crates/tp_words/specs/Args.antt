@@ -8,13 +8,14 @@ use Rattle.tp_model.specs.declared.limits.TheConstants.{MAX_STEPS}
 use Rattle.tp_words.specs.declared.args.Asked.{Asked}
 use Rattle.tp_words.specs.declared.args.Asked.TheVariants.{Help, Try, Trace, TraceDevice, Format, Run as Runs, Compact, Recover, Show, Status, Check, View as Views}
 use Rattle.tp_words.specs.declared.args.Run.{Run}
-use Rattle.tp_words.specs.declared.args.TheConstants.{MAX_AREA, MAX_WORKERS, QUANTUM, STEPS}
+use Rattle.tp_words.specs.declared.args.TheConstants.{MAX_AREA, MAX_WORKERS, QUANTUM}
 use Rattle.tp_words.specs.declared.views.JournalPart.{JournalPart}
 use Rattle.tp_words.specs.declared.views.TracePart.{TracePart}
 use Rattle.tp_words.specs.declared.views.View.{View}
 use Rattle.tp_words.specs.declared.views.View.TheVariants.{Node, Image, Journal, Pending, Outputs, NodeJson, PendingJson, OutputsJson, Waits, WaitsJson, WaitsDot}
 use Rattle.tp_words.specs.Given.{given, has_flag, IsGivenOr}
 use Rattle.tp_words.specs.Size.{IsArea}
+use Rattle.tp_words.specs.TraceArgs.{IsImageTrace, IsTypedImage}
 use Rattle.tp_words.specs.Typed.{has_word, was_typed}
 
 -- a snapshot begins after a number of entries, or a further look is taken after a number of seconds, where one is given
@@ -47,8 +48,8 @@ IsView WaitsDot = Unit {0}
 abbrev pub IsInRange : Asked → Type 0
 IsInRange (Help text) = Unit {0}
 IsInRange (Try image turns) = turns < 2 ^ 32
-IsInRange (Trace image steps) = (0 < steps) × (steps < 2 ^ 32)
-IsInRange (TraceDevice device part) = IfSome part.to (λ to. part.from ≤ to)
+IsInRange (Trace trace) = IsImageTrace trace
+IsInRange (TraceDevice device part maps) = IfSome part.to (λ to. part.from ≤ to)
 IsInRange (Format new) = IfSome new.area (λ area. area ≤ MAX_AREA)
 IsInRange (Runs run) = IsRun run
 IsInRange (Compact device wait_lock) = Unit {0}
@@ -116,8 +117,9 @@ IsTypedRun words run = (has_word (string_bytes run.device) words ≡ true)
 abbrev pub WasTyped : List (String Global) → Asked → Type 0
 WasTyped words (Help text) = Unit {0}
 WasTyped words (Try image turns) = (has_word (string_bytes image) words ≡ true) × (given (codes "turns") words ≡ Some (decimal turns))
-WasTyped words (Trace image steps) = (has_word (string_bytes image) words ≡ true) × IsGivenOr STEPS steps (given (codes "steps") words)
-WasTyped words (TraceDevice device part) = (has_word (string_bytes device) words ≡ true) × IsTypedTrace words part
+WasTyped words (Trace trace) = IsTypedImage words trace
+WasTyped words (TraceDevice device part maps) = (has_word (string_bytes device) words ≡ true) × IsTypedTrace words part
+    × (given (codes "map") words ≡ option_map string_bytes maps)
 WasTyped words (Format new) = (has_word (string_bytes new.device) words ≡ true) × (has_word (string_bytes new.topology) words ≡ true)
     × (has_word (string_bytes new.images) words ≡ true) × IsArea words new.area (given (codes "area") words)
     × IsGivenOr 0 new.wait_lock (given (codes "wait-lock") words)

@@ -2,11 +2,12 @@ pub mod Typed
 pub mod Given
 pub mod Places
 pub mod Size
+pub mod Ends
+pub mod TraceArgs
 pub mod Args
 pub mod Numbers
 pub mod Parsing
 pub mod RunNumbers
-pub mod Ends
 pub mod Standard
 pub mod StreamArgs
 pub mod StreamRefused

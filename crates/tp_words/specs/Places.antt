@@ -107,8 +107,8 @@ HasViewFlag words _ = Unit {0}
 abbrev pub HasPlaces : List (String Global) → Asked → Type 0
 HasPlaces words (Help text) = Unit {0}
 HasPlaces words (Try image turns) = places words ≡ codes "try" ∷ string_bytes image ∷ []
-HasPlaces words (Trace image steps) = places words ≡ codes "trace" ∷ string_bytes image ∷ []
-HasPlaces words (TraceDevice device part) = places words ≡ codes "trace" ∷ string_bytes device ∷ decimal part.node ∷ []
+HasPlaces words (Trace trace) = places words ≡ codes "trace" ∷ string_bytes trace.image ∷ []
+HasPlaces words (TraceDevice device part maps) = places words ≡ codes "trace" ∷ string_bytes device ∷ decimal part.node ∷ []
 HasPlaces words (Format new) = HasFormatPlaces words new × (new.only_new ≡ has_flag (codes "--new") words)
 HasPlaces words (Runs run) = (places words ≡ codes "run" ∷ string_bytes run.device ∷ []) × (has_flag (codes "--stream") words ≡ false)
 HasPlaces words (Compact device wait_lock) = places words ≡ codes "compact" ∷ string_bytes device ∷ []

@@ -24,6 +24,10 @@ pub enum ArgFault {
     Number,
     /// The last entry that is asked for is before the first one.
     Order,
+    /// What was typed for `--in` isn't a link, an equals sign and a file.
+    Links,
+    /// Two files are there whose bytes come in at this link.
+    TwoInputs(u8),
     /// There are more words than any command has.
     Many,
     /// This option goes with `--stream`.
@@ -87,6 +91,17 @@ impl fmt::Display for ArgFault {
             ),
             ArgFault::Order => {
                 f.write_str("tpnet: --to is below --from: there is no entry between them\n")
+            }
+            ArgFault::Links => {
+                f.write_str(
+                    "tpnet: trace --in takes L=FILE, L a link from 0 to 3; as --in 0=bytes\n",
+                )
+            }
+            ArgFault::TwoInputs(link) => {
+                write!(
+                    f,
+                    "tpnet: link {link} has two inputs: leave one --in {link}\n"
+                )
             }
             ArgFault::Many => write!(f, "tpnet: there are more than {MAX_WORDS} words\n"),
             ArgFault::Stream(id) => write!(

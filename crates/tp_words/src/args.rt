@@ -6,7 +6,8 @@ ghost use Rattle.tp_words.specs.Places.{HasPlaces};
 
 use crate::arg_fault::ArgFault;
 use crate::device_args::{asked_compact, asked_format, asked_run};
-use crate::view_args::{asked_check, asked_to_read, asked_trace, asked_try};
+use crate::trace_args::{ImageTrace, asked_trace};
+use crate::view_args::{asked_check, asked_to_read, asked_try};
 use crate::views::{TracePart, View};
 use clap::ArgMatches;
 use std::alloc::Global;
@@ -22,14 +23,13 @@ pub enum Asked {
         turns: u32,
     },
     /// Steps of one node, from its image, without a device: what each does, in a line.
-    Trace {
-        image: String,
-        steps: u32,
-    },
-    /// Opens a device and shows the steps that its journal's entries made at a node, a line each.
+    Trace(ImageTrace),
+    /// Opens a device and shows the steps that its journal's entries made at a node, a line each. `maps`: the folder of the maps that name addresses,
+    /// where one is given.
     TraceDevice {
         device: String,
         part: TracePart,
+        maps: Option<String>,
     },
     /// A new device.
     Format(NewDevice),

@@ -65,10 +65,15 @@ pub const TRY: Form = Form {
 
 pub const TRACE: Form = Form {
     name: "trace",
-    about: "Prints what each step of one node does in a line, with the registers behind it: of an image, with nobody at its links, or of a device, as its journal has it",
+    about: "Prints what each step of one node does in a line, with the registers behind it: of an image, with nobody at its links but those of --in, or of a device, as its journal has it",
     words: &[
         EXPLAIN,
         NO_EXPLAIN,
+        Word::Value(
+            "map",
+            "FILE",
+            "the map that tools/assemble --map wrote; with I the folder of maps: I.map of node I, all.map of each node that has none",
+        ),
         Word::Place(
             "FILE",
             "the node's image: 172 bytes and its memory; with I the device's file",
@@ -81,8 +86,24 @@ pub const TRACE: Form = Form {
         Word::Value(
             "steps",
             "N",
-            "without I: how many steps at most, 1 to 4294967295 (100 where it isn't given)",
+            "without I: how many steps at most, with what comes in, 1 to 4294967295 (100 where it isn't given)",
         ),
+        Word::Many(
+            "in",
+            "L=FILE",
+            "without I, for each link L from 0 to 3: at its other end is somebody who sends FILE's bytes, and acknowledges what comes",
+        ),
+        Word::Value(
+            "until",
+            "PLACE",
+            "without I: stop before the instruction there, an address of eight digits or a label of the map, and print the state",
+        ),
+        Word::Value(
+            "watch",
+            "PLACE",
+            "without I: stop behind what changed the bytes there, and print the state",
+        ),
+        Word::Value("bytes", "N", "with --watch: how many bytes, 1 to 1024 (4)"),
         Word::Value("from", "N", "with I: the number of the first entry"),
         Word::Value("to", "N", "with I: the number of the last entry"),
     ],

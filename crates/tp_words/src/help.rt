@@ -10,17 +10,24 @@ pub const TRY_REFUSALS: &str = "Refusals (status 1):
 /// What the lines of `tpnet trace` mean, and what it refuses.
 pub const TRACE_REFUSALS: &str =
     "A line: the step's number, the address where the instruction stands, the instruction, and behind the step A, B, C, the workspace Wptr,
-what runs (high, low or idle), error where Error is set, and where something leaves sends, the link and the token.
-interrupt, dispatch high, restore and dispatch low are steps, too.
-Of an image the last line says why there is no further step, where there is none:
+what runs (high, low or idle), error where Error is set, where something leaves sends, the link and the token, and with --map the label,
+the distance and the place in the source. interrupt, dispatch high, restore and dispatch low are steps, too.
+Of an image the last line says why nothing happens any more, where nothing does:
   waits            no process can run, and one waits at a link
   idle             no process can run, and none waits at a link
   halted FAULT at ADDRESS   the node has halted at the instruction there
-Nobody is at the links: nothing comes in, what is sent is lost and never acknowledged, so a process that sends or waits there stops for good.
+Nobody is at a link without --in: nothing comes in, what is sent is lost and never acknowledged, so a process that sends or waits there stops for good.
+What comes in at a link of --in has a line and a number, too: takes, the link and the token, and sends and what leaves in answer.
+With --until or --watch it says at the end which stop came, and prints registers, queues, the workspace's first words and the bytes of --watch:
+  stop until ADDRESS   the instruction there is the next step
+  stop watch           the line above changed one of the bytes
+  stop steps           --steps lines were printed before
 With I each line begins with the number of an entry, as tpnet journal has it: steps are numbered within their entry, and a token that came in
-has a line of its own: takes, the link and the token, and sends and what leaves in answer. FILE may be run meanwhile.
+has a line without a number of its own. FILE may be run meanwhile.
 Refusals (status 1); nothing is written to FILE:
-  ReadFailed    FILE can't be read: look at its path and its rights
+  ReadFailed    FILE, the map or a file of --in can't be read: look at its path and its rights
+  BadMap L      line L of the map is none of a map (with I BadMap F L, line L of FOLDER/F): make the map anew, by tools/assemble --map
+  NoPlace       PLACE is neither an address of eight digits with capital letters nor a label of the map
   BadImage      without I: FILE is no node's image: make it with tools/make-image
   NotFormatted  with I: FILE is no device, and so each refusal of tpnet recover
   DeviceFailed  standard output can't be written

@@ -10,6 +10,7 @@ use crate::numbers::is_word;
 /// The options that have a value, of any command. The value is the next word, unless it follows an equals sign within the option's own word.
 const VALUED: &[&str] = &[
     "--area",
+    "--bytes",
     "--discard",
     "--every",
     "--from",
@@ -27,8 +28,10 @@ const VALUED: &[&str] = &[
     "--stop-file",
     "--to",
     "--turns",
+    "--until",
     "--wait",
     "--wait-lock",
+    "--watch",
     "--workers",
 ];
 

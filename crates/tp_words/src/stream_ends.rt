@@ -217,7 +217,7 @@ fn files_in(alloc: Global, texts: &[&str], option: FileOption) -> Result<Vec<Por
 }
 
 /// The ports and files that were typed for an option.
-fn files_of(
+pub(crate) fn files_of(
     alloc: Global,
     words: &[String],
     found: &ArgMatches,
@@ -309,7 +309,7 @@ fn discards_of(alloc: Global, words: &[String], found: &ArgMatches) -> Result<Ve
 }
 
 /// How many of the files are for a port.
-fn count_of(files: &[PortFile], port: u8) -> usize
+pub(crate) fn count_of(files: &[PortFile], port: u8) -> usize
     ensures { result ≡ count_by (λ file. file.port == port) files.now }
 {
     let mut count = 0;

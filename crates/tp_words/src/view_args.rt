@@ -5,10 +5,10 @@ ghost use Rattle.tp_words.specs.Args.{HasTyped, IsInRange, IsTypedMaps, IsView, 
 ghost use Rattle.tp_words.specs.Places.{HasFoundTexts, HasPlaces, HasViewFlag, listed, places, view_command, view_places};
 
 use crate::arg_fault::ArgFault;
-use crate::args::{Asked, MAX_TURNS, MAX_WORKERS, STEPS};
+use crate::args::{Asked, MAX_WORKERS};
 use crate::device_args::every_of;
 use crate::found::{flag_of, json_of, option_or, option_string, place_of, text_of, turns_of};
-use crate::journal_args::{journal_view, trace_part};
+use crate::journal_args::journal_view;
 use crate::places::has_places;
 use crate::views::View;
 use clap::ArgMatches;
@@ -24,48 +24,6 @@ pub fn asked_try(alloc: Global, words: &[String], found: &ArgMatches) -> Result<
     let image = text_of(alloc, words, found, "IMAGE")?;
     has_places(words, &["try", image.as_str()])?;
     Ok(Asked::Try { image, turns })
-}
-
-/// Steps of one node, from its image.
-fn trace_image(alloc: Global, words: &[String], found: &ArgMatches) -> Result<Asked, ArgFault>
-    ensures range { IfOk result IsInRange }
-    ensures typed { IfOk result (WasTyped words.now) }
-    ensures places { IfOk result (HasPlaces words.now) }
-{
-    let fallback = STEPS as u64;
-    let steps = option_or(alloc, words, found, "steps", 1, MAX_TURNS, fallback)? as u32;
-    let image = text_of(alloc, words, found, "FILE")?;
-    has_places(words, &["trace", image.as_str()])?;
-    Ok(Asked::Trace { image, steps })
-}
-
-/// Steps of a device's node, by its journal's entries.
-fn trace_device(alloc: Global, words: &[String], found: &ArgMatches) -> Result<Asked, ArgFault>
-    ensures range { IfOk result IsInRange }
-    ensures typed { IfOk result (WasTyped words.now) }
-    ensures places { IfOk result (HasPlaces words.now) }
-{
-    let part = trace_part(alloc, words, found)?;
-    let device = text_of(alloc, words, found, "FILE")?;
-    let node = part.node;
-    let text = format!(in alloc; "{node}")?;
-    has_places(words, &["trace", device.as_str(), text.as_str()])?;
-    Ok(Asked::TraceDevice { device, part })
-}
-
-/// Steps of one node: of its image, or, where a node's number stands behind the file, of a device. `--from` and `--to` go with a device.
-pub fn asked_trace(alloc: Global, words: &[String], found: &ArgMatches) -> Result<Asked, ArgFault>
-    ensures range { IfOk result IsInRange }
-    ensures typed { IfOk result (WasTyped words.now) }
-    ensures places { IfOk result (HasPlaces words.now) }
-{
-    if found.get_str("I").is_some() {
-        return trace_device(alloc, words, found);
-    }
-    if found.get_str("from").is_some() || found.get_str("to").is_some() {
-        return Err(ArgFault::Missing);
-    }
-    trace_image(alloc, words, found)
 }
 
 fn asked_recover(alloc: Global, words: &[String], found: &ArgMatches) -> Result<Asked, ArgFault>

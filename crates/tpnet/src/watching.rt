@@ -36,6 +36,13 @@ impl<'a, R: Files<File = File> + Clock> Watch for Watcher<'a, R> {
         }
     }
 
+    fn clock(&mut self) -> Option<u64> {
+        match self.rt.since_1970() {
+            Ok(time) => Some(time.as_secs()),
+            Err(_) => None,
+        }
+    }
+
     fn pause(&mut self, seconds: u32) -> bool {
         sleep(self.rt, Duration::from_secs(u64::from(seconds)));
         true

@@ -19,8 +19,8 @@ returns-in-Ok-clause-served g c =
     served_until g.D.Disk.keeps start before false old mid c.finish.new.flusher was now
     (subst (λ last. ServedOn g.D.Disk.keeps start before (answer_failed last) old mid was now) c.in-Ok-Some.is c.lead-going.ensures.served) c.finish.ensures.walks c.finish.ensures.process c.in-Ok.ensures.failures
 
-pub returns-in-Err-finish-clause-served : goal.returns-in-Err-finish-clause-served
-returns-in-Err-finish-clause-served g c =
+pub returns-clause-served : goal.returns-clause-served
+returns-clause-served g c =
     let start = g.J.Naming.formatted in
     let before = g.J.Naming.before in
     let old = c.args.flusher.now in
@@ -38,8 +38,8 @@ returns-in-Ok-clause-last g c k began =
 pub returns-in-Ok-clause-told : goal.returns-in-Ok-clause-told
 returns-in-Ok-clause-told g c = later_then (length g.J.Naming.start.nodes) _ _ _ c.lead-going.ensures.told c.tell_stopped.ensures
 
-pub returns-in-Err-finish-clause-begun : goal.returns-in-Err-finish-clause-begun
-returns-in-Err-finish-clause-begun g c = flush_begun c.in-Err-finish.fault c.in-Err-finish.ensures.begun
+pub returns-clause-begun : goal.returns-clause-begun
+returns-clause-begun g c = flush_begun c.in-Err-finish.fault c.in-Err-finish.ensures.begun
 
 pub returns-in-Ok-clause-put : goal.returns-in-Ok-clause-put
 returns-in-Ok-clause-put g c k began =

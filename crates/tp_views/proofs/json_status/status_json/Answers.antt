@@ -1,7 +1,8 @@
 use Rattle.std.proofs.Common.{◌≡◌, ◌∙◌, ◌++◌, List, ℕ, ap, append_assoc, length, string_bytes}
 use Rattle.tp_model.specs.Opening.{next_of}
 use Rattle.tp_views.specs.Json.{json_items}
-use Rattle.tp_views.specs.JsonStatus.{front_json, halts_json, journal_json, port_items}
+use Rattle.tp_views.specs.TimeOfDay.{time_field}
+use Rattle.tp_views.specs.JsonStatus.{done_json, front_json, halts_json, journal_json, port_items}
 use Rattle.tp_views.specs.Status.{next_before, entries_room}
 use Rattle.tp_views.proofs.json_status.status_json.Goals as goal
 
@@ -15,6 +16,8 @@ returns c =
     let journal : List ℕ = journal_json (length o.kept) (entries_room o) in
     let ports : List ℕ = json_items 0 (port_items 0 at before o.now.ports) in
     let halts : List ℕ = halts_json o.now.nodes in
+    let done : List ℕ = done_json o in
+    let time : List ℕ = time_field c.args.clock in
     let fronted : string_bytes c.push_front.new.text ≡ front =
     c.in_ok-push_front.ensures
     ∙ (λ i. c.new-text.ensures.bytes i ++ front_json held (c.generation-generation.ensures i) (c.form-form.ensures i) (c.next-next.ensures i) (c.next_before-since.ensures i)) in
@@ -22,7 +25,12 @@ returns c =
     c.in_ok-push_journal.ensures ∙ (λ i. fronted i ++ journal_json (length (c.kept.ensures i)) (c.room_of.ensures i)) in
     let ported : string_bytes c.push_ports.new.text ≡ (front ++ journal) ++ ports =
     c.in_ok-push_ports.ensures ∙ (λ i. journalled i ++ json_items 0 (port_items 0 at before ((c.ports.ensures ∙ ap (λ now. now.ports) c.network-now.ensures) i))) in
-    c.in_ok-push_halts.ensures
-    ∙ (λ i. ported i ++ halts_json ((c.nodes.ensures ∙ ap (λ now. now.nodes) c.network-now.ensures) i))
-    ∙ append_assoc (front ++ journal) ports halts
-    ∙ append_assoc front journal (ports ++ halts)
+    let halted : string_bytes c.push_halts.new.text ≡ ((front ++ journal) ++ ports) ++ halts =
+    c.in_ok-push_halts.ensures ∙ (λ i. ported i ++ halts_json ((c.nodes.ensures ∙ ap (λ now. now.nodes) c.network-now.ensures) i)) in
+    let told : string_bytes c.push_done.new.text ≡ (((front ++ journal) ++ ports) ++ halts) ++ done = c.in_ok-push_done.ensures ∙ (λ i. halted i ++ done) in
+    c.in_ok-push_time_field.ensures
+    ∙ (λ i. told i ++ time)
+    ∙ append_assoc (((front ++ journal) ++ ports) ++ halts) done time
+    ∙ append_assoc ((front ++ journal) ++ ports) halts (done ++ time)
+    ∙ append_assoc (front ++ journal) ports (halts ++ (done ++ time))
+    ∙ append_assoc front journal (ports ++ (halts ++ (done ++ time)))

@@ -1,6 +1,8 @@
 use Rattle.std.proofs.Common.{◌≡◌, ◌∙◌, ◌++◌, ◌∷◌, [], List, ℕ, ap, append_assoc, length, string_bytes}
 use Rattle.tp_model.specs.Opening.{next_of}
-use Rattle.tp_views.specs.Status.{entries_room, front_part, halted_or_none, halted_parts, journal_part, next_before, port_parts}
+use Rattle.tp_views.specs.Done.{steps_made}
+use Rattle.tp_views.specs.TimeOfDay.{time_part}
+use Rattle.tp_views.specs.Status.{entries_room, front_part, halted_or_none, halted_parts, journal_part, next_before, port_parts, steps_part}
 use Rattle.tp_views.proofs.status.status_text.Goals as goal
 
 pub returns : goal.returns
@@ -9,18 +11,24 @@ returns c =
     let held = c.args.held in
     let at = c.args.at in
     let before = c.args.before.now in
+    let time : List ℕ = time_part c.args.clock in
     let front : List ℕ = front_part held o.generation o.form (next_of o) (next_before at before) in
     let journal : List ℕ = journal_part (length o.kept) (entries_room o) in
+    let steps : List ℕ = steps_part (steps_made o) in
     let ports : List ℕ = port_parts 0 at before o.now.ports in
     let halts : List ℕ = halted_or_none (halted_parts 0 o.now.nodes) ++ 10 ∷ [] in
-    let fronted : string_bytes c.push_front.new.text ≡ front =
+    let timed : string_bytes c.push_time.new.text ≡ time = c.in_ok-push_time.ensures ∙ (λ i. c.new-text.ensures.bytes i ++ time) in
+    let fronted : string_bytes c.push_front.new.text ≡ time ++ front =
     c.in_ok-push_front.ensures
-    ∙ (λ i. c.new-text.ensures.bytes i ++ front_part held (c.generation-generation.ensures i) (c.form-form.ensures i) (c.next-next.ensures i) (c.next_before-since.ensures i)) in
-    let journalled : string_bytes c.push_journal.new.text ≡ front ++ journal =
+    ∙ (λ i. timed i ++ front_part held (c.generation-generation.ensures i) (c.form-form.ensures i) (c.next-next.ensures i) (c.next_before-since.ensures i)) in
+    let journalled : string_bytes c.push_journal.new.text ≡ (time ++ front) ++ journal =
     c.in_ok-push_journal.ensures ∙ (λ i. fronted i ++ journal_part (length (c.kept.ensures i)) (c.room_of.ensures i)) in
-    let ported : string_bytes c.push_ports.new.text ≡ (front ++ journal) ++ ports =
-    c.in_ok-push_ports.ensures ∙ (λ i. journalled i ++ port_parts 0 at before ((c.ports.ensures ∙ ap (λ now. now.ports) c.network-now.ensures) i)) in
+    let stepped : string_bytes c.push_steps.new.text ≡ ((time ++ front) ++ journal) ++ steps = c.in_ok-push_steps.ensures ∙ (λ i. journalled i ++ steps) in
+    let ported : string_bytes c.push_ports.new.text ≡ (((time ++ front) ++ journal) ++ steps) ++ ports =
+    c.in_ok-push_ports.ensures ∙ (λ i. stepped i ++ port_parts 0 at before ((c.ports.ensures ∙ ap (λ now. now.ports) c.network-now.ensures) i)) in
     c.in_ok-push_halts.ensures
     ∙ (λ i. ported i ++ (halted_or_none (halted_parts 0 ((c.nodes.ensures ∙ ap (λ now. now.nodes) c.network-now.ensures) i)) ++ 10 ∷ []))
-    ∙ append_assoc (front ++ journal) ports halts
-    ∙ append_assoc front journal (ports ++ halts)
+    ∙ append_assoc (((time ++ front) ++ journal) ++ steps) ports halts
+    ∙ append_assoc ((time ++ front) ++ journal) steps (ports ++ halts)
+    ∙ append_assoc (time ++ front) journal (steps ++ (ports ++ halts))
+    ∙ append_assoc time front (journal ++ (steps ++ (ports ++ halts)))

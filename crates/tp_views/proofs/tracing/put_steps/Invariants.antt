@@ -1,13 +1,12 @@
--- the lines of the steps so far were appended
-use Rattle.std.proofs.Common.{◌≡◌, None}
-use Rattle.tp_law_machine.specs.NodeOfBytes.{IsNodeOfBytes}
+-- the text of the moments so far was appended
+use Rattle.tp_trace.specs.Others.{IsLinked, attended}
+use Rattle.tp_views.specs.Maps.{rows_seen}
 use Rattle.tp_views.specs.Traced.{traced}
 use Rattle.tp_views.proofs.Traces.{Goes}
 use Rattle.tp_views.proofs.tracing.put_steps.Given as goal
 
 abbrev pub invariant-loop-index : goal.invariant-loop-index
 invariant-loop-index g l = record {
-  goes : Goes (g.O.Write.contents l.fn.out) (g.O.Write.contents l.out) (traced l.fn.steps 1 l.fn.node.live) l.fn.steps l.index l.node.live;
-  thawed : l.node.frozen ≡ None;
-  bytes : IsNodeOfBytes l.node.live;
+  goes : Goes (rows_seen l.fn.rows) l.fn.stops (g.O.Write.contents l.fn.out) (g.O.Write.contents l.out) (traced (rows_seen l.fn.rows) l.fn.stops l.fn.steps 1 (attended l.fn.linked)) l.fn.steps l.index (attended l.linked);
+  linked : IsLinked l.linked;
 }

@@ -1,0 +1,96 @@
+-- Moments of a trace, and what is printed of them.
+use Rattle.std.proofs.Common.{◌≡◌, ◌∙◌, ℕ, Bool, true, false, cond, List, [], ◌∷◌, ◌++◌, Option, Some, None, refl, sym, ap, subst, append_assoc, append-nil, bytes_eq}
+use Rattle.std.specs.Prelude.{not}
+use Rattle.tp_model.specs.NodeState.{NodeState}
+use Rattle.tp_node.specs.Standing.{standing}
+use Rattle.tp_trace.specs.Lines.{stop_line}
+use Rattle.tp_trace.specs.Others.{Attended, came}
+use Rattle.tp_trace.specs.Steps.{seen, stepped}
+use Rattle.tp_trace.specs.declared.hearing.Heard.{Heard}
+use Rattle.tp_trace.specs.declared.stepping.Seen.{Seen}
+use Rattle.tp_views.specs.Maps.{Row}
+use Rattle.tp_views.specs.Stops.{steps_line, watch_text, watched}
+use Rattle.tp_views.specs.Traced.{Happens, Moment, PassesText, by_coming, by_step, came_line, ended_text, event, last_line, moment_by, step_line, text_behind}
+use Rattle.tp_views.specs.declared.stops.Stops.{Stops}
+
+-- ## What happens
+
+-- a token comes in
+pub came_happens : (rows : List Row) (number : ℕ) (a now : Attended) (one : Heard) (old new : List ℕ) → came a ≡ Some (one, now) → new ≡ old ++ came_line number one
+    → Happens true (event rows number a) a now old new
+came_happens rows number a now one old new is text = (came_line number one, ap (by_coming rows number a) is, text)
+
+-- none does, and the node makes a step
+step_happens : (rows : List Row) (number : ℕ) (a : Attended) (next : NodeState) (one : Seen) (old new : List ℕ) → came a ≡ None → stepped a.node ≡ Some next → one ≡ seen a.node next
+    → new ≡ old ++ step_line rows number one → Happens true (event rows number a) a (record a { node = next }) old new
+step_happens rows number a next one old new none is was text =
+    (step_line rows number (seen a.node next), ap (by_coming rows number a) none ∙ ap (by_step rows number a) is, text ∙ ap (λ (s : Seen). old ++ step_line rows number s) was)
+
+pub stepped_happens : (rows : List Row) (number : ℕ) (a then : Attended) (next : NodeState) (one : Seen) (old new : List ℕ) → came a ≡ None → then ≡ a → stepped then.node ≡ Some next
+    → one ≡ seen then.node next → new ≡ old ++ step_line rows number one → Happens true (event rows number a) a (record then { node = next }) old new
+stepped_happens rows number a then next one old new none same is was text =
+    subst (λ (x : Attended). Happens true (event rows number x) x (record then { node = next }) old new) same
+    (step_happens rows number then next one old new (ap came same ∙ none) is was text)
+
+-- neither does
+pub nothing_happens : (rows : List Row) (number : ℕ) (a then : Attended) (now : NodeState) (old : List ℕ) → came a ≡ None → then ≡ a → stepped then.node ≡ None → now ≡ then.node
+    → Happens false (event rows number a) a (record then { node = now }) old old
+nothing_happens rows number a then now old none same is left =
+    let here : event rows number then ≡ None = ap (by_coming rows number then) (ap came same ∙ none) ∙ ap (by_step rows number then) is in
+    (ap (event rows number) (sym same) ∙ here, ap (λ (node : NodeState). record then { node = node }) left ∙ same, refl)
+
+-- ## Behind a line
+
+behind_passes : (rows : List Row) (stops : Stops) (now : Attended) (line old mid new : List ℕ) (goes same : Bool) → goes ≡ same → mid ≡ old ++ line → new ≡ mid ++ text_behind goes rows stops now.node
+    → PassesText (cond (not same) (record { text = line ++ watch_text rows stops now.node; next = None }) (record { text = line; next = Some now })) goes now old new
+behind_passes rows stops now line old mid new true true is first then = record { next = refl; text = then ∙ append-nil mid ∙ first }
+behind_passes rows stops now line old mid new true false is first then = absurd (cc is)
+behind_passes rows stops now line old mid new false true is first then = absurd (cc is)
+behind_passes rows stops now line old mid new false false is first then = record {
+  next = refl;
+  text = then ∙ ap (λ (xs : List ℕ). xs ++ watch_text rows stops now.node) first ∙ append_assoc old line (watch_text rows stops now.node);
+}
+
+-- something happened, and the trace goes on, or stops after that
+pub happened : (rows : List Row) (stops : Stops) (was : NodeState) (there : Option (List ℕ × Attended)) (a now : Attended) (goes : Bool) (old mid new : List ℕ) → Happens true there a now old mid
+    → goes ≡ bytes_eq (watched stops.watch was) (watched stops.watch now.node) → new ≡ mid ++ text_behind goes rows stops now.node → PassesText (moment_by rows stops was there) goes now old new
+happened rows stops was there a now goes old mid new (line, is, text) tested then =
+    subst (λ (o : Option (List ℕ × Attended)). PassesText (moment_by rows stops was o) goes now old new) (sym is)
+    (behind_passes rows stops now line old mid new goes (bytes_eq (watched stops.watch was) (watched stops.watch now.node)) tested text then)
+
+-- nothing happens any more
+pub ended_passes : (rows : List Row) (stops : Stops) (there : Option (List ℕ × Attended)) (a now : Attended) (old mid new : List ℕ) → Happens false there a now old mid
+    → new ≡ mid ++ ended_text rows stops now.node → PassesText (moment_by rows stops a.node there) false now old new
+ended_passes rows stops there a now old mid new (is, same, text) then =
+    subst (λ (o : Option (List ℕ × Attended)). PassesText (moment_by rows stops a.node o) false now old new) (sym is) (record {
+      next = refl;
+      text = then ∙ ap (λ (xs : List ℕ). xs ++ ended_text rows stops now.node) text ∙ ap (λ (x : Attended). old ++ ended_text rows stops x.node) same;
+    })
+
+-- ## A stop before a line
+
+pub until_passes : (b : Bool) (text : List ℕ) (m : Moment) (now : Attended) (old new : List ℕ) → b ≡ true → new ≡ old ++ text
+    → PassesText (cond b (record { text = text; next = None }) m) false now old new
+until_passes true text m now old new is said = record { next = refl; text = said }
+until_passes false text m now old new is said = absurd (cc is)
+
+pub other_passes : (b goes : Bool) (u m : Moment) (now : Attended) (old new : List ℕ) → b ≡ false → PassesText m goes now old new → PassesText (cond b u m) goes now old new
+other_passes true goes u m now old new is passes = absurd (cc is)
+other_passes false goes u m now old new is passes = passes
+
+-- ## Behind the last line
+
+pub more_there : (stops : Stops) (node : NodeState) (there : Option (List ℕ × Attended)) (a now : Attended) (old new : List ℕ) → Happens true there a now old new → last_line stops node there ≡ steps_line stops
+more_there stops node there a now old new (line, is, text) = ap (last_line stops node) is
+
+pub none_there : (stops : Stops) (there : Option (List ℕ × Attended)) (a now : Attended) (old new : List ℕ) → Happens false there a now old new
+    → last_line stops a.node there ≡ stop_line (standing now.node)
+none_there stops there a now old new (is, same, text) = ap (last_line stops a.node) is ∙ sym (ap (λ (x : Attended). stop_line (standing x.node)) same)
+
+pub until_last : (b : Bool) (u v old new : List ℕ) → b ≡ true → new ≡ old ++ u → new ≡ old ++ cond b u v
+until_last true u v old new is said = said
+until_last false u v old new is said = absurd (cc is)
+
+pub other_last : (b : Bool) (u v old new : List ℕ) → b ≡ false → new ≡ old ++ v → new ≡ old ++ cond b u v
+other_last true u v old new is said = absurd (cc is)
+other_last false u v old new is said = said

@@ -1,0 +1,228 @@
+//! What happens at a node that is traced, and at its links, as lines.
+
+ghost use Rattle.std.specs.Prelude.{◌≡◌, ◌++◌, [], None, IfOk, OnOk, bytes_eq, string_bytes};
+ghost use Rattle.tp_law_machine.specs.NodeOfBytes.{IsNodeOfBytes};
+ghost use Rattle.tp_trace.specs.Others.{IsLinked, attended};
+ghost use Rattle.tp_views.specs.Maps.{rows_seen};
+ghost use Rattle.tp_views.specs.Traced.{Happens, PassesText, came_line, ended_text, event, last_line, last_text, moment, moment_by, step_line, text_behind};
+ghost use Rattle.tp_views.specs.Stops.{watched};
+
+use crate::maps::{MapRow, push_spot};
+use crate::parts::Part::{Number, Text};
+use crate::parts::push_parts;
+use crate::stops::{Stops, is_until, push_state_if, push_steps, push_until, push_watch, watched};
+use std::alloc::{AllocError, Global};
+use tp_node::{Node, Runs};
+use tp_trace::{Heard, Linked, Seen, come, push_step, push_stop, push_take, trace_step};
+
+/// Appends the line of a step.
+pub(crate) fn push_step_line(
+    text: &mut String,
+    rows: &[MapRow<'_>],
+    number: u64,
+    seen: Seen,
+) -> Result<(), AllocError>
+    ensures { OnOk result (string_bytes text.new ≡ string_bytes text.old ++ step_line (rows_seen rows.now) number seen) }
+{
+    push_step(text, number, seen)?;
+    push_spot(text, "", rows, seen.at)?;
+    text.push_str("\n")
+}
+
+/// Appends the line of a token that comes in.
+fn push_came(text: &mut String, number: u64, heard: Heard) -> Result<(), AllocError>
+    ensures { OnOk result (string_bytes text.new ≡ string_bytes text.old ++ came_line number heard) }
+{
+    push_parts(text, &[Number(number), Text(" ")])?;
+    push_take(text, heard)
+}
+
+/// Has a node take what comes in next, or else make a step, and appends the line of that. Answers whether there was anything.
+fn push_event(
+    text: &mut String,
+    rows: &[MapRow<'_>],
+    number: u64,
+    linked: &mut Linked<'_>,
+    runs: &mut Runs,
+) -> Result<bool, AllocError>
+    requires { IsLinked linked.old }
+    ensures happens { IfOk result (λ did. Happens did (event (rows_seen rows.now) number (attended linked.old)) (attended linked.old) (attended linked.new) (string_bytes text.old) (string_bytes text.new)) }
+    ensures linked { IsLinked linked.new }
+{
+    if let Some(heard) = come(linked) {
+        push_came(text, number, heard)?;
+        return Ok(true);
+    }
+    match trace_step(&mut linked.node, runs) {
+        Some(seen) => {
+            push_step_line(text, rows, number, seen)?;
+            Ok(true)
+        }
+        None => Ok(false),
+    }
+}
+
+/// Appends why nothing happens any more at a node.
+fn push_ended(
+    alloc: Global,
+    text: &mut String,
+    rows: &[MapRow<'_>],
+    stops: Stops,
+    node: &mut Node,
+) -> Result<(), AllocError>
+    requires thawed { node.old.frozen ≡ None }
+    requires bytes { IsNodeOfBytes node.old.live }
+    ensures text { OnOk result (string_bytes text.new ≡ string_bytes text.old ++ ended_text (rows_seen rows.now) stops node.old.live) }
+    ensures same { node.new ≡ node.old }
+{
+    push_stop(text, node.standing())?;
+    push_state_if(alloc, text, rows, stops, node)
+}
+
+/// Appends what is printed after a line, and answers whether the trace goes on: it does if what is watched is `before` still.
+fn push_behind(
+    alloc: Global,
+    text: &mut String,
+    rows: &[MapRow<'_>],
+    stops: Stops,
+    before: &[u8],
+    node: &mut Node,
+) -> Result<bool, AllocError>
+    requires thawed { node.old.frozen ≡ None }
+    requires bytes { IsNodeOfBytes node.old.live }
+    ensures goes { IfOk result (λ goes. goes ≡ bytes_eq before.now (watched stops.watch node.old.live)) }
+    ensures text { IfOk result (λ goes. string_bytes text.new ≡ string_bytes text.old ++ text_behind goes (rows_seen rows.now) stops node.old.live) }
+    ensures same { node.new ≡ node.old }
+{
+    let now = watched(alloc, stops, node)?;
+    if before == now.as_slice() {
+        return Ok(true);
+    }
+    push_watch(alloc, text, rows, stops, node)?;
+    Ok(false)
+}
+
+/// Appends what is printed of a moment at which the trace doesn't stop, and answers whether it goes on after that.
+fn push_happening(
+    alloc: Global,
+    text: &mut String,
+    rows: &[MapRow<'_>],
+    stops: Stops,
+    number: u64,
+    linked: &mut Linked<'_>,
+    runs: &mut Runs,
+) -> Result<bool, AllocError>
+    requires { IsLinked linked.old }
+    ensures passes { IfOk result (λ goes. PassesText (moment_by (rows_seen rows.now) stops linked.old.node.live (event (rows_seen rows.now) number (attended linked.old))) goes (attended linked.new) (string_bytes text.old) (string_bytes text.new)) }
+    ensures linked { IsLinked linked.new }
+{
+    let before = watched(alloc, stops, &mut linked.node)?;
+    if push_event(text, rows, number, linked, runs)? {
+        return push_behind(
+            alloc,
+            text,
+            rows,
+            stops,
+            before.as_slice(),
+            &mut linked.node,
+        );
+    }
+    push_ended(alloc, text, rows, stops, &mut linked.node)?;
+    Ok(false)
+}
+
+/// Appends what is printed of the moment before the line of a number, and answers whether the trace goes on.
+fn push_moment(
+    alloc: Global,
+    text: &mut String,
+    rows: &[MapRow<'_>],
+    stops: Stops,
+    number: u64,
+    linked: &mut Linked<'_>,
+    runs: &mut Runs,
+) -> Result<bool, AllocError>
+    requires { IsLinked linked.old }
+    ensures passes { IfOk result (λ goes. PassesText (moment (rows_seen rows.now) stops number (attended linked.old)) goes (attended linked.new) (string_bytes text.old) (string_bytes text.new)) }
+    ensures linked { IsLinked linked.new }
+{
+    if is_until(stops, &mut linked.node) {
+        push_until(alloc, text, rows, stops, &mut linked.node)?;
+        return Ok(false);
+    }
+    push_happening(alloc, text, rows, stops, number, linked, runs)
+}
+
+/// Appends why no further line is printed after the last one that was asked for.
+fn push_last_line(
+    alloc: Global,
+    text: &mut String,
+    rows: &[MapRow<'_>],
+    stops: Stops,
+    linked: &mut Linked<'_>,
+    runs: &mut Runs,
+) -> Result<(), AllocError>
+    requires { IsLinked linked.old }
+    ensures { OnOk result (string_bytes text.new ≡ string_bytes text.old ++ last_line stops linked.old.node.live (event (rows_seen rows.now) 0 (attended linked.old))) }
+{
+    let mut line = String::new(alloc);
+    if push_event(&mut line, rows, 0, linked, runs)? {
+        push_steps(text, stops)
+    } else {
+        push_stop(text, linked.node.standing())
+    }
+}
+
+/// Appends what is printed after the last line that was asked for.
+fn push_last(
+    alloc: Global,
+    text: &mut String,
+    rows: &[MapRow<'_>],
+    stops: Stops,
+    linked: &mut Linked<'_>,
+    runs: &mut Runs,
+) -> Result<(), AllocError>
+    requires { IsLinked linked.old }
+    ensures { OnOk result (string_bytes text.new ≡ string_bytes text.old ++ last_text (rows_seen rows.now) stops (attended linked.old)) }
+{
+    if is_until(stops, &mut linked.node) {
+        return push_until(alloc, text, rows, stops, &mut linked.node);
+    }
+    let mut state = String::new(alloc);
+    push_state_if(alloc, &mut state, rows, stops, &mut linked.node)?;
+    push_last_line(alloc, text, rows, stops, linked, runs)?;
+    text.push_str(state.as_str())
+}
+
+/// What is printed of the moment before the line of a number, and whether the trace goes on.
+pub(crate) fn moment_text(
+    alloc: Global,
+    rows: &[MapRow<'_>],
+    stops: Stops,
+    number: u64,
+    linked: &mut Linked<'_>,
+    runs: &mut Runs,
+) -> Result<(String, bool), AllocError>
+    requires { IsLinked linked.old }
+    ensures passes { IfOk result (λ done. PassesText (moment (rows_seen rows.now) stops number (attended linked.old)) done.1 (attended linked.new) [] (string_bytes done.0)) }
+    ensures linked { IsLinked linked.new }
+{
+    let mut text = String::new(alloc);
+    let goes = push_moment(alloc, &mut text, rows, stops, number, linked, runs)?;
+    Ok((text, goes))
+}
+
+/// What is printed after the last line that was asked for.
+pub(crate) fn last_text(
+    alloc: Global,
+    rows: &[MapRow<'_>],
+    stops: Stops,
+    linked: &mut Linked<'_>,
+    runs: &mut Runs,
+) -> Result<String, AllocError>
+    requires { IsLinked linked.old }
+    ensures { IfOk result (λ text. string_bytes text ≡ last_text (rows_seen rows.now) stops (attended linked.old)) }
+{
+    let mut text = String::new(alloc);
+    push_last(alloc, &mut text, rows, stops, linked, runs)?;
+    Ok(text)
+}

@@ -1,0 +1,20 @@
+use Rattle.std.proofs.Common.{All, subst, take}
+use Rattle.std.proofs.lemmas.List.{take_all}
+use Rattle.std.proofs.lemmas.List.Elements.{All-more}
+use Rattle.tp_stream_files.specs.declared.ends.PortFile.{PortFile}
+use Rattle.tp_words.specs.TraceArgs.{AreOfLinks, IsOfLink}
+use Rattle.tp_words.proofs.trace_args.fault_of.Goals as goal
+
+-- nothing is wrong with one file more
+pub loop-file-preserved : goal.loop-file-preserved
+loop-file-preserved c =
+    let files = c.args.files.now in
+    let file = c.file-item.result in
+    All-more (λ (file : PortFile). IsOfLink files file.port) files c.loop-file.file-index file c.loop-file-test.true c.loop-file.invariant
+    (subst (λ (file : PortFile). IsOfLink files file.port) c.file-item.is (c.fault_at.ensures c.in_default.is))
+
+-- nor with all of them
+pub returns : goal.returns
+returns c = λ none.
+    let files = c.args.files.now in
+    subst (All (λ (file : PortFile). IsOfLink files file.port)) (take_all c.loop-file.file-index files c.loop-file-test.false) c.loop-file.invariant
