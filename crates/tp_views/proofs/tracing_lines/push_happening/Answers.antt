@@ -27,9 +27,9 @@ returns-then-branch-clause-passes c =
     let did = subst (λ did. Happens did there was now old mid) c.if-branch.true happens in
     let before = c.as_slice.ensures.value ∙ c.in_ok-before.ensures.bytes in
     let done = if_both (λ goes. goes ≡ bytes_eq c.as_slice.result.now (watched stops.watch c.push_event.new.linked.node.live)) (λ goes. new ≡ mid ++ text_behind goes rows stops c.push_event.new.linked.node.live)
-        (λ goes. PassesText (moment_by rows stops linked.node.live there) goes now old new) c.push_behind.result
-        (λ goes tested said. happened rows stops linked.node.live there was now goes old mid new did
-        (tested ∙ ap (λ bytes. bytes_eq bytes (watched stops.watch c.push_event.new.linked.node.live)) before) said)
-        c.push_behind.ensures.goes c.push_behind.ensures.text in
+    (λ goes. PassesText (moment_by rows stops linked.node.live there) goes now old new) c.push_behind.result
+    (λ goes tested said. happened rows stops linked.node.live there was now goes old mid new did
+    (tested ∙ ap (λ bytes. bytes_eq bytes (watched stops.watch c.push_event.new.linked.node.live)) before) said)
+    c.push_behind.ensures.goes c.push_behind.ensures.text in
     subst (λ (x : NodeContents). IfOk c.push_behind.result (λ goes. PassesText (moment_by rows stops linked.node.live there) goes (attended (record { node = x; others = others })) old new))
     (sym c.push_behind.ensures.same) done

@@ -1,4 +1,4 @@
-use Rattle.std.proofs.Common.{◌≡◌, ◌∙◌, ◌++◌, ap, append_assoc, string_bytes, sym}
+use Rattle.std.proofs.Common.{◌≡◌, ◌∙◌, ◌++◌, ℕ, List, Result, Ok, Err, OnOk, ap, append_assoc, cond, is_ok, string_bytes, sym}
 use Rattle.tp_node.specs.NodeContents.{NodeContents}
 use Rattle.tp_trace.specs.Others.{attended}
 use Rattle.tp_trace.specs.declared.others.Linked.{Linked}
@@ -8,6 +8,11 @@ use Rattle.tp_views.specs.Traced.{event, last_line}
 use Rattle.tp_views.proofs.Moments.{other_last}
 use Rattle.tp_views.proofs.Traces.{on_ok}
 use Rattle.tp_views.proofs.tracing_lines.push_last.Goals as goal
+
+-- what is appended where it is
+pushed : {T E : Type 0} (r : Result T E) (now more left : List ℕ) → now ≡ cond (is_ok r) more left → OnOk r (now ≡ more)
+pushed (Ok x) now more left is = is
+pushed (Err e) now more left is = tt
 
 pub returns : goal.returns
 returns c =
@@ -29,4 +34,4 @@ returns c =
     (λ said. other_last (is_until stops linked.node.live) (until_text rows stops linked.node.live) (line ++ state) t0 (string_bytes c.push_str.new.self)
     (sym c.is_until.ensures.is ∙ c.if-is_until.false)
     (said ∙ ap (λ s. t1 ++ s) behind ∙ ap (λ s. s ++ state) first ∙ append_assoc t0 line state))
-    c.push_str.ensures.bytes
+    (pushed c.push_str.result _ _ _ c.push_str.ensures.bytes)
