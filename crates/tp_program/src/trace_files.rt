@@ -74,7 +74,7 @@ fn read_if<R: Files + AllocGlobal, S: Devices>(
     devices: &mut S,
     path: Option<&str>,
 ) -> Result<Option<Vec<u8>>, Refusal>
-    ensures read { IfOk result (λ found. IsRead (option_copied path) (option_map (λ bytes. bytes.items) found) (S.uses devices.old) (S.uses devices.new)) }
+    ensures read { IfOk result (λ found. IsRead (option_copied path.entry) (option_map (λ bytes. bytes.items) found) (S.uses devices.old) (S.uses devices.new)) }
     ensures uncalled { S.calls devices.new ≡ S.calls devices.old }
 {
     match path {

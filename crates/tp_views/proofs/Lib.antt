@@ -5,6 +5,6 @@ pub mod Found
 pub mod Joined
 pub mod Mapped
 mod Moments
-mod Stopped
+mod Workspaces
 pub mod Traces
 mod Looked

@@ -30,12 +30,12 @@ amount (BytesOut link) wires e = length (filter (is_counted false link) (tokens_
 
 -- of the entries of a node, in a network of these wires and N nodes, or of all
 abbrev pub amount_of : Count → Option ℕ → List (Option WireEnd) → ℕ → Entry → ℕ
-amount_of what node wires N e = if is_of node wires N e then amount what wires e else 0
+amount_of what whose wires N e = if is_of whose wires N e then amount what wires e else 0
 
 -- the sum over entries
 abbrev pub total : Count → Option ℕ → List (Option WireEnd) → ℕ → List (Entry × ℕ) → ℕ
-total what node wires N [] = 0
-total what node wires N (kept ∷ more) = amount_of what node wires N kept.0 + total what node wires N more
+total what whose wires N [] = 0
+total what whose wires N (kept ∷ more) = amount_of what whose wires N kept.0 + total what whose wires N more
 
 -- How many steps all nodes of an opened device have made since its checkpoint.
 abbrev pub steps_made : Opened → ℕ

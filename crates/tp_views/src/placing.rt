@@ -20,8 +20,8 @@ fn place_in(rows: &[MapRow<'_>], text: &str) -> Option<u32>
 
 /// The address of a place, if one is asked for.
 fn place_of(rows: &[MapRow<'_>], asked: Option<&str>) -> Result<Option<u32>, Refusal>
-    ensures place { IfOk result (λ found. found ≡ place_of (rows_seen rows.now) (option_copied asked)) }
-    ensures refused { IfErr result (LacksPlace (rows_seen rows.now) (option_copied asked)) }
+    ensures place { IfOk result (λ found. found ≡ place_of (rows_seen rows.now) (option_copied asked.entry)) }
+    ensures refused { IfErr result (LacksPlace (rows_seen rows.now) (option_copied asked.entry)) }
 {
     let Some(text) = asked else {
         return Ok(None);
@@ -53,9 +53,9 @@ pub fn stops_at(
     watch: Option<&str>,
     count: u32,
 ) -> Result<Stops, Refusal>
-    ensures until { IfOk result (λ stops. stops.until ≡ place_of (rows_seen rows.now) (option_copied until)) }
-    ensures watch { IfOk result (λ stops. stops.watch ≡ range_of count (place_of (rows_seen rows.now) (option_copied watch))) }
-    ensures refused { IfErr result (λ refusal. LacksPlace (rows_seen rows.now) (option_copied until) refusal ⊎ LacksPlace (rows_seen rows.now) (option_copied watch) refusal) }
+    ensures until { IfOk result (λ stops. stops.until ≡ place_of (rows_seen rows.now) (option_copied until.entry)) }
+    ensures watch { IfOk result (λ stops. stops.watch ≡ range_of count (place_of (rows_seen rows.now) (option_copied watch.entry))) }
+    ensures refused { IfErr result (λ refusal. LacksPlace (rows_seen rows.now) (option_copied until.entry) refusal ⊎ LacksPlace (rows_seen rows.now) (option_copied watch.entry) refusal) }
 {
     let until = place_of(rows, until)?;
     let from = place_of(rows, watch)?;

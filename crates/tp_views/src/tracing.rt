@@ -106,7 +106,7 @@ fn trace<O: Write>(
     others: [Option<&[u8]>; 4],
     out: &mut O,
 ) -> Result<(), Refusal>
-    ensures { TraceAnswer (node_traced (rows_seen rows.now) stops steps (map option_copied others)) image.now (O.contents out.old) (O.contents out.new) result }
+    ensures { TraceAnswer (node_traced (rows_seen rows.now) stops steps (map option_copied others.entry)) image.now (O.contents out.old) (O.contents out.new) result }
 {
     match image_node(alloc, image) {
         Ok(node) => {
@@ -135,8 +135,8 @@ pub fn trace_on<O: Write, E: Write>(
     err: &mut E,
 ) -> u8
     ensures status { result ≤ 1 }
-    ensures done { result ≡ 0 → Traces (node_traced (rows_seen rows.now) stops steps (map option_copied others)) image.now (O.contents out.old) (O.contents out.new) }
-    ensures front { TracesFront (node_traced (rows_seen rows.now) stops steps (map option_copied others)) image.now (O.contents out.old) (O.contents out.new) }
+    ensures done { result ≡ 0 → Traces (node_traced (rows_seen rows.now) stops steps (map option_copied others.entry)) image.now (O.contents out.old) (O.contents out.new) }
+    ensures front { TracesFront (node_traced (rows_seen rows.now) stops steps (map option_copied others.entry)) image.now (O.contents out.old) (O.contents out.new) }
     ensures refused { node_of image.now ≡ None → (result ≡ 1) × (O.contents out.new ≡ O.contents out.old) }
 {
     match trace(alloc, image, rows, stops, steps, others, out) {
