@@ -1,43 +1,19 @@
 -- Moments of a trace, and what is printed of them.
-use Rattle.std.proofs.Common.{◌≡◌, ◌∙◌, ℕ, Bool, true, false, cond, List, [], ◌∷◌, ◌++◌, Option, Some, None, refl, sym, ap, subst, append_assoc, append-nil, bytes_eq}
-use Rattle.std.specs.Prelude.{not}
+use Rattle.std.proofs.Common.{◌≡◌, ◌∙◌, ℕ, Bool, true, false, cond, List, [], ◌∷◌, ◌++◌, Option, Some, None, Result, Ok, Err, refl, sym, ap, subst, append_assoc, append-nil, bytes_eq}
+use Rattle.std.specs.Prelude.{IfOk, not}
 use Rattle.tp_model.specs.NodeState.{NodeState}
 use Rattle.tp_node.specs.Standing.{standing}
 use Rattle.tp_trace.specs.Lines.{stop_line}
-use Rattle.tp_trace.specs.Others.{Attended, came}
-use Rattle.tp_trace.specs.Steps.{seen, stepped}
-use Rattle.tp_trace.specs.declared.hearing.Heard.{Heard}
-use Rattle.tp_trace.specs.declared.stepping.Seen.{Seen}
+use Rattle.tp_trace.specs.Others.{Attended}
 use Rattle.tp_views.specs.Maps.{Row}
 use Rattle.tp_views.specs.Stops.{steps_line, watch_text, watched}
-use Rattle.tp_views.specs.Traced.{Happens, Moment, PassesText, by_coming, by_step, came_line, ended_text, event, last_line, moment_by, step_line, text_behind}
+use Rattle.tp_views.specs.Traced.{Happens, Moment, PassesText, ended_text, last_line, moment_by, text_behind}
 use Rattle.tp_views.specs.declared.stops.Stops.{Stops}
 
--- ## What happens
-
--- a token comes in
-pub came_happens : (rows : List Row) (number : ℕ) (a now : Attended) (one : Heard) (old new : List ℕ) → came a ≡ Some (one, now) → new ≡ old ++ came_line number one
-    → Happens true (event rows number a) a now old new
-came_happens rows number a now one old new is text = (came_line number one, ap (by_coming rows number a) is, text)
-
--- none does, and the node makes a step
-step_happens : (rows : List Row) (number : ℕ) (a : Attended) (next : NodeState) (one : Seen) (old new : List ℕ) → came a ≡ None → stepped a.node ≡ Some next → one ≡ seen a.node next
-    → new ≡ old ++ step_line rows number one → Happens true (event rows number a) a (record a { node = next }) old new
-step_happens rows number a next one old new none is was text =
-    (step_line rows number (seen a.node next), ap (by_coming rows number a) none ∙ ap (by_step rows number a) is, text ∙ ap (λ (s : Seen). old ++ step_line rows number s) was)
-
-pub stepped_happens : (rows : List Row) (number : ℕ) (a then : Attended) (next : NodeState) (one : Seen) (old new : List ℕ) → came a ≡ None → then ≡ a → stepped then.node ≡ Some next
-    → one ≡ seen then.node next → new ≡ old ++ step_line rows number one → Happens true (event rows number a) a (record then { node = next }) old new
-stepped_happens rows number a then next one old new none same is was text =
-    subst (λ (x : Attended). Happens true (event rows number x) x (record then { node = next }) old new) same
-    (step_happens rows number then next one old new (ap came same ∙ none) is was text)
-
--- neither does
-pub nothing_happens : (rows : List Row) (number : ℕ) (a then : Attended) (now : NodeState) (old : List ℕ) → came a ≡ None → then ≡ a → stepped then.node ≡ None → now ≡ then.node
-    → Happens false (event rows number a) a (record then { node = now }) old old
-nothing_happens rows number a then now old none same is left =
-    let here : event rows number then ≡ None = ap (by_coming rows number then) (ap came same ∙ none) ∙ ap (by_step rows number then) is in
-    (ap (event rows number) (sym same) ∙ here, ap (λ (node : NodeState). record then { node = node }) left ∙ same, refl)
+-- what is so where a call was done, by two things that are
+pub if_both : {T E : Type 0} (P Q R : T → Type 0) (r : Result T E) → ((x : T) → P x → Q x → R x) → IfOk r P → IfOk r Q → IfOk r R
+if_both P Q R (Ok x) turn p q = turn x p q
+if_both P Q R (Err e) turn p q = p
 
 -- ## Behind a line
 

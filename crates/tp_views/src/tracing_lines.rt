@@ -2,6 +2,8 @@
 
 ghost use Rattle.std.specs.Prelude.{◌≡◌, ◌++◌, [], None, IfOk, OnOk, bytes_eq, string_bytes};
 ghost use Rattle.tp_law_machine.specs.NodeOfBytes.{IsNodeOfBytes};
+ghost use Rattle.tp_node.specs.Standing.{standing};
+ghost use Rattle.tp_trace.specs.Lines.{stop_line};
 ghost use Rattle.tp_trace.specs.Others.{IsLinked, attended};
 ghost use Rattle.tp_views.specs.Maps.{rows_seen};
 ghost use Rattle.tp_views.specs.Traced.{Happens, PassesText, came_line, ended_text, event, last_line, last_text, moment, moment_by, step_line, text_behind};
@@ -62,6 +64,14 @@ fn push_event(
     }
 }
 
+/// Appends the line of a node that has no step.
+fn push_standing(text: &mut String, node: &mut Node) -> Result<(), AllocError>
+    ensures text { OnOk result (string_bytes text.new ≡ string_bytes text.old ++ stop_line (standing node.old.live)) }
+    ensures same { node.new ≡ node.old }
+{
+    push_stop(text, node.standing())
+}
+
 /// Appends why nothing happens any more at a node.
 fn push_ended(
     alloc: Global,
@@ -75,7 +85,7 @@ fn push_ended(
     ensures text { OnOk result (string_bytes text.new ≡ string_bytes text.old ++ ended_text (rows_seen rows.now) stops node.old.live) }
     ensures same { node.new ≡ node.old }
 {
-    push_stop(text, node.standing())?;
+    push_standing(text, node)?;
     push_state_if(alloc, text, rows, stops, node)
 }
 
@@ -168,7 +178,7 @@ fn push_last_line(
     if push_event(&mut line, rows, 0, linked, runs)? {
         push_steps(text, stops)
     } else {
-        push_stop(text, linked.node.standing())
+        push_standing(text, &mut linked.node)
     }
 }
 

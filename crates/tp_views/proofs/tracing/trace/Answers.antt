@@ -3,7 +3,7 @@ use Rattle.tp_law_machine.proofs.Images.{node_of_bytes}
 use Rattle.tp_law_machine.proofs.Numbers.{are_bytes}
 use Rattle.tp_views.proofs.tracing.trace.Goals as goal
 
-pub put_steps-requires-clause-bytes : goal.put_steps-requires-clause-bytes
-put_steps-requires-clause-bytes g c =
+pub put_steps-requires : goal.put_steps-requires
+put_steps-requires g c =
     let bytes = are_bytes c.args.image.now (λ i. let fit = c.type_inv.image i in omega arith) in
-    node_of_bytes c.args.image.now c.in-Ok.node.live bytes c.in-Ok.ensures.0
+    record { thawed = c.in-Ok.ensures.1; bytes = node_of_bytes c.args.image.now c.in-Ok.node.live bytes c.in-Ok.ensures.0 }
