@@ -1,6 +1,6 @@
 //! `tpnet trace`, on files.
 
-ghost use Rattle.std.specs.Prelude.{◌≡◌, ◌⊎◌, ◌≤◌, IfOk, Ok, [], option_copied, option_map, string_bytes, unwrap_or};
+ghost use Rattle.std.specs.Prelude.{◌≡◌, ◌==◌, ◌⊎◌, ◌≤◌, IfOk, Ok, [], option_copied, option_map, string_bytes, unwrap_or};
 ghost use Rattle.tp_views.specs.Maps.{read_map, rows_seen};
 ghost use Rattle.tp_program.specs.Uses.{IsRead, ReadsTrace, TracedFiles, TracedImage, WasUnbegun, path_at};
 
@@ -56,12 +56,19 @@ fn map_text(map: &Option<Vec<u8>>) -> &[u8]
     }
 }
 
+/// Whether a file is for a link.
+fn is_for(file: &PortFile, link: u8) -> bool
+    ensures { result ≡ (file.now.port == link) }
+{
+    file.port == link
+}
+
 /// The path of the first file that is for a link.
 fn path_at(files: &[PortFile], link: u8) -> Option<&str>
     ensures { option_copied result ≡ path_at files.now link }
 {
     for file in files {
-        if file.port == link {
+        if is_for(file, link) {
             return Some(file.path.as_str());
         }
     }

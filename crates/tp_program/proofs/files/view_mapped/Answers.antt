@@ -1,0 +1,11 @@
+use Rattle.std.proofs.Common.{inr, rules}
+use Rattle.tp_views.specs.NodeMaps.{maps_seen}
+use Rattle.tp_program.proofs.files.view_mapped.Goals as goal
+
+pub returns-clause-used : goal.returns-clause-used
+returns-clause-used g c = inr (record {
+  opened = g.D.Disk.state c.in-Ok.disk;
+  closed = g.D.Disk.state c.view_on.new.disk;
+  uses = search rules;
+  between = record { maps = maps_seen c.args.maps.now; unnamed = c.requires.unnamed; viewed = search rules };
+})
