@@ -1,7 +1,5 @@
 mod Commands
 pub mod Ends
 pub mod Histories
-mod ImagesRead
-mod Requests
 mod Statuses
 mod Stayed

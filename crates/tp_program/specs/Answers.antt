@@ -6,7 +6,7 @@ use Rattle.std.specs.declared.string.String.{String}
 use Rattle.tp_run.specs.Ran.{History}
 use Rattle.tp_words.specs.Commands.{HasCommandPlaces, WasCommandTyped}
 use Rattle.tp_words.specs.declared.args.Asked.{Asked}
-use Rattle.tp_words.specs.declared.args.Asked.TheVariants.{Help, Try, Trace, TraceDevice, Check, Format, Run as Runs, Compact, Recover, Show, Status, View}
+use Rattle.tp_words.specs.declared.args.Asked.TheVariants.{Help, Format, Run as Runs, Compact}
 use Rattle.tp_words.specs.declared.command.Command.{Command}
 use Rattle.tp_words.specs.declared.command.Command.TheVariants.{Stream, Stop, Backup, Other}
 use Rattle.tp_words.specs.declared.stream_args.StreamRun.{StreamRun}
@@ -16,8 +16,6 @@ use Rattle.tp_program.specs.Devices.{DeviceCall, Holds, MadeAtMost, WasRefused}
 use Rattle.tp_program.specs.RunFile.{RanFile}
 use Rattle.tp_program.specs.Stops.{StopAnswered}
 use Rattle.tp_program.specs.StreamFile.{StreamedFile}
-use Rattle.tp_program.specs.Uses.{Checked, FormattedFile, HasBackup, HasRequested, HasStatus, LooksAtOne, ReadsOne, Shows, TracedBy, TracedFiles, Tried, ViewedBy, WasUnbegun, part_of}
-use Rattle.tp_views.specs.Opens.{recovered, shown}
 
 -- Help was printed, where the status says so. No device was opened.
 pub record Helped (text : List ℕ) (old new : List DeviceCall) (was now : Option (List ℕ)) (status : ℕ) : Type 0 where
@@ -72,34 +70,6 @@ CommandDone keeps history unread (Stop request) old new was now status = unread 
 CommandDone keeps history unread (Backup backup) old new was now status = unread × (new ≡ old) × (status ≡ 0 → PrintsCopied was now)
 CommandDone keeps history unread (Other asked) old new was now status = unread × AnsweredAs keeps history asked old new was now status
 
--- What was done with other files for what was asked, and printed. `run` and `compact` use theirs as said above. `keeps` is of devices that are there,
--- and `new_keeps` of those that are begun.
-abbrev pub FilesUsed : (keeps new_keeps : Type 0) → Asked → (old new : List DeviceCall) → (was now : Option (List ℕ)) → ℕ → Type 0
-FilesUsed keeps new_keeps (Help text) old new was now status = new ≡ old
-FilesUsed keeps new_keeps (Try image turns) old new was now status = ReadsOne (string_bytes image) old new (Tried turns was now status)
-FilesUsed keeps new_keeps (Trace trace) old new was now status = WasUnbegun was now status ⊎ TracedFiles trace old new was now status
-FilesUsed keeps new_keeps (Check topology images json) old new was now status = status ≡ 0 → Checked json (string_bytes topology) (string_bytes images) old new was now
-FilesUsed keeps new_keeps (Format device) old new was now status = FormattedFile new_keeps device old new was now status
-FilesUsed keeps new_keeps (Runs run) old new was now status = Unit {0}
-FilesUsed keeps new_keeps (Compact device wait_lock) old new was now status = Unit {0}
-FilesUsed keeps new_keeps (Recover device workers) old new was now status = LooksAtOne (string_bytes device) old new (Shows keeps recovered was now status)
-FilesUsed keeps new_keeps (Show device json) old new was now status = LooksAtOne (string_bytes device) old new (Shows keeps (shown json) was now status)
-FilesUsed keeps new_keeps (Status device every json) old new was now status = HasStatus keeps json (string_bytes device) old new was now status
-FilesUsed keeps new_keeps (TraceDevice device part maps) old new was now status = LooksAtOne (string_bytes device) old new (TracedBy keeps part maps was now status)
-FilesUsed keeps new_keeps (View device view maps) old new was now status = LooksAtOne (string_bytes device) old new (ViewedBy keeps view maps was now status)
-
--- It was refused with nothing printed and no such file used, or they were used so.
-abbrev pub UsedFor : (keeps new_keeps : Type 0) → Asked → (old new : List DeviceCall) → (was now : Option (List ℕ)) → ℕ → Type 0
-UsedFor keeps new_keeps asked old new was now status = WasRefused old new was now status ⊎ FilesUsed keeps new_keeps asked old new was now status
-
--- So it is for a command. A stream uses its ends as said above.
-abbrev pub CommandUsed : (keeps new_keeps : Type 0) → Command → (old new : List DeviceCall) → (was now : Option (List ℕ)) → ℕ → Type 0
-CommandUsed keeps new_keeps (Stream run) old new was now status = Unit {0}
-CommandUsed keeps new_keeps (Stop request) old new was now status = status ≡ 0 → HasRequested (string_bytes request.device) old new
-CommandUsed keeps new_keeps (Backup backup) old new was now status =
-    status ≡ 0 → HasBackup keeps new_keeps (string_bytes backup.device) (part_of (string_bytes backup.copy)) (string_bytes backup.copy) old new was now
-CommandUsed keeps new_keeps (Other asked) old new was now status = UsedFor keeps new_keeps asked old new was now status
-
 -- the greatest status of a command: 3 is that of a stream which ended since a node halted
 abbrev pub most_status : Command → ℕ
 most_status (Stream run) = 3
@@ -107,16 +77,14 @@ most_status (Stop request) = 2
 most_status (Backup backup) = 2
 most_status (Other asked) = 2
 
--- The words were read so, and that was done: with devices that are written (`old`, `new`), and with other files (`unused`, `used`).
-pub record DidCommand (keeps new_keeps : Type 0) (history : History) (unread : Type 0) (words : List (String Global)) (old new unused used : List DeviceCall) (was now : Option (List ℕ)) (status : ℕ) : Type 0 where
+-- The words were read so, and that was done.
+pub record DidCommand (keeps : Type 0) (history : History) (unread : Type 0) (words : List (String Global)) (old new : List DeviceCall) (was now : Option (List ℕ)) (status : ℕ) : Type 0 where
   pub command : Command
   pub typed : WasCommandTyped words command
   pub places : HasCommandPlaces words command
   pub few : status ≤ most_status command
   pub done : CommandDone keeps history unread command old new was now status
-  pub files : CommandUsed keeps new_keeps command unused used was now status
 
 -- What the program did for the words of a command line: it was refused, or they were read so, and that was done.
-abbrev pub Answered : (keeps new_keeps : Type 0) → History → (unread : Type 0) → List (String Global) → (old new unused used : List DeviceCall) → (was now : Option (List ℕ)) → ℕ → Type 0
-Answered keeps new_keeps history unread words old new unused used was now status =
-    WasRefused old new was now status × (used ≡ unused) ⊎ DidCommand keeps new_keeps history unread words old new unused used was now status
+abbrev pub Answered : (keeps : Type 0) → History → (unread : Type 0) → List (String Global) → (old new : List DeviceCall) → (was now : Option (List ℕ)) → ℕ → Type 0
+Answered keeps history unread words old new was now status = WasRefused old new was now status ⊎ DidCommand keeps history unread words old new was now status

@@ -1,4 +1,4 @@
--- Devices that were asked for, made, opened to be written, and given back; and what else was done with files.
+-- Devices that were asked for, made, opened to be written, and given back.
 use Rattle.std.specs.Prelude.{◌≡◌, ◌⊎◌, ◌≤◌, ℕ, Bool, true, false, List, [], ◌∷◌, ◌++◌, Option}
 use Rattle.tp_model.specs.DiskHistory.{State}
 
@@ -9,14 +9,6 @@ pub data DeviceCall : Type 0 where
   Makes : (path : List ℕ) → (ok : Bool) → DeviceCall
   Opens : (path : List ℕ) → (state : State) → DeviceCall
   Closes : (state : State) → DeviceCall
-  -- A file was read whole. A device was opened to be read alone; or it was begun in the file at a path, which is made or replaced; or one of these
-  -- was given back. A copy that was made at `part` got its name. Or a request to stop was to be made at a path, and that was done or not.
-  Reads : (path bytes : List ℕ) → DeviceCall
-  Looks : (path : List ℕ) → (state : State) → DeviceCall
-  Begins : (path : List ℕ) → (state : State) → DeviceCall
-  Leaves : (state : State) → DeviceCall
-  Links : (part copy : List ℕ) → DeviceCall
-  Requests : (path : List ℕ) → (ok : Bool) → DeviceCall
 
 -- the path that the first of some calls asked for, or made a file at
 abbrev pub path_held : List DeviceCall → List ℕ
@@ -25,12 +17,6 @@ path_held (Holds path seconds ok ∷ calls) = path
 path_held (Makes path ok ∷ calls) = path
 path_held (Opens path state ∷ calls) = []
 path_held (Closes state ∷ calls) = []
-path_held (Reads path bytes ∷ calls) = []
-path_held (Looks path state ∷ calls) = []
-path_held (Begins path state ∷ calls) = []
-path_held (Leaves state ∷ calls) = []
-path_held (Links part copy ∷ calls) = []
-path_held (Requests path ok ∷ calls) = []
 
 -- A file was to be made once at this path, if nothing was, or none was. No device was asked for, opened or given back.
 abbrev pub MadeAtMost : (path : List ℕ) → (old new : List DeviceCall) → Type 0

@@ -9,5 +9,4 @@ pub mod Stops
 pub mod RunFile
 pub mod CompactFile
 pub mod StreamFile
-pub mod Uses
 pub mod Answers

@@ -10,12 +10,6 @@ use Rattle.tp_program.specs.Devices.{DeviceCall, Holds, WasRefused}
 abbrev pub request_path : List ℕ → List ℕ
 request_path device = device ++ codes ".stop"
 
--- The device at a path was asked for last, and another process had it.
-pub record WasHeldElsewhere (path : List ℕ) (calls : List DeviceCall) : Type 0 where
-  pub before : List DeviceCall
-  pub seconds : ℕ
-  pub is : calls ≡ before ++ Holds path seconds false ∷ []
-
 -- what is printed of a stream that was asked; or, where it was waited for, has ended
 abbrev pub stop_line : Option ℕ → List ℕ
 stop_line None = codes "asked" ++ 10 ∷ []

@@ -1,10 +1,9 @@
 //! `tpnet stop`: asks the stream that has a device to end.
 
-ghost use Rattle.std.specs.Prelude.{◌≡◌, ◌≤◌, [], ◌∷◌, ◌++◌, false, true, map, replicate, IfErr, List, Bool, OnOk, string_bytes};
+ghost use Rattle.std.specs.Prelude.{◌≡◌, ◌≤◌, [], ◌∷◌, ◌++◌, false, true, replicate, IfErr, OnOk, string_bytes};
 ghost use Rattle.std.specs.Io.KnownBytes.{Appends};
-ghost use Rattle.tp_program.specs.Devices.{Holds, Requests};
-ghost use Rattle.tp_program.specs.Stops.{GotWithin, HasAsked, IsOfNobody, StopAnswered, WasHeldElsewhere, WasUnasked, request_path, stop_line};
-ghost use Rattle.tp_program.specs.Uses.{AsksAgain, HasRequested};
+ghost use Rattle.tp_program.specs.Devices.{Holds};
+ghost use Rattle.tp_program.specs.Stops.{GotWithin, HasAsked, IsOfNobody, StopAnswered, WasUnasked, stop_line};
 
 use crate::asking_explain::explain_unasked;
 use crate::devices::Devices;
@@ -125,18 +124,12 @@ fn unmade_of(error: &io::Error) -> Unmade {
 }
 
 /// Makes a request, where there is none. What the system said is put into `system`.
-fn make_request<S: Devices>(
-    devices: &mut S,
-    device: &str,
+fn make_request<R: Files>(
+    rt: &R,
     file: &RequestFile,
     system: &mut Option<io::Error>,
-) -> Result<(), Unmade>
-    requires elsewhere { WasHeldElsewhere device.now (S.calls devices.old) }
-    requires beside { string_bytes file.now.path ≡ request_path device.now }
-    ensures made { OnOk result (S.uses devices.new ≡ S.uses devices.old ++ Requests (request_path device.now) true ∷ []) }
-    ensures uncalled { S.calls devices.new ≡ S.calls devices.old }
-{
-    match devices.request(device, file.path()) {
+) -> Result<(), Unmade> {
+    match file.make(rt) {
         Ok(()) => Ok(()),
         Err(error) => {
             let unmade = unmade_of(&error);
@@ -153,8 +146,7 @@ fn look_again<R: Files, S: Devices>(
     device: &str,
     file: &RequestFile,
 ) -> bool
-    ensures held { S.calls devices.new ≡ S.calls devices.old ++ Holds device.now 0 result ∷ [] }
-    ensures unused { S.uses devices.new ≡ S.uses devices.old }
+    ensures { S.calls devices.new ≡ S.calls devices.old ++ Holds device.now 0 result ∷ [] }
 {
     match devices.hold(device, 0) {
         Ok(()) => {
@@ -174,8 +166,6 @@ fn wait_for<R: Files, S: Devices>(
     file: &RequestFile,
     seconds: u32,
 ) -> bool
-    requires { string_bytes file.now.path ≡ request_path device.now }
-    ensures again { AsksAgain device.now (S.uses devices.old) (S.uses devices.new) }
     ensures got { result ≡ true → GotWithin device.now seconds (S.calls devices.old) (S.calls devices.new) }
     ensures vain { result ≡ false → S.calls devices.new ≡ S.calls devices.old ++ replicate seconds (Holds device.now 1 false) }
 {
@@ -188,7 +178,7 @@ fn wait_for<R: Files, S: Devices>(
             }
             Err(InUse) => times += 1,
         }
-        let _made = devices.request(device, file.path());
+        let _made = file.make(rt);
     }
     false
 }
@@ -201,8 +191,6 @@ fn ask_by<R: Files<File = F>, F: FileExt + OpenFile + Drop, S: Devices>(
     file: &RequestFile,
     system: &mut Option<io::Error>,
 ) -> Result<(), Unasked>
-    requires { string_bytes file.now.path ≡ request_path (string_bytes asked.now.device) }
-    ensures requested { OnOk result (HasRequested (string_bytes asked.now.device) (S.uses devices.old) (S.uses devices.new)) }
     ensures asked { OnOk result (HasAsked asked.now.wait (string_bytes asked.now.device) (S.calls devices.old) (S.calls devices.new)) }
     ensures refused { IfErr result (λ fault. WasUnasked fault asked.now.wait (string_bytes asked.now.device) (S.calls devices.old) (S.calls devices.new)) }
 {
@@ -210,7 +198,7 @@ fn ask_by<R: Files<File = F>, F: FileExt + OpenFile + Drop, S: Devices>(
     let Err(InUse) = devices.hold(device, 0) else {
         return Err(nobody_asked(rt, device, file));
     };
-    if let Err(unmade) = make_request(devices, device, file, system) {
+    if let Err(unmade) = make_request(rt, file, system) {
         return Err(Unasked::Request(unmade));
     }
     let Some(seconds) = asked.wait else {
@@ -232,7 +220,6 @@ fn ask_to_stop<R: Files<File = F> + AllocGlobal, F: FileExt + OpenFile + Drop, S
     asked: &StopRequest,
     system: &mut Option<io::Error>,
 ) -> Result<(), Unasked>
-    ensures requested { OnOk result (HasRequested (string_bytes asked.now.device) (S.uses devices.old) (S.uses devices.new)) }
     ensures asked { OnOk result (HasAsked asked.now.wait (string_bytes asked.now.device) (S.calls devices.old) (S.calls devices.new)) }
     ensures refused { IfErr result (λ fault. WasUnasked fault asked.now.wait (string_bytes asked.now.device) (S.calls devices.old) (S.calls devices.new)) }
 {
@@ -287,7 +274,6 @@ pub(crate) fn answer_stop<
 >(rt: &R, devices: &mut S, asked: &StopRequest, explains: bool, out: &mut O, err: &mut E) -> u8
     ensures few { result ≤ 2 }
     ensures answered { StopAnswered asked.now (S.calls devices.old) (S.calls devices.new) (O.contents out.old) (O.contents out.new) result }
-    ensures requested { result ≡ 0 → HasRequested (string_bytes asked.now.device) (S.uses devices.old) (S.uses devices.new) }
 {
     if prints_into(rt, asked.device.as_str()) {
         return refuse_output(err);

@@ -1,12 +1,9 @@
 //! `tpnet backup`, on files: how a copy comes to its name.
 
-ghost use Rattle.std.specs.Prelude.{◌≡◌, ◌++◌, ◌∷◌, [], IfOk, OnOk, string_bytes};
-ghost use Rattle.tp_recover.specs.Reading.{LeavesNothingNew};
-ghost use Rattle.tp_program.specs.Backups.{PrintsCopied};
-ghost use Rattle.tp_program.specs.Uses.{HasBackup, IsBackedUp, IsCopyOf, IsFilled, IsLinked, part_of};
+ghost use Rattle.std.specs.Prelude.{◌≡◌, IfOk, OnOk, string_bytes};
+ghost use Rattle.tp_program.specs.Backups.{IsCopiedLine, PrintsCopied};
 
 use crate::backing_up::{backup_on, copied_line};
-use crate::devices::Devices;
 use crate::files::{disk_in, file_to_read};
 use crate::folders::sync_folder;
 use crate::rights::Rights;
@@ -22,7 +19,7 @@ use tp_words::Backup;
 
 /// Why a backup wasn't done.
 #[derive(Drop)]
-pub enum Undone {
+pub(crate) enum Undone {
     /// Something stands at COPY, or COPY.part is the device.
     CopyExists,
     /// Something stands at COPY.part.
@@ -96,12 +93,12 @@ fn ask_names<R: Files>(rt: &R, device: &str, names: &Names<'_>) -> Result<(), Un
 /// Makes the copy's file, which nobody but its owner may read.
 fn make_part<R: Files<File = F>, F: FileExt + OpenFile + Drop>(
     rt: &R,
-    part: &str,
+    names: &Names<'_>,
     rights: Rights,
 ) -> Result<F, Undone> {
     let mut how = OpenOptions::new();
     let how = how.read(true).write(true).create_new(true);
-    match how.mode(rights.at_first()).open(rt, part) {
+    match how.mode(rights.at_first()).open(rt, names.part) {
         Ok(file) => Ok(file),
         Err(error) if error.kind() == io::ErrorKind::AlreadyExists => Err(Undone::PartExists),
         Err(error) => Err(Undone::CopyFailed(error)),
@@ -109,11 +106,11 @@ fn make_part<R: Files<File = F>, F: FileExt + OpenFile + Drop>(
 }
 
 /// What the system keeps of the copy's file, which is removed where it can't be asked.
-fn kept_of<R: Files, F: OpenFile>(rt: &R, part: &str, file: &F) -> Result<Metadata, Undone> {
+fn kept_of<R: Files, F: OpenFile>(rt: &R, names: &Names<'_>, file: &F) -> Result<Metadata, Undone> {
     match file.metadata() {
         Ok(kept) => Ok(kept),
         Err(error) => {
-            let _left = fs::remove_file(rt, part);
+            let _left = fs::remove_file(rt, names.part);
             Err(Undone::CopyFailed(error))
         }
     }
@@ -134,49 +131,23 @@ fn remove_name<R: Files>(rt: &R, path: &str, numbers: Option<FileNumbers>) -> io
     fs::remove_file(rt, path)
 }
 
-/// Makes the copy's file, gives it the device's rights, before any byte of that is in it, and makes a device of this size over it: it gets that
-/// length with its first call as one. Answers also which file it is. Where it can't be made, nothing is left of it.
-pub(crate) fn begun_copy<R: Files<File = F>, F: FileExt + OpenFile + Drop>(
-    rt: &R,
-    part: &str,
-    rights: Rights,
-    size: u64,
-) -> Result<(NewDisk<F>, Option<FileNumbers>), Undone>
-    ensures { IfOk result (λ found. ⟦<NewDisk<F> as Disk>⟧.size_of found.0 ≡ size) }
-{
-    let file = make_part(rt, part, rights)?;
-    let kept = kept_of(rt, part, &file)?;
-    let numbers = numbers_in(&kept);
-    if let Err(error) = rights.give(&file, &kept) {
-        let _left = remove_name(rt, part, numbers);
-        return Err(Undone::CopyFailed(error));
-    }
-    let copy = NewFile::over(NotedFile::new(file), size);
-    Ok((Counted::new(copy), numbers))
-}
-
-/// Copies the device into the copy's file, which is given back then. Answers what is to be printed.
+/// Copies the device into the copy's file, which is closed then. Answers what is to be printed.
 #[inline(never)]
-fn fill_part<S: Devices<New = N>, N: Disk + Drop, D: Disk, E: Write>(
+fn fill_part<D: Disk, F: FileExt + OpenFile + Drop, E: Write>(
     alloc: Global,
-    devices: &mut S,
     source: &mut D,
-    copy: N,
+    copy: NewDisk<F>,
     err: &mut E,
 ) -> Result<String, Undone>
-    ensures filled { IfOk result (λ text. IsFilled D.keeps N.keeps (D.state source.old) (N.state copy) (S.uses devices.old) (S.uses devices.new) (string_bytes text)) }
-    ensures unwritten { D.keeps → LeavesNothingNew (D.state source.old) (D.state source.new) }
-    ensures uncalled { S.calls devices.new ≡ S.calls devices.old }
+    ensures { IfOk result (λ text. IsCopiedLine (string_bytes text)) }
 {
     let mut copy = copy;
-    let done = backup_on(alloc, source, &mut copy, err);
-    let failure = devices.finish(copy);
-    match done {
+    match backup_on(alloc, source, &mut copy, err) {
         Ok(next) => match copied_line(alloc, next) {
             Ok(text) => Ok(text),
             Err(_) => Err(Undone::Memory),
         },
-        Err(_) => Err(Undone::Uncopied(failure)),
+        Err(_) => Err(Undone::Uncopied(copy.into_raw().into_failure())),
     }
 }
 
@@ -215,66 +186,89 @@ fn settle_names<R: Files<File = F>, F: FileExt + OpenFile + Drop>(
 }
 
 /// Gives a copy that is whole and synced its name, which lasts. Where it doesn't, the copy has no such name.
-pub(crate) fn name_copy<R: Files<File = F>, F: FileExt + OpenFile + Drop>(
+fn name_copy<R: Files<File = F>, F: FileExt + OpenFile + Drop>(
     rt: &R,
-    part: &str,
-    copy: &str,
+    names: &Names<'_>,
     numbers: Option<FileNumbers>,
 ) -> Result<(), Undone> {
-    let names = Names { copy, part };
-    link_copy(rt, &names, numbers)?;
-    match settle_names(rt, &names, numbers) {
+    link_copy(rt, names, numbers)?;
+    match settle_names(rt, names, numbers) {
         Ok(()) => Ok(()),
         Err(error) => {
-            let _left = remove_name(rt, copy, numbers);
+            let _left = remove_name(rt, names.copy, numbers);
             Err(Undone::CopyFailed(error))
         }
     }
 }
 
-/// Copies the device into the copy's file, and names that. Answers what is to be printed.
-fn fill_and_name<S: Devices<New = N>, N: Disk + Drop, D: Disk, E: Write>(
-    alloc: Global,
-    devices: &mut S,
+/// Gives the copy's file the device's rights, before any byte of that is in it, copies the device into it, and names it. Answers what is to be
+/// printed.
+fn fill_and_name<R: Files<File = F> + AllocGlobal, D: Disk, F: FileExt + OpenFile + Drop, E: Write>(
+    rt: &R,
     source: &mut D,
+    rights: Rights,
     names: &Names<'_>,
-    copy: N,
-    numbers: Option<FileNumbers>,
+    kept: &Metadata,
+    file: F,
     err: &mut E,
 ) -> Result<String, Undone>
-    ensures linked { IfOk result (λ text. IsLinked D.keeps N.keeps names.now.part.now names.now.copy.now (D.state source.old) (N.state copy) (S.uses devices.old) (S.uses devices.new) (string_bytes text)) }
-    ensures unwritten { D.keeps → LeavesNothingNew (D.state source.old) (D.state source.new) }
-    ensures uncalled { S.calls devices.new ≡ S.calls devices.old }
+    ensures { IfOk result (λ text. IsCopiedLine (string_bytes text)) }
 {
-    let text = fill_part(alloc, devices, source, copy, err)?;
-    devices.link(names.part, names.copy, numbers)?;
+    if let Err(error) = rights.give(&file, kept) {
+        return Err(Undone::CopyFailed(error));
+    }
+    let copy = Counted::new(NewFile::over(NotedFile::new(file), source.size()));
+    let text = fill_part(rt.alloc(), source, copy, err)?;
+    name_copy(rt, names, numbers_in(kept))?;
     Ok(text)
 }
 
 /// Makes the copy of a device, which has these rights. Answers what is to be printed. Where it isn't made, the file that was made for it is
-/// removed.
-fn make_copy<R: Files + AllocGlobal, S: Devices<New = N>, N: Disk + Drop, D: Disk, E: Write>(
+/// removed: it gets the length of the device with its first call as one.
+fn make_copy<R: Files<File = F> + AllocGlobal, F: FileExt + OpenFile + Drop, D: Disk, E: Write>(
     rt: &R,
-    devices: &mut S,
     source: &mut D,
     rights: Rights,
     names: &Names<'_>,
     err: &mut E,
 ) -> Result<String, Undone>
-    ensures copied { IfOk result (λ text. IsCopyOf D.keeps N.keeps names.now.part.now names.now.copy.now (D.state source.old) (S.uses devices.old) (S.uses devices.new) (string_bytes text)) }
-    ensures unwritten { D.keeps → LeavesNothingNew (D.state source.old) (D.state source.new) }
-    ensures uncalled { S.calls devices.new ≡ S.calls devices.old }
+    ensures { IfOk result (λ text. IsCopiedLine (string_bytes text)) }
 {
-    let (copy, numbers) = devices.begin_copy(names.part, rights, source.size())?;
-    let made = fill_and_name(rt.alloc(), devices, source, names, copy, numbers, err);
+    let file = make_part(rt, names, rights)?;
+    let kept = kept_of(rt, names, &file)?;
+    let made = fill_and_name(rt, source, rights, names, &kept, file, err);
     if made.is_err() {
-        let _left = remove_name(rt, names.part, numbers);
+        let _left = remove_name(rt, names.part, numbers_in(&kept));
     }
     made
 }
 
+/// Makes the copy of a device, and prints what is to be printed.
+fn copy_and_print<
+    R: Files<File = F> + AllocGlobal,
+    F: FileExt + OpenFile + Drop,
+    D: Disk,
+    O: Write,
+    E: Write,
+>(
+    rt: &R,
+    source: &mut D,
+    rights: Rights,
+    names: &Names<'_>,
+    out: &mut O,
+    err: &mut E,
+) -> Result<(), Undone>
+    ensures { OnOk result (PrintsCopied (O.contents out.old) (O.contents out.new)) }
+{
+    let text = make_copy(rt, source, rights, names, err)?;
+    match put(out, text.as_bytes()) {
+        Ok(()) => Ok(()),
+        Err(_) => Err(Undone::Unprinted),
+    }
+}
+
 /// Opens a device's file to be read alone. Answers the device, and the rights of its file.
-pub(crate) fn source_of<R: Files<File = F>, F: FileExt + OpenFile + Drop>(
+fn source_of<R: Files<File = F>, F: FileExt + OpenFile + Drop>(
     rt: &R,
     device: &str,
 ) -> Result<(Counted<RawFile<NotedFile<F>>>, Rights), Refusal> {
@@ -285,75 +279,41 @@ pub(crate) fn source_of<R: Files<File = F>, F: FileExt + OpenFile + Drop>(
     Ok((disk_in(file)?, Rights::of(&kept)))
 }
 
-/// Opens a device to be read alone, makes its copy under these names, and gives it back. Answers what is to be printed.
-fn copy_device<
-    R: Files + AllocGlobal,
-    S: Devices<Device = D, New = N>,
-    D: Disk + Drop,
-    N: Disk + Drop,
-    E: Write,
->(rt: &R, devices: &mut S, device: &str, names: &Names<'_>, err: &mut E) -> Result<String, Undone>
-    ensures made { IfOk result (λ text. IsBackedUp D.keeps N.keeps device.now names.now.part.now names.now.copy.now (S.uses devices.old) (S.uses devices.new) (string_bytes text)) }
-    ensures uncalled { S.calls devices.new ≡ S.calls devices.old }
+/// Makes the copy of a device's file under these names, and prints that.
+fn backup_as<R: Files<File = F> + AllocGlobal, F: FileExt + OpenFile + Drop, O: Write, E: Write>(
+    rt: &R,
+    device: &str,
+    names: &Names<'_>,
+    out: &mut O,
+    err: &mut E,
+) -> Result<(), Undone>
+    ensures { OnOk result (PrintsCopied (O.contents out.old) (O.contents out.new)) }
 {
-    let (mut source, rights) = match devices.look_to_copy(device) {
+    ask_names(rt, device, names)?;
+    let (mut source, rights) = match source_of(rt, device) {
         Ok(found) => found,
         Err(refusal) => {
             refuse(err, refusal);
             return Err(Undone::Uncopied(None));
         }
     };
-    let made = make_copy(rt, devices, &mut source, rights, names, err);
-    devices.leave(source);
-    made
-}
-
-/// Makes the copy of a device's file under these names, and prints that.
-fn backup_as<
-    R: Files + AllocGlobal,
-    S: Devices<Device = D, New = N>,
-    D: Disk + Drop,
-    N: Disk + Drop,
-    O: Write,
-    E: Write,
->(
-    rt: &R,
-    devices: &mut S,
-    device: &str,
-    names: &Names<'_>,
-    out: &mut O,
-    err: &mut E,
-) -> Result<(), Undone>
-    ensures printed { OnOk result (PrintsCopied (O.contents out.old) (O.contents out.new)) }
-    ensures made { OnOk result (HasBackup D.keeps N.keeps device.now names.now.part.now names.now.copy.now (S.uses devices.old) (S.uses devices.new) (O.contents out.old) (O.contents out.new)) }
-    ensures uncalled { S.calls devices.new ≡ S.calls devices.old }
-{
-    ask_names(rt, device, names)?;
-    let text = copy_device(rt, devices, device, names, err)?;
-    match put(out, text.as_bytes()) {
-        Ok(()) => Ok(()),
-        Err(_) => Err(Undone::Unprinted),
-    }
+    copy_and_print(rt, &mut source, rights, names, out, err)
 }
 
 /// `tpnet backup`, on files. The copy's names are asked for before the device's file is opened, and its file is made before the
 /// device is read. The device's file is opened to be read alone.
 pub(crate) fn backup_file<
-    R: Files + AllocGlobal,
-    S: Devices<Device = D, New = N>,
-    D: Disk + Drop,
-    N: Disk + Drop,
+    R: Files<File = F> + AllocGlobal,
+    F: FileExt + OpenFile + Drop,
     O: Write,
     E: Write,
->(rt: &R, devices: &mut S, backup: &Backup, out: &mut O, err: &mut E) -> Result<(), Undone>
-    ensures printed { OnOk result (PrintsCopied (O.contents out.old) (O.contents out.new)) }
-    ensures made { OnOk result (HasBackup D.keeps N.keeps (string_bytes backup.now.device) (part_of (string_bytes backup.now.copy)) (string_bytes backup.now.copy) (S.uses devices.old) (S.uses devices.new) (O.contents out.old) (O.contents out.new)) }
-    ensures uncalled { S.calls devices.new ≡ S.calls devices.old }
+>(rt: &R, backup: &Backup, out: &mut O, err: &mut E) -> Result<(), Undone>
+    ensures { OnOk result (PrintsCopied (O.contents out.old) (O.contents out.new)) }
 {
     let (device, copy) = (backup.device.as_str(), backup.copy.as_str());
     let Ok(part) = format!(in rt.alloc(); "{copy}.part") else {
         return Err(Undone::Memory);
     };
     let part = part.as_str();
-    backup_as(rt, devices, device, &Names { copy, part }, out, err)
+    backup_as(rt, device, &Names { copy, part }, out, err)
 }

@@ -1,8 +1,8 @@
-//! Which devices were asked for, made, opened and given back, and what else was done with files, as contracts alone see it.
+//! Which devices were asked for, made, opened and given back, as contracts alone see it.
 
 ghost use Rattle.std.specs.Prelude.{◌≡◌, List, [], ◌∷◌, ◌++◌};
 ghost use Rattle.std.specs.Borrow.{ftrue};
-ghost use Rattle.tp_program.specs.Devices.{DeviceCall, Holds, Makes, Opens, Closes, Reads, Looks, Begins, Leaves, Links, Requests};
+ghost use Rattle.tp_program.specs.Devices.{DeviceCall, Holds, Makes, Opens, Closes};
 
 use std::marker::Model;
 use tp_disk::Disk;
@@ -59,47 +59,5 @@ impl DeviceCalls {
         ensures { result.told ≡ self.now.told ++ Closes (D.state device.now) ∷ [] }
     {
         DeviceCalls::of(&(self, device))
-    }
-
-    /// A file was read whole.
-    pub(crate) fn read(&self, path: &str, bytes: &[u8]) -> DeviceCalls
-        ensures { result.told ≡ self.now.told ++ Reads path.now bytes.now ∷ [] }
-    {
-        DeviceCalls::of(&(self, path, bytes))
-    }
-
-    /// The device at a path was opened to be read alone.
-    pub(crate) fn looked<D: Disk>(&self, path: &str, device: &D) -> DeviceCalls
-        ensures { result.told ≡ self.now.told ++ Looks path.now (D.state device.now) ∷ [] }
-    {
-        DeviceCalls::of(&(self, path, device))
-    }
-
-    /// A device was begun in the file at a path.
-    pub(crate) fn begun<D: Disk>(&self, path: &str, device: &D) -> DeviceCalls
-        ensures { result.told ≡ self.now.told ++ Begins path.now (D.state device.now) ∷ [] }
-    {
-        DeviceCalls::of(&(self, path, device))
-    }
-
-    /// Such a device was given back.
-    pub(crate) fn left<D: Disk>(&self, device: &D) -> DeviceCalls
-        ensures { result.told ≡ self.now.told ++ Leaves (D.state device.now) ∷ [] }
-    {
-        DeviceCalls::of(&(self, device))
-    }
-
-    /// A copy that was made at `part` got its name.
-    pub(crate) fn named(&self, part: &str, copy: &str) -> DeviceCalls
-        ensures { result.told ≡ self.now.told ++ Links part.now copy.now ∷ [] }
-    {
-        DeviceCalls::of(&(self, part, copy))
-    }
-
-    /// A request to stop was to be made at a path, and that was done or not.
-    pub(crate) fn requested(&self, path: &str, ok: bool) -> DeviceCalls
-        ensures { result.told ≡ self.now.told ++ Requests path.now ok ∷ [] }
-    {
-        DeviceCalls::of(&(self, path, ok))
     }
 }

@@ -1,25 +1,19 @@
-//! The devices and files of commands: who holds a device, makes a file for it, opens it and takes it back, reads a file, makes a copy or a request.
+//! The devices that commands write: who holds them, makes files for them, opens them, and takes them back.
 
 ghost use Rattle.std.specs.Prelude.{◌≡◌, ℕ, true, false, List, [], ◌∷◌, ◌++◌, Option, Some, None, is_ok, IfOk, IsErrAnd, OnOk, OnErr};
 ghost use Rattle.std.specs.IoError.{error_kind};
 ghost use Rattle.std.specs.Option.{option_map};
-ghost use Rattle.tp_program.specs.Devices.{DeviceCall, Holds, Makes, Opens, Closes, Reads, Looks, Begins, Leaves, Links, Requests, path_held};
-ghost use Rattle.tp_program.specs.Stops.{WasHeldElsewhere, request_path};
+ghost use Rattle.tp_program.specs.Devices.{DeviceCall, Holds, Makes, Opens, Closes, path_held};
 
-use crate::backup_files::{Undone, begun_copy, name_copy, source_of};
 use crate::device_calls::DeviceCalls;
-use crate::files::{disk_to_read, read_refusal};
-use crate::folders::sync_folder;
+use crate::files::read_refusal;
 use crate::in_use::{changed, is_busy};
 use crate::locks::{Held, InUse, Locks};
-use crate::request_file::make_request;
-use crate::rights::Rights;
 use std::fs::{Files, OpenFile, OpenOptions};
 use std::io::{ErrorKind, Write};
 use std::os::unix::fs::FileExt;
 use std::{fs, io};
-use tp_disk::{Counted, Disk, NewDisk, NotedFile, RawFile};
-use tp_stream_files::FileNumbers;
+use tp_disk::{Counted, Disk, NotedFile, RawFile};
 use tp_views::{Refusal, refuse};
 
 /// That a file was made at the path of a device, for it and by this process, which holds it since.
@@ -39,19 +33,12 @@ impl Made {
     }
 }
 
-/// Holds devices, makes files for them, opens them to be written, and takes them back; reads files and devices, makes copies, and asks streams
-/// to stop.
+/// Holds devices, makes files for them, opens them to be written, and takes them back.
 pub trait Devices {
     type Device: Disk + Drop;
 
-    /// A device in a file that it gets for itself: one that is formatted, or a copy.
-    type New: Disk + Drop;
-
     /// Which were asked for, made, opened and given back, and what had become of each then, the oldest first.
     ghost calls: { Self → List DeviceCall };
-
-    /// What else was done with files, and what had become of each device then, the oldest first.
-    ghost uses: { Self → List DeviceCall };
 
     /// The path of the device that is held: no other process has it. No call lets it go.
     ghost held: { Self → Option (List ℕ) };
@@ -59,8 +46,7 @@ pub trait Devices {
     /// Asks for the device at a path, and again for `seconds` while another process has it. Once it is got, it is held.
     fn hold(&mut self, path: &str, seconds: u32) -> Result<(), InUse>
         ensures noted { calls self.new ≡ calls self.old ++ Holds path.now seconds (is_ok result) ∷ [] }
-        ensures got { OnOk result (held self.new ≡ Some path.now) }
-        ensures unused { uses self.new ≡ uses self.old };
+        ensures got { OnOk result (held self.new ≡ Some path.now) };
 
     /// Whether what stands at a path is what stood there as the device was asked for: the file that is held, or nothing. It is asked anew each
     /// time.
@@ -72,8 +58,7 @@ pub trait Devices {
         requires { held self.old ≡ Some path.now }
         ensures noted { calls self.new ≡ calls self.old ++ Makes path.now (is_ok result) ∷ [] }
         ensures made { IfOk result (λ made. path_held made.noted.told ≡ path.now) }
-        ensures kept { held self.new ≡ held self.old }
-        ensures unused { uses self.new ≡ uses self.old };
+        ensures kept { held self.new ≡ held self.old };
 
     /// Removes the file that was made at a path, which is held, where the path names that file still. A failed call is let go.
     fn remove(&self, path: &str, made: Made)
@@ -86,92 +71,11 @@ pub trait Devices {
         requires { held self.old ≡ Some path.now }
         ensures opened { IfOk result (λ device. calls self.new ≡ calls self.old ++ Opens path.now (Self.Device.state device) ∷ []) }
         ensures refused { OnErr result (calls self.new ≡ calls self.old) }
-        ensures kept { held self.new ≡ held self.old }
-        ensures unused { uses self.new ≡ uses self.old };
+        ensures kept { held self.new ≡ held self.old };
 
     /// Takes a device back. Answers what the system said of the last call of it that failed.
     fn close(&mut self, device: Self::Device) -> Option<io::Error>
         ensures noted { calls self.new ≡ calls self.old ++ Closes (Self.Device.state device) ∷ [] }
-        ensures kept { held self.new ≡ held self.old }
-        ensures unused { uses self.new ≡ uses self.old };
-
-    /// Reads a whole file.
-    fn read(&mut self, path: &str) -> io::Result<Vec<u8>>
-        ensures read { IfOk result (λ bytes. uses self.new ≡ uses self.old ++ Reads path.now bytes.items ∷ []) }
-        ensures unread { OnErr result (uses self.new ≡ uses self.old) }
-        ensures uncalled { calls self.new ≡ calls self.old }
-        ensures kept { held self.new ≡ held self.old };
-
-    /// Opens the device at a path to be read alone. What is no device's file isn't opened.
-    fn look(&mut self, path: &str) -> Result<Self::Device, Refusal>
-        ensures looked { IfOk result (λ device. uses self.new ≡ uses self.old ++ Looks path.now (Self.Device.state device) ∷ []) }
-        ensures refused { OnErr result (uses self.new ≡ uses self.old) }
-        ensures uncalled { calls self.new ≡ calls self.old }
-        ensures kept { held self.new ≡ held self.old };
-
-    /// Opens the device at a path to be read alone, and says which rights its copy gets.
-    fn look_to_copy(&mut self, path: &str) -> Result<(Self::Device, Rights), Refusal>
-        ensures looked { IfOk result (λ found. uses self.new ≡ uses self.old ++ Looks path.now (Self.Device.state found.0) ∷ []) }
-        ensures refused { OnErr result (uses self.new ≡ uses self.old) }
-        ensures uncalled { calls self.new ≡ calls self.old }
-        ensures kept { held self.new ≡ held self.old };
-
-    /// Takes back a device that was read alone.
-    fn leave(&mut self, device: Self::Device)
-        ensures noted { uses self.new ≡ uses self.old ++ Leaves (Self.Device.state device) ∷ [] }
-        ensures uncalled { calls self.new ≡ calls self.old }
-        ensures kept { held self.new ≡ held self.old };
-
-    /// The device of this size in the file at a path, which is held and stays as it was until the first call of the device. Where another file
-    /// stands there by now, that is another's, and it is said.
-    fn replace(&mut self, path: &str, size: u64) -> io::Result<Self::New>
-        requires { held self.old ≡ Some path.now }
-        ensures begun { IfOk result (λ device. (Self.New.size_of device ≡ size) × (uses self.new ≡ uses self.old ++ Begins path.now (Self.New.state device) ∷ [])) }
-        ensures refused { OnErr result (uses self.new ≡ uses self.old) }
-        ensures uncalled { calls self.new ≡ calls self.old }
-        ensures kept { held self.new ≡ held self.old };
-
-    /// The device of this size in an empty file that was made for it at a path, once its name lasts and all the device's bytes are on the disk, 00.
-    /// Where another file stands there by now, that is said.
-    fn fill(&mut self, path: &str, size: u64) -> io::Result<Self::New>
-        requires { held self.old ≡ Some path.now }
-        ensures begun { IfOk result (λ device. (Self.New.size_of device ≡ size) × (uses self.new ≡ uses self.old ++ Begins path.now (Self.New.state device) ∷ [])) }
-        ensures refused { OnErr result (uses self.new ≡ uses self.old) }
-        ensures uncalled { calls self.new ≡ calls self.old }
-        ensures kept { held self.new ≡ held self.old };
-
-    /// Makes the file of a copy, with these rights, and a device of this size over it. Answers also by which numbers the system tells that
-    /// file from others.
-    fn begin_copy(
-        &mut self,
-        part: &str,
-        rights: Rights,
-        size: u64,
-    ) -> Result<(Self::New, Option<FileNumbers>), Undone>
-        ensures begun { IfOk result (λ found. (Self.New.size_of found.0 ≡ size) × (uses self.new ≡ uses self.old ++ Begins part.now (Self.New.state found.0) ∷ [])) }
-        ensures refused { OnErr result (uses self.new ≡ uses self.old) }
-        ensures uncalled { calls self.new ≡ calls self.old }
-        ensures kept { held self.new ≡ held self.old };
-
-    /// Takes back a device that was begun. Answers what the system said of the call of it that failed.
-    fn finish(&mut self, device: Self::New) -> Option<io::Error>
-        ensures noted { uses self.new ≡ uses self.old ++ Leaves (Self.New.state device) ∷ [] }
-        ensures uncalled { calls self.new ≡ calls self.old }
-        ensures kept { held self.new ≡ held self.old };
-
-    /// Gives the copy that was made at `part`, whose file has these numbers, its name, which lasts. Where it doesn't, the copy has no such name.
-    fn link(&mut self, part: &str, copy: &str, numbers: Option<FileNumbers>) -> Result<(), Undone>
-        ensures named { OnOk result (uses self.new ≡ uses self.old ++ Links part.now copy.now ∷ []) }
-        ensures refused { OnErr result (uses self.new ≡ uses self.old) }
-        ensures uncalled { calls self.new ≡ calls self.old }
-        ensures kept { held self.new ≡ held self.old };
-
-    /// Makes a request to stop for a device which another process had as it was last asked for: at the path for that, where there is none.
-    fn request(&mut self, device: &str, path: &str) -> io::Result<()>
-        requires elsewhere { WasHeldElsewhere device.now (calls self.old) }
-        requires beside { path.now ≡ request_path device.now }
-        ensures noted { uses self.new ≡ uses self.old ++ Requests path.now (is_ok result) ∷ [] }
-        ensures uncalled { calls self.new ≡ calls self.old }
         ensures kept { held self.new ≡ held self.old };
 }
 
@@ -185,7 +89,6 @@ pub struct FileDevices<'r, R, L: Drop, K: Drop> {
     /// The lock of the device that is held, until all is let go.
     held: Option<Held<K>>,
     noted: DeviceCalls,
-    used: DeviceCalls,
 }
 
 impl<'r, R, L: Drop, K: Drop> FileDevices<'r, R, L, K> {
@@ -193,32 +96,26 @@ impl<'r, R, L: Drop, K: Drop> FileDevices<'r, R, L, K> {
     pub fn new(rt: &'r R, locks: L) -> FileDevices<'r, R, L, K>
         ensures none { result.noted.told ≡ [] }
         ensures free { result.held ≡ None }
-        ensures unused { result.used.told ≡ [] }
     {
         FileDevices {
             rt,
             locks,
             held: None,
             noted: DeviceCalls::new(),
-            used: DeviceCalls::new(),
         }
     }
 }
 
 impl<
     'r,
-    R: Files<File = F> + AllocGlobal,
+    R: Files<File = F>,
     F: FileExt + OpenFile + Drop,
     L: Locks<F, Lock = K> + Drop,
     K: Drop,
 > Devices for FileDevices<'r, R, L, K> {
     type Device = Counted<RawFile<NotedFile<F>>>;
 
-    type New = NewDisk<F>;
-
     ghost calls = { λ devices. devices.noted.told };
-
-    ghost uses = { λ devices. devices.used.told };
 
     ghost held = { λ devices. option_map (λ held. path_held held.noted.told) devices.held };
 
@@ -259,89 +156,6 @@ impl<
     fn close(&mut self, device: Counted<RawFile<NotedFile<F>>>) -> Option<io::Error> {
         self.noted = self.noted.closed(&device);
         device.raw().failure().map(said_again)
-    }
-
-    fn read(&mut self, path: &str) -> io::Result<Vec<u8>> {
-        let bytes = fs::read(self.rt, path)?;
-        self.used = self.used.read(path, bytes.as_slice());
-        Ok(bytes)
-    }
-
-    fn look(&mut self, path: &str) -> Result<Counted<RawFile<NotedFile<F>>>, Refusal> {
-        let device = disk_to_read(self.rt, path)?;
-        self.used = self.used.looked(path, &device);
-        Ok(device)
-    }
-
-    fn look_to_copy(
-        &mut self,
-        path: &str,
-    ) -> Result<(Counted<RawFile<NotedFile<F>>>, Rights), Refusal> {
-        let (device, rights) = source_of(self.rt, path)?;
-        self.used = self.used.looked(path, &device);
-        Ok((device, rights))
-    }
-
-    fn leave(&mut self, device: Counted<RawFile<NotedFile<F>>>) {
-        self.used = self.used.left(&device);
-    }
-
-    fn replace(&mut self, path: &str, size: u64) -> io::Result<NewDisk<F>> {
-        let disk = NewDisk::create_over(self.rt, path, size)?;
-        if !self.is_kept(path) {
-            return Err(changed());
-        }
-        self.used = self.used.begun(path, &disk);
-        Ok(disk)
-    }
-
-    fn fill(&mut self, path: &str, size: u64) -> io::Result<NewDisk<F>> {
-        sync_folder(self.rt, path)?;
-        let mut disk = NewDisk::create_over(self.rt, path, size)?;
-        if !self.is_kept(path) {
-            return Err(changed());
-        }
-        if disk.sync().is_err() {
-            return Err(failure_of(disk));
-        }
-        self.used = self.used.begun(path, &disk);
-        Ok(disk)
-    }
-
-    fn begin_copy(
-        &mut self,
-        part: &str,
-        rights: Rights,
-        size: u64,
-    ) -> Result<(NewDisk<F>, Option<FileNumbers>), Undone> {
-        let (disk, numbers) = begun_copy(self.rt, part, rights, size)?;
-        self.used = self.used.begun(part, &disk);
-        Ok((disk, numbers))
-    }
-
-    fn finish(&mut self, device: NewDisk<F>) -> Option<io::Error> {
-        self.used = self.used.left(&device);
-        device.into_raw().into_failure()
-    }
-
-    fn link(&mut self, part: &str, copy: &str, numbers: Option<FileNumbers>) -> Result<(), Undone> {
-        name_copy(self.rt, part, copy, numbers)?;
-        self.used = self.used.named(part, copy);
-        Ok(())
-    }
-
-    fn request(&mut self, _device: &str, path: &str) -> io::Result<()> {
-        let made = make_request(self.rt, path);
-        self.used = self.used.requested(path, made.is_ok());
-        made
-    }
-}
-
-/// What the system said of the call by which a device failed.
-fn failure_of<F: FileExt + OpenFile + Drop>(disk: NewDisk<F>) -> io::Error {
-    match disk.into_raw().into_failure() {
-        Some(error) => error,
-        None => io::Error::from(io::ErrorKind::Other),
     }
 }
 

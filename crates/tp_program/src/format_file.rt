@@ -1,22 +1,23 @@
 //! `tpnet format`, on files.
 
-ghost use Rattle.std.specs.Prelude.{◌≡◌, ◌≤◌, ◌++◌, ◌∷◌, [], true, Some, IfOk, IfSome, OnErr, map, string_bytes};
+ghost use Rattle.std.specs.Prelude.{◌≡◌, ◌≤◌, true, Some, IfOk, IfSome, string_bytes};
 ghost use Rattle.tp_model.specs.Device.{areas_end};
 ghost use Rattle.tp_model.specs.Head.{areas_of_length};
 ghost use Rattle.tp_model.specs.Topology.{is_topology};
 ghost use Rattle.tp_words.specs.declared.args.TheConstants.{MAX_AREA};
-ghost use Rattle.tp_program.specs.Devices.{Begins, MadeAtMost, path_held};
-ghost use Rattle.tp_program.specs.Uses.{FormattedFile, FormattedNetwork, FormattedText};
+ghost use Rattle.tp_program.specs.Devices.{MadeAtMost, path_held};
 
 use crate::devices::{Devices, Made};
 use crate::files::{image_path, read_network, read_source};
+use crate::folders::sync_folder;
 use crate::formatting::format_on;
 use crate::in_use::{changed, is_busy};
-use std::fs::Files;
+use std::fs::{Files, OpenFile};
 use std::io;
 use std::io::Write;
+use std::os::unix::fs::FileExt;
 use tp_area::{head_length, version_for};
-use tp_disk::Disk;
+use tp_disk::{Disk, NewDisk};
 use tp_model::HeadVersion;
 use tp_net::{Named, Topology};
 use tp_stream_files::is_one_file;
@@ -57,8 +58,7 @@ fn refuse_sources<R: Files + AllocGlobal, E: Write>(
     names: &[&str],
     err: &mut E,
 ) -> Option<u8>
-    ensures few { IfSome result (λ status. status ≤ 2) }
-    ensures refused { IfSome result (λ status. 1 ≤ status) }
+    ensures { IfSome result (λ status. status ≤ 2) }
 {
     let (device, topology) = (new.device.as_str(), new.topology.as_str());
     if is_one_file(rt, device, topology) {
@@ -88,11 +88,25 @@ fn device_length(version: HeadVersion, area: u64) -> u64
     head_length(version) as u64 + 2 * area
 }
 
-/// How many bytes the device has that is asked for, with room for the head of its topology and two areas.
-fn size_of(new: &NewDevice, topology: &Topology) -> u64
-    requires { IfSome new.now.area (λ area. area ≤ MAX_AREA) }
+/// The device with room for the head of its topology and two areas, in the file that is held, which stays as it was until the first call of it.
+/// Where another file stands there by now, that is another's.
+fn new_disk<R: Files<File = F>, F: FileExt + OpenFile + Drop, S: Devices>(
+    rt: &R,
+    devices: &S,
+    new: &NewDevice,
+    topology: &Topology,
+) -> io::Result<NewDisk<F>>
+    requires area { IfSome new.now.area (λ area. area ≤ MAX_AREA) }
+    requires held { S.held devices.now ≡ Some (string_bytes new.now.device) }
 {
-    device_length(version_for(topology), wanted_area(topology, new.area))
+    let area = wanted_area(topology, new.area);
+    let size = device_length(version_for(topology), area);
+    let path = new.device.as_str();
+    let disk = NewDisk::create_over(rt, path, size)?;
+    if !devices.is_kept(path) {
+        return Err(changed());
+    }
+    Ok(disk)
 }
 
 /// Makes the file of a device and holds it. None is made where one is there already, unless it must be new.
@@ -101,7 +115,6 @@ fn make_file<S: Devices>(devices: &mut S, new: &NewDevice) -> io::Result<Option<
     ensures kept { S.held devices.new ≡ S.held devices.old }
     ensures made { IfOk result (λ made. IfSome made (λ made. path_held made.noted.told ≡ string_bytes new.now.device)) }
     ensures noted { MadeAtMost (string_bytes new.now.device) (S.calls devices.old) (S.calls devices.new) }
-    ensures unused { S.uses devices.new ≡ S.uses devices.old }
 {
     match devices.make(new.device.as_str()) {
         Ok(made) => Ok(Some(made)),
@@ -110,20 +123,45 @@ fn make_file<S: Devices>(devices: &mut S, new: &NewDevice) -> io::Result<Option<
     }
 }
 
+/// What the system said of the call by which a device failed.
+fn failure_of<F: FileExt + OpenFile + Drop>(disk: NewDisk<F>) -> io::Error {
+    match disk.into_raw().into_failure() {
+        Some(error) => error,
+        None => io::Error::from(io::ErrorKind::Other),
+    }
+}
+
+/// The device in an empty file that was made for it, once its name lasts and all its bytes are on the disk, 00.
+fn filled_disk<R: Files<File = F>, F: FileExt + OpenFile + Drop, S: Devices>(
+    rt: &R,
+    devices: &S,
+    new: &NewDevice,
+    topology: &Topology,
+) -> io::Result<NewDisk<F>>
+    requires area { IfSome new.now.area (λ area. area ≤ MAX_AREA) }
+    requires held { S.held devices.now ≡ Some (string_bytes new.now.device) }
+{
+    sync_folder(rt, new.device.as_str())?;
+    let mut disk = new_disk(rt, devices, new, topology)?;
+    match disk.sync() {
+        Ok(()) => Ok(disk),
+        Err(_) => Err(failure_of(disk)),
+    }
+}
+
 /// The device in an empty file that was made for it, which is filled, or removed where it can't be.
-fn disk_made<S: Devices<New = N>, N: Disk + Drop>(
-    devices: &mut S,
+fn disk_made<R: Files<File = F>, F: FileExt + OpenFile + Drop, S: Devices>(
+    rt: &R,
+    devices: &S,
     new: &NewDevice,
     topology: &Topology,
     made: Made,
-) -> io::Result<N>
+) -> io::Result<NewDisk<F>>
     requires area { IfSome new.now.area (λ area. area ≤ MAX_AREA) }
-    requires held { S.held devices.old ≡ Some (string_bytes new.now.device) }
+    requires held { S.held devices.now ≡ Some (string_bytes new.now.device) }
     requires made { path_held made.noted.told ≡ string_bytes new.now.device }
-    ensures begun { IfOk result (λ disk. S.uses devices.new ≡ S.uses devices.old ++ Begins (string_bytes new.now.device) (N.state disk) ∷ []) }
-    ensures uncalled { S.calls devices.new ≡ S.calls devices.old }
 {
-    let disk = devices.fill(new.device.as_str(), size_of(new, topology));
+    let disk = filled_disk(rt, devices, new, topology);
     if disk.is_err() {
         devices.remove(new.device.as_str(), made);
     }
@@ -131,26 +169,32 @@ fn disk_made<S: Devices<New = N>, N: Disk + Drop>(
 }
 
 /// The device in a file that is made for it, and filled, or in one that is there, which stays as it was until the first call of it.
-fn disk_of<S: Devices<New = N>, N: Disk + Drop>(
+fn disk_of<R: Files<File = F>, F: FileExt + OpenFile + Drop, S: Devices>(
+    rt: &R,
     devices: &mut S,
     new: &NewDevice,
     topology: &Topology,
-) -> io::Result<N>
+) -> io::Result<NewDisk<F>>
     requires area { IfSome new.now.area (λ area. area ≤ MAX_AREA) }
     requires held { S.held devices.old ≡ Some (string_bytes new.now.device) }
-    ensures made { MadeAtMost (string_bytes new.now.device) (S.calls devices.old) (S.calls devices.new) }
-    ensures begun { IfOk result (λ disk. S.uses devices.new ≡ S.uses devices.old ++ Begins (string_bytes new.now.device) (N.state disk) ∷ []) }
+    ensures { MadeAtMost (string_bytes new.now.device) (S.calls devices.old) (S.calls devices.new) }
 {
     match make_file(devices, new)? {
-        Some(made) => disk_made(devices, new, topology, made),
-        None => devices.replace(new.device.as_str(), size_of(new, topology)),
+        Some(made) => disk_made(rt, devices, new, topology, made),
+        None => new_disk(rt, devices, new, topology),
     }
 }
 
 /// Formats the device of this network, which is held: where another file stands at its path by now, or one where there was none, that is
 /// another's. What the system said of a call that failed is put into `system`.
 #[inline(never)]
-fn format_network<R: Files + AllocGlobal, S: Devices<New = N>, N: Disk + Drop, O: Write, E: Write>(
+fn format_network<
+    R: Files<File = F> + AllocGlobal,
+    F: FileExt + OpenFile + Drop,
+    S: Devices,
+    O: Write,
+    E: Write,
+>(
     rt: &R,
     devices: &mut S,
     new: &NewDevice,
@@ -165,7 +209,6 @@ fn format_network<R: Files + AllocGlobal, S: Devices<New = N>, N: Disk + Drop, O
     requires valid { is_topology topology.now ≡ true }
     ensures few { result ≤ 1 }
     ensures made { MadeAtMost (string_bytes new.now.device) (S.calls devices.old) (S.calls devices.new) }
-    ensures formatted { FormattedNetwork N.keeps (string_bytes new.now.device) new.now.area topology.now (map (λ image. image.items) images.now) (S.uses devices.old) (S.uses devices.new) (O.contents out.old) (O.contents out.new) result }
 {
     if !devices.is_kept(new.device.as_str()) {
         *system = Some(changed());
@@ -174,10 +217,10 @@ fn format_network<R: Files + AllocGlobal, S: Devices<New = N>, N: Disk + Drop, O
     if !new.only_new && !is_openable(rt, new.device.as_str()) {
         return refuse(err, Refusal::DeviceFailed);
     }
-    match disk_of(devices, new, topology) {
+    match disk_of(rt, devices, new, topology) {
         Ok(mut disk) => {
             let status = format_on(rt.alloc(), &mut disk, topology, images, new.area, out, err);
-            *system = devices.finish(disk);
+            *system = disk.into_raw().into_failure();
             status
         }
         Err(error) => {
@@ -189,7 +232,13 @@ fn format_network<R: Files + AllocGlobal, S: Devices<New = N>, N: Disk + Drop, O
 }
 
 /// Formats the device of a topology that was read, and of the images of its nodes.
-fn format_named<R: Files + AllocGlobal, S: Devices<New = N>, N: Disk + Drop, O: Write, E: Write>(
+fn format_named<
+    R: Files<File = F> + AllocGlobal,
+    F: FileExt + OpenFile + Drop,
+    S: Devices,
+    O: Write,
+    E: Write,
+>(
     rt: &R,
     devices: &mut S,
     new: &NewDevice,
@@ -203,7 +252,6 @@ fn format_named<R: Files + AllocGlobal, S: Devices<New = N>, N: Disk + Drop, O: 
     requires held { S.held devices.old ≡ Some (string_bytes new.now.device) }
     ensures few { result ≤ 2 }
     ensures made { MadeAtMost (string_bytes new.now.device) (S.calls devices.old) (S.calls devices.new) }
-    ensures formatted { FormattedNetwork N.keeps (string_bytes new.now.device) new.now.area named.now.topology (map (λ image. image.items) images.now) (S.uses devices.old) (S.uses devices.new) (O.contents out.old) (O.contents out.new) result }
 {
     if let Some(status) = refuse_sources(rt, new, named.names.as_slice(), err) {
         return status;
@@ -213,7 +261,13 @@ fn format_named<R: Files + AllocGlobal, S: Devices<New = N>, N: Disk + Drop, O: 
 }
 
 /// Formats the device of a topology's text that was read.
-fn format_text<R: Files + AllocGlobal, S: Devices<New = N>, N: Disk + Drop, O: Write, E: Write>(
+fn format_text<
+    R: Files<File = F> + AllocGlobal,
+    F: FileExt + OpenFile + Drop,
+    S: Devices,
+    O: Write,
+    E: Write,
+>(
     rt: &R,
     devices: &mut S,
     new: &NewDevice,
@@ -226,9 +280,8 @@ fn format_text<R: Files + AllocGlobal, S: Devices<New = N>, N: Disk + Drop, O: W
     requires held { S.held devices.old ≡ Some (string_bytes new.now.device) }
     ensures few { result ≤ 2 }
     ensures made { MadeAtMost (string_bytes new.now.device) (S.calls devices.old) (S.calls devices.new) }
-    ensures formatted { FormattedText N.keeps text.now (string_bytes new.now.images) (string_bytes new.now.device) new.now.area (S.uses devices.old) (S.uses devices.new) (O.contents out.old) (O.contents out.new) result }
 {
-    match read_network(rt, devices, text, new.images.as_str()) {
+    match read_network(rt, text, new.images.as_str()) {
         Ok((named, images)) => {
             format_named(
                 rt,
@@ -249,9 +302,9 @@ fn format_text<R: Files + AllocGlobal, S: Devices<New = N>, N: Disk + Drop, O: W
 /// and the images' files always do.
 #[inline(never)]
 pub(crate) fn format_file<
-    R: Files + AllocGlobal,
-    S: Devices<New = N>,
-    N: Disk + Drop,
+    R: Files<File = F> + AllocGlobal,
+    F: FileExt + OpenFile + Drop,
+    S: Devices,
     O: Write,
     E: Write,
 >(
@@ -266,9 +319,8 @@ pub(crate) fn format_file<
     requires held { S.held devices.old ≡ Some (string_bytes new.now.device) }
     ensures few { result ≤ 2 }
     ensures made { MadeAtMost (string_bytes new.now.device) (S.calls devices.old) (S.calls devices.new) }
-    ensures formatted { FormattedFile N.keeps new.now (S.uses devices.old) (S.uses devices.new) (O.contents out.old) (O.contents out.new) result }
 {
-    match read_source(rt, devices, new.topology.as_str()) {
+    match read_source(rt, new.topology.as_str()) {
         Ok(text) => format_text(rt, devices, new, text.as_slice(), system, out, err),
         Err(refusal) => refuse(err, refusal),
     }

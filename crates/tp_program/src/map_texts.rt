@@ -1,7 +1,5 @@
 //! The texts of the maps of a device's nodes, from the files of a folder.
 
-ghost use Rattle.std.specs.Prelude.{◌≡◌, [], IfOk, None};
-
 use crate::files::read_file;
 use std::alloc::Global;
 use std::fs::Files;
@@ -16,10 +14,7 @@ pub(crate) struct MapTexts {
 }
 
 /// No map.
-fn no_texts(alloc: Global) -> MapTexts
-    ensures own { result.own.items ≡ [] }
-    ensures all { result.all.items ≡ [] }
-{
+fn no_texts(alloc: Global) -> MapTexts {
     MapTexts {
         own: Vec::new(alloc),
         all: Vec::new(alloc),
@@ -79,13 +74,10 @@ fn read_folder<R: Files + AllocGlobal>(rt: &R, folder: &str) -> Result<MapTexts,
 /// Reads the maps of a folder, if one is named.
 pub(crate) fn read_texts<R: Files + AllocGlobal>(
     rt: &R,
-    folder: &Option<String>,
-) -> Result<MapTexts, Refusal>
-    ensures own { folder.now ≡ None → IfOk result (λ texts. texts.own.items ≡ []) }
-    ensures all { folder.now ≡ None → IfOk result (λ texts. texts.all.items ≡ []) }
-{
+    folder: Option<&str>,
+) -> Result<MapTexts, Refusal> {
     match folder {
-        Some(folder) => read_folder(rt, folder.as_str()),
+        Some(folder) => read_folder(rt, folder),
         None => Ok(no_texts(rt.alloc())),
     }
 }

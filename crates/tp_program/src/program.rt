@@ -5,18 +5,18 @@ ghost use Rattle.tp_run.specs.Ran.{History};
 ghost use Rattle.tp_words.specs.Args.{IsInRange};
 ghost use Rattle.tp_words.specs.Commands.{IsCommandInRange};
 ghost use Rattle.tp_words.specs.Typed.{has_word};
-ghost use Rattle.tp_program.specs.Answers.{Answered, AnsweredAs, AnsweredHeld, CarriedOut, CommandDone, CommandUsed, HoldsWritten, UsedFor, asking_for, most_status};
+ghost use Rattle.tp_program.specs.Answers.{Answered, AnsweredAs, AnsweredHeld, CarriedOut, CommandDone, HoldsWritten, asking_for, most_status};
 
 use crate::asking::answer_stop;
 use crate::backup_program::answer_backup;
 use crate::compact_file::compact_file;
-use crate::devices::Devices;
+use crate::devices::{Devices, FileDevices};
 use crate::files::{
     check_file, recover_file, show_file, status_file, trace_device_file, try_file, view_file,
 };
 use crate::format_file::format_file;
 use crate::in_use::{explain_changed, is_busy, refuse_in_use};
-use crate::locks::InUse;
+use crate::locks::{InUse, Locks};
 use crate::run_file::run_file;
 use crate::stream_program::hold_and_stream;
 use crate::trace_files::trace_file;
@@ -37,10 +37,10 @@ use tp_words::{Asked, Command, CommandLine, More};
 /// Does what was asked for. Answers the program's status: 0 where it was done, 1 where it was refused, 2 where a node or port
 /// isn't there. The device that is to be written is held. What the system said of a call on a device that failed is put into `system`.
 fn carry_out<
-    R: Files + AllocGlobal + Threads + Wait + Sync,
-    S: Devices<Device = D, New = N>,
+    R: Files<File = F> + AllocGlobal + Threads + Wait + Sync,
+    F: FileExt + OpenFile + Drop + Send,
+    S: Devices<Device = D>,
     D: Disk + Drop + Send,
-    N: Disk + Drop,
     W: Watch,
     O: Write,
     E: Write,
@@ -57,44 +57,43 @@ fn carry_out<
     requires range { IsInRange asked.now }
     requires held { HoldsWritten asked.now (S.held devices.old) }
     ensures few { result ≤ 2 }
-    ensures used { UsedFor D.keeps N.keeps asked.now (S.uses devices.old) (S.uses devices.new) (O.contents out.old) (O.contents out.new) result }
     ensures done { CarriedOut D.keeps history asked.now (S.calls devices.old) (S.calls devices.new) (O.contents out.old) (O.contents out.new) result }
 {
     match asked {
         Asked::Help(text) => print_help(text.as_str(), out, err),
-        Asked::Try { image, turns } => try_file(rt, devices, image.as_str(), *turns, out, err),
-        Asked::Trace(trace) => trace_file(rt, devices, trace, out, err),
+        Asked::Try { image, turns } => try_file(rt, image.as_str(), *turns, out, err),
+        Asked::Trace(trace) => trace_file(rt, trace, out, err),
         Asked::TraceDevice { device, part, maps } => {
-            trace_device_file(rt, devices, device.as_str(), *part, maps, out, err)
+            trace_device_file(rt, device.as_str(), *part, text_in(maps), out, err)
         }
         Asked::Format(new) => format_file(rt, devices, new, system, out, err),
         Asked::Run(run) => run_file(rt, devices, run, system, out, err),
         Asked::Compact { device, .. } => compact_file(rt, devices, device, system, out, err),
         Asked::Recover { device, workers } => {
-            recover_file(rt, devices, device.as_str(), *workers, out, err)
+            recover_file(rt, device.as_str(), *workers, out, err)
         }
-        Asked::Show { device, json } => show_file(rt, devices, device.as_str(), *json, out, err),
+        Asked::Show { device, json } => show_file(rt, device.as_str(), *json, out, err),
         Asked::Status {
             device,
             every,
             json,
-        } => status_file(rt, devices, watch, device.as_str(), *every, *json, out, err),
+        } => status_file(rt, watch, device.as_str(), *every, *json, out, err),
         Asked::Check {
             topology,
             images,
             json,
-        } => check_file(
-            rt,
-            devices,
-            topology.as_str(),
-            images.as_str(),
-            *json,
-            out,
-            err,
-        ),
+        } => check_file(rt, topology.as_str(), images.as_str(), *json, out, err),
         Asked::View { device, view, maps } => {
-            view_file(rt, devices, device.as_str(), *view, maps, out, err)
+            view_file(rt, device.as_str(), *view, text_in(maps), out, err)
         }
+    }
+}
+
+/// The text of an option that may have been typed.
+pub(crate) fn text_in(option: &Option<String>) -> Option<&str> {
+    match option {
+        Some(text) => Some(text.as_str()),
+        None => None,
     }
 }
 
@@ -207,9 +206,8 @@ fn say_more<R: Files<File = F> + AllocGlobal, F: FileExt + OpenFile + Drop, E: W
 fn answer_held<
     R: Files<File = F> + StandardStreams + AllocGlobal + Threads + Wait + Sync,
     F: FileExt + OpenFile + Drop + Send,
-    S: Devices<Device = D, New = N>,
+    S: Devices<Device = D>,
     D: Disk + Drop + Send,
-    N: Disk + Drop,
     W: Watch,
     O: Write,
     E: Write,
@@ -218,7 +216,6 @@ fn answer_held<
     requires range { IsInRange asked.now }
     requires held { HoldsWritten asked.now (S.held devices.old) }
     ensures few { result ≤ 2 }
-    ensures used { UsedFor D.keeps N.keeps asked.now (S.uses devices.old) (S.uses devices.new) (O.contents out.old) (O.contents out.new) result }
     ensures answered { AnsweredHeld D.keeps history asked.now (S.calls devices.old) (S.calls devices.new) (O.contents out.old) (O.contents out.new) result }
 {
     if prints_into_device(rt, asked) {
@@ -240,7 +237,6 @@ fn answer_held<
 fn hold_written<S: Devices>(devices: &mut S, asked: &Asked) -> Result<(), InUse>
     ensures noted { S.calls devices.new ≡ S.calls devices.old ++ asking_for asked.now (is_ok result) }
     ensures got { OnOk result (HoldsWritten asked.now (S.held devices.new)) }
-    ensures unused { S.uses devices.new ≡ S.uses devices.old }
 {
     match asked {
         Asked::Format(new) => devices.hold(new.device.as_str(), new.wait_lock),
@@ -262,9 +258,8 @@ fn hold_written<S: Devices>(devices: &mut S, asked: &Asked) -> Result<(), InUse>
 fn answer_asked<
     R: Files<File = F> + StandardStreams + AllocGlobal + Threads + Wait + Sync,
     F: FileExt + OpenFile + Drop + Send,
-    S: Devices<Device = D, New = N>,
+    S: Devices<Device = D>,
     D: Disk + Drop + Send,
-    N: Disk + Drop,
     W: Watch,
     O: Write,
     E: Write,
@@ -272,7 +267,6 @@ fn answer_asked<
     ghost history: { History }
     requires { IsInRange asked.now }
     ensures few { result ≤ 2 }
-    ensures used { UsedFor D.keeps N.keeps asked.now (S.uses devices.old) (S.uses devices.new) (O.contents out.old) (O.contents out.new) result }
     ensures answered { AnsweredAs D.keeps history asked.now (S.calls devices.old) (S.calls devices.new) (O.contents out.old) (O.contents out.new) result }
 {
     match hold_written(devices, asked) {
@@ -285,9 +279,8 @@ fn answer_asked<
 fn answer_command<
     R: Files<File = F> + StandardStreams + AllocGlobal + Threads + Wait + Sync,
     F: FileExt + OpenFile + Drop + Send,
-    S: Devices<Device = D, New = N>,
+    S: Devices<Device = D>,
     D: Disk + Drop + Send,
-    N: Disk + Drop,
     W: Watch,
     I: Feed,
     O: Write,
@@ -307,7 +300,6 @@ fn answer_command<
     ghost history: { History }
     requires { IsCommandInRange command.now }
     ensures few { result ≤ most_status command.now }
-    ensures used { CommandUsed D.keeps N.keeps command.now (S.uses devices.old) (S.uses devices.new) (O.contents out.old) (O.contents out.new) result }
     ensures done { CommandDone D.keeps history (feed.new ≡ feed.old) command.now (S.calls devices.old) (S.calls devices.new) (O.contents out.old) (O.contents out.new) result }
 {
     match command {
@@ -315,7 +307,7 @@ fn answer_command<
             hold_and_stream(rt, devices, run, more.of_refusals, feed, out, err, onlooker)
         }
         Command::Stop(request) => answer_stop(rt, devices, request, more.of_refusals, out, err),
-        Command::Backup(backup) => answer_backup(rt, devices, backup, more.of_refusals, out, err),
+        Command::Backup(backup) => answer_backup(rt, backup, more.of_refusals, out, err),
         Command::Other(asked) => answer_asked(rt, devices, watch, asked, more, out, err),
     }
 }
@@ -328,9 +320,8 @@ fn answer_command<
 pub fn answer_over<
     R: Files<File = F> + StandardStreams + AllocGlobal + Threads + Wait + Sync,
     F: FileExt + OpenFile + Drop + Send,
-    S: Devices<Device = D, New = N>,
+    S: Devices<Device = D>,
     D: Disk + Drop + Send,
-    N: Disk + Drop,
     W: Watch,
     I: Feed,
     O: Write,
@@ -349,7 +340,7 @@ pub fn answer_over<
     ghost history: { History }
     ensures few { result ≤ 3 }
     ensures three { result ≡ 3 → has_word (codes "--stream") words.now ≡ true }
-    ensures answered { Answered D.keeps N.keeps history (feed.new ≡ feed.old) words.now (S.calls devices.old) (S.calls devices.new) (S.uses devices.old) (S.uses devices.new) (O.contents out.old) (O.contents out.new) result }
+    ensures answered { Answered D.keeps history (feed.new ≡ feed.old) words.now (S.calls devices.old) (S.calls devices.new) (O.contents out.old) (O.contents out.new) result }
 {
     match CommandLine::read(rt.alloc(), words) {
         Ok(line) => {
@@ -362,4 +353,62 @@ pub fn answer_over<
             2
         }
     }
+}
+
+/// Does what the words ask for, as `answer_over`, over devices that tell nothing of what was called.
+fn answer_untold<
+    R: Files<File = F> + StandardStreams + AllocGlobal + Threads + Wait + Sync,
+    F: FileExt + OpenFile + Drop + Send,
+    S: Devices<Device = D>,
+    D: Disk + Drop + Send,
+    W: Watch,
+    I: Feed,
+    O: Write,
+    E: Write,
+    V: Onlooker,
+>(
+    rt: &R,
+    devices: &mut S,
+    watch: &mut W,
+    words: &[String],
+    feed: &mut I,
+    out: &mut O,
+    err: &mut E,
+    onlooker: &mut V,
+) -> u8
+    ensures few { result ≤ 3 }
+    ensures three { result ≡ 3 → has_word (codes "--stream") words.now ≡ true }
+{
+    answer_over(rt, devices, watch, words, feed, out, err, onlooker)
+}
+
+/// Does what the words ask for, as `answer_over`, with the devices in files of the system, whose locks `locks` takes. They are let go once what
+/// was said is flushed: who waits for a device finds what was said of it. A failed flush is let go.
+pub fn answer_locking<
+    R: Files<File = F> + StandardStreams + AllocGlobal + Threads + Wait + Sync,
+    F: FileExt + OpenFile + Drop + Send,
+    L: Locks<F, Lock = K> + Drop,
+    K: Drop,
+    W: Watch,
+    I: Feed,
+    O: Write,
+    E: Write,
+    V: Onlooker,
+>(
+    rt: &R,
+    locks: L,
+    watch: &mut W,
+    words: &[String],
+    feed: &mut I,
+    out: &mut O,
+    err: &mut E,
+    onlooker: &mut V,
+) -> u8
+    ensures few { result ≤ 3 }
+    ensures three { result ≡ 3 → has_word (codes "--stream") words.now ≡ true }
+{
+    let mut devices = FileDevices::new(rt, locks);
+    let status = answer_untold(rt, &mut devices, watch, words, feed, out, err, onlooker);
+    let _ = err.flush();
+    status
 }

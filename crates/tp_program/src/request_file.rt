@@ -7,27 +7,6 @@ use std::alloc::{AllocError, Global};
 use std::fs::{Files, OpenOptions};
 use std::{fs, io};
 
-/// Whether there is a request at a path. Where that can't be said, there is none.
-fn is_request<R: Files>(rt: &R, path: &str) -> bool {
-    match fs::symlink_metadata(rt, path) {
-        Ok(found) => found.is_file() && found.len() == 0,
-        Err(_) => false,
-    }
-}
-
-/// Makes a request at a path, where there is none.
-pub(crate) fn make_request<R: Files>(rt: &R, path: &str) -> io::Result<()> {
-    let mut how = OpenOptions::new();
-    let how = how.write(true).create_new(true);
-    match how.open(rt, path) {
-        Ok(_made) => Ok(()),
-        Err(error) if error.kind() == io::ErrorKind::AlreadyExists && is_request(rt, path) => Ok(
-            (),
-        ),
-        Err(error) => Err(error),
-    }
-}
-
 /// The file DEVICE.stop. A regular file without a byte is a request to stop, whoever made it; all else at that path is somebody's, is no
 /// request, and stays.
 #[derive(Drop)]
@@ -46,15 +25,29 @@ impl RequestFile {
     }
 
     /// Where it is.
-    pub(crate) fn path(&self) -> &str
-        ensures { result.now ≡ string_bytes self.now.path }
-    {
+    pub(crate) fn path(&self) -> &str {
         self.path.as_str()
     }
 
     /// Whether there is a request. Where that can't be said, there is none.
     pub(crate) fn is_there<R: Files>(&self, rt: &R) -> bool {
-        is_request(rt, self.path.as_str())
+        match fs::symlink_metadata(rt, self.path.as_str()) {
+            Ok(found) => found.is_file() && found.len() == 0,
+            Err(_) => false,
+        }
+    }
+
+    /// Makes a request, where there is none.
+    pub(crate) fn make<R: Files>(&self, rt: &R) -> io::Result<()> {
+        let mut how = OpenOptions::new();
+        let how = how.write(true).create_new(true);
+        match how.open(rt, self.path.as_str()) {
+            Ok(_made) => Ok(()),
+            Err(error) if error.kind() == io::ErrorKind::AlreadyExists && self.is_there(rt) => {
+                Ok(())
+            }
+            Err(error) => Err(error),
+        }
     }
 
     /// Takes a request away, where there is one: only who holds the device does that. Answers whether there is none then.

@@ -23,7 +23,7 @@ const RUN: u32 = 0o011;
 
 /// Who may read, write and run a device's file, and the number of its group.
 #[derive(Clone, Copy)]
-pub struct Rights {
+pub(crate) struct Rights {
     bits: u32,
     group: u32,
 }

@@ -17,7 +17,6 @@ returns-in-Ok-clause-answered g c = inr (record {
   places = c.in-Ok.ensures.places;
   few = c.answer_command.ensures.few;
   done = c.answer_command.ensures.done;
-  files = c.answer_command.ensures.used;
 })
 
 pub answer_command-requires : goal.answer_command-requires
